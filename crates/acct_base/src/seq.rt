@@ -1,0 +1,71 @@
+// A list that the heap holds.
+ghost use Rattle.std.specs.Prelude.{◌≡◌, [], ◌∷◌, ◌++◌, IfOk, OnOk, OnErr};
+
+use std::alloc::{AllocError, Global};
+use std::marker::Model;
+
+/// A list of values that the heap holds. A contract sees the list of the values alone.
+#[derive(Debug, Drop)]
+pub struct Seq<T: Drop> {
+    values: Vec<T>,
+}
+
+impl<T: Drop> Model for Seq<T> {
+    ghost use Rattle.std.specs.Prelude.{List};
+
+    ghost Value = { List T };
+
+    ghost view = { λ seq. seq.values.items };
+}
+
+impl<T: Drop> Seq<T> {
+    /// The empty list, which takes no memory.
+    pub fn new(alloc: Global) -> Self
+        ensures { result ≡ [] }
+    {
+        Seq {
+            values: Vec::new(alloc),
+        }
+    }
+
+    /// The list of a vector's values. It takes no memory.
+    pub fn from_vec(values: Vec<T>) -> Self
+        ensures { result ≡ values.items }
+    {
+        Seq { values }
+    }
+
+    /// The values as a vector. It takes no memory.
+    pub fn into_vec(self) -> Vec<T>
+        ensures { result.items ≡ self }
+    {
+        self.values
+    }
+
+    /// The values in order.
+    pub fn as_slice(&self) -> &[T]
+        ensures { result.now ≡ self.now }
+    {
+        &self.values
+    }
+
+    /// Adds a value at the end. After want of memory the list is as it was.
+    pub fn push(&mut self, value: T) -> Result<(), AllocError>
+        ensures ok { OnOk result (self.new ≡ self.old ++ value ∷ []) }
+        ensures err { OnErr result (self.new ≡ self.old) }
+    {
+        self.values.push(value)?;
+        Ok(())
+    }
+}
+
+impl Seq<u8> {
+    /// A list of the same bytes.
+    pub fn copy_of(alloc: Global, bytes: &[u8]) -> Result<Self, AllocError>
+        ensures { IfOk result (λ copy. copy ≡ bytes.now) }
+    {
+        Ok(Seq {
+            values: bytes.to_vec(alloc)?,
+        })
+    }
+}

@@ -1,0 +1,21 @@
+use crate::{Seq, is_same, rest_of};
+use std::test::Fail;
+
+#[test]
+fn values_stand_in_order(rt: HostRuntime) -> Result<(), Fail> {
+    let mut seq = Seq::copy_of(rt.alloc(), &[1, 2])?;
+    seq.push(3)?;
+    assert_eq!(rt; seq.as_slice(), [1, 2, 3].as_slice());
+    let copy = Seq::from_vec(seq.into_vec());
+    assert_eq!(rt; copy.as_slice().len(), 3);
+    let empty: Seq<u8> = Seq::new(rt.alloc());
+    assert!(rt; empty.as_slice().is_empty());
+    Ok(())
+}
+
+#[test]
+fn bytes_are_compared_and_cut(rt: HostRuntime) {
+    assert!(rt; is_same(b"ab", b"ab"));
+    assert!(rt; !is_same(b"ab", b"ac"));
+    assert_eq!(rt; rest_of(b"abc", 2), b"c".as_slice());
+}
