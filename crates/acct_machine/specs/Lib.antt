@@ -1,0 +1,11 @@
+pub mod Codes
+pub mod Opening
+pub mod State
+pub mod Calls
+pub mod Checks
+pub mod Step
+pub mod Legal
+pub mod Sound
+pub mod Denial
+pub mod Shown
+pub mod Machine

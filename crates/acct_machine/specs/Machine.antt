@@ -1,0 +1,60 @@
+-- What each call of a machine leaves and answers.
+use Rattle.std.specs.Prelude.{◌≡◌, ◌≢◌, ℕ, ◌+◌, ◌==◌, true, false, List, [], ◌∷◌, ◌++◌, length}
+use Rattle.acct_machine.specs.declared.calls.Call.{Call}
+use Rattle.acct_machine.specs.declared.calls.Reply.{Reply}
+use Rattle.acct_machine.specs.declared.entry.Verdict.{Verdict}
+use Rattle.acct_machine.specs.declared.entry.Entry.{Entry}
+use Rattle.acct_machine.specs.declared.entry.Entry.TheVariants.{Opened, Called, Gone}
+use Rattle.acct_machine.specs.declared.machine.Acted.{Acted}
+use Rattle.acct_machine.specs.declared.machine.Acted.TheVariants as acts
+use Rattle.acct_machine.specs.declared.machine.Opened as answer
+use Rattle.acct_machine.specs.declared.machine.Opened.TheVariants as opens
+use Rattle.acct_machine.specs.State.{State, nothing_open, is_live}
+use Rattle.acct_machine.specs.Step.{state_after, acted}
+use Rattle.acct_machine.specs.Shown.{Shown}
+
+-- one more event, and nothing else
+abbrev pub with_entry : Shown → Entry → Shown
+with_entry m e = record m { history = m.history ++ e ∷ [] }
+
+-- the state after a machine's history
+abbrev pub state_of : Shown → State
+state_of m = state_after nothing_open m.history
+
+-- an opening of a connection
+abbrev pub Opens : Shown → ℕ → answer.Opened → Shown → Type 0
+Opens old listener (opens.Conn conn) new = (conn ≡ length (state_of old).conns + 1) × (new ≡ with_entry old (Opened conn listener))
+Opens old listener opens.NoMemory new = new ≡ old
+
+-- a call, with the reply of the state before it
+abbrev pub Acts : Shown → ℕ → Call → ℕ → Acted → Shown → Type 0
+Acts old conn call bytes (acts.Reply reply) new =
+    (verdict : Verdict) × (new ≡ with_entry old (Called conn call verdict bytes)) × (reply ≡ (acted (state_of old) conn call verdict).1)
+Acts old conn call bytes acts.NoMemory new = new ≡ old
+
+-- the end of a connection
+abbrev pub Ends : Shown → ℕ → Shown → Type 0
+Ends old conn new = new ≡ with_entry old (Gone conn)
+
+-- The same connections are live, and there are as many.
+pub record SameLive (old new : State) : Type 0 where
+  pub lives : (k : ℕ) → is_live k new.conns ≡ is_live k old.conns
+  pub count : length new.conns ≡ length old.conns
+
+-- One more connection is live, which wasn't before, and is the last of all.
+pub record OneMoreLive (old new : State) (conn : ℕ) : Type 0 where
+  pub live : is_live conn new.conns ≡ true
+  pub fresh : is_live conn old.conns ≡ false
+  pub others : (k : ℕ) → k ≢ conn → is_live k new.conns ≡ is_live k old.conns
+  pub count : length new.conns ≡ length old.conns + 1
+
+-- One connection isn't live any more.
+pub record OneLessLive (old new : State) (conn : ℕ) : Type 0 where
+  pub ended : is_live conn new.conns ≡ false
+  pub others : (k : ℕ) → k ≢ conn → is_live k new.conns ≡ is_live k old.conns
+  pub count : length new.conns ≡ length old.conns
+
+-- what an opening does to the live connections
+abbrev pub OpensLive : Shown → answer.Opened → Shown → Type 0
+OpensLive old (opens.Conn conn) new = OneMoreLive (state_of old) (state_of new) conn
+OpensLive old opens.NoMemory new = SameLive (state_of old) (state_of new)

@@ -1,0 +1,24 @@
+-- What a machine shows, and what its parts must keep.
+use Rattle.std.specs.Prelude.{◌≡◌, ℕ, ◌+◌, ◌≤◌, List, length, count_by}
+use Rattle.std.specs.List.{AllByRecursion}
+use Rattle.acct_machine.specs.declared.entry.Entry.{Entry}
+use Rattle.acct_machine.specs.declared.state.Conn.{Conn}
+use Rattle.acct_machine.specs.declared.state.Held.{Held}
+use Rattle.acct_machine.specs.declared.config.Config.{Config}
+use Rattle.acct_machine.specs.State.{nothing_open}
+use Rattle.acct_machine.specs.Step.{state_after}
+use Rattle.acct_machine.specs.Legal.{Legal}
+
+pub record Shown : Type 0 where
+  pub config : Config
+  pub history : List Entry
+
+-- The connections and handles are those of the state after the history, which is legal. No serial is above the number of
+-- events, the counter isn't below the number of live connections, and there is room for the end of each.
+pub record IsKept (config : Config) (history : List Entry) (conns : List Conn) (handles : List Held) (live capacity : ℕ) : Type 0 where
+  pub legal : Legal config history
+  pub state : state_after nothing_open history ≡ record { conns = conns; handles = handles }
+  pub serials : AllByRecursion (λ c. c.serial ≤ length history) conns
+  pub counted : count_by (λ c. c.live) conns ≤ live
+  pub bounded : live ≤ length conns
+  pub room : length history + live ≤ capacity

@@ -1,0 +1,17 @@
+// Laws of the machine's histories: each function does nothing, and its contract is the law.
+ghost use Rattle.acct_machine.specs.Sound.{KeepsSound};
+ghost use Rattle.acct_machine.specs.Denial.{DeniesExactly, DeniesRan};
+
+/// The state after each legal history is sound: its connections are numbered from 1 and each at a listener of the
+/// configuration, each handle's connection is live and gave it its serial, no two handles are the same, and each grant
+/// lies within the valid bits.
+pub fn kept_states_are_sound()
+    ensures { KeepsSound }
+{}
+
+/// A call that ran is answered STATUS_ACCESS_DENIED exactly where the grant of its handle lacks a needed bit, or its
+/// opening is refused. A call that the grant of its handle denies has run.
+pub fn access_is_denied_exactly()
+    ensures exactly { DeniesExactly }
+    ensures ran { DeniesRan }
+{}

@@ -1,0 +1,104 @@
+// The lists of connections and handles.
+ghost use Rattle.std.specs.Prelude.{◌≡◌, ◌+◌, ◌*◌, ◌^◌, map};
+ghost use Rattle.acct_machine.specs.State.{find_conn, last_serial, number_of, is_handle, find_handle, without_handle, without_conn};
+ghost use Rattle.acct_machine.specs.Step.{serial_set, live_ended};
+
+use crate::{Conn, Held};
+
+fn find_conn(conns: &[Conn], conn: u32) -> Option<Conn>
+    ensures { result ≡ find_conn conn conns.now }
+{
+    for c in conns {
+        if c.number == conn {
+            return Some(*c);
+        }
+    }
+    None
+}
+
+/// The serial of the last handle that a connection was given.
+pub fn last_serial(conns: &[Conn], conn: u32) -> u64
+    ensures { result ≡ last_serial conn conns.now }
+{
+    match find_conn(conns, conn) {
+        Some(c) => c.serial,
+        None => 0,
+    }
+}
+
+fn with_serial(c: &Conn, conn: u32, serial: u64) -> Conn
+    ensures { result ≡ serial_set conn serial c.now }
+{
+    if c.number == conn {
+        Conn { serial, ..*c }
+    } else {
+        *c
+    }
+}
+
+fn with_end(c: &Conn, conn: u32) -> Conn
+    ensures { result ≡ live_ended conn c.now }
+{
+    if c.number == conn {
+        Conn { live: false, ..*c }
+    } else {
+        *c
+    }
+}
+
+/// Gives a connection its next serial.
+pub fn set_serial(conns: &mut Vec<Conn>, conn: u32, serial: u64)
+    ensures { conns.new.items ≡ map (serial_set conn serial) conns.old.items }
+{
+    for i in 0..conns.len() {
+        conns[i] = with_serial(&conns[i], conn, serial);
+    }
+}
+
+/// Ends a connection.
+pub fn end_live(conns: &mut Vec<Conn>, conn: u32)
+    ensures { conns.new.items ≡ map (live_ended conn) conns.old.items }
+{
+    for i in 0..conns.len() {
+        conns[i] = with_end(&conns[i], conn);
+    }
+}
+
+/// The number of a handle.
+pub fn number_of(conn: u32, serial: u64) -> u128
+    ensures { result ≡ number_of conn serial }
+{
+    conn as u128 * (1u128 << 64) + serial as u128
+}
+
+fn is_handle(held: &Held, conn: u32, number: u128) -> bool
+    ensures { result ≡ is_handle conn number held.now }
+{
+    held.conn == conn && number_of(held.conn, held.serial) == number
+}
+
+/// The handle of a connection with a number.
+pub fn find_handle(handles: &[Held], conn: u32, number: u128) -> Option<Held>
+    ensures { result ≡ find_handle conn number handles.now }
+{
+    for held in handles {
+        if is_handle(held, conn, number) {
+            return Some(*held);
+        }
+    }
+    None
+}
+
+/// Drops the handle of a connection with a number.
+pub fn drop_handle(handles: &mut Vec<Held>, conn: u32, number: u128)
+    ensures { handles.new.items ≡ without_handle conn number handles.old.items }
+{
+    handles.retain(|held| !is_handle(held, conn, number));
+}
+
+/// Drops the handles of a connection.
+pub fn drop_conn(handles: &mut Vec<Held>, conn: u32)
+    ensures { handles.new.items ≡ without_conn conn handles.old.items }
+{
+    handles.retain(|held| held.conn != conn);
+}
