@@ -1,5 +1,5 @@
 -- What the checks of a call answer: that of its handle, and the condition of an opening.
-use Rattle.std.specs.Prelude.{ℕ, ◌==◌, Bool, true, ◌&&◌, Option, Some, None, is_none, if◌then◌else◌}
+use Rattle.std.specs.Prelude.{ℕ, ◌==◌, Bool, true, ◌&&◌, List, Option, Some, None, is_none, if◌then◌else◌}
 use Rattle.acct_machine.specs.declared.calls.Call.{Call}
 use Rattle.acct_machine.specs.declared.state.Held.{Held}
 use Rattle.acct_machine.specs.declared.state.Object.{Object}
@@ -23,9 +23,12 @@ abbrev pub access_by : Call → Option Held → Access
 access_by call None = Unknown
 access_by call (Some held) = if takes call held.object then (if has_bits held.granted (needed_bits call) then Passed else Denied) else WrongKind
 
--- The check of a call's handle: by the handles and their grants alone. An opening of the server brings none.
+-- The check of a call's handle among those that are open, by their grants alone. An opening of the server brings none.
+abbrev pub access_among : List Held → ℕ → Call → Access
+access_among handles conn call = if call.opnum == samr_connect2 then Passed else access_by call (find_handle conn call.handle.number handles)
+
 abbrev pub access : State → ℕ → Call → Access
-access s conn call = if call.opnum == samr_connect2 then Passed else access_by call (find_handle conn call.handle.number s.handles)
+access s conn call = access_among s.handles conn call
 
 -- the one condition of an operation: an opening that is refused
 abbrev pub is_opening_refused : Call → Bool

@@ -1,5 +1,5 @@
 -- What a machine shows, and what its parts must keep.
-use Rattle.std.specs.Prelude.{◌≡◌, ℕ, ◌+◌, ◌≤◌, List, length, count_by}
+use Rattle.std.specs.Prelude.{◌≡◌, ℕ, ◌+◌, ◌≤◌, List, [], ◌∷◌, length, if◌then◌else◌}
 use Rattle.std.specs.List.{AllByRecursion}
 use Rattle.acct_machine.specs.declared.entry.Entry.{Entry}
 use Rattle.acct_machine.specs.declared.state.Conn.{Conn}
@@ -13,12 +13,17 @@ pub record Shown : Type 0 where
   pub config : Config
   pub history : List Entry
 
+-- how many connections are live
+abbrev pub live_count : List Conn → ℕ
+live_count [] = 0
+live_count (c ∷ cs) = (if c.live then 1 else 0) + live_count cs
+
 -- The connections and handles are those of the state after the history, which is legal. No serial is above the number of
 -- events, the counter isn't below the number of live connections, and there is room for the end of each.
 pub record IsKept (config : Config) (history : List Entry) (conns : List Conn) (handles : List Held) (live capacity : ℕ) : Type 0 where
   pub legal : Legal config history
   pub state : state_after nothing_open history ≡ record { conns = conns; handles = handles }
   pub serials : AllByRecursion (λ c. c.serial ≤ length history) conns
-  pub counted : count_by (λ c. c.live) conns ≤ live
+  pub counted : live_count conns ≤ live
   pub bounded : live ≤ length conns
   pub room : length history + live ≤ capacity

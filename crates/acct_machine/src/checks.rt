@@ -1,7 +1,6 @@
 // The check of a call's handle.
 ghost use Rattle.std.specs.Prelude.{◌≡◌};
-ghost use Rattle.acct_machine.specs.State.{State};
-ghost use Rattle.acct_machine.specs.Checks.{takes, needed_bits, access_by, access};
+ghost use Rattle.acct_machine.specs.Checks.{takes, needed_bits, access_by, access_among};
 ghost use Rattle.acct_machine.specs.Calls.{desired_access};
 
 use crate::codes::SAMR_CONNECT2;
@@ -53,7 +52,7 @@ fn access_by(call: &Call, found: Option<Held>) -> Access
 
 /// The check of a call's handle among the handles that are open.
 pub fn access_of(handles: &[Held], conn: u32, call: &Call) -> Access
-    ensures { (s : State) → s.handles ≡ handles.now → result ≡ access s conn call.now }
+    ensures { result ≡ access_among handles.now conn call.now }
 {
     if call.opnum == SAMR_CONNECT2 {
         Access::Passed
