@@ -1,1 +1,4 @@
 pub mod Conns
+pub mod Cases
+pub mod History
+pub mod Sounds

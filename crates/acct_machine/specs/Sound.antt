@@ -22,11 +22,15 @@ pub record IsHeldSoundly (conns : List Conn) (held : Held) : Type 0 where
   pub given : held.serial ≤ last_serial held.conn conns
   pub valid : has_bits sam_server_all_access held.granted ≡ true
 
+-- two handles aren't the same
+abbrev pub AreApart : Held → Held → Type 0
+AreApart h g = h.conn ≡ g.conn → h.serial ≢ g.serial
+
 pub record IsSound (config : Config) (s : State) : Type 0 where
   pub numbered : IsNumberedFrom 1 s.conns
   pub configured : All (λ (c : Conn). c.listener < length config.listeners) s.conns
   pub held : All (IsHeldSoundly s.conns) s.handles
-  pub distinct : AllPairs (λ (h g : Held). h.conn ≡ g.conn → h.serial ≢ g.serial) s.handles
+  pub distinct : AllPairs AreApart s.handles
 
 -- every state of a legal history is sound
 abbrev pub KeepsSound : Type 0

@@ -1,5 +1,7 @@
-use Rattle.acct_machine.proofs.Conns.{live-here}
+use Rattle.std.proofs.Common.{[], refl}
+use Rattle.acct_machine.specs.State.{nothing_open}
+use Rattle.acct_machine.proofs.Sounds.{sound-after, sound-first}
 use Rattle.acct_machine.proofs.laws.kept_states_are_sound.Goals as goal
 
 pub returns : goal.returns
-returns c = ?
+returns c = λ config history legal. sound-after config [] history legal nothing_open refl (sound-first config)
