@@ -22,16 +22,16 @@ pub serial-past : (k : ℕ) (c : Conn) (cs : List Conn) → c.number ≢ k → l
 serial-past k c cs e = grind (arith, nat_tests)
 
 -- what a change of one connection does to one element
-set-here : (conn serial : ℕ) (c : Conn) → c.number ≡ conn → serial_set conn serial c ≡ record c { serial = serial }
+pub set-here : (conn serial : ℕ) (c : Conn) → c.number ≡ conn → serial_set conn serial c ≡ record c { serial = serial }
 set-here conn serial c e = grind (arith, nat_tests)
 
-set-past : (conn serial : ℕ) (c : Conn) → c.number ≢ conn → serial_set conn serial c ≡ c
+pub set-past : (conn serial : ℕ) (c : Conn) → c.number ≢ conn → serial_set conn serial c ≡ c
 set-past conn serial c e = grind (arith, nat_tests)
 
-ended-here : (conn : ℕ) (c : Conn) → c.number ≡ conn → live_ended conn c ≡ record c { live = false }
+pub ended-here : (conn : ℕ) (c : Conn) → c.number ≡ conn → live_ended conn c ≡ record c { live = false }
 ended-here conn c e = grind (arith, nat_tests)
 
-ended-past : (conn : ℕ) (c : Conn) → c.number ≢ conn → live_ended conn c ≡ c
+pub ended-past : (conn : ℕ) (c : Conn) → c.number ≢ conn → live_ended conn c ≡ c
 ended-past conn c e = grind (arith, nat_tests)
 
 -- one more serial

@@ -2,3 +2,4 @@ pub mod Conns
 pub mod Cases
 pub mod History
 pub mod Sounds
+pub mod Kept

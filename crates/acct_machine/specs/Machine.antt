@@ -1,5 +1,5 @@
 -- What each call of a machine leaves and answers.
-use Rattle.std.specs.Prelude.{◌≡◌, ◌≢◌, ℕ, ◌+◌, ◌==◌, true, false, List, [], ◌∷◌, ◌++◌, length}
+use Rattle.std.specs.Prelude.{◌≡◌, ◌≢◌, ℕ, ◌+◌, ◌==◌, true, false, List, [], ◌∷◌, ◌++◌, length, if◌then◌else◌}
 use Rattle.acct_machine.specs.declared.calls.Call.{Call}
 use Rattle.acct_machine.specs.declared.calls.Reply.{Reply}
 use Rattle.acct_machine.specs.declared.entry.Verdict.{Verdict}
@@ -11,6 +11,7 @@ use Rattle.acct_machine.specs.declared.machine.Opened as answer
 use Rattle.acct_machine.specs.declared.machine.Opened.TheVariants as opens
 use Rattle.acct_machine.specs.State.{State, nothing_open, is_live}
 use Rattle.acct_machine.specs.Step.{state_after, acted}
+use Rattle.acct_machine.specs.Legal.{replies, calls_of}
 use Rattle.acct_machine.specs.Shown.{Shown}
 
 -- one more event, and nothing else
@@ -58,3 +59,18 @@ pub record OneLessLive (old new : State) (conn : ℕ) : Type 0 where
 abbrev pub OpensLive : Shown → answer.Opened → Shown → Type 0
 OpensLive old (opens.Conn conn) new = OneMoreLive (state_of old) (state_of new) conn
 OpensLive old opens.NoMemory new = SameLive (state_of old) (state_of new)
+
+-- Each connection has the calls and the replies that it had.
+pub record SameCalls (old new : Shown) : Type 0 where
+  pub calls : (k : ℕ) → calls_of k new.history ≡ calls_of k old.history
+  pub replies : (k : ℕ) → replies k new.history ≡ replies k old.history
+
+-- One connection has one call and its reply more, and every other has those that it had.
+pub record OneMoreCall (old new : Shown) (conn : ℕ) (call : Call) (bytes : ℕ) (reply : Reply) : Type 0 where
+  pub calls : (k : ℕ) → calls_of k new.history ≡ calls_of k old.history ++ (if conn == k then (call, bytes) ∷ [] else [])
+  pub replies : (k : ℕ) → replies k new.history ≡ replies k old.history ++ (if conn == k then reply ∷ [] else [])
+
+-- what a call does to the calls of the connections
+abbrev pub ActsCalls : Shown → ℕ → Call → ℕ → Acted → Shown → Type 0
+ActsCalls old conn call bytes (acts.Reply reply) new = OneMoreCall old new conn call bytes reply
+ActsCalls old conn call bytes acts.NoMemory new = SameCalls old new

@@ -3,7 +3,7 @@ ghost use Rattle.std.specs.Prelude.{◌≡◌, ◌<◌, true, [], length};
 ghost use Rattle.acct_machine.specs.State.{is_live};
 ghost use Rattle.acct_machine.specs.Calls.{IsSpelled};
 ghost use Rattle.acct_machine.specs.Legal.{Legal};
-ghost use Rattle.acct_machine.specs.Machine.{state_of, Opens, OpensLive, Acts, SameLive, Ends, OneLessLive};
+ghost use Rattle.acct_machine.specs.Machine.{state_of, Opens, OpensLive, Acts, ActsCalls, SameLive, SameCalls, Ends, OneLessLive};
 
 use crate::lists::{drop_conn, end_live};
 use crate::running::run;
@@ -90,6 +90,7 @@ impl Machine {
         requires configured { listener < length self.old.config.listeners }
         ensures opens { Opens self.old listener result self.new }
         ensures live { OpensLive self.old result self.new }
+        ensures calls { SameCalls self.old self.new }
         ensures legal { Legal self.new.config self.new.history }
     {
         let count = self.conns.len();
@@ -125,6 +126,7 @@ impl Machine {
         requires spelled { IsSpelled call }
         ensures acts { Acts self.old conn call bytes result self.new }
         ensures live { SameLive (state_of self.old) (state_of self.new) }
+        ensures calls { ActsCalls self.old conn call bytes result self.new }
         ensures legal { Legal self.new.config self.new.history }
     {
         if self.history.reserve(self.live as usize + 1).is_err() {
@@ -147,6 +149,7 @@ impl Machine {
         requires { is_live conn (state_of self.old).conns ≡ true }
         ensures ends { Ends self.old conn self.new }
         ensures live { OneLessLive (state_of self.old) (state_of self.new) conn }
+        ensures calls { SameCalls self.old self.new }
         ensures legal { Legal self.new.config self.new.history }
     {
         match self.history.push(Entry::Gone { conn }) {
