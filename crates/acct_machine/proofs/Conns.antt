@@ -1,9 +1,9 @@
 -- Which connections are live, and their serials, after each change of the list.
-use Rattle.std.proofs.Common.{◌≡◌, ◌≢◌, inl, inr, ℕ, ◌+◌, ◌≤◌, ◌<◌, true, false, cond, ◌==◌, List, [], ◌∷◌, ◌++◌, length, map, Option, Some, None, refl, sym, ◌∙◌, ap, arith}
+use Rattle.std.proofs.Common.{◌≡◌, ◌≢◌, inl, inr, ℕ, ◌+◌, ◌≤◌, true, false, cond, List, [], ◌∷◌, ◌++◌, length, map, refl, sym, ◌∙◌, ap, arith}
 use Rattle.std.proofs.lemmas.Bool.{cases_eq}
 use Rattle.std.proofs.lemmas.Bool.Decides.{nat_tests}
 use Rattle.acct_machine.specs.declared.state.Conn.{Conn}
-use Rattle.acct_machine.specs.State.{find_conn, is_live, last_serial}
+use Rattle.acct_machine.specs.State.{is_live, last_serial}
 use Rattle.acct_machine.specs.Step.{new_conn, serial_set, live_ended}
 use Rattle.acct_machine.specs.Sound.{IsNumberedFrom}
 use Rattle.acct_machine.specs.Shown.{live_count}
@@ -50,8 +50,8 @@ serial-set-same conn serial (c ∷ cs) live =
     elim (cases_eq c.number conn) [
       | inl same ↦ rw (set-here conn serial c same) (serial-here conn (record c { serial = serial }) (map (serial_set conn serial) cs) same)
       | inr other ↦
-        let rest : last_serial conn (map (serial_set conn serial) cs) ≡ serial = serial-set-same conn serial cs (sym (live-past conn c cs other) ∙ live) in
-        rw (set-past conn serial c other) (serial-past conn c (map (serial_set conn serial) cs) other ∙ rest)
+          let rest : last_serial conn (map (serial_set conn serial) cs) ≡ serial = serial-set-same conn serial cs (sym (live-past conn c cs other) ∙ live) in
+          rw (set-past conn serial c other) (serial-past conn c (map (serial_set conn serial) cs) other ∙ rest)
     ]
 
 pub serial-set-other : (k conn serial : ℕ) (conns : List Conn) → k ≢ conn → last_serial k (map (serial_set conn serial) conns) ≡ last_serial k conns
@@ -130,12 +130,12 @@ count-ended-live conn [] live = cc
 count-ended-live conn (c ∷ cs) live =
     elim (cases_eq c.number conn) [
       | inl same ↦
-        let was : c.live ≡ true = sym (live-here conn c cs same) ∙ live in
-        let rest = count-ended conn cs in
-        rw (ended-here conn c same) (rw was (omega arith))
+          let was : c.live ≡ true = sym (live-here conn c cs same) ∙ live in
+          let rest = count-ended conn cs in
+          rw (ended-here conn c same) (rw was (omega arith))
       | inr other ↦
-        let rest = count-ended-live conn cs (sym (live-past conn c cs other) ∙ live) in
-        rw (ended-past conn c other) (omega arith)
+          let rest = count-ended-live conn cs (sym (live-past conn c cs other) ∙ live) in
+          rw (ended-past conn c other) (omega arith)
     ]
 
 pub numbered-ended : (n conn : ℕ) (conns : List Conn) → IsNumberedFrom n conns → IsNumberedFrom n (map (live_ended conn) conns)

@@ -1,12 +1,12 @@
 -- One more event at the end of a history.
-use Rattle.std.proofs.Common.{◌≡◌, ◌≢◌, inl, inr, ℕ, ◌+◌, ◌≤◌, ◌<◌, ◌==◌, Bool, true, false, cond, List, [], ◌∷◌, ◌++◌, length, map, Option, Some, None, refl, sym, ◌∙◌, ap, subst, arith, append_assoc}
+use Rattle.std.proofs.Common.{◌≡◌, ℕ, ◌==◌, Bool, true, false, cond, List, [], ◌∷◌, ◌++◌, refl, sym, ap, subst, append_assoc}
 use Rattle.std.proofs.lemmas.List.{append-nil}
 use Rattle.acct_machine.specs.declared.config.Config.{Config}
 use Rattle.acct_machine.specs.declared.entry.Entry.{Entry}
 use Rattle.acct_machine.specs.declared.entry.Entry.TheVariants.{Opened, Called, Gone}
-use Rattle.acct_machine.specs.State.{State, nothing_open}
+use Rattle.acct_machine.specs.State.{State}
 use Rattle.acct_machine.specs.Step.{acted, step, state_after}
-use Rattle.acct_machine.specs.Legal.{May, LegalAfter, Legal, calls_of, replies_from}
+use Rattle.acct_machine.specs.Legal.{May, LegalAfter, calls_of, replies_from}
 
 pub state_after-push : (s : State) (history : List Entry) (e : Entry) → state_after s (history ++ e ∷ []) ≡ step (state_after s history) e
 state_after-push s [] e = refl

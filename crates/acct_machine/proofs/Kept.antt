@@ -1,9 +1,8 @@
 -- What the parts of a machine keep, with one more event.
-use Rattle.std.proofs.Common.{◌≡◌, ◌≢◌, inl, inr, ℕ, ◌+◌, ◌≤◌, ◌<◌, ◌^◌, ◌==◌, true, false, cond, List, [], ◌∷◌, ◌++◌, length, map, refl, sym, ◌∙◌, ap, subst, arith, length-append}
+use Rattle.std.proofs.Common.{◌≡◌, inl, inr, ℕ, ◌+◌, ◌≤◌, ◌<◌, ◌^◌, List, [], ◌∷◌, ◌++◌, length, map, refl, sym, ◌∙◌, ap, subst, arith, length-append}
 use Rattle.std.specs.List.{AllByRecursion}
 use Rattle.std.proofs.lemmas.Bool.{cases_eq}
 use Rattle.std.proofs.lemmas.List.{append-nil}
-use Rattle.std.proofs.lemmas.Bool.Decides.{nat_tests}
 use Rattle.acct_machine.specs.declared.calls.Call.{Call}
 use Rattle.acct_machine.specs.declared.config.Config.{Config}
 use Rattle.acct_machine.specs.declared.entry.Verdict.{Verdict}
@@ -11,8 +10,8 @@ use Rattle.acct_machine.specs.declared.entry.Entry.{Entry}
 use Rattle.acct_machine.specs.declared.entry.Entry.TheVariants.{Opened, Called, Gone}
 use Rattle.acct_machine.specs.declared.state.Conn.{Conn}
 use Rattle.acct_machine.specs.declared.state.Held.{Held}
-use Rattle.acct_machine.specs.State.{State, nothing_open, is_live, last_serial}
-use Rattle.acct_machine.specs.Step.{new_conn, serial_set, live_ended, connected, closed, acted, step, state_after}
+use Rattle.acct_machine.specs.State.{State, nothing_open, last_serial}
+use Rattle.acct_machine.specs.Step.{new_conn, serial_set, live_ended, acted, step, state_after}
 use Rattle.acct_machine.specs.Legal.{May, Legal, calls_of, replies}
 use Rattle.acct_machine.specs.Sound.{IsSound}
 use Rattle.acct_machine.specs.Shown.{IsKept, live_count}
@@ -59,8 +58,8 @@ Serials-step : (s : State) (e : Entry) (n : ℕ) → Serials n s.conns → Seria
 Serials-step s (Opened conn listener) n h = Serials-push n s.conns (new_conn conn listener) h (omega arith)
 Serials-step s (Called conn call verdict bytes) n h =
     acted-cases (λ (x : State). Serials (n + 1) x.conns) s conn call verdict (weaker n s.conns h)
-      (λ granted is. Serials-set conn (last_serial conn s.conns + 1) n s.conns h (omega (arith, last_serial-le conn n s.conns h)))
-      (weaker n s.conns h)
+    (λ granted ran opens is. Serials-set conn (last_serial conn s.conns + 1) n s.conns h (omega (arith, last_serial-le conn n s.conns h)))
+    (weaker n s.conns h)
 Serials-step s (Gone conn) n h = Serials-ended conn n s.conns h
 
 -- the parts after one more event, with a counter and a capacity that are enough
@@ -85,15 +84,15 @@ IsKept-push config history conns handles live capacity e s live' capacity' kept 
 pub same_live-acted : (s : State) (conn : ℕ) (call : Call) (verdict : Verdict) → SameLive s (acted s conn call verdict).0
 same_live-acted s conn call verdict =
     acted-cases (λ (x : State). SameLive s x) s conn call verdict (record { lives = λ k. refl; count = refl })
-      (λ granted is. record {
-        lives = λ k. live-set k conn (last_serial conn s.conns + 1) s.conns;
-        count = length-set conn (last_serial conn s.conns + 1) s.conns;
-      })
-      (record { lives = λ k. refl; count = refl })
+    (λ granted ran opens is. record {
+      lives = λ k. live-set k conn (last_serial conn s.conns + 1) s.conns;
+      count = length-set conn (last_serial conn s.conns + 1) s.conns;
+    })
+    (record { lives = λ k. refl; count = refl })
 
 pub live_count-acted : (s : State) (conn : ℕ) (call : Call) (verdict : Verdict) → live_count (acted s conn call verdict).0.conns ≡ live_count s.conns
 live_count-acted s conn call verdict =
-    acted-cases (λ (x : State). live_count x.conns ≡ live_count s.conns) s conn call verdict refl (λ granted is. count-set conn (last_serial conn s.conns + 1) s.conns) refl
+    acted-cases (λ (x : State). live_count x.conns ≡ live_count s.conns) s conn call verdict refl (λ granted ran opens is. count-set conn (last_serial conn s.conns + 1) s.conns) refl
 
 -- the live connections after one more event of a history
 pub same_live-push : (history : List Entry) (conn : ℕ) (call : Call) (verdict : Verdict) (bytes : ℕ)
@@ -139,7 +138,7 @@ same_calls-gone config history conn = record {
 
 pub one_more_call : (config : Config) (history : List Entry) (conn : ℕ) (call : Call) (verdict : Verdict) (bytes : ℕ)
     → OneMoreCall (record { config = config; history = history }) (record { config = config; history = history ++ Called conn call verdict bytes ∷ [] }) conn call bytes
-      (acted (state_after nothing_open history) conn call verdict).1
+    (acted (state_after nothing_open history) conn call verdict).1
 one_more_call config history conn call verdict bytes = record {
   calls = λ k. calls_of-append k history (Called conn call verdict bytes ∷ []);
   replies = λ k. replies-append nothing_open k history (Called conn call verdict bytes ∷ []);

@@ -3,3 +3,4 @@ pub mod Cases
 pub mod History
 pub mod Sounds
 pub mod Kept
+pub mod Granting

@@ -1,6 +1,5 @@
 -- Each event of a legal history keeps the state sound.
-use Rattle.std.proofs.Common.{◌≡◌, ◌≢◌, inl, inr, ℕ, ◌+◌, ◌≤◌, ◌<◌, Bool, true, false, not, cond, ◌==◌, List, [], ◌∷◌, ◌++◌, length, map, get_or, Option, Some, None, refl, sym, ◌∙◌, ap, subst, arith}
-use Rattle.std.specs.List.{All, AllPairs, filter}
+use Rattle.std.proofs.Common.{◌≡◌, ◌≢◌, inl, inr, ℕ, ◌+◌, ◌≤◌, ◌<◌, Bool, true, false, not, cond, ◌==◌, List, [], ◌∷◌, ◌++◌, length, map, get_or, Some, None, refl, sym, ◌∙◌, ap, subst, arith}
 use Rattle.std.proofs.lemmas.Bool.{cases_eq}
 use Rattle.std.proofs.lemmas.Bool.Decides.{nat_tests}
 use Rattle.std.proofs.lemmas.List.Elements.{All-map, All-push, All-filter, filter_passes}
@@ -16,7 +15,7 @@ use Rattle.acct_machine.specs.declared.state.Held.{Held}
 use Rattle.acct_machine.specs.declared.state.Object.TheVariants.{Server}
 use Rattle.acct_machine.specs.Codes.{sam_server_all_access, maximum_allowed}
 use Rattle.acct_machine.specs.Opening.{has_bits, asked_bits, server_grant}
-use Rattle.acct_machine.specs.State.{State, nothing_open, is_live, last_serial, is_handle, without_handle, without_conn}
+use Rattle.acct_machine.specs.State.{State, nothing_open, is_live, last_serial, is_handle, without_conn}
 use Rattle.acct_machine.specs.Step.{new_conn, serial_set, live_ended, connected, closed, acted, step, state_after}
 use Rattle.acct_machine.specs.Legal.{May, LegalAfter}
 use Rattle.acct_machine.specs.Sound.{IsHeldSoundly, AreApart, IsSound}
@@ -52,10 +51,10 @@ sound-opened : (config : Config) (s : State) (conn listener : ℕ) → IsSound c
 sound-opened config s conn listener sound is fits =
     let c : Conn = new_conn conn listener in
     let held : (h : Held) → IsHeldSoundly s.conns h → IsHeldSoundly (s.conns ++ c ∷ []) h = λ h was.
-      elim (cases_eq conn h.conn) [
-        | inl same ↦ absurd (let e : true ≡ false = sym was.live ∙ live-above 1 h.conn s.conns sound.numbered (omega (arith, is, same)) in cc)
-        | inr other ↦ held-kept s.conns (s.conns ++ c ∷ []) h was (live-push h.conn c s.conns other) (rw (serial-push h.conn c s.conns other) (omega arith))
-      ] in
+    elim (cases_eq conn h.conn) [
+      | inl same ↦ absurd (let e : true ≡ false = sym was.live ∙ live-above 1 h.conn s.conns sound.numbered (omega (arith, is, same)) in cc)
+      | inr other ↦ held-kept s.conns (s.conns ++ c ∷ []) h was (live-push h.conn c s.conns other) (rw (serial-push h.conn c s.conns other) (omega arith))
+    ] in
     record {
       numbered = numbered-push 1 c s.conns sound.numbered (omega (arith, is));
       configured = All-push (λ (d : Conn). d.listener < length config.listeners) s.conns c sound.configured fits;
@@ -109,16 +108,16 @@ sound-called : (config : Config) (s : State) (conn : ℕ) (call : Call) (verdict
     → IsSound config (acted s conn call verdict).0
 sound-called config s conn call verdict sound live =
     acted-cases (IsSound config) s conn call verdict sound
-      (λ granted is. sound-connected config s conn call granted sound live (grant-valid _ granted is))
-      (sound-closed config s conn call.handle.number sound)
+    (λ granted ran opens is. sound-connected config s conn call granted sound live (grant-valid _ granted is))
+    (sound-closed config s conn call.handle.number sound)
 
 -- a connection is gone
 sound-gone : (config : Config) (s : State) (conn : ℕ) → IsSound config s → IsSound config (step s (Gone conn))
 sound-gone config s conn sound =
     let new : List Conn = map (live_ended conn) s.conns in
     let left : (h : Held) → IsHeldSoundly s.conns h → not (h.conn == conn) ≡ true → IsHeldSoundly new h = λ h was passes.
-      let other : h.conn ≢ conn = grind (arith, nat_tests) in
-      held-kept s.conns new h was (live-ended-other h.conn conn s.conns other) (rw (serial-ended h.conn conn s.conns) (omega arith)) in
+    let other : h.conn ≢ conn = grind (arith, nat_tests) in
+    held-kept s.conns new h was (live-ended-other h.conn conn s.conns other) (rw (serial-ended h.conn conn s.conns) (omega arith)) in
     let listeners : (c : Conn) → (live_ended conn c).listener ≡ c.listener = λ c. elim (c.number == conn) as (λ b. (cond b (record c { live = false }) c).listener ≡ c.listener) [ true ↦ refl | false ↦ refl ] in
     record {
       numbered = numbered-ended 1 conn s.conns sound.numbered;

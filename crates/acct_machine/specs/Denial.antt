@@ -1,7 +1,6 @@
 -- Where access is denied.
 use Rattle.std.specs.Prelude.{◌≡◌, ℕ, true, List, ◌↔◌, ◌⊎◌}
 use Rattle.acct_machine.specs.declared.calls.Call.{Call}
-use Rattle.acct_machine.specs.declared.calls.Outs.{Outs}
 use Rattle.acct_machine.specs.declared.calls.Reply.{Reply}
 use Rattle.acct_machine.specs.declared.calls.Reply.TheVariants.{Fault, Done}
 use Rattle.acct_machine.specs.declared.checks.Access.TheVariants.{Passed, Denied}

@@ -7,5 +7,6 @@ pub mod Step
 pub mod Legal
 pub mod Sound
 pub mod Denial
+pub mod Grants
 pub mod Shown
 pub mod Machine

@@ -1,5 +1,5 @@
 -- The state of the machine: connections and handles.
-use Rattle.std.specs.Prelude.{ℕ, ◌+◌, ◌*◌, ◌^◌, ◌==◌, Bool, true, false, ◌&&◌, not, List, [], Option, Some, None, map}
+use Rattle.std.specs.Prelude.{ℕ, ◌+◌, ◌*◌, ◌^◌, ◌==◌, Bool, false, ◌&&◌, not, List, [], Option, Some, None}
 use Rattle.std.specs.List.{filter, find}
 use Rattle.acct_machine.specs.declared.calls.Handle.{Handle}
 use Rattle.acct_machine.specs.declared.state.Conn.{Conn}

@@ -12,7 +12,6 @@ use Rattle.acct_machine.specs.declared.entry.Verdict.TheVariants.{Ran, NoMemory}
 use Rattle.acct_machine.specs.declared.entry.Entry.{Entry}
 use Rattle.acct_machine.specs.declared.entry.Entry.TheVariants.{Opened, Called, Gone}
 use Rattle.acct_machine.specs.declared.state.Conn.{Conn}
-use Rattle.acct_machine.specs.declared.state.Held.{Held}
 use Rattle.acct_machine.specs.declared.state.Object.TheVariants.{Server}
 use Rattle.acct_machine.specs.Codes.{samr_close_handle, samr_connect2, status_success, status_no_memory, status_access_denied, status_object_type_mismatch, fault_context_mismatch}
 use Rattle.acct_machine.specs.Opening.{server_grant}

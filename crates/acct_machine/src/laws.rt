@@ -1,6 +1,7 @@
 // Laws of the machine's histories: each function does nothing, and its contract is the law.
 ghost use Rattle.acct_machine.specs.Sound.{KeepsSound};
 ghost use Rattle.acct_machine.specs.Denial.{DeniesExactly, DeniesRan};
+ghost use Rattle.acct_machine.specs.Grants.{GrantsInHistory};
 
 /// The state after each legal history is sound: its connections are numbered from 1 and each at a listener of the
 /// configuration, each handle's connection is live and gave it its serial, no two handles are the same, and each grant
@@ -14,4 +15,10 @@ pub fn kept_states_are_sound()
 pub fn access_is_denied_exactly()
     ensures exactly { DeniesExactly }
     ensures ran { DeniesRan }
+{}
+
+/// Each handle that is open after a history was opened by a call of its connection there that ran, and has the grant that
+/// the call's opening gave.
+pub fn grants_come_from_openings()
+    ensures { GrantsInHistory }
 {}

@@ -6,7 +6,7 @@ use Rattle.acct_machine.specs.Codes.{samr_connect2, status_access_denied}
 use Rattle.acct_machine.specs.Opening.{server_grant}
 use Rattle.acct_machine.specs.State.{State}
 use Rattle.acct_machine.specs.Calls.{desired_access}
-use Rattle.acct_machine.specs.Checks.{access, is_opening_refused}
+use Rattle.acct_machine.specs.Checks.{access}
 use Rattle.acct_machine.specs.Step.{connected, closed, ran}
 use Rattle.acct_machine.specs.Denial.{HasStatus, IsDenied}
 use Rattle.acct_machine.proofs.laws.access_is_denied_exactly.Goals as goal

@@ -1,4 +1,4 @@
-use Rattle.std.proofs.Common.{◌≡◌, ℕ, ◌+◌, ◌-◌, ◌≤◌, ◌<◌, ◌^◌, List, [], ◌∷◌, ◌++◌, true, sym, ◌∙◌, ap, subst, arith, length, map}
+use Rattle.std.proofs.Common.{◌≡◌, ℕ, ◌+◌, ◌-◌, ◌≤◌, List, [], ◌∷◌, ◌++◌, true, sym, subst, arith, length, map}
 use Rattle.std.specs.Vec.{vec_capacity}
 use Rattle.std.proofs.lemmas.Grind.{common_steps}
 use Rattle.acct_machine.specs.declared.config.Config.{Config}
@@ -8,7 +8,6 @@ use Rattle.acct_machine.specs.declared.state.Conn.{Conn}
 use Rattle.acct_machine.specs.declared.state.Held.{Held}
 use Rattle.acct_machine.specs.State.{State, nothing_open, is_live}
 use Rattle.acct_machine.specs.Step.{live_ended, step, state_after}
-use Rattle.acct_machine.specs.Legal.{May, Legal}
 use Rattle.acct_machine.specs.Shown.{Shown, IsKept, live_count}
 use Rattle.acct_machine.specs.Machine.{state_of, OneLessLive, SameCalls}
 use Rattle.acct_machine.proofs.Conns.{count-ended-live, length-ended}
@@ -25,17 +24,17 @@ counter-is-positive config history conns handles live capacity conn kept alive =
 pub overflow_sub-self : goal.overflow_sub-self
 overflow_sub-self c =
     let alive : is_live c.args.conn (state_after nothing_open c.self.inside.history.items).conns ≡ true =
-      subst (λ (m : Shown). is_live c.args.conn (state_of m).conns ≡ true) (sym c.self.view_is) c.requires in
+    subst (λ (m : Shown). is_live c.args.conn (state_of m).conns ≡ true) (sym c.self.view_is) c.requires in
     let less : live_count (map (live_ended c.args.conn) c.self.inside.conns.items) + 1 ≤ c.self.inside.live =
-      counter-is-positive c.self.inside.config c.self.inside.history.items c.self.inside.conns.items c.self.inside.handles.items c.self.inside.live (vec_capacity c.self.inside.history) c.args.conn c.self.invariant alive in
+    counter-is-positive c.self.inside.config c.self.inside.history.items c.self.inside.conns.items c.self.inside.handles.items c.self.inside.live (vec_capacity c.self.inside.history) c.args.conn c.self.invariant alive in
     omega (arith, less)
 
 pub invariant_of-self : goal.invariant_of-self
 invariant_of-self c =
     let alive : is_live c.args.conn (state_after nothing_open c.self.inside.history.items).conns ≡ true =
-      subst (λ (m : Shown). is_live c.args.conn (state_of m).conns ≡ true) (sym c.self.view_is) c.requires in
+    subst (λ (m : Shown). is_live c.args.conn (state_of m).conns ≡ true) (sym c.self.view_is) c.requires in
     let less : live_count (map (live_ended c.args.conn) c.self.inside.conns.items) + 1 ≤ c.self.inside.live =
-      counter-is-positive c.self.inside.config c.self.inside.history.items c.self.inside.conns.items c.self.inside.handles.items c.self.inside.live (vec_capacity c.self.inside.history) c.args.conn c.self.invariant alive in
+    counter-is-positive c.self.inside.config c.self.inside.history.items c.self.inside.conns.items c.self.inside.handles.items c.self.inside.live (vec_capacity c.self.inside.history) c.args.conn c.self.invariant alive in
     let old : State = record { conns = c.self.inside.conns.items; handles = c.self.inside.handles.items } in
     let new : State = record { conns = c.end_live.new.conns.items; handles = c.drop_conn.new.handles.items } in
     let history : c.push.new.self.items ≡ c.self.inside.history.items ++ Gone c.args.conn ∷ [] = grind (arith, common_steps) in
@@ -50,9 +49,9 @@ invariant_of-self c =
 pub unreachable-requires : goal.unreachable-requires
 unreachable-requires c =
     let alive : is_live c.args.conn (state_after nothing_open c.self.inside.history.items).conns ≡ true =
-      subst (λ (m : Shown). is_live c.args.conn (state_of m).conns ≡ true) (sym c.self.view_is) c.requires in
+    subst (λ (m : Shown). is_live c.args.conn (state_of m).conns ≡ true) (sym c.self.view_is) c.requires in
     let less : live_count (map (live_ended c.args.conn) c.self.inside.conns.items) + 1 ≤ c.self.inside.live =
-      counter-is-positive c.self.inside.config c.self.inside.history.items c.self.inside.conns.items c.self.inside.handles.items c.self.inside.live (vec_capacity c.self.inside.history) c.args.conn c.self.invariant alive in
+    counter-is-positive c.self.inside.config c.self.inside.history.items c.self.inside.conns.items c.self.inside.handles.items c.self.inside.live (vec_capacity c.self.inside.history) c.args.conn c.self.invariant alive in
     let counts : 1 ≤ c.self.inside.live = omega (arith, less) in
     grind (arith, common_steps)
 
@@ -60,14 +59,14 @@ pub returns-clause-live : goal.returns-clause-live
 returns-clause-live c =
     let history : c.push.new.self.items ≡ c.self.inside.history.items ++ Gone c.args.conn ∷ [] = grind (arith, common_steps) in
     subst (λ (m : Shown). OneLessLive (state_of m) (state_after nothing_open c.push.new.self.items) c.args.conn) c.self.view_is
-      (rw history (one_less-push c.self.inside.history.items c.args.conn))
+    (rw history (one_less-push c.self.inside.history.items c.args.conn))
 
 pub returns-clause-calls : goal.returns-clause-calls
 returns-clause-calls c =
     let history : c.push.new.self.items ≡ c.self.inside.history.items ++ Gone c.args.conn ∷ [] = grind (arith, common_steps) in
     let new : List Entry → Shown = λ es. record { config = c.self.inside.config; history = es } in
     subst (λ (m : Shown). SameCalls m (new c.push.new.self.items)) c.self.view_is
-      (rw history (same_calls-gone c.self.inside.config c.self.inside.history.items c.args.conn))
+    (rw history (same_calls-gone c.self.inside.config c.self.inside.history.items c.args.conn))
 
 pub returns-clause-legal : goal.returns-clause-legal
 returns-clause-legal c = (invariant_of-self c).legal
