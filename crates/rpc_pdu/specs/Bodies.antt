@@ -24,20 +24,22 @@ alter_of bytes = do
 abbrev pub outcomes_place : List ℕ → ℕ
 outcomes_place bytes = (u16_at bytes 24 + 29) / 4 * 4
 
-unfoldable pub outcomes_in : List ℕ → Option (List Outcome × List ℕ)
+unfoldable pub outcomes_in : List ℕ → Option (List Outcome)
 outcomes_in bytes =
     if nat_lt (length bytes) (outcomes_place bytes + 4) then None
-    else many outcome_at (slice_index bytes (outcomes_place bytes)) (drop (outcomes_place bytes + 4) bytes)
+    else (do
+      outcomes ← many outcome_at (slice_index bytes (outcomes_place bytes)) (drop (outcomes_place bytes + 4) bytes)
+      Some outcomes.0)
 
 unfoldable pub bind_ack_of : List ℕ → Option Pdu
 bind_ack_of bytes = do
   outcomes ← outcomes_in bytes
-  Some (BindAck (u32_at bytes 12) (u16_at bytes 16) (u16_at bytes 18) (u32_at bytes 20) outcomes.0)
+  Some (BindAck (u32_at bytes 12) (u16_at bytes 16) (u16_at bytes 18) (u32_at bytes 20) outcomes)
 
 unfoldable pub alter_resp_of : List ℕ → Option Pdu
 alter_resp_of bytes = do
   outcomes ← outcomes_in bytes
-  Some (AlterResp (u32_at bytes 12) (u16_at bytes 16) (u16_at bytes 18) (u32_at bytes 20) outcomes.0)
+  Some (AlterResp (u32_at bytes 12) (u16_at bytes 16) (u16_at bytes 18) (u32_at bytes 20) outcomes)
 
 -- where the stub of a request begins: an object UUID is passed over
 abbrev pub stub_place : ℕ → ℕ

@@ -23,11 +23,19 @@ many one (suc n) bytes = do
   others ← many one n first.1
   Some (first.0 ∷ others.0, others.1)
 
--- what code that reads gives, unless memory runs out
+-- what code that reads gives, with the bytes after it, unless memory runs out
 abbrev pub Fails : {Y : Type 0} → Lack → Option Y → Type 0
 Fails Memory read = Unit {0}
 Fails Short read = read ≡ None
 
-abbrev pub Gives : {X Y : Type 0} → (X → Y) → Result X Lack → Option Y → Type 0
-Gives view (Ok x) read = read ≡ Some (view x)
-Gives view (Err e) read = Fails e read
+abbrev pub GivesBy : {X A : Type 0} → (X → A) → Result X Lack → List ℕ → Option (A × List ℕ) → Type 0
+GivesBy view (Ok x) after read = read ≡ Some (view x, after)
+GivesBy view (Err e) after read = Fails e read
+
+abbrev pub Gives : {A : Type 0} → Result A Lack → List ℕ → Option (A × List ℕ) → Type 0
+Gives result after read = GivesBy (λ x. x) result after read
+
+-- the same of a value alone
+abbrev pub Says : {A : Type 0} → Result A Lack → Option A → Type 0
+Says (Ok x) read = read ≡ Some x
+Says (Err e) read = Fails e read

@@ -1,11 +1,11 @@
 // What a whole PDU says, by its type.
 ghost use Rattle.std.specs.Prelude.{◌≡◌, ◌≤◌, length, slice_index};
 ghost use Rattle.rpc_pdu.specs.Headers.{least_length};
-ghost use Rattle.rpc_pdu.specs.Reading.{Gives};
+ghost use Rattle.rpc_pdu.specs.Reading.{Says};
 ghost use Rattle.rpc_pdu.specs.Bodies.{stub_place, bind_of, alter_of, request_of, response_of, outcomes_place, outcomes_in, bind_ack_of, alter_resp_of, fault_of, body_of};
 
 use crate::headers::{Kind, has_object};
-use crate::lists::{Lack, elements_at, outcomes_at};
+use crate::lists::{Fields, Lack};
 use crate::numbers::{u16_at, u32_at};
 use crate::pdus::{Outcome, Pdu};
 use acct_base::{Seq, rest_of};
@@ -14,9 +14,9 @@ use std::alloc::Global;
 #[tactic(auto, unfolding(crate::specs::Bodies::bind_of))]
 fn bind_of(alloc: Global, bytes: &[u8]) -> Result<Pdu, Lack>
     requires { 28 ≤ length bytes.now }
-    ensures { Gives (λ pdu. pdu) result (bind_of bytes.now) }
+    ensures { Says result (bind_of bytes.now) }
 {
-    let (elements, _) = elements_at(alloc, bytes[24], rest_of(bytes, 28))?;
+    let elements = Fields::new(rest_of(bytes, 28)).elements(alloc, bytes[24])?;
     Ok(Pdu::Bind {
         id: u32_at(bytes, 12),
         xmit: u16_at(bytes, 16),
@@ -29,9 +29,9 @@ fn bind_of(alloc: Global, bytes: &[u8]) -> Result<Pdu, Lack>
 #[tactic(auto, unfolding(crate::specs::Bodies::alter_of))]
 fn alter_of(alloc: Global, bytes: &[u8]) -> Result<Pdu, Lack>
     requires { 28 ≤ length bytes.now }
-    ensures { Gives (λ pdu. pdu) result (alter_of bytes.now) }
+    ensures { Says result (alter_of bytes.now) }
 {
-    let (elements, _) = elements_at(alloc, bytes[24], rest_of(bytes, 28))?;
+    let elements = Fields::new(rest_of(bytes, 28)).elements(alloc, bytes[24])?;
     Ok(Pdu::Alter {
         id: u32_at(bytes, 12),
         xmit: u16_at(bytes, 16),
@@ -50,23 +50,23 @@ fn outcomes_place(bytes: &[u8]) -> usize
 }
 
 #[tactic(auto, unfolding(crate::specs::Bodies::outcomes_in))]
-fn outcomes_in(alloc: Global, bytes: &[u8]) -> Result<(Seq<Outcome>, &[u8]), Lack>
+fn outcomes_in(alloc: Global, bytes: &[u8]) -> Result<Seq<Outcome>, Lack>
     requires { 26 ≤ length bytes.now }
-    ensures { Gives (λ x. (x.0, x.1.now)) result (outcomes_in bytes.now) }
+    ensures { Says result (outcomes_in bytes.now) }
 {
     let place = outcomes_place(bytes);
     if bytes.len() < place + 4 {
         return Err(Lack::Short);
     }
-    outcomes_at(alloc, bytes[place], rest_of(bytes, place + 4))
+    Fields::new(rest_of(bytes, place + 4)).outcomes(alloc, bytes[place])
 }
 
 #[tactic(auto, unfolding(crate::specs::Bodies::bind_ack_of))]
 fn bind_ack_of(alloc: Global, bytes: &[u8]) -> Result<Pdu, Lack>
     requires { 26 ≤ length bytes.now }
-    ensures { Gives (λ pdu. pdu) result (bind_ack_of bytes.now) }
+    ensures { Says result (bind_ack_of bytes.now) }
 {
-    let (outcomes, _) = outcomes_in(alloc, bytes)?;
+    let outcomes = outcomes_in(alloc, bytes)?;
     Ok(Pdu::BindAck {
         id: u32_at(bytes, 12),
         xmit: u16_at(bytes, 16),
@@ -79,9 +79,9 @@ fn bind_ack_of(alloc: Global, bytes: &[u8]) -> Result<Pdu, Lack>
 #[tactic(auto, unfolding(crate::specs::Bodies::alter_resp_of))]
 fn alter_resp_of(alloc: Global, bytes: &[u8]) -> Result<Pdu, Lack>
     requires { 26 ≤ length bytes.now }
-    ensures { Gives (λ pdu. pdu) result (alter_resp_of bytes.now) }
+    ensures { Says result (alter_resp_of bytes.now) }
 {
-    let (outcomes, _) = outcomes_in(alloc, bytes)?;
+    let outcomes = outcomes_in(alloc, bytes)?;
     Ok(Pdu::AlterResp {
         id: u32_at(bytes, 12),
         xmit: u16_at(bytes, 16),
@@ -93,7 +93,7 @@ fn alter_resp_of(alloc: Global, bytes: &[u8]) -> Result<Pdu, Lack>
 
 fn request_of(alloc: Global, bytes: &[u8]) -> Result<Pdu, Lack>
     requires { least_length Kind.Request (slice_index bytes.now 3) ≤ length bytes.now }
-    ensures { Gives (λ pdu. pdu) result (request_of bytes.now) }
+    ensures { Says result (request_of bytes.now) }
 {
     let flags = bytes[3];
     let place = if has_object(flags) { 40 } else { 24 };
@@ -108,7 +108,7 @@ fn request_of(alloc: Global, bytes: &[u8]) -> Result<Pdu, Lack>
 
 fn response_of(alloc: Global, bytes: &[u8]) -> Result<Pdu, Lack>
     requires { 24 ≤ length bytes.now }
-    ensures { Gives (λ pdu. pdu) result (response_of bytes.now) }
+    ensures { Says result (response_of bytes.now) }
 {
     Ok(Pdu::Response {
         id: u32_at(bytes, 12),
@@ -135,7 +135,7 @@ fn fault_of(bytes: &[u8]) -> Pdu
 pub fn body_of(alloc: Global, kind: Kind, bytes: &[u8]) -> Result<Pdu, Lack>
     requires header { 16 ≤ length bytes.now }
     requires long { least_length kind (slice_index bytes.now 3) ≤ length bytes.now }
-    ensures { Gives (λ pdu. pdu) result (body_of kind bytes.now) }
+    ensures { Says result (body_of kind bytes.now) }
 {
     match kind {
         Kind::Request => request_of(alloc, bytes),

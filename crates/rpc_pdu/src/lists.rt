@@ -1,7 +1,7 @@
 // The lists in a binding PDU and its answer: context elements, transfer syntaxes, outcomes.
-ghost use Rattle.std.specs.Prelude.{◌≡◌, ◌≤◌, length, IfOk};
+ghost use Rattle.std.specs.Prelude.{◌≡◌, length, IfOk};
 ghost use Rattle.rpc_pdu.specs.declared.lists.Lack.TheVariants.{Memory};
-ghost use Rattle.rpc_pdu.specs.Reading.{front_at, many, Gives};
+ghost use Rattle.rpc_pdu.specs.Reading.{front_at, many, Gives, GivesBy};
 ghost use Rattle.rpc_pdu.specs.Lists.{syntax_at, element_at, outcome_at};
 ghost use Rattle.rpc_pdu.specs.Syntaxes.{syntax_of};
 
@@ -10,6 +10,7 @@ use crate::pdus::{Element, Outcome};
 use crate::syntaxes::Syntax;
 use acct_base::Seq;
 use std::alloc::{AllocError, Global};
+use std::marker::Model;
 use uuid::Uuid;
 
 /// Why nothing was read.
@@ -29,14 +30,109 @@ impl From<AllocError> for Lack {
     }
 }
 
-fn front_at(n: usize, bytes: &[u8]) -> Result<(&[u8], &[u8]), Lack>
-    ensures value { Gives (λ x. (x.0.now, x.1.now)) result (front_at n bytes.now) }
-    ensures length { IfOk result (λ x. length x.0.now ≡ n) }
-{
-    if bytes.len() < n {
-        return Err(Lack::Short);
+/// Reads fields one after the other. A contract sees the bytes that are left.
+#[derive(Drop)]
+pub struct Fields<'a> {
+    bytes: &'a [u8],
+}
+
+impl<'a> Model for Fields<'a> {
+    ghost use Rattle.std.specs.Prelude.{List, ℕ};
+
+    ghost Value = { List ℕ };
+
+    ghost view = { λ fields. fields.bytes.now };
+}
+
+impl<'a> Fields<'a> {
+    pub fn new(bytes: &'a [u8]) -> Fields<'a>
+        ensures { result ≡ bytes.now }
+    {
+        Fields { bytes }
     }
-    Ok(bytes.split_at(n))
+
+    /// So many bytes.
+    fn take(&mut self, count: usize) -> Result<&'a [u8], Lack>
+        ensures value { GivesBy (λ front. front.now) result self.new (front_at count self.old) }
+        ensures length { IfOk result (λ front. length front.now ≡ count) }
+    {
+        if self.bytes.len() < count {
+            return Err(Lack::Short);
+        }
+        let (front, rest) = self.bytes.split_at(count);
+        self.bytes = rest;
+        Ok(front)
+    }
+
+    #[tactic(auto, unfolding(crate::specs::Lists::syntax_at))]
+    fn syntax(&mut self) -> Result<Syntax, Lack>
+        ensures { Gives result self.new (syntax_at self.old) }
+    {
+        let front = self.take(20)?;
+        Ok(syntax_of(front))
+    }
+
+    fn syntaxes(&mut self, alloc: Global, count: u8) -> Result<Seq<Syntax>, Lack>
+        ensures { Gives result self.new (many syntax_at count self.old) }
+    {
+        let mut syntaxes = Seq::new(alloc);
+        for _ in 0..count {
+            let syntax = self.syntax()?;
+            syntaxes.push(syntax)?;
+        }
+        Ok(syntaxes)
+    }
+
+    #[tactic(auto, unfolding(crate::specs::Lists::element_at))]
+    fn element(&mut self, alloc: Global) -> Result<Element, Lack>
+        ensures { Gives result self.new (element_at self.old) }
+    {
+        let head = self.take(4)?;
+        let subject = self.syntax()?;
+        let transfers = self.syntaxes(alloc, head[2])?;
+        Ok(Element {
+            context: u16_at(head, 0),
+            subject,
+            transfers,
+        })
+    }
+
+    /// So many context elements.
+    pub fn elements(&mut self, alloc: Global, count: u8) -> Result<Seq<Element>, Lack>
+        ensures { Gives result self.new (many element_at count self.old) }
+    {
+        let mut elements = Seq::new(alloc);
+        for _ in 0..count {
+            let element = self.element(alloc)?;
+            elements.push(element)?;
+        }
+        Ok(elements)
+    }
+
+    #[tactic(auto, unfolding(crate::specs::Lists::outcome_at))]
+    fn outcome(&mut self) -> Result<Outcome, Lack>
+        ensures { Gives result self.new (outcome_at self.old) }
+    {
+        let head = self.take(4)?;
+        let syntax = self.syntax()?;
+        Ok(Outcome {
+            result: u16_at(head, 0),
+            reason: u16_at(head, 2),
+            syntax,
+        })
+    }
+
+    /// So many outcomes.
+    pub fn outcomes(&mut self, alloc: Global, count: u8) -> Result<Seq<Outcome>, Lack>
+        ensures { Gives result self.new (many outcome_at count self.old) }
+    {
+        let mut outcomes = Seq::new(alloc);
+        for _ in 0..count {
+            let outcome = self.outcome()?;
+            outcomes.push(outcome)?;
+        }
+        Ok(outcomes)
+    }
 }
 
 /// The syntax in 20 bytes.
@@ -51,82 +147,4 @@ fn syntax_of(bytes: &[u8]) -> Syntax
         id: Uuid::from_bytes_le(id),
         version: u32_at(bytes, 16),
     }
-}
-
-#[tactic(auto, unfolding(crate::specs::Lists::syntax_at))]
-fn syntax_at(bytes: &[u8]) -> Result<(Syntax, &[u8]), Lack>
-    ensures { Gives (λ x. (x.0, x.1.now)) result (syntax_at bytes.now) }
-{
-    let (front, rest) = front_at(20, bytes)?;
-    Ok((syntax_of(front), rest))
-}
-
-fn syntaxes_at(alloc: Global, count: u8, bytes: &[u8]) -> Result<(Seq<Syntax>, &[u8]), Lack>
-    ensures { Gives (λ x. (x.0, x.1.now)) result (many syntax_at count bytes.now) }
-{
-    let mut syntaxes = Seq::new(alloc);
-    let mut rest = bytes;
-    for _ in 0..count {
-        let (syntax, after) = syntax_at(rest)?;
-        syntaxes.push(syntax)?;
-        rest = after;
-    }
-    Ok((syntaxes, rest))
-}
-
-#[tactic(auto, unfolding(crate::specs::Lists::element_at))]
-fn element_at(alloc: Global, bytes: &[u8]) -> Result<(Element, &[u8]), Lack>
-    ensures { Gives (λ x. (x.0, x.1.now)) result (element_at bytes.now) }
-{
-    let (head, rest) = front_at(4, bytes)?;
-    let (subject, rest) = syntax_at(rest)?;
-    let (transfers, rest) = syntaxes_at(alloc, head[2], rest)?;
-    let element = Element {
-        context: u16_at(head, 0),
-        subject,
-        transfers,
-    };
-    Ok((element, rest))
-}
-
-/// So many context elements in front of bytes, and the bytes after them.
-pub fn elements_at(alloc: Global, count: u8, bytes: &[u8]) -> Result<(Seq<Element>, &[u8]), Lack>
-    ensures { Gives (λ x. (x.0, x.1.now)) result (many element_at count bytes.now) }
-{
-    let mut elements = Seq::new(alloc);
-    let mut rest = bytes;
-    for _ in 0..count {
-        let (element, after) = element_at(alloc, rest)?;
-        elements.push(element)?;
-        rest = after;
-    }
-    Ok((elements, rest))
-}
-
-#[tactic(auto, unfolding(crate::specs::Lists::outcome_at))]
-fn outcome_at(bytes: &[u8]) -> Result<(Outcome, &[u8]), Lack>
-    ensures { Gives (λ x. (x.0, x.1.now)) result (outcome_at bytes.now) }
-{
-    let (head, rest) = front_at(4, bytes)?;
-    let (syntax, rest) = syntax_at(rest)?;
-    let outcome = Outcome {
-        result: u16_at(head, 0),
-        reason: u16_at(head, 2),
-        syntax,
-    };
-    Ok((outcome, rest))
-}
-
-/// So many outcomes in front of bytes, and the bytes after them.
-pub fn outcomes_at(alloc: Global, count: u8, bytes: &[u8]) -> Result<(Seq<Outcome>, &[u8]), Lack>
-    ensures { Gives (λ x. (x.0, x.1.now)) result (many outcome_at count bytes.now) }
-{
-    let mut outcomes = Seq::new(alloc);
-    let mut rest = bytes;
-    for _ in 0..count {
-        let (outcome, after) = outcome_at(rest)?;
-        outcomes.push(outcome)?;
-        rest = after;
-    }
-    Ok((outcomes, rest))
 }
