@@ -4,12 +4,14 @@ ghost use Rattle.std.specs.List.{flat_map};
 ghost use Rattle.rpc_pdu.specs.Written.{type_of, flags_of, call_id, size_of, header_bytes, element_bytes, outcome_bytes, sizes_bytes, elements_bytes, outcomes_bytes, body_bytes, written, HasFewTransfers, HasFewParts, IsWhole, IsWholeElement, IsWholeOutcome, HasWholeIds};
 ghost use Rattle.rpc_pdu.specs.Numbers.{u16_bytes, u32_bytes};
 ghost use Rattle.rpc_pdu.specs.Syntaxes.{syntax_bytes};
+ghost use Rattle.uuid.specs.Parts.{swap_fields};
 ghost use Rattle.rpc_pdu.specs.Laws.{IsReadBack};
 
 use crate::numbers::{push_u16, push_u32};
 use crate::pdus::{Element, Outcome, Pdu};
 use crate::syntaxes::Syntax;
 use std::alloc::{AllocError, Global};
+use uuid::Uuid;
 
 /// Memory ran out.
 pub type NoMemory = AllocError;
@@ -74,13 +76,21 @@ fn push_header(
     push_u32(out, id)
 }
 
+/// A UUID, its first three fields with the low byte first.
+fn push_uuid(out: &mut Vec<u8>, id: &[u8; 16]) -> Result<(), AllocError>
+    ensures bytes { OnOk result (out.new.items ≡ out.old.items ++ swap_fields id.now) }
+    ensures whole { length id.now ≡ 16 }
+{
+    out.extend_from_slice(&Uuid::from_bytes_le(*id).into_bytes())?;
+    Ok(())
+}
+
 #[tactic(auto, unfolding(crate::specs::Syntaxes::syntax_bytes))]
 fn push_syntax(out: &mut Vec<u8>, syntax: &Syntax) -> Result<(), AllocError>
     ensures bytes { OnOk result (out.new.items ≡ out.old.items ++ syntax_bytes syntax.now) }
     ensures whole { IsWhole syntax.now }
 {
-    let _id: &[u8; 16] = syntax.id.as_bytes();
-    out.extend_from_slice(&syntax.id.to_bytes_le())?;
+    push_uuid(out, syntax.id.as_bytes())?;
     push_u32(out, syntax.version)
 }
 
