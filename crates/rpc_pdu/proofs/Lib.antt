@@ -1,1 +1,4 @@
 pub mod Many
+pub mod HeaderFacts
+pub mod Whole
+pub mod Stubs

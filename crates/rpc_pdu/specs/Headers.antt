@@ -43,9 +43,9 @@ least_length Orphaned flags = 16
 
 abbrev pub sized : List ℕ → Option Kind → Header
 sized head None = Bad 2 3
-sized head (Some kind) =
-    if nat_lt (u16_at head 8) (least_length kind (slice_index head 3)) then Bad 8 4
-    else (if u16_at head 10 == 0 then Long kind (u16_at head 8) else Bad 10 5)
+sized head (Some known) =
+    if nat_lt (u16_at head 8) (least_length known (slice_index head 3)) then Bad 8 4
+    else (if u16_at head 10 == 0 then Long known (u16_at head 8) else Bad 10 5)
 
 -- the first of causes 1 to 5 that holds of 16 bytes, or the type and the length of the PDU
 unfoldable pub header_of : Side → List ℕ → Header
