@@ -2,3 +2,4 @@ pub mod Many
 pub mod HeaderFacts
 pub mod Whole
 pub mod Stubs
+pub mod Pushes
