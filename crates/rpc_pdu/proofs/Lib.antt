@@ -3,3 +3,5 @@ pub mod HeaderFacts
 pub mod Whole
 pub mod Stubs
 pub mod Pushes
+pub mod Sizes
+pub mod Back

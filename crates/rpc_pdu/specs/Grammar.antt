@@ -10,6 +10,7 @@ use Rattle.rpc_pdu.specs.declared.pdus.Pdu.{Pdu}
 use Rattle.rpc_pdu.specs.declared.pdus.Pdu.TheVariants.{Bind, Alter, Request, Cancel, Orphaned, BindAck, AlterResp, BindNak, Response, Fault}
 use Rattle.rpc_pdu.specs.Numbers.{u16_at, u32_at}
 use Rattle.rpc_pdu.specs.Headers.{has_object}
+use Rattle.rpc_pdu.specs.Lists.{element_size}
 
 -- a header: version 5.0 or 5.1, the type, integers low byte first with ASCII (0x10) and IEEE floats (0), the PDU's own length, no verifier,
 -- the call id. Its flags stand at 3, and bytes 6 and 7 aren't looked at
@@ -29,30 +30,23 @@ pub record SyntaxAt (bytes : List ℕ) (place : ℕ) (syntax : Syntax) : Type 0 
   pub uuid : swap_fields (take 16 (drop place bytes)) ≡ syntax.id
   pub version : u32_at bytes (place + 16) ≡ syntax.version
 
-abbrev pub SyntaxesAt : List ℕ → ℕ → List Syntax → Type 0
-SyntaxesAt bytes place [] = Unit {0}
-SyntaxesAt bytes place (syntax ∷ syntaxes) = SyntaxAt bytes place syntax × SyntaxesAt bytes (place + 20) syntaxes
+-- values one after the other from a place on, each of so many bytes
+abbrev pub EachAt : {A : Type 0} → (List ℕ → ℕ → A → Type 0) → (A → ℕ) → List ℕ → ℕ → List A → Type 0
+EachAt At size bytes place [] = Unit {0}
+EachAt At size bytes place (x ∷ xs) = At bytes place x × EachAt At size bytes (place + size x) xs
 
 -- a context element at a place. Byte 3 of it isn't looked at
 pub record ElementAt (bytes : List ℕ) (place : ℕ) (element : Element) : Type 0 where
   pub context : u16_at bytes place ≡ element.context
   pub count : slice_index bytes (place + 2) ≡ length element.transfers
   pub subject : SyntaxAt bytes (place + 4) element.subject
-  pub transfers : SyntaxesAt bytes (place + 24) element.transfers
-
-abbrev pub ElementsAt : List ℕ → ℕ → List Element → Type 0
-ElementsAt bytes place [] = Unit {0}
-ElementsAt bytes place (element ∷ elements) = ElementAt bytes place element × ElementsAt bytes (place + 24 + 20 * length element.transfers) elements
+  pub transfers : EachAt SyntaxAt (λ syntax. 20) bytes (place + 24) element.transfers
 
 -- the answer to one context element at a place
 pub record OutcomeAt (bytes : List ℕ) (place : ℕ) (outcome : Outcome) : Type 0 where
   pub result : u16_at bytes place ≡ outcome.result
   pub reason : u16_at bytes (place + 2) ≡ outcome.reason
   pub syntax : SyntaxAt bytes (place + 4) outcome.syntax
-
-abbrev pub OutcomesAt : List ℕ → ℕ → List Outcome → Type 0
-OutcomesAt bytes place [] = Unit {0}
-OutcomesAt bytes place (outcome ∷ outcomes) = OutcomeAt bytes place outcome × OutcomesAt bytes (place + 24) outcomes
 
 -- the sizes of fragments and the association group, of a binding PDU and its answer
 pub record HasSizes (bytes : List ℕ) (xmit recv group : ℕ) : Type 0 where
@@ -65,7 +59,7 @@ pub record IsBinding (bytes : List ℕ) (xmit recv group : ℕ) (elements : List
   pub long : 28 ≤ length bytes
   pub sizes : HasSizes bytes xmit recv group
   pub count : slice_index bytes 24 ≡ length elements
-  pub elements_there : ElementsAt bytes 28 elements
+  pub elements_there : EachAt ElementAt element_size bytes 28 elements
 
 -- bind_ack and alter_context_resp, the number of whose outcomes stands behind the secondary address, at a multiple of 4
 pub record IsBindingAnswer (bytes : List ℕ) (xmit recv group : ℕ) (outcomes : List Outcome) : Type 0 where
@@ -77,7 +71,7 @@ pub record IsBindingAnswer (bytes : List ℕ) (xmit recv group : ℕ) (outcomes 
   pub aligned : place / 4 * 4 ≡ place
   pub there : place + 4 ≤ length bytes
   pub count : slice_index bytes place ≡ length outcomes
-  pub outcomes_there : OutcomesAt bytes (place + 4) outcomes
+  pub outcomes_there : EachAt OutcomeAt (λ outcome. 24) bytes (place + 4) outcomes
 
 -- a request, its stub behind an object UUID where its flags say that there is one
 pub record IsRequest (bytes : List ℕ) (flags context opnum : ℕ) (stub : List ℕ) : Type 0 where
@@ -100,6 +94,11 @@ pub record IsFault (bytes : List ℕ) (context status : ℕ) : Type 0 where
   pub context_id : u16_at bytes 20 ≡ context
   pub code : u32_at bytes 24 ≡ status
 
+-- a bind_nak. The versions behind the reason aren't looked at
+pub record IsBindNak (bytes : List ℕ) (reason : ℕ) : Type 0 where
+  pub long : 18 ≤ length bytes
+  pub reason_is : u16_at bytes 16 ≡ reason
+
 -- these bytes are exactly one PDU of a type that the side reads, with these fields
 abbrev pub IsPdu : Side → Pdu → List ℕ → Type 0
 IsPdu Server (Request id flags context opnum stub) bytes = IsHeader bytes 0 id × IsRequest bytes flags context opnum stub
@@ -110,6 +109,6 @@ IsPdu Server (Orphaned id) bytes = IsHeader bytes 19 id × (16 ≤ length bytes)
 IsPdu Client (Response id flags context hint stub) bytes = IsHeader bytes 2 id × IsResponse bytes flags context hint stub
 IsPdu Client (Fault id context status) bytes = IsHeader bytes 3 id × IsFault bytes context status
 IsPdu Client (BindAck id xmit recv group outcomes) bytes = IsHeader bytes 12 id × IsBindingAnswer bytes xmit recv group outcomes
-IsPdu Client (BindNak id reason) bytes = IsHeader bytes 13 id × (18 ≤ length bytes) × (u16_at bytes 16 ≡ reason)
+IsPdu Client (BindNak id reason) bytes = IsHeader bytes 13 id × IsBindNak bytes reason
 IsPdu Client (AlterResp id xmit recv group outcomes) bytes = IsHeader bytes 15 id × IsBindingAnswer bytes xmit recv group outcomes
 IsPdu side pdu bytes = ⊥

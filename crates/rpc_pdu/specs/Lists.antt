@@ -1,5 +1,5 @@
 -- The lists of a binding PDU and its answer (p_cont_list_t and p_result_list_t of C706, section 12.6.3.1).
-use Rattle.std.specs.Prelude.{Some, slice_index}
+use Rattle.std.specs.Prelude.{ℕ, ◌+◌, ◌*◌, Some, length, slice_index}
 use Rattle.rpc_pdu.specs.declared.pdus.Element.{Element}
 use Rattle.rpc_pdu.specs.declared.pdus.Outcome.{Outcome}
 use Rattle.rpc_pdu.specs.declared.syntaxes.Syntax.{Syntax}
@@ -26,3 +26,7 @@ outcome_at bytes = do
   head ← front_at 4 bytes
   syntax ← syntax_at head.1
   Some (record { result = u16_at head.0 0; reason = u16_at head.0 2; syntax = syntax.0 }, syntax.1)
+
+-- the number of bytes of a context element
+abbrev pub element_size : Element → ℕ
+element_size element = 24 + 20 * length element.transfers

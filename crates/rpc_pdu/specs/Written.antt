@@ -10,6 +10,7 @@ use Rattle.rpc_pdu.specs.declared.pdus.Pdu.{Pdu}
 use Rattle.rpc_pdu.specs.declared.pdus.Pdu.TheVariants.{Bind, Alter, Request, Cancel, Orphaned, BindAck, AlterResp, BindNak, Response, Fault}
 use Rattle.rpc_pdu.specs.Numbers.{u16_bytes, u32_bytes}
 use Rattle.rpc_pdu.specs.Headers.{has_object}
+use Rattle.rpc_pdu.specs.Lists.{element_size}
 use Rattle.rpc_pdu.specs.Syntaxes.{syntax_bytes}
 
 -- the number of the type
@@ -104,10 +105,10 @@ abbrev pub size_of : Pdu → ℕ
 size_of (Request id flags context opnum stub) = 24 + length stub
 size_of (Response id flags context hint stub) = 24 + length stub
 size_of (Fault id context status) = 32
-size_of (Bind id xmit recv group elements) = 28 + sum_by (λ element. 24 + 20 * length element.transfers) elements
+size_of (Bind id xmit recv group elements) = 28 + sum_by element_size elements
 size_of (BindAck id xmit recv group outcomes) = 32 + 24 * length outcomes
 size_of (BindNak id reason) = 24
-size_of (Alter id xmit recv group elements) = 28 + sum_by (λ element. 24 + 20 * length element.transfers) elements
+size_of (Alter id xmit recv group elements) = 28 + sum_by element_size elements
 size_of (AlterResp id xmit recv group outcomes) = 32 + 24 * length outcomes
 size_of (Cancel id) = 16
 size_of (Orphaned id) = 16
