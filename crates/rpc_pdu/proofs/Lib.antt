@@ -5,3 +5,4 @@ pub mod Stubs
 pub mod Pushes
 pub mod Sizes
 pub mod Back
+pub mod ReadBack
