@@ -6,3 +6,4 @@ pub mod Pushes
 pub mod Sizes
 pub mod Back
 pub mod ReadBack
+pub mod Places
