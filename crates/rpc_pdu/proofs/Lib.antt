@@ -7,3 +7,4 @@ pub mod Sizes
 pub mod Back
 pub mod ReadBack
 pub mod Places
+pub mod Exact
