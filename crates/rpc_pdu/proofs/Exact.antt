@@ -1,5 +1,6 @@
 -- A whole PDU in front is exactly a PDU of the grammar.
 use Rattle.std.proofs.Common.{◌≡◌, ℕ, ◌+◌, ◌*◌, ◌/◌, ◌≤◌, ◌<◌, Bool, true, false, cond, ltb, ◌==◌, List, [], length, take, drop, get_or, Option, Some, None, refl, sym, ap, subst, ◌∙◌, arith, inl, inr}
+use Rattle.std.specs.List.{sum_by}
 use Rattle.std.proofs.lemmas.Bool.{ltb-false, le-ltb, eqb-true, false≢true}
 use Rattle.std.proofs.lemmas.List.{get_or-take, take-take, length-take-le}
 use Rattle.rpc_pdu.specs.declared.pdus.Side.{Side}
@@ -201,3 +202,125 @@ exact_to side pdu size bytes e =
     let fits : least_length w.kind (get_or (take 16 bytes) 3 0) ≤ length (take size bytes) = omega (arith, enough, size_is, len) in
     let long : least_length w.kind (get_or (take size bytes) 3 0) ≤ length (take size bytes) = rw flags fits in
     (w.there, subst P (sym r.1) (is_pdu w.kind (take size bytes) pdu (header_there side bytes w.kind size w.sixteen w.there h r.0) long w.body))
+
+-- ---- a PDU is read
+
+-- a PDU by what a reader looks at
+record HasParts (side : Side) (pdu : Pdu) (bytes : List ℕ) : Type 0 where
+  side_is : side ≡ reader_of pdu
+  header : IsHeader bytes (type_of pdu) (call_id pdu)
+  long : least_length (kind_of_pdu pdu) (get_or bytes 3 0) ≤ length bytes
+  body : body_of (kind_of_pdu pdu) bytes ≡ Some pdu
+
+binding_reads : (bytes : List ℕ) (xmit recv group : ℕ) (elements : List Element) → IsBinding bytes xmit recv group elements
+    → many element_at (get_or bytes 24 0) (drop 28 bytes) ≡ Some (elements, drop (28 + sum_by element_size elements) bytes)
+binding_reads bytes xmit recv group elements is =
+    ap (λ (n : ℕ). many element_at n (drop 28 bytes)) is.count ∙ many_reads element_at ElementAt element_size elements_read_at elements bytes 28 is.elements_there
+
+answer_reads : (bytes : List ℕ) (xmit recv group : ℕ) (outcomes : List Outcome) → IsBindingAnswer bytes xmit recv group outcomes → outcomes_in bytes ≡ Some outcomes
+unfolding outcomes_in
+answer_reads bytes xmit recv group outcomes is =
+    let behind = is.behind in
+    let near = is.near in
+    let aligned = is.aligned in
+    let place : outcomes_place bytes ≡ is.place = omega (arith, behind, near, aligned) in
+    let there : ltb (length bytes) (is.place + 4) ≡ false = le-ltb _ _ is.there in
+    rw (place, there, is.count, many_reads outcome_at OutcomeAt (λ outcome. 24) outcomes_read_at outcomes bytes (is.place + 4) is.outcomes_there) refl
+
+request_long : (bytes : List ℕ) (flags context opnum : ℕ) (stub : List ℕ) → IsRequest bytes flags context opnum stub → (b : Bool) → has_object flags ≡ b → (cond b 40 24 ≤ length bytes) × (drop (cond b 40 24) bytes ≡ stub)
+request_long bytes flags context opnum stub is true e = is.object e
+request_long bytes flags context opnum stub is false e = is.plain e
+
+parts : (side : Side) (pdu : Pdu) (bytes : List ℕ) → IsPdu side pdu bytes → HasParts side pdu bytes
+unfolding body_of bind_of alter_of bind_ack_of alter_resp_of
+parts Server (Request id flags context opnum stub) bytes h =
+    let body = h.1 in
+    let r = request_long bytes flags context opnum stub body (has_object flags) refl in
+    let long : cond (has_object (get_or bytes 3 0)) 40 24 ≤ length bytes = rw body.flagged r.0 in
+    let rest : drop (cond (has_object (get_or bytes 3 0)) 40 24) bytes ≡ stub = ap (λ (f : ℕ). drop (cond (has_object f) 40 24) bytes) body.flagged ∙ r.1 in
+    let call = h.0.call_id in
+    record { side_is = refl; header = h.0; long = long; body = λ i. Some (Request (call i) (body.flagged i) (body.context_id i) (body.operation i) (rest i)) }
+parts Server (Bind id xmit recv group elements) bytes h =
+    let sizes = h.1.sizes in
+    let call = h.0.call_id in
+    let read : body_of kind.Bind bytes ≡ Some (Bind (u32_at bytes 12) (u16_at bytes 16) (u16_at bytes 18) (u32_at bytes 20) elements) = rw (binding_reads bytes xmit recv group elements h.1) refl in
+    record { side_is = refl; header = h.0; long = h.1.long; body = read ∙ (λ i. Some (Bind (call i) (sizes.xmit_frag i) (sizes.recv_frag i) (sizes.group_id i) elements)) }
+parts Server (Alter id xmit recv group elements) bytes h =
+    let sizes = h.1.sizes in
+    let call = h.0.call_id in
+    let read : body_of kind.Alter bytes ≡ Some (Alter (u32_at bytes 12) (u16_at bytes 16) (u16_at bytes 18) (u32_at bytes 20) elements) = rw (binding_reads bytes xmit recv group elements h.1) refl in
+    record { side_is = refl; header = h.0; long = h.1.long; body = read ∙ (λ i. Some (Alter (call i) (sizes.xmit_frag i) (sizes.recv_frag i) (sizes.group_id i) elements)) }
+parts Server (Cancel id) bytes h =
+    let call = h.0.call_id in
+    record { side_is = refl; header = h.0; long = h.1; body = λ i. Some (Cancel (call i)) }
+parts Server (Orphaned id) bytes h =
+    let call = h.0.call_id in
+    record { side_is = refl; header = h.0; long = h.1; body = λ i. Some (Orphaned (call i)) }
+parts Client (Response id flags context hint stub) bytes h =
+    let call = h.0.call_id in
+    let body = h.1 in
+    record { side_is = refl; header = h.0; long = body.long; body = λ i. Some (Response (call i) (body.flagged i) (body.context_id i) (body.alloc_hint i) (body.data_there i)) }
+parts Client (Fault id context status) bytes h =
+    let call = h.0.call_id in
+    let body = h.1 in
+    record { side_is = refl; header = h.0; long = body.long; body = λ i. Some (Fault (call i) (body.context_id i) (body.code i)) }
+parts Client (BindAck id xmit recv group outcomes) bytes h =
+    let sizes = h.1.sizes in
+    let call = h.0.call_id in
+    let read : body_of kind.BindAck bytes ≡ Some (BindAck (u32_at bytes 12) (u16_at bytes 16) (u16_at bytes 18) (u32_at bytes 20) outcomes) = rw (answer_reads bytes xmit recv group outcomes h.1) refl in
+    record { side_is = refl; header = h.0; long = h.1.long; body = read ∙ (λ i. Some (BindAck (call i) (sizes.xmit_frag i) (sizes.recv_frag i) (sizes.group_id i) outcomes)) }
+parts Client (BindNak id reason) bytes h =
+    let call = h.0.call_id in
+    let body = h.1 in
+    record { side_is = refl; header = h.0; long = body.long; body = λ i. Some (BindNak (call i) (body.reason_is i)) }
+parts Client (AlterResp id xmit recv group outcomes) bytes h =
+    let sizes = h.1.sizes in
+    let call = h.0.call_id in
+    let read : body_of kind.AlterResp bytes ≡ Some (AlterResp (u32_at bytes 12) (u16_at bytes 16) (u16_at bytes 18) (u32_at bytes 20) outcomes) = rw (answer_reads bytes xmit recv group outcomes h.1) refl in
+    record { side_is = refl; header = h.0; long = h.1.long; body = read ∙ (λ i. Some (AlterResp (call i) (sizes.xmit_frag i) (sizes.recv_frag i) (sizes.group_id i) outcomes)) }
+parts Server (Response id flags context hint stub) bytes h = absurd h
+parts Server (Fault id context status) bytes h = absurd h
+parts Server (BindAck id xmit recv group outcomes) bytes h = absurd h
+parts Server (BindNak id reason) bytes h = absurd h
+parts Server (AlterResp id xmit recv group outcomes) bytes h = absurd h
+parts Client (Request id flags context opnum stub) bytes h = absurd h
+parts Client (Bind id xmit recv group elements) bytes h = absurd h
+parts Client (Alter id xmit recv group elements) bytes h = absurd h
+parts Client (Cancel id) bytes h = absurd h
+parts Client (Orphaned id) bytes h = absurd h
+
+pub exact_from : (side : Side) (pdu : Pdu) (size : ℕ) (bytes : List ℕ) → size ≤ length bytes → IsPdu side pdu (take size bytes) → front side bytes ≡ Whole pdu size
+exact_from side pdu size bytes le is =
+    let p = parts side pdu (take size bytes) is in
+    let h = p.header in
+    let len = length-take-le size bytes le in
+    let least = least_16 (kind_of_pdu pdu) (get_or (take size bytes) 3 0) in
+    let enough = p.long in
+    let low : 16 ≤ size = omega (arith, len, least, enough) in
+    let at : (i : ℕ) → i < 16 → get_or (take 16 bytes) i 0 ≡ get_or (take size bytes) i 0 = λ i lt. sym (head_at bytes size i low lt) in
+    let b1 = at 1 (omega arith) in
+    let b8 = at 8 (omega arith) in
+    let b9 = at 9 (omega arith) in
+    let b10 = at 10 (omega arith) in
+    let b11 = at 11 (omega arith) in
+    let minor = h.minor in
+    let frag = h.frag_length in
+    let auth = h.auth_length in
+    let known : kind_of side (get_or (take 16 bytes) 2 0) ≡ Some (kind_of_pdu pdu) = ap (λ (t : ℕ). kind_of side t) (at 2 (omega arith) ∙ h.kind) ∙ ap (λ (s : Side). kind_of s (type_of pdu)) p.side_is ∙ kind_is_read pdu in
+    let size_is : u16_at (take 16 bytes) 8 ≡ size = omega (arith, b8, b9, frag, len) in
+    let fits : least_length (kind_of_pdu pdu) (get_or (take size bytes) 3 0) ≤ u16_at (take 16 bytes) 8 = omega (arith, enough, size_is, len) in
+    let long : IsLong side (take 16 bytes) (kind_of_pdu pdu) size =
+      record {
+        version = at 0 (omega arith) ∙ h.version;
+        minor = omega (arith, b1, minor);
+        integers = at 4 (omega arith) ∙ h.integers;
+        floats = at 5 (omega arith) ∙ h.floats;
+        known = known;
+        enough = rw (at 3 (omega arith)) fits;
+        verifier = omega (arith, b10, b11, auth);
+        size_is = size_is;
+      } in
+    has_front side bytes pdu size (record { kind = kind_of_pdu pdu; header = long_header side (take 16 bytes) (kind_of_pdu pdu) size long; sixteen = low; there = le; body = p.body })
+
+pub exact : IsExact
+exact = λ side pdu size bytes. (exact_to side pdu size bytes, λ h. exact_from side pdu size bytes h.0 h.1)

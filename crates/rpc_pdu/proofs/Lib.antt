@@ -8,3 +8,5 @@ pub mod Back
 pub mod ReadBack
 pub mod Places
 pub mod Exact
+pub mod Divided
+pub mod WrittenPdu
