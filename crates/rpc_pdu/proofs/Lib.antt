@@ -1,0 +1,12 @@
+pub mod Many
+pub mod HeaderFacts
+pub mod Whole
+pub mod Stubs
+pub mod Pushes
+pub mod Sizes
+pub mod Back
+pub mod ReadBack
+pub mod Places
+pub mod Exact
+pub mod Divided
+pub mod WrittenPdu

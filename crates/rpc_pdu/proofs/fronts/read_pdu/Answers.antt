@@ -1,0 +1,58 @@
+use Rattle.std.proofs.Common.{◌≡◌, ◌≤◌, ◌<◌, List, ℕ, length, get_or, take, sym, ap, ◌∙◌, arith, rules, w8}
+use Rattle.std.proofs.Math.Facts.{Fits-lt-pow}
+use Rattle.std.proofs.lemmas.List.{get_or-take, length-take-le}
+use Rattle.rpc_pdu.specs.declared.headers.Header.TheVariants.{Long}
+use Rattle.rpc_pdu.specs.Headers.{least_length, header_of}
+use Rattle.rpc_pdu.specs.Bodies.{body_of}
+use Rattle.rpc_pdu.specs.Front.{front}
+use Rattle.rpc_pdu.proofs.HeaderFacts.{header_long, long_16, bad_early}
+use Rattle.rpc_pdu.proofs.Whole.{HasWhole, has_front, head_at}
+use Rattle.rpc_pdu.proofs.Stubs.{stub_within}
+use Rattle.rpc_pdu.proofs.fronts.read_pdu.Goals as goal
+
+pub body_of-requires-clause-header : goal.body_of-requires-clause-header
+body_of-requires-clause-header c =
+    let low = long_16 c.args.side c.split_at.result.0.now c.in-Long.kind c.in-Long.size (sym c.in-Long.ensures) in
+    let len : length c.split_at-in-Long.result.0.now ≡ c.in-Long.size = ap length c.split_at-in-Long.ensures.front ∙ length-take-le _ _ c.if-bytes-used.false in
+    omega (arith, low, len)
+
+pub body_of-requires-clause-long : goal.body_of-requires-clause-long
+body_of-requires-clause-long c =
+    let h = header_long c.args.side c.split_at.result.0.now c.in-Long.kind c.in-Long.size (sym c.in-Long.ensures) in
+    let low = long_16 c.args.side c.split_at.result.0.now c.in-Long.kind c.in-Long.size (sym c.in-Long.ensures) in
+    let len : length c.split_at-in-Long.result.0.now ≡ c.in-Long.size = ap length c.split_at-in-Long.ensures.front ∙ length-take-le _ _ c.if-bytes-used.false in
+    let flags : get_or c.split_at-in-Long.result.0.now 3 0 ≡ get_or c.split_at.result.0.now 3 0 =
+      ap (λ (x : List ℕ). get_or x 3 0) c.split_at-in-Long.ensures.front ∙ head_at c.args.bytes.now c.in-Long.size 3 low (omega arith) ∙ ap (λ (x : List ℕ). get_or x 3 0) (sym c.split_at.ensures.front) in
+    let enough = h.enough in
+    let is = h.size_is in
+    let fits : least_length c.in-Long.kind (get_or c.split_at.result.0.now 3 0) ≤ length c.split_at-in-Long.result.0.now = omega (arith, enough, is, len) in
+    rw flags fits
+
+pub returns-in-Bad-clause-front : goal.returns-in-Bad-clause-front
+unfolding front
+returns-in-Bad-clause-front c =
+    let early = bad_early c.args.side c.split_at.result.0.now c.in-Bad.place c.in-Bad.cause (sym c.in-Bad.ensures) in
+    let long = c.if-bytes-lt16.false in
+    (search rules, omega (arith, early, long))
+
+pub returns-in-Ok-clause-front : goal.returns-in-Ok-clause-front
+returns-in-Ok-clause-front c =
+    let low = long_16 c.args.side c.split_at.result.0.now c.in-Long.kind c.in-Long.size (sym c.in-Long.ensures) in
+    let header : header_of c.args.side (take 16 c.args.bytes.now) ≡ Long c.in-Long.kind c.in-Long.size = ap (λ (x : List ℕ). header_of c.args.side x) (sym c.split_at.ensures.front) ∙ sym c.in-Long.ensures in
+    (
+      has_front c.args.side c.args.bytes.now c.in-Ok.pdu c.in-Long.size (record { kind = c.in-Long.kind; header = header; sixteen = low; there = c.if-bytes-used.false; body = ap (λ (x : List ℕ). body_of c.in-Long.kind x) (sym c.split_at-in-Long.ensures.front) ∙ c.in-Ok.ensures }),
+      low,
+      c.if-bytes-used.false,
+    )
+
+pub returns-in-Ok-clause-size : goal.returns-in-Ok-clause-size
+returns-in-Ok-clause-size c =
+    let len : length c.split_at-in-Long.result.0.now ≡ c.in-Long.size = ap length c.split_at-in-Long.ensures.front ∙ length-take-le _ _ c.if-bytes-used.false in
+    let stub = stub_within c.in-Long.kind c.split_at-in-Long.result.0.now c.in-Ok.pdu c.in-Ok.ensures in
+    let h = header_long c.args.side c.split_at.result.0.now c.in-Long.kind c.in-Long.size (sym c.in-Long.ensures) in
+    let is = h.size_is in
+    let low : get_or c.split_at.result.0.now 8 0 ≡ get_or c.args.bytes.now 8 0 = ap (λ (x : List ℕ). get_or x 8 0) c.split_at.ensures.front ∙ get_or-take 16 c.args.bytes.now 8 0 (omega arith) in
+    let high : get_or c.split_at.result.0.now 9 0 ≡ get_or c.args.bytes.now 9 0 = ap (λ (x : List ℕ). get_or x 9 0) c.split_at.ensures.front ∙ get_or-take 16 c.args.bytes.now 9 0 (omega arith) in
+    let eight : get_or c.args.bytes.now 8 0 < 256 = Fits-lt-pow {w = w8} (c.type_inv.bytes 8) in
+    let nine : get_or c.args.bytes.now 9 0 < 256 = Fits-lt-pow {w = w8} (c.type_inv.bytes 9) in
+    (omega (arith, is, low, high, eight, nine), rw len at stub)

@@ -1,0 +1,5 @@
+use Rattle.rpc_pdu.proofs.Divided.{all_divide_once}
+use Rattle.rpc_pdu.proofs.laws.bytes_divide_once.Goals as goal
+
+pub returns : goal.returns
+returns c = all_divide_once

@@ -1,0 +1,5 @@
+use Rattle.rpc_pdu.proofs.Whole.{stable}
+use Rattle.rpc_pdu.proofs.laws.front_is_stable.Goals as goal
+
+pub returns : goal.returns
+returns c = stable

@@ -1,0 +1,68 @@
+-- What a whole PDU says, by its type (C706, section 12.6.4).
+use Rattle.std.specs.Prelude.{ℕ, ◌+◌, ◌*◌, ◌/◌, List, length, drop, Option, Some, None, if◌then◌else◌, nat_lt, slice_index}
+use Rattle.rpc_pdu.specs.declared.headers.Kind.{Kind}
+use Rattle.rpc_pdu.specs.declared.headers.Kind.TheVariants as kind
+use Rattle.rpc_pdu.specs.declared.pdus.Outcome.{Outcome}
+use Rattle.rpc_pdu.specs.declared.pdus.Pdu.{Pdu}
+use Rattle.rpc_pdu.specs.declared.pdus.Pdu.TheVariants.{Bind, Alter, Request, Cancel, Orphaned, BindAck, AlterResp, BindNak, Response, Fault}
+use Rattle.rpc_pdu.specs.Numbers.{u16_at, u32_at}
+use Rattle.rpc_pdu.specs.Headers.{has_object}
+use Rattle.rpc_pdu.specs.Reading.{◌>>=◌, many}
+use Rattle.rpc_pdu.specs.Lists.{element_at, outcome_at}
+
+unfoldable pub bind_of : List ℕ → Option Pdu
+bind_of bytes = do
+  elements ← many element_at (slice_index bytes 24) (drop 28 bytes)
+  Some (Bind (u32_at bytes 12) (u16_at bytes 16) (u16_at bytes 18) (u32_at bytes 20) elements.0)
+
+unfoldable pub alter_of : List ℕ → Option Pdu
+alter_of bytes = do
+  elements ← many element_at (slice_index bytes 24) (drop 28 bytes)
+  Some (Alter (u32_at bytes 12) (u16_at bytes 16) (u16_at bytes 18) (u32_at bytes 20) elements.0)
+
+-- where the number of outcomes stands: at the first multiple of 4 behind the secondary address, whose length stands at 24
+abbrev pub outcomes_place : List ℕ → ℕ
+outcomes_place bytes = (u16_at bytes 24 + 29) / 4 * 4
+
+unfoldable pub outcomes_in : List ℕ → Option (List Outcome)
+outcomes_in bytes =
+    if nat_lt (length bytes) (outcomes_place bytes + 4) then None
+    else (do
+      outcomes ← many outcome_at (slice_index bytes (outcomes_place bytes)) (drop (outcomes_place bytes + 4) bytes)
+      Some outcomes.0)
+
+unfoldable pub bind_ack_of : List ℕ → Option Pdu
+bind_ack_of bytes = do
+  outcomes ← outcomes_in bytes
+  Some (BindAck (u32_at bytes 12) (u16_at bytes 16) (u16_at bytes 18) (u32_at bytes 20) outcomes)
+
+unfoldable pub alter_resp_of : List ℕ → Option Pdu
+alter_resp_of bytes = do
+  outcomes ← outcomes_in bytes
+  Some (AlterResp (u32_at bytes 12) (u16_at bytes 16) (u16_at bytes 18) (u32_at bytes 20) outcomes)
+
+-- where the stub of a request begins: an object UUID is passed over
+abbrev pub stub_place : ℕ → ℕ
+stub_place flags = if has_object flags then 40 else 24
+
+abbrev pub request_of : List ℕ → Option Pdu
+request_of bytes = Some (Request (u32_at bytes 12) (slice_index bytes 3) (u16_at bytes 20) (u16_at bytes 22) (drop (stub_place (slice_index bytes 3)) bytes))
+
+abbrev pub response_of : List ℕ → Option Pdu
+response_of bytes = Some (Response (u32_at bytes 12) (slice_index bytes 3) (u16_at bytes 20) (u32_at bytes 16) (drop 24 bytes))
+
+abbrev pub fault_of : List ℕ → Pdu
+fault_of bytes = Fault (u32_at bytes 12) (u16_at bytes 20) (u32_at bytes 24)
+
+-- what a whole PDU of a type says, if its body has a reading
+unfoldable pub body_of : Kind → List ℕ → Option Pdu
+body_of kind.Request bytes = request_of bytes
+body_of kind.Response bytes = response_of bytes
+body_of kind.Fault bytes = Some (fault_of bytes)
+body_of kind.Bind bytes = bind_of bytes
+body_of kind.BindAck bytes = bind_ack_of bytes
+body_of kind.BindNak bytes = Some (BindNak (u32_at bytes 12) (u16_at bytes 16))
+body_of kind.Alter bytes = alter_of bytes
+body_of kind.AlterResp bytes = alter_resp_of bytes
+body_of kind.Cancel bytes = Some (Cancel (u32_at bytes 12))
+body_of kind.Orphaned bytes = Some (Orphaned (u32_at bytes 12))

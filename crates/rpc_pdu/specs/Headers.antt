@@ -1,0 +1,55 @@
+-- The header of a PDU (C706, section 12.6.3.1), and which of it is refused: causes 1 Version, 2 Representation, 3 Ptype, 4 Length,
+-- 5 Verifier, each with its place.
+use Rattle.std.specs.Prelude.{ℕ, ◌==◌, Bool, List, Option, Some, None, if◌then◌else◌, nat_lt, nat_le, not, ◌&&◌, bit_and, slice_index}
+use Rattle.rpc_pdu.specs.declared.pdus.Side.{Side}
+use Rattle.rpc_pdu.specs.declared.pdus.Side.TheVariants.{Server, Client}
+use Rattle.rpc_pdu.specs.declared.headers.Kind.{Kind}
+use Rattle.rpc_pdu.specs.declared.headers.Kind.TheVariants.{Request, Response, Fault, Bind, BindAck, BindNak, Alter, AlterResp, Cancel, Orphaned}
+use Rattle.rpc_pdu.specs.declared.headers.Header.{Header}
+use Rattle.rpc_pdu.specs.declared.headers.Header.TheVariants.{Bad, Long}
+use Rattle.rpc_pdu.specs.Numbers.{u16_at}
+
+-- the type with this number, where the side reads it
+abbrev pub kind_of : Side → ℕ → Option Kind
+kind_of Server ptype =
+    if ptype == 0 then Some Request
+    else (if ptype == 11 then Some Bind
+    else (if ptype == 14 then Some Alter
+    else (if ptype == 18 then Some Cancel
+    else (if ptype == 19 then Some Orphaned else None))))
+kind_of Client ptype =
+    if ptype == 2 then Some Response
+    else (if ptype == 3 then Some Fault
+    else (if ptype == 12 then Some BindAck
+    else (if ptype == 13 then Some BindNak
+    else (if ptype == 15 then Some AlterResp else None))))
+
+-- flag PFC_OBJECT_UUID
+abbrev pub has_object : ℕ → Bool
+has_object flags = not (bit_and flags 0x80 == 0)
+
+-- the length that a PDU has at least, by its type and flags
+abbrev pub least_length : Kind → ℕ → ℕ
+least_length Request flags = if has_object flags then 40 else 24
+least_length Response flags = 24
+least_length Fault flags = 32
+least_length Bind flags = 28
+least_length BindAck flags = 32
+least_length BindNak flags = 18
+least_length Alter flags = 28
+least_length AlterResp flags = 32
+least_length Cancel flags = 16
+least_length Orphaned flags = 16
+
+abbrev pub sized : List ℕ → Option Kind → Header
+sized head None = Bad 2 3
+sized head (Some known) =
+    if nat_lt (u16_at head 8) (least_length known (slice_index head 3)) then Bad 8 4
+    else (if u16_at head 10 == 0 then Long known (u16_at head 8) else Bad 10 5)
+
+-- the first of causes 1 to 5 that holds of 16 bytes, or the type and the length of the PDU
+unfoldable pub header_of : Side → List ℕ → Header
+header_of side head =
+    if not ((slice_index head 0 == 5) && nat_le (slice_index head 1) 1) then Bad 0 1
+    else (if not ((slice_index head 4 == 0x10) && (slice_index head 5 == 0)) then Bad 4 2
+    else sized head (kind_of side (slice_index head 2)))

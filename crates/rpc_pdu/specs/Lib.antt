@@ -1,0 +1,11 @@
+pub mod Numbers
+pub mod Reading
+pub mod Syntaxes
+pub mod Lists
+pub mod Headers
+pub mod Bodies
+pub mod Front
+pub mod Reads
+pub mod Grammar
+pub mod Written
+pub mod Laws

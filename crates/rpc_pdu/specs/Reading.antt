@@ -1,0 +1,41 @@
+-- Reading fields one after the other: a reader gives a value and the bytes after it, or nothing where bytes are missing.
+use Rattle.std.specs.Prelude.{◌≡◌, ℕ, zero, suc, List, [], ◌∷◌, length, take, drop, Option, Some, None, Result, Ok, Err, if◌then◌else◌, nat_lt}
+use Rattle.rpc_pdu.specs.declared.lists.Lack.{Lack}
+use Rattle.rpc_pdu.specs.declared.lists.Lack.TheVariants.{Memory, Short}
+
+abbrev pub Reader : Type 0 → Type 0
+Reader A = List ℕ → Option (A × List ℕ)
+
+infixl 10 ◌>>=◌
+abbrev pub ◌>>=◌ : {A B : Type 0} → Option A → (A → Option B) → Option B
+(Some x) >>= f = f x
+None >>= f = None
+
+-- so many bytes
+abbrev pub front_at : ℕ → Reader (List ℕ)
+front_at n bytes = if nat_lt (length bytes) n then None else Some (take n bytes, drop n bytes)
+
+-- so many of what one reader reads
+unfoldable pub many : {A : Type 0} → Reader A → ℕ → Reader (List A)
+many one zero bytes = Some ([], bytes)
+many one (suc n) bytes = do
+  first ← one bytes
+  others ← many one n first.1
+  Some (first.0 ∷ others.0, others.1)
+
+-- what code that reads gives, with the bytes after it, unless memory runs out
+abbrev pub Fails : {Y : Type 0} → Lack → Option Y → Type 0
+Fails Memory read = Unit {0}
+Fails Short read = read ≡ None
+
+abbrev pub GivesBy : {X A : Type 0} → (X → A) → Result X Lack → List ℕ → Option (A × List ℕ) → Type 0
+GivesBy view (Ok x) after read = read ≡ Some (view x, after)
+GivesBy view (Err e) after read = Fails e read
+
+abbrev pub Gives : {A : Type 0} → Result A Lack → List ℕ → Option (A × List ℕ) → Type 0
+Gives result after read = GivesBy (λ x. x) result after read
+
+-- the same of a value alone
+abbrev pub Says : {A : Type 0} → Result A Lack → Option A → Type 0
+Says (Ok x) read = read ≡ Some x
+Says (Err e) read = Fails e read

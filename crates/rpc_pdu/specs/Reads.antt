@@ -1,0 +1,35 @@
+-- What read_pdu answers.
+use Rattle.std.specs.Prelude.{◌≡◌, ℕ, ◌-◌, ◌≤◌, List, length}
+use Rattle.rpc_pdu.specs.declared.pdus.Side.{Side}
+use Rattle.rpc_pdu.specs.declared.pdus.Pdu.{Pdu}
+use Rattle.rpc_pdu.specs.declared.pdus.Pdu.TheVariants.{Bind, Alter, Request, Cancel, Orphaned, BindAck, AlterResp, BindNak, Response, Fault}
+use Rattle.rpc_pdu.specs.declared.fronts.ReadPdu.{ReadPdu}
+use Rattle.rpc_pdu.specs.declared.fronts.ReadPdu.TheVariants as read
+use Rattle.rpc_pdu.specs.Front.{Whole, Rest, Refused, front}
+
+-- what is read is the front, unless memory ran out
+abbrev pub IsRead : ReadPdu → Side → List ℕ → Type 0
+IsRead (read.Got pdu used) side bytes = (front side bytes ≡ Whole pdu used) × (16 ≤ used) × (used ≤ length bytes)
+IsRead read.More side bytes = front side bytes ≡ Rest
+IsRead (read.Refused place cause ptype id) side bytes = (front side bytes ≡ Refused place cause ptype id) × (place ≤ length bytes)
+IsRead read.NoMemory side bytes = Unit {0}
+
+-- the number of stub bytes of a request or a response
+abbrev pub stub_length : Pdu → ℕ
+stub_length (Request id flags context opnum stub) = length stub
+stub_length (Response id flags context hint stub) = length stub
+stub_length (Bind id xmit recv group elements) = 0
+stub_length (Alter id xmit recv group elements) = 0
+stub_length (Cancel id) = 0
+stub_length (Orphaned id) = 0
+stub_length (BindAck id xmit recv group outcomes) = 0
+stub_length (AlterResp id xmit recv group outcomes) = 0
+stub_length (BindNak id reason) = 0
+stub_length (Fault id context status) = 0
+
+-- a PDU that is read has at most 65,535 bytes, and its stub at most the bytes behind the first 24
+abbrev pub IsWithin : ReadPdu → Type 0
+IsWithin (read.Got pdu used) = (used ≤ 65535) × (stub_length pdu ≤ used - 24)
+IsWithin read.More = Unit {0}
+IsWithin (read.Refused place cause ptype id) = Unit {0}
+IsWithin read.NoMemory = Unit {0}

@@ -1,0 +1,159 @@
+// What a whole PDU says, by its type.
+ghost use Rattle.std.specs.Prelude.{◌≡◌, ◌≤◌, length, slice_index};
+ghost use Rattle.rpc_pdu.specs.Headers.{least_length};
+ghost use Rattle.rpc_pdu.specs.Reading.{Says};
+ghost use Rattle.rpc_pdu.specs.Bodies.{stub_place, bind_of, alter_of, request_of, response_of, outcomes_place, outcomes_in, bind_ack_of, alter_resp_of, fault_of, body_of};
+
+use crate::headers::{Kind, has_object};
+use crate::lists::{Fields, Lack};
+use crate::numbers::{u16_at, u32_at};
+use crate::pdus::{Outcome, Pdu};
+use acct_base::{Seq, rest_of};
+use std::alloc::Global;
+
+#[tactic(auto, unfolding(crate::specs::Bodies::bind_of))]
+fn bind_of(alloc: Global, bytes: &[u8]) -> Result<Pdu, Lack>
+    requires { 28 ≤ length bytes.now }
+    ensures { Says result (bind_of bytes.now) }
+{
+    let elements = Fields::new(rest_of(bytes, 28)).elements(alloc, bytes[24])?;
+    Ok(Pdu::Bind {
+        id: u32_at(bytes, 12),
+        xmit: u16_at(bytes, 16),
+        recv: u16_at(bytes, 18),
+        group: u32_at(bytes, 20),
+        elements,
+    })
+}
+
+#[tactic(auto, unfolding(crate::specs::Bodies::alter_of))]
+fn alter_of(alloc: Global, bytes: &[u8]) -> Result<Pdu, Lack>
+    requires { 28 ≤ length bytes.now }
+    ensures { Says result (alter_of bytes.now) }
+{
+    let elements = Fields::new(rest_of(bytes, 28)).elements(alloc, bytes[24])?;
+    Ok(Pdu::Alter {
+        id: u32_at(bytes, 12),
+        xmit: u16_at(bytes, 16),
+        recv: u16_at(bytes, 18),
+        group: u32_at(bytes, 20),
+        elements,
+    })
+}
+
+/// Where the number of outcomes stands.
+fn outcomes_place(bytes: &[u8]) -> usize
+    requires { 26 ≤ length bytes.now }
+    ensures { result ≡ outcomes_place bytes.now }
+{
+    (u16_at(bytes, 24) as usize + 29) / 4 * 4
+}
+
+#[tactic(auto, unfolding(crate::specs::Bodies::outcomes_in))]
+fn outcomes_in(alloc: Global, bytes: &[u8]) -> Result<Seq<Outcome>, Lack>
+    requires { 26 ≤ length bytes.now }
+    ensures { Says result (outcomes_in bytes.now) }
+{
+    let place = outcomes_place(bytes);
+    if bytes.len() < place + 4 {
+        return Err(Lack::Short);
+    }
+    Fields::new(rest_of(bytes, place + 4)).outcomes(alloc, bytes[place])
+}
+
+#[tactic(auto, unfolding(crate::specs::Bodies::bind_ack_of))]
+fn bind_ack_of(alloc: Global, bytes: &[u8]) -> Result<Pdu, Lack>
+    requires { 26 ≤ length bytes.now }
+    ensures { Says result (bind_ack_of bytes.now) }
+{
+    let outcomes = outcomes_in(alloc, bytes)?;
+    Ok(Pdu::BindAck {
+        id: u32_at(bytes, 12),
+        xmit: u16_at(bytes, 16),
+        recv: u16_at(bytes, 18),
+        group: u32_at(bytes, 20),
+        outcomes,
+    })
+}
+
+#[tactic(auto, unfolding(crate::specs::Bodies::alter_resp_of))]
+fn alter_resp_of(alloc: Global, bytes: &[u8]) -> Result<Pdu, Lack>
+    requires { 26 ≤ length bytes.now }
+    ensures { Says result (alter_resp_of bytes.now) }
+{
+    let outcomes = outcomes_in(alloc, bytes)?;
+    Ok(Pdu::AlterResp {
+        id: u32_at(bytes, 12),
+        xmit: u16_at(bytes, 16),
+        recv: u16_at(bytes, 18),
+        group: u32_at(bytes, 20),
+        outcomes,
+    })
+}
+
+fn request_of(alloc: Global, bytes: &[u8]) -> Result<Pdu, Lack>
+    requires { least_length Kind.Request (slice_index bytes.now 3) ≤ length bytes.now }
+    ensures { Says result (request_of bytes.now) }
+{
+    let flags = bytes[3];
+    let place = if has_object(flags) { 40 } else { 24 };
+    Ok(Pdu::Request {
+        id: u32_at(bytes, 12),
+        flags,
+        context: u16_at(bytes, 20),
+        opnum: u16_at(bytes, 22),
+        stub: Seq::copy_of(alloc, rest_of(bytes, place))?,
+    })
+}
+
+fn response_of(alloc: Global, bytes: &[u8]) -> Result<Pdu, Lack>
+    requires { 24 ≤ length bytes.now }
+    ensures { Says result (response_of bytes.now) }
+{
+    Ok(Pdu::Response {
+        id: u32_at(bytes, 12),
+        flags: bytes[3],
+        context: u16_at(bytes, 20),
+        hint: u32_at(bytes, 16),
+        stub: Seq::copy_of(alloc, rest_of(bytes, 24))?,
+    })
+}
+
+fn fault_of(bytes: &[u8]) -> Pdu
+    requires { 28 ≤ length bytes.now }
+    ensures { result ≡ fault_of bytes.now }
+{
+    Pdu::Fault {
+        id: u32_at(bytes, 12),
+        context: u16_at(bytes, 20),
+        status: u32_at(bytes, 24),
+    }
+}
+
+/// What a whole PDU says, if its body has a reading.
+#[tactic(auto, unfolding(crate::specs::Bodies::body_of))]
+pub fn body_of(alloc: Global, kind: Kind, bytes: &[u8]) -> Result<Pdu, Lack>
+    requires header { 16 ≤ length bytes.now }
+    requires long { least_length kind (slice_index bytes.now 3) ≤ length bytes.now }
+    ensures { Says result (body_of kind bytes.now) }
+{
+    match kind {
+        Kind::Request => request_of(alloc, bytes),
+        Kind::Response => response_of(alloc, bytes),
+        Kind::Fault => Ok(fault_of(bytes)),
+        Kind::Bind => bind_of(alloc, bytes),
+        Kind::Alter => alter_of(alloc, bytes),
+        Kind::BindAck => bind_ack_of(alloc, bytes),
+        Kind::AlterResp => alter_resp_of(alloc, bytes),
+        Kind::BindNak => Ok(Pdu::BindNak {
+            id: u32_at(bytes, 12),
+            reason: u16_at(bytes, 16),
+        }),
+        Kind::Cancel => Ok(Pdu::Cancel {
+            id: u32_at(bytes, 12),
+        }),
+        Kind::Orphaned => Ok(Pdu::Orphaned {
+            id: u32_at(bytes, 12),
+        }),
+    }
+}

@@ -1,0 +1,104 @@
+// The 16 bytes that each PDU begins with.
+ghost use Rattle.std.specs.Prelude.{◌≡◌, length};
+ghost use Rattle.rpc_pdu.specs.Headers.{kind_of, has_object, least_length, header_of};
+
+use crate::numbers::u16_at;
+use crate::pdus::Side;
+
+/// The types of PDUs that are read.
+#[derive(Clone, Copy, Debug, PartialEq, Eq)]
+pub enum Kind {
+    Request,
+    Response,
+    Fault,
+    Bind,
+    BindAck,
+    BindNak,
+    Alter,
+    AlterResp,
+    Cancel,
+    Orphaned,
+}
+
+/// What a header comes to.
+pub enum Header {
+    /// The PDU is refused.
+    Bad { place: usize, cause: u8 },
+    /// It is a PDU of a type that is read, so many bytes long.
+    Long { kind: Kind, size: u16 },
+}
+
+/// The type with this number, where the side reads it.
+fn kind_of(side: Side, ptype: u8) -> Option<Kind>
+    ensures { result ≡ kind_of side ptype }
+{
+    match side {
+        Side::Server => match ptype {
+            0 => Some(Kind::Request),
+            11 => Some(Kind::Bind),
+            14 => Some(Kind::Alter),
+            18 => Some(Kind::Cancel),
+            19 => Some(Kind::Orphaned),
+            _ => None,
+        },
+        Side::Client => match ptype {
+            2 => Some(Kind::Response),
+            3 => Some(Kind::Fault),
+            12 => Some(Kind::BindAck),
+            13 => Some(Kind::BindNak),
+            15 => Some(Kind::AlterResp),
+            _ => None,
+        },
+    }
+}
+
+/// Whether a request has an object UUID in front of its stub.
+pub fn has_object(flags: u8) -> bool
+    ensures { result ≡ has_object flags }
+{
+    flags & 0x80 != 0
+}
+
+/// The length that a PDU has at least.
+fn least_length(kind: Kind, flags: u8) -> u16
+    ensures { result ≡ least_length kind flags }
+{
+    match kind {
+        Kind::Request => { if has_object(flags) { 40 } else { 24 } }
+        Kind::Response => 24,
+        Kind::Fault | Kind::BindAck | Kind::AlterResp => 32,
+        Kind::Bind | Kind::Alter => 28,
+        Kind::BindNak => 18,
+        Kind::Cancel | Kind::Orphaned => 16,
+    }
+}
+
+/// What a header comes to, by the order of the causes.
+#[tactic(auto, unfolding(crate::specs::Headers::header_of))]
+pub fn header_of(side: Side, head: &[u8]) -> Header
+    requires { length head.now ≡ 16 }
+    ensures { result ≡ header_of side head.now }
+{
+    if head[0] != 5 || head[1] > 1 {
+        return Header::Bad { place: 0, cause: 1 };
+    }
+    if head[4] != 0x10 || head[5] != 0 {
+        return Header::Bad { place: 4, cause: 2 };
+    }
+    match kind_of(side, head[2]) {
+        None => Header::Bad { place: 2, cause: 3 },
+        Some(kind) => {
+            let size = u16_at(head, 8);
+            if size < least_length(kind, head[3]) {
+                return Header::Bad { place: 8, cause: 4 };
+            }
+            if u16_at(head, 10) != 0 {
+                return Header::Bad {
+                    place: 10,
+                    cause: 5,
+                };
+            }
+            Header::Long { kind, size }
+        }
+    }
+}
