@@ -1,5 +1,5 @@
 -- One more event at the end of a history.
-use Rattle.std.proofs.Common.{◌≡◌, ℕ, ◌==◌, Bool, true, false, cond, List, [], ◌∷◌, ◌++◌, refl, sym, ap, subst, append_assoc}
+use Rattle.std.proofs.Common.{◌≡◌, ℕ, ◌==◌, Bool, true, false, cond, List, [], ◌∷◌, ◌++◌, refl, sym, ap, subst, append_assoc, length, arith}
 use Rattle.std.proofs.lemmas.List.{append-nil}
 use Rattle.acct_machine.specs.declared.config.Config.{Config}
 use Rattle.acct_machine.specs.declared.entry.Entry.{Entry}
@@ -39,3 +39,16 @@ replies-append s k (Gone conn ∷ history) es = replies-append (step s (Gone con
 replies-append s k (Called conn call verdict bytes ∷ history) es =
     let next : State = step s (Called conn call verdict bytes) in
     one_more (conn == k) (acted s conn call verdict).1 (replies_from next k (history ++ es)) (replies_from next k history) (replies_from (state_after next history) k es) (replies-append next k history es)
+
+-- as many replies as calls
+longer : {A B : Type 0} (here : Bool) (x : A) (y : B) (xs : List A) (ys : List B) → length xs ≡ length ys → length (cond here (x ∷ xs) xs) ≡ length (cond here (y ∷ ys) ys)
+longer true x y xs ys is = omega (arith, is)
+longer false x y xs ys is = is
+
+pub length-replies : (s : State) (k : ℕ) (history : List Entry) → length (replies_from s k history) ≡ length (calls_of k history)
+length-replies s k [] = refl
+length-replies s k (Opened conn listener ∷ history) = length-replies (step s (Opened conn listener)) k history
+length-replies s k (Gone conn ∷ history) = length-replies (step s (Gone conn)) k history
+length-replies s k (Called conn call verdict bytes ∷ history) =
+    let next : State = step s (Called conn call verdict bytes) in
+    longer (conn == k) (acted s conn call verdict).1 (call, bytes) (replies_from next k history) (calls_of k history) (length-replies next k history)

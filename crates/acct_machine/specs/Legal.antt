@@ -53,3 +53,7 @@ calls_of k [] = []
 calls_of k (Called conn call verdict bytes ∷ es) = if conn == k then (call, bytes) ∷ calls_of k es else calls_of k es
 calls_of k (Opened conn listener ∷ es) = calls_of k es
 calls_of k (Gone conn ∷ es) = calls_of k es
+
+-- each call has a reply
+abbrev pub RepliesToEach : Type 0
+RepliesToEach = (k : ℕ) (history : List Entry) → length (replies k history) ≡ length (calls_of k history)

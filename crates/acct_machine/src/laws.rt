@@ -1,4 +1,5 @@
 // Laws of the machine's histories: each function does nothing, and its contract is the law.
+ghost use Rattle.acct_machine.specs.Legal.{RepliesToEach};
 ghost use Rattle.acct_machine.specs.Sound.{KeepsSound};
 ghost use Rattle.acct_machine.specs.Denial.{DeniesExactly, DeniesRan};
 ghost use Rattle.acct_machine.specs.Grants.{GrantsInHistory};
@@ -21,4 +22,9 @@ pub fn access_is_denied_exactly()
 /// the call's opening gave.
 pub fn grants_come_from_openings()
     ensures { GrantsInHistory }
+{}
+
+/// A connection has as many replies as calls in each history.
+pub fn each_call_has_a_reply()
+    ensures { RepliesToEach }
 {}

@@ -22,7 +22,10 @@ pub use calls::{Args, Call, Face, Handle, Outs, Reply};
 pub use checks::Access;
 pub use config::{Config, Listener};
 pub use entry::{Entry, Verdict};
-pub use laws::{access_is_denied_exactly, grants_come_from_openings, kept_states_are_sound};
+pub use laws::{
+    access_is_denied_exactly, each_call_has_a_reply, grants_come_from_openings,
+    kept_states_are_sound,
+};
 pub use machine::{Acted, Machine, Opened};
 pub use state::{Conn, Held, Object};
 
