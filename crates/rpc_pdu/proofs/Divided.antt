@@ -54,9 +54,9 @@ once side bytes (p ∷ ps) end h [] rest k = absurd (no_part side bytes rest p h
 once side bytes (p ∷ ps) end h (q ∷ qs) rest k =
     let same = whole_is q.0 p.0 (length q.1) (length p.1) (sym (front_part side bytes q k.0 k.1 k.2) ∙ front_part side bytes p h.0 h.1 h.2) in
     let first : q.1 ≡ p.1 =
-      sym (take-append_seam q.1 k.0) ∙ ap (λ (x : List ℕ). take (length q.1) x) (sym k.1) ∙ ap (λ (n : ℕ). take n bytes) same.1 ∙ ap (λ (x : List ℕ). take (length p.1) x) h.1 ∙ take-append_seam p.1 h.0 in
+    sym (take-append_seam q.1 k.0) ∙ ap (λ (x : List ℕ). take (length q.1) x) (sym k.1) ∙ ap (λ (n : ℕ). take n bytes) same.1 ∙ ap (λ (x : List ℕ). take (length p.1) x) h.1 ∙ take-append_seam p.1 h.0 in
     let after : k.0 ≡ h.0 =
-      sym (drop-append_seam q.1 k.0) ∙ ap (λ (x : List ℕ). drop (length q.1) x) (sym k.1) ∙ ap (λ (n : ℕ). drop n bytes) same.1 ∙ ap (λ (x : List ℕ). drop (length p.1) x) h.1 ∙ drop-append_seam p.1 h.0 in
+    sym (drop-append_seam q.1 k.0) ∙ ap (λ (x : List ℕ). drop (length q.1) x) (sym k.1) ∙ ap (λ (n : ℕ). drop n bytes) same.1 ∙ ap (λ (x : List ℕ). drop (length p.1) x) h.1 ∙ drop-append_seam p.1 h.0 in
     let P : List ℕ → Type 0 = λ x. IsDivided side qs rest x in
     let others = once side h.0 ps end h.3 qs rest (subst P after k.3) in
     let heads : q ≡ p = λ i. (same.0 i, first i) in

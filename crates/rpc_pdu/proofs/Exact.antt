@@ -113,7 +113,7 @@ answer_of bytes outcomes long e =
           let is : b.0.0 ≡ outcomes = (let q = b.2 in cc) in
           let P : List Outcome → Type 0 = λ found. IsBindingAnswer bytes (u16_at bytes 16) (u16_at bytes 18) (u32_at bytes 20) found in
           let start : P b.0.0 =
-            record { long = long; sizes = sizes_of bytes; place = place; behind = omega arith; near = omega arith; aligned = omega arith; there = ltb-false _ _ p.0; count = m.count; outcomes_there = m.each } in
+          record { long = long; sizes = sizes_of bytes; place = place; behind = omega arith; near = omega arith; aligned = omega arith; there = ltb-false _ _ p.0; count = m.count; outcomes_there = m.each } in
           subst P is start
     ]
 
@@ -310,16 +310,16 @@ exact_from side pdu size bytes le is =
     let size_is : u16_at (take 16 bytes) 8 ≡ size = omega (arith, b8, b9, frag, len) in
     let fits : least_length (kind_of_pdu pdu) (get_or (take size bytes) 3 0) ≤ u16_at (take 16 bytes) 8 = omega (arith, enough, size_is, len) in
     let long : IsLong side (take 16 bytes) (kind_of_pdu pdu) size =
-      record {
-        version = at 0 (omega arith) ∙ h.version;
-        minor = omega (arith, b1, minor);
-        integers = at 4 (omega arith) ∙ h.integers;
-        floats = at 5 (omega arith) ∙ h.floats;
-        known = known;
-        enough = rw (at 3 (omega arith)) fits;
-        verifier = omega (arith, b10, b11, auth);
-        size_is = size_is;
-      } in
+    record {
+      version = at 0 (omega arith) ∙ h.version;
+      minor = omega (arith, b1, minor);
+      integers = at 4 (omega arith) ∙ h.integers;
+      floats = at 5 (omega arith) ∙ h.floats;
+      known = known;
+      enough = rw (at 3 (omega arith)) fits;
+      verifier = omega (arith, b10, b11, auth);
+      size_is = size_is;
+    } in
     has_front side bytes pdu size (record { kind = kind_of_pdu pdu; header = long_header side (take 16 bytes) (kind_of_pdu pdu) size long; sixteen = low; there = le; body = p.body })
 
 pub exact : IsExact

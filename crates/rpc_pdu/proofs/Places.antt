@@ -111,7 +111,7 @@ many_stand {A = A} one At size is (suc n) bytes place xs after e =
     let counted = others.count in
     let total : place + size b.0.0 + sum_by size d.0.0 ≡ place + sum_by size (b.0.0 ∷ d.0.0) = let s = sum_by-cons size b.0.0 d.0.0 in omega (arith, s) in
     let start : ManyStand A At size (suc n) bytes place (b.0.0 ∷ d.0.0) d.0.1 =
-      record { count = omega (arith, counted); each = (first.0, others.each); behind = others.behind ∙ ap (λ (k : ℕ). drop k bytes) total } in
+    record { count = omega (arith, counted); each = (first.0, others.each); behind = others.behind ∙ ap (λ (k : ℕ). drop k bytes) total } in
     let P : List A → Type 0 = λ ys. ManyStand A At size (suc n) bytes place ys d.0.1 in
     let Q : List ℕ → Type 0 = λ ys. ManyStand A At size (suc n) bytes place xs ys in
     subst Q same.1 (subst P same.0 start)
@@ -173,7 +173,7 @@ outcome_reads bytes place outcome at =
     let high : u16_at (take 4 (drop place bytes)) 2 ≡ outcome.reason = u16_there 4 bytes place 2 (omega arith) ∙ at.reason in
     let after : drop (place + 4 + 20) bytes ≡ drop (place + 24) bytes = ap (λ (k : ℕ). drop k bytes) (omega arith) in
     let is : Some (record { result = u16_at (take 4 (drop place bytes)) 0; reason = u16_at (take 4 (drop place bytes)) 2; syntax = outcome.syntax }, drop (place + 4 + 20) bytes) ≡ Some (outcome, drop (place + 24) bytes) =
-      λ i. Some (record { result = low i; reason = high i; syntax = outcome.syntax }, after i) in
+    λ i. Some (record { result = low i; reason = high i; syntax = outcome.syntax }, after i) in
     rw (front_reads 4 bytes place (omega (arith, there)), syntax_reads bytes (place + 4) outcome.syntax syntax) is
 
 pub outcomes_read_at : ReadsAt Outcome outcome_at OutcomeAt (λ outcome. 24)

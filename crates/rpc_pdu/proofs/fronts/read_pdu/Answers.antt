@@ -22,7 +22,7 @@ body_of-requires-clause-long c =
     let low = long_16 c.args.side c.split_at.result.0.now c.in-Long.kind c.in-Long.size (sym c.in-Long.ensures) in
     let len : length c.split_at-in-Long.result.0.now ≡ c.in-Long.size = ap length c.split_at-in-Long.ensures.front ∙ length-take-le _ _ c.if-bytes-used.false in
     let flags : get_or c.split_at-in-Long.result.0.now 3 0 ≡ get_or c.split_at.result.0.now 3 0 =
-      ap (λ (x : List ℕ). get_or x 3 0) c.split_at-in-Long.ensures.front ∙ head_at c.args.bytes.now c.in-Long.size 3 low (omega arith) ∙ ap (λ (x : List ℕ). get_or x 3 0) (sym c.split_at.ensures.front) in
+    ap (λ (x : List ℕ). get_or x 3 0) c.split_at-in-Long.ensures.front ∙ head_at c.args.bytes.now c.in-Long.size 3 low (omega arith) ∙ ap (λ (x : List ℕ). get_or x 3 0) (sym c.split_at.ensures.front) in
     let enough = h.enough in
     let is = h.size_is in
     let fits : least_length c.in-Long.kind (get_or c.split_at.result.0.now 3 0) ≤ length c.split_at-in-Long.result.0.now = omega (arith, enough, is, len) in
@@ -38,8 +38,7 @@ returns-in-Bad-clause-front c =
 pub returns-in-Ok-clause-front : goal.returns-in-Ok-clause-front
 returns-in-Ok-clause-front c =
     let low = long_16 c.args.side c.split_at.result.0.now c.in-Long.kind c.in-Long.size (sym c.in-Long.ensures) in
-    let header : header_of c.args.side (take 16 c.args.bytes.now) ≡ Long c.in-Long.kind c.in-Long.size = ap (λ (x : List ℕ). header_of c.args.side x) (sym c.split_at.ensures.front) ∙ sym c.in-Long.ensures in
-    (
+    let header : header_of c.args.side (take 16 c.args.bytes.now) ≡ Long c.in-Long.kind c.in-Long.size = ap (λ (x : List ℕ). header_of c.args.side x) (sym c.split_at.ensures.front) ∙ sym c.in-Long.ensures in (
       has_front c.args.side c.args.bytes.now c.in-Ok.pdu c.in-Long.size (record { kind = c.in-Long.kind; header = header; sixteen = low; there = c.if-bytes-used.false; body = ap (λ (x : List ℕ). body_of c.in-Long.kind x) (sym c.split_at-in-Long.ensures.front) ∙ c.in-Ok.ensures }),
       low,
       c.if-bytes-used.false,
