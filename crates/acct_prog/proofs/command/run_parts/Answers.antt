@@ -1,0 +1,28 @@
+use Rattle.acct_prog.specs.declared.period.Period.{Period}
+use Rattle.acct_server.specs.Replaying.{Telling, Parts, IsReplay}
+use Rattle.acct_prog.proofs.Worlds.{returned}
+use Rattle.acct_prog.proofs.command.run_parts.Goals as goal
+
+pub returns : goal.returns
+returns g c =
+    let s = g.W.S.Source in
+    let t = g.W.T.Sink in
+    let w = g.W.World in
+    let r = c.replay-replayed in
+    returned (record { left = s.left; read_faults = s.faults; held = t.held; write_faults = t.faults }) c.args.name.now (record { config = c.args.config; events = c.args.events; out = c.args.out })
+    (record { config = r.new.config; events = r.new.events; out = r.new.out }) (w.seen c.args.world.now) (w.seen c.keep_period-kept.new.self) (w.seen c.give_sink.new.self) (w.seen c.give_source.new.self) (w.seen c.give_source-2.new.self)
+    (record { history = r.result.history }) r.result.status c.status_after-status.result c.keep_period-kept.result c.requires
+    (record {
+      through = r.ensures.through;
+      transcribes = r.ensures.transcribes;
+      breaks = r.ensures.breaks;
+      stops = r.ensures.stops;
+      right = r.ensures.right;
+      unread = r.ensures.unread;
+      nothing = r.ensures.nothing;
+      write = r.ensures.write;
+      possible = r.ensures.status;
+      complete = r.ensures.complete;
+      legal = r.ensures.legal;
+    })
+    c.keep_period-kept.ensures.keeps c.give_sink.ensures.gives c.give_source.ensures.gives c.give_source-2.ensures.gives c.status_after-status.ensures

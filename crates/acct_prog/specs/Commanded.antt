@@ -1,0 +1,67 @@
+-- What the command `replay CONFIG` does to a world.
+use Rattle.std.specs.Prelude.{◌≡◌, ℕ, Bool, true, List, ◌∷◌, [], ◌++◌, ◌⊎◌, codes, Some}
+use Rattle.acct_server.specs.Causes.{Rose}
+use Rattle.acct_server.specs.declared.status.Status.{Status}
+use Rattle.acct_server.specs.declared.status.Status.TheVariants.{ReadFault, WriteFault, NoMemory}
+use Rattle.acct_server.specs.Replaying.{Telling, Parts, IsReplay}
+use Rattle.acct_prog.specs.declared.take.TakeError.{TakeError}
+use Rattle.acct_prog.specs.declared.take.TakeError.TheVariants.{Failed, NoMemory as NoMemoryTaken}
+use Rattle.acct_prog.specs.declared.period.Period.{Period}
+use Rattle.acct_prog.specs.World.{Seen}
+
+-- the name of the standard input
+abbrev pub standard_input : List ℕ
+standard_input = codes "-"
+
+-- why a part wasn't handed out
+abbrev pub TakeCause : {S T : Type 0} → Seen S T → Seen S T → Status → Type 0
+TakeCause old new ReadFault = Rose old.source_faults new.source_faults
+TakeCause old new WriteFault = Rose old.sink_faults new.sink_faults
+TakeCause old new NoMemory = Unit {0}
+TakeCause old new _ = ⊥
+
+-- A part wasn't handed out: the world has what it had.
+pub record NotHandedOut {S T : Type 0} (old new : Seen S T) (status : Status) : Type 0 where
+  pub cause : TakeCause old new status
+  pub sources : old.tells ≡ true → (name : List ℕ) → new.source name ≡ old.source name
+  pub sink : old.tells ≡ true → new.sink ≡ old.sink
+  pub periods : new.periods ≡ old.periods
+
+-- All parts were handed out: a replay ran over them, its history was given to the world as one period, and the world has the
+-- parts again.
+pub record HasRun {S T : Type 0} (told : Telling S T) (name : List ℕ) (old new : Seen S T) (status : Status) : Type 0 where
+  pub before : Parts S T
+  pub after : Parts S T
+  pub ended : Status
+  pub period : Period
+  pub replayed : IsReplay told before after ended period.history
+  pub took_config : old.tells ≡ true → old.source name ≡ Some before.config
+  pub took_events : old.tells ≡ true → old.source standard_input ≡ Some before.events
+  pub took_sink : old.tells ≡ true → old.sink ≡ Some before.out
+  pub gave_config : old.tells ≡ true → new.source name ≡ Some after.config
+  pub gave_events : old.tells ≡ true → new.source standard_input ≡ Some after.events
+  pub gave_sink : old.tells ≡ true → new.sink ≡ Some after.out
+  -- the status is the replay's, and the world keeps the period; or it found no memory to keep it
+  pub answers : ((status ≡ ended) × (old.tells ≡ true → new.periods ≡ old.periods ++ period ∷ [])) ⊎ ((status ≡ NoMemory) × (new.periods ≡ old.periods))
+
+-- A replay ran over parts that were out: it left its period to the world, and the world has the parts again.
+pub record Returned {S T : Type 0} (told : Telling S T) (name : List ℕ) (before : Parts S T) (old new : Seen S T) (status : Status) : Type 0 where
+  pub after : Parts S T
+  pub ended : Status
+  pub period : Period
+  pub replayed : IsReplay told before after ended period.history
+  pub gave_config : old.tells ≡ true → old.knows name ≡ true → new.source name ≡ Some after.config
+  pub gave_events : old.tells ≡ true → old.knows standard_input ≡ true → new.source standard_input ≡ Some after.events
+  pub gave_sink : old.tells ≡ true → new.sink ≡ Some after.out
+  pub answers : ((status ≡ ended) × (old.tells ≡ true → new.periods ≡ old.periods ++ period ∷ [])) ⊎ ((status ≡ NoMemory) × (new.periods ≡ old.periods))
+
+abbrev pub Commanded : {S T : Type 0} → Telling S T → List ℕ → Seen S T → Seen S T → Status → Type 0
+Commanded told name old new status = NotHandedOut old new status ⊎ HasRun told name old new status
+
+abbrev pub read_status : TakeError → Status
+read_status Failed = ReadFault
+read_status NoMemoryTaken = NoMemory
+
+abbrev pub write_status : TakeError → Status
+write_status Failed = WriteFault
+write_status NoMemoryTaken = NoMemory

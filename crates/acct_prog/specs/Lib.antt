@@ -1,0 +1,4 @@
+pub mod Words
+pub mod World
+pub mod Memory
+pub mod Commanded

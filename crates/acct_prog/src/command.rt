@@ -1,0 +1,118 @@
+// The program's commands, over a world.
+ghost use Rattle.std.specs.Prelude.{◌≡◌, ◌≢◌, ◌↔◌, ℕ, List, Some, None, map, MatchOption, MatchResult};
+ghost use Rattle.std.specs.String.{string_bytes};
+ghost use Rattle.acct_server.specs.declared.status.Status.TheVariants.{Usage, NoMemory};
+ghost use Rattle.acct_prog.specs.Words.{form_of};
+ghost use Rattle.acct_prog.specs.Commanded.{Commanded, Returned, standard_input, read_status, write_status};
+
+use crate::period::Period;
+use crate::take::TakeError;
+use crate::world::World;
+use acct_server::{Status, replay};
+use std::alloc::{AllocError, Global};
+
+fn read_status(e: TakeError) -> Status
+    ensures { result ≡ read_status e }
+{
+    match e {
+        TakeError::Failed => Status::ReadFault,
+        TakeError::NoMemory => Status::NoMemory,
+    }
+}
+
+fn write_status(e: TakeError) -> Status
+    ensures { result ≡ write_status e }
+{
+    match e {
+        TakeError::Failed => Status::WriteFault,
+        TakeError::NoMemory => Status::NoMemory,
+    }
+}
+
+// The configuration's name, of words that have the form.
+fn replay_name(words: &Vec<String>) -> Option<&str>
+    ensures { MatchOption result (form_of (map string_bytes words.now.items) ≡ None) (λ name. form_of (map string_bytes words.now.items) ≡ Some name.now) }
+{
+    if words.len() != 2 {
+        return None;
+    }
+    let name = words[1].as_str();
+    if words[0].as_str() != "replay" || name.as_bytes().first() == Some(&b'-') {
+        return None;
+    }
+    Some(name)
+}
+
+// The status of a replay, once the world was asked to keep its period.
+fn status_after(ended: Status, kept: Result<(), AllocError>) -> Status
+    ensures { MatchResult kept (λ _. result ≡ ended) (λ _. result ≡ NoMemory) }
+{
+    match kept {
+        Ok(()) => ended,
+        Err(_) => Status::NoMemory,
+    }
+}
+
+// Runs a replay over parts that were handed out, leaves its period to the world, and gives the parts back.
+fn run_parts<W: World>(
+    alloc: Global,
+    name: &str,
+    world: &mut W,
+    mut config: W::S,
+    mut events: W::S,
+    mut out: W::T,
+) -> Status
+    requires { name.now ≢ standard_input }
+    ensures { Returned (record { left = W.S.left; read_faults = W.S.faults; held = W.T.held; write_faults = W.T.faults }) name.now (record { config = config; events = events; out = out }) (W.seen world.old) (W.seen world.new) result }
+{
+    let replayed = replay(alloc, &mut config, &mut events, &mut out);
+    let ended = replayed.status;
+    let kept = world.keep_period(Period {
+        history: replayed.history,
+    });
+    let status = status_after(ended, kept);
+    world.give_sink(out);
+    world.give_source("-", events);
+    world.give_source(name, config);
+    status
+}
+
+// The command `replay`: it takes the configuration, the standard input and the sink, in this order.
+fn run_replay<W: World>(alloc: Global, name: &str, world: &mut W) -> Status
+    requires { name.now ≢ standard_input }
+    ensures commanded { Commanded (record { left = W.S.left; read_faults = W.S.faults; held = W.T.held; write_faults = W.T.faults }) name.now (W.seen world.old) (W.seen world.new) result }
+{
+    let config = match world.take_source(name) {
+        Ok(config) => config,
+        Err(e) => return read_status(e),
+    };
+    let events = match world.take_source("-") {
+        Ok(events) => events,
+        Err(e) => {
+            world.give_source(name, config);
+            return read_status(e);
+        }
+    };
+    let out = match world.take_sink() {
+        Ok(out) => out,
+        Err(e) => {
+            world.give_source("-", events);
+            world.give_source(name, config);
+            return write_status(e);
+        }
+    };
+    run_parts(alloc, name, world, config, events, out)
+}
+
+/// Does all that the program does. The one form of the words is `replay CONFIG`; other words take no part of the world.
+pub fn account<W: World>(alloc: Global, words: &Vec<String>, world: &mut W) -> Status
+    ensures usage { result ≡ Usage ↔ form_of (map string_bytes words.now.items) ≡ None }
+    ensures untouched { result ≡ Usage → world.new ≡ world.old }
+    ensures commanded { (name : List ℕ) → form_of (map string_bytes words.now.items) ≡ Some name →
+        Commanded (record { left = W.S.left; read_faults = W.S.faults; held = W.T.held; write_faults = W.T.faults }) name (W.seen world.old) (W.seen world.new) result }
+{
+    match replay_name(words) {
+        Some(name) => run_replay(alloc, name, world),
+        None => Status::Usage,
+    }
+}

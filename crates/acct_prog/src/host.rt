@@ -1,0 +1,139 @@
+// The real world: files, the standard streams, and no word on what they hold.
+ghost use Rattle.std.specs.Prelude.{None, false, []};
+
+use crate::period::Period;
+use crate::take::TakeError;
+use crate::world::World;
+use acct_server::{Failed, Sink, Source};
+use std::alloc::AllocError;
+use std::fs::File;
+use std::io::{self, Input, Print, Printer, Read, Write};
+use std::rt::Files;
+
+#[derive(Drop)]
+enum Opened<I> {
+    Standard(I),
+    Disk(File),
+}
+
+/// The standard input or a file. It tells nothing of what it has left.
+#[derive(Drop)]
+pub struct HostSource<I: Read + Drop> {
+    opened: Opened<I>,
+    has_ended: bool,
+    fault_count: u64,
+}
+
+impl<I: Read + Drop> Source for HostSource<I> {
+    ghost left = { λ _. None };
+
+    ghost ended = { λ s. s.has_ended };
+
+    ghost faults = { λ s. s.fault_count };
+
+    fn read(&mut self, buf: &mut [u8]) -> Result<usize, Failed> {
+        let got = match &mut self.opened {
+            Opened::Standard(input) => input.read(buf),
+            Opened::Disk(file) => file.read(buf),
+        };
+        match got {
+            Ok(count) => {
+                self.has_ended |= (count == 0) & !buf.is_empty();
+                Ok(count)
+            }
+            Err(_) => {
+                self.fault_count = self.fault_count.saturating_add(1);
+                Err(Failed)
+            }
+        }
+    }
+}
+
+/// The standard output. A write that takes nothing of a piece is a fault.
+#[derive(Drop)]
+pub struct HostSink<W: Write + Drop> {
+    output: W,
+    fault_count: u64,
+}
+
+impl<W: Write + Drop> Sink for HostSink<W> {
+    ghost held = { λ _. None };
+
+    ghost faults = { λ s. s.fault_count };
+
+    fn write(&mut self, bytes: &[u8]) -> Result<usize, Failed> {
+        if bytes.is_empty() {
+            return Ok(0);
+        }
+        match self.output.write(bytes) {
+            Ok(count) if count != 0 => Ok(count),
+            _ => {
+                self.fault_count = self.fault_count.saturating_add(1);
+                Err(Failed)
+            }
+        }
+    }
+}
+
+/// The real world. The name `-` is the standard input, each other name a file's path. It keeps no period.
+#[derive(Drop)]
+pub struct HostWorld<'a, R: Files<File = File> + Input + Print> {
+    rt: &'a R,
+    source_faults: u64,
+}
+
+impl<'a, R: Files<File = File> + Input + Print> HostWorld<'a, R> {
+    pub fn new(rt: &'a R) -> Self {
+        HostWorld {
+            rt,
+            source_faults: 0,
+        }
+    }
+}
+
+impl<'a, R: Files<File = File> + Input + Print> World for HostWorld<'a, R> {
+    type S = HostSource<R::Reader>;
+
+    type T = HostSink<Printer<'a, R>>;
+
+    ghost seen = { λ w. record { tells = false; knows = λ _. false; source = λ _. None; sink = None; periods = []; source_faults = w.source_faults; sink_faults = 0 } };
+
+    fn take_source(&mut self, name: &str) -> Result<HostSource<R::Reader>, TakeError> {
+        let opened = if name == "-" {
+            Opened::Standard(self.rt.reader())
+        } else {
+            match File::open(self.rt, name) {
+                Ok(file) => Opened::Disk(file),
+                Err(_) => {
+                    self.source_faults = self.source_faults.saturating_add(1);
+                    return Err(TakeError::Failed);
+                }
+            }
+        };
+        Ok(HostSource {
+            opened,
+            has_ended: false,
+            fault_count: 0,
+        })
+    }
+
+    fn give_source(&mut self, _name: &str, part: HostSource<R::Reader>) {
+        drop(part);
+    }
+
+    fn take_sink(&mut self) -> Result<HostSink<Printer<'a, R>>, TakeError> {
+        Ok(HostSink {
+            output: io::writer(self.rt),
+            fault_count: 0,
+        })
+    }
+
+    fn give_sink(&mut self, part: HostSink<Printer<'a, R>>) {
+        drop(part);
+    }
+
+    fn keep_period(&mut self, period: Period) -> Result<(), AllocError> {
+        drop(period);
+        Ok(())
+    }
+}

@@ -1,0 +1,11 @@
+pub mod Bytes
+pub mod FirstLine
+pub mod Parts
+pub mod Lengths
+pub mod Spelled
+pub mod Served
+pub mod ReplyStubs
+pub mod Moves
+pub mod Closing
+pub mod Going
+pub mod Transcribing

@@ -1,0 +1,15 @@
+use Rattle.std.proofs.Common.{◌≤◌, ◌+◌, length}
+use Rattle.acct_server.proofs.Going.{Going}
+use Rattle.acct_server.proofs.replays.run_lines.Given as goal
+
+abbrev pub invariant-loop-rest : goal.invariant-loop-rest
+invariant-loop-rest g l =
+    let t = g.T.Sink in
+    record {
+      going : Going l.initial.run.machine.config (t.held l.initial.out) (t.held l.out) l.bytes l.run l.number l.rest;
+      within : l.number + length l.rest ≤ length l.bytes;
+      later : t.faults l.initial.out ≤ t.faults l.out;
+    }
+
+abbrev pub decreases-loop-rest : goal.decreases-loop-rest
+decreases-loop-rest g l = length l.rest

@@ -1,0 +1,36 @@
+-- What came and what was sent on one connection of a replay, and that the one is the transcript of the other.
+use Rattle.std.specs.Prelude.{◌≡◌, ℕ, ◌==◌, List, [], if◌then◌else◌}
+use Rattle.std.specs.List.{flat_map}
+use Rattle.acct_machine.specs.declared.config.Config.{Config}
+use Rattle.acct_machine.specs.declared.entry.Entry.{Entry}
+use Rattle.acct_machine.specs.Legal.{replies, calls_of}
+use Rattle.acct_server.specs.Acts.{acts}
+use Rattle.acct_server.specs.Transcript.{transcript, decoded_calls}
+use Rattle.acct_server.specs.Replayed.{Effect, Printed, Out, IsGone, replayed}
+
+abbrev pub on_connection : ℕ → ℕ × List ℕ → List ℕ
+on_connection k (conn, bytes) = if conn == k then bytes else []
+
+abbrev pub sent_by_line : ℕ → Printed → List ℕ
+sent_by_line k (Out conn bytes) = if conn == k then bytes else []
+sent_by_line k (IsGone conn) = []
+
+abbrev pub brought : ℕ → Effect → List ℕ
+brought k e = flat_map (on_connection k) e.brings
+
+abbrev pub sent_in : ℕ → Effect → List ℕ
+sent_in k e = flat_map (sent_by_line k) e.prints
+
+-- the whole stream that came on a connection
+abbrev pub received : ℕ → List Effect → List ℕ
+received k effects = flat_map (brought k) effects
+
+-- all that the lines say was sent on it
+abbrev pub sent : ℕ → List Effect → List ℕ
+sent k effects = flat_map (sent_in k) effects
+
+-- What was sent on a connection is the transcript of the acts of its whole stream with the replies of its calls, and its calls in
+-- the history are the decoded calls of these acts, in order, each with the length of its stub.
+pub record Transcribes (config : Config) (events : List ℕ) (history : List Entry) (k : ℕ) : Type 0 where
+  pub transcribed : sent k (replayed config events history).effects ≡ transcript (acts k (received k (replayed config events history).effects)) (replies k history)
+  pub decoded : decoded_calls (acts k (received k (replayed config events history).effects)) ≡ calls_of k history

@@ -1,0 +1,80 @@
+-- The lines of an event file, and what each of them says.
+use Rattle.std.specs.Prelude.{ℕ, ◌+◌, ◌-◌, ◌*◌, ◌^◌, ◌==◌, Bool, false, ◌&&◌, not, List, [], ◌∷◌, length, codes, Option, Some, None, Result, Ok, Err, if◌then◌else◌, nat_lt, nat_le}
+use Rattle.std.specs.List.{before_first, after_first, position_or_len}
+use Rattle.std.specs.Str.{bytes_eq}
+use Rattle.hex.specs.Hex.{decode_of}
+use Rattle.hex.specs.declared.FromHexError.{FromHexError}
+use Rattle.acct_server.specs.declared.events.Event.{Event}
+use Rattle.acct_server.specs.declared.events.Event.TheVariants.{Nothing, Open, Data, End}
+
+abbrev pub begins_with_feed : List ℕ → Bool
+begins_with_feed [] = false
+begins_with_feed (b ∷ bytes) = b == 10
+
+abbrev pub first_line : ℕ → List (List ℕ) → List (List ℕ)
+first_line b [] = (b ∷ []) ∷ []
+first_line b (line ∷ lines) = (b ∷ line) ∷ lines
+
+-- the lines, each up to a line feed, a carriage return and a line feed, or the end
+abbrev pub lines_of : List ℕ → List (List ℕ)
+lines_of [] = []
+lines_of (b ∷ bytes) =
+    if b == 10 then [] ∷ lines_of bytes
+    else (if (b == 13) && begins_with_feed bytes then lines_of bytes else first_line b (lines_of bytes))
+
+abbrev pub is_space : ℕ → Bool
+is_space b = b == 32
+
+-- what stands before the first space, and what stands behind it
+abbrev pub parted : List ℕ → Option (List ℕ × List ℕ)
+parted bytes =
+    if nat_lt (position_or_len is_space bytes) (length bytes)
+    then Some (before_first is_space bytes, after_first is_space bytes)
+    else None
+
+-- the number that decimal digits spell, behind those of a number
+abbrev pub decimal_from : ℕ → List ℕ → Option ℕ
+decimal_from n [] = Some n
+decimal_from n (b ∷ bytes) = if nat_le 48 b && nat_le b 57 then decimal_from (10 * n + (b - 48)) bytes else None
+
+abbrev pub below_2^32 : Option ℕ → Option ℕ
+below_2^32 None = None
+below_2^32 (Some n) = if nat_lt n (2 ^ 32) then Some n else None
+
+abbrev pub begins_with_zero : List ℕ → Bool
+begins_with_zero [] = false
+begins_with_zero (b ∷ bytes) = b == 48
+
+-- a number below 2 ^ 32 in one to ten decimal digits, without a leading zero
+unfoldable pub number_of : List ℕ → Option ℕ
+number_of word =
+    if nat_le 1 (length word) && nat_le (length word) 10 && not (begins_with_zero word) then below_2^32 (decimal_from 0 word) else None
+
+abbrev pub opens : Option ℕ → List ℕ → Option Event
+opens None listener = None
+opens (Some conn) listener = Some (Open conn listener)
+
+abbrev pub brings : Option ℕ → Result (List ℕ) FromHexError → Option Event
+brings None decoded = None
+brings (Some conn) (Ok bytes) = Some (Data conn bytes)
+brings (Some conn) (Err e) = None
+
+abbrev pub ends : Option ℕ → Option Event
+ends None = None
+ends (Some conn) = Some (End conn)
+
+-- an opening or data, behind the command
+abbrev pub of_two : List ℕ → Option (List ℕ × List ℕ) → Option Event
+of_two command None = None
+of_two command (Some (word, rest)) =
+    if bytes_eq command (codes "open") then opens (number_of word) rest
+    else (if bytes_eq command (codes "data") then brings (number_of word) (decode_of rest) else None)
+
+abbrev pub of_command : Option (List ℕ × List ℕ) → Option Event
+of_command None = None
+of_command (Some (command, rest)) = if bytes_eq command (codes "end") then ends (number_of rest) else of_two command (parted rest)
+
+-- what a line says: `open N LISTENER`, `data N HEX`, `end N`, or nothing in an empty line and behind a `#`
+unfoldable pub event_of : List ℕ → Option Event
+event_of [] = Some Nothing
+event_of (b ∷ line) = if b == 35 then Some Nothing else of_command (parted (b ∷ line))

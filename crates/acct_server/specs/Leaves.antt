@@ -1,0 +1,119 @@
+-- What a replay leaves, by its status.
+use Rattle.std.specs.Prelude.{◌≡◌, ◌≢◌, ℕ, ◌<◌, ◌≤◌, List, [], ◌∷◌, ◌++◌, ◌⊎◌, take, length, Option, IfSome, if◌then◌else◌, nat_lt, not}
+use Rattle.std.specs.Str.{bytes_eq}
+use Rattle.std.specs.Io.KnownBytes.{Appends}
+use Rattle.acct_machine.specs.declared.config.Config.{Config}
+use Rattle.acct_machine.specs.declared.entry.Entry.{Entry}
+use Rattle.acct_server.specs.declared.status.Status.{Status}
+use Rattle.acct_server.specs.declared.status.Status.TheVariants.{Done, NoMemory, Usage, Config as ConfigBroken, ReadFault, WriteFault, EventLine, InputTooLong}
+use Rattle.acct_server.specs.declared.whole.WholeError.{WholeError}
+use Rattle.acct_server.specs.declared.whole.WholeError.TheVariants.{Fault, TooLong, Memory}
+use Rattle.acct_server.specs.Causes.{Rose}
+use Rattle.acct_server.specs.Whole.{most_bytes}
+use Rattle.acct_server.specs.First.{first_document, first_config}
+use Rattle.acct_server.specs.Replayed.{Effect, replayed, ending, entries_of, output_of, line_bytes}
+use Rattle.acct_server.specs.Running.{Running, standing}
+use Rattle.std.specs.List.{flat_map}
+
+-- the lines were run to their end, or to a refused one
+abbrev pub IsRunThrough : Status → Type 0
+IsRunThrough Done = Unit {0}
+IsRunThrough (EventLine n) = Unit {0}
+IsRunThrough _ = ⊥
+
+-- the lines weren't run
+abbrev pub IsBefore : Status → Type 0
+IsBefore (ConfigBroken n) = Unit {0}
+IsBefore ReadFault = Unit {0}
+IsBefore InputTooLong = Unit {0}
+IsBefore _ = ⊥
+
+-- the lines were run, perhaps not to their end
+abbrev pub IsRun : Status → Type 0
+IsRun Done = Unit {0}
+IsRun WriteFault = Unit {0}
+IsRun (EventLine n) = Unit {0}
+IsRun _ = ⊥
+
+-- a status that a replay may have
+abbrev pub IsOfReplay : Status → Type 0
+IsOfReplay Usage = ⊥
+IsOfReplay _ = Unit {0}
+
+-- a status of the run of the lines
+abbrev pub IsOfRun : Status → Type 0
+IsOfRun Done = Unit {0}
+IsOfRun NoMemory = Unit {0}
+IsOfRun WriteFault = Unit {0}
+IsOfRun (EventLine n) = Unit {0}
+IsOfRun _ = ⊥
+
+-- The history, the bytes written and the status are those of the events, with the verdicts of the history.
+pub record Leaves (config : Config) (held now : Option (List ℕ)) (events : List ℕ) (history : List Entry) (status : Status) : Type 0 where
+  pub entries : history ≡ entries_of (replayed config events history).effects
+  pub lines : Appends held now (output_of (replayed config events history).effects)
+  pub ends : status ≡ (replayed config events history).status
+
+-- The sink failed at the lines of an event or of the end: the history has the entries up to this one's, the lines of the events
+-- before are written whole, and of its own a front.
+pub record Breaks (config : Config) (held now : Option (List ℕ)) (events : List ℕ) (history : List Entry) : Type 0 where
+  pub done : List Effect
+  pub met : Effect
+  pub ahead : List Effect
+  pub written : ℕ
+  pub splits : (replayed config events history).effects ≡ done ++ met ∷ ahead
+  pub entries : history ≡ entries_of done ++ met.entries
+  pub lines : Appends held now (output_of done ++ take written (flat_map line_bytes met.prints))
+
+-- Memory was wanted: the history is a front of the entries, and what is written a front of the lines.
+pub record Stops (config : Config) (held now : Option (List ℕ)) (events : List ℕ) (history : List Entry) : Type 0 where
+  pub later : List Entry
+  pub written : ℕ
+  pub entries : entries_of (replayed config events history).effects ≡ history ++ later
+  pub lines : Appends held now (take written (output_of (replayed config events history).effects))
+
+-- the connections that were open have been ended, and their lines are written
+pub record Finishes (held now : Option (List ℕ)) (old new : Running) (status answer : Status) : Type 0 where
+  pub entries : new.machine.history ≡ old.machine.history ++ (ending (standing old)).entries
+  pub lines : Appends held now (flat_map line_bytes (ending (standing old)).prints)
+  pub ends : answer ≡ status
+
+-- the same, where the sink failed
+pub record FinishBreaks (held now : Option (List ℕ)) (old new : Running) : Type 0 where
+  pub written : ℕ
+  pub entries : new.machine.history ≡ old.machine.history ++ (ending (standing old)).entries
+  pub lines : Appends held now (take written (flat_map line_bytes (ending (standing old)).prints))
+
+-- ---- before the lines
+
+abbrev pub IsLong : Option (List ℕ) → Type 0
+IsLong left = IfSome left (λ bytes. most_bytes < length bytes)
+
+-- the configuration is the one that is built
+abbrev pub IsRight : Option (List ℕ) → Type 0
+IsRight left = IfSome left (λ document. document ≡ first_document)
+
+-- Why the lines aren't run, by what the sources had left and by their counts before and after. The configuration comes first.
+abbrev pub Unread : Option (List ℕ) → Option (List ℕ) → ℕ → ℕ → ℕ → ℕ → Status → Type 0
+Unread config events before now earlier later (ConfigBroken n) = (n ≡ 100) × IfSome config (λ document. (document ≢ first_document) × (length document ≤ most_bytes))
+Unread config events before now earlier later ReadFault = Rose before now ⊎ (IsRight config × Rose earlier later)
+Unread config events before now earlier later InputTooLong = IsLong config ⊎ (IsRight config × IsLong events)
+Unread config events before now earlier later NoMemory = Unit {0}
+Unread config events before now earlier later _ = ⊥
+
+-- The status that a configuration and events ask for, with the verdicts of a history.
+abbrev pub asked_status : List ℕ → List ℕ → List Entry → Status
+asked_status document events history =
+    if nat_lt most_bytes (length document) then InputTooLong
+    else (if not (bytes_eq document first_document) then ConfigBroken 100
+    else (if nat_lt most_bytes (length events) then InputTooLong
+    else (replayed first_config events history).status))
+
+-- it is that one, or memory was wanted
+abbrev pub IsAsked : List ℕ → List ℕ → List Entry → Status → Type 0
+IsAsked document events history status = (status ≡ asked_status document events history) ⊎ (status ≡ NoMemory)
+
+abbrev pub unread_status : WholeError → Status
+unread_status Fault = ReadFault
+unread_status TooLong = InputTooLong
+unread_status Memory = NoMemory

@@ -1,0 +1,16 @@
+pub mod Causes
+pub mod Ends
+pub mod Memory
+pub mod Whole
+pub mod Events
+pub mod Acts
+pub mod Replies
+pub mod Layouts
+pub mod Stubs
+pub mod Transcript
+pub mod Replayed
+pub mod Running
+pub mod First
+pub mod Leaves
+pub mod Connections
+pub mod Replaying

@@ -1,0 +1,222 @@
+-- What a replay of event lines leaves: the entries of the history, the lines that it prints, and the status.
+use Rattle.std.specs.Prelude.{◌≡◌, ℕ, zero, suc, ◌+◌, ◌-◌, ◌==◌, Bool, ◌&&◌, List, [], ◌∷◌, ◌++◌, length, codes, map, Option, Some, None, Result, Ok, Err, slice_get, slice_set, if◌then◌else◌}
+use Rattle.std.specs.Fmt.{decimal}
+use Rattle.std.specs.List.{flat_map}
+use Rattle.std.specs.Str.{bytes_eq}
+use Rattle.hex.specs.Hex.{encode_lower}
+use Rattle.acct_machine.specs.declared.calls.Call.{Call}
+use Rattle.acct_machine.specs.declared.config.Listener.{Listener}
+use Rattle.acct_machine.specs.declared.config.Config.{Config}
+use Rattle.acct_machine.specs.declared.entry.Verdict.{Verdict}
+use Rattle.acct_machine.specs.declared.entry.Verdict.TheVariants.{Ran}
+use Rattle.acct_machine.specs.declared.entry.Entry.{Entry}
+use Rattle.acct_machine.specs.declared.entry.Entry.TheVariants.{Opened, Called, Gone}
+use Rattle.acct_machine.specs.State.{nothing_open}
+use Rattle.acct_machine.specs.Step.{state_after, acted}
+use Rattle.acct_server.specs.declared.acts.Act.{Act}
+use Rattle.acct_server.specs.declared.acts.Act.TheVariants as act
+use Rattle.acct_server.specs.declared.acts.Session.{Session}
+use Rattle.acct_server.specs.declared.acts.Session.TheVariants.{Unbound}
+use Rattle.acct_server.specs.declared.events.Event.{Event}
+use Rattle.acct_server.specs.declared.events.Event.TheVariants as event
+use Rattle.acct_server.specs.declared.peers.Peer.{Peer}
+use Rattle.acct_server.specs.declared.peers.Peer.TheVariants.{Open, Ended}
+use Rattle.acct_server.specs.declared.stubs.WireError.{WireError}
+use Rattle.acct_server.specs.declared.status.Status.{Status}
+use Rattle.acct_server.specs.declared.status.Status.TheVariants.{Done, EventLine}
+use Rattle.acct_server.specs.Acts.{heard}
+use Rattle.acct_server.specs.Events.{event_of, lines_of}
+use Rattle.acct_server.specs.Stubs.{call_at}
+use Rattle.acct_server.specs.Transcript.{answer_bytes}
+
+-- ---- lines that are printed
+
+-- bytes that are sent on a connection, and a connection that is gone
+pub data Printed : Type 0 where
+  Out : ℕ → List ℕ → Printed
+  IsGone : ℕ → Printed
+
+unfoldable pub out_line : ℕ → List ℕ → List ℕ
+out_line conn bytes = codes "out " ++ decimal conn ++ 32 ∷ encode_lower bytes ++ 10 ∷ []
+
+unfoldable pub gone_line : ℕ → List ℕ
+gone_line conn = codes "gone " ++ decimal conn ++ 10 ∷ []
+
+abbrev pub line_bytes : Printed → List ℕ
+line_bytes (Out conn bytes) = out_line conn bytes
+line_bytes (IsGone conn) = gone_line conn
+
+-- ---- what a line of the events does
+
+-- the entries that it makes, the bytes that come with it on a connection, and the lines that it prints
+pub record Effect : Type 0 where
+  pub entries : List Entry
+  pub brings : List (ℕ × List ℕ)
+  pub prints : List Printed
+
+-- the history so far, and the connections, of which the first has number 1
+pub record Standing : Type 0 where
+  pub history : List Entry
+  pub peers : List Peer
+
+-- an effect, and the connections after it
+pub record Move : Type 0 where
+  pub effect : Effect
+  pub peers : List Peer
+
+abbrev pub moved : Standing → Move → Standing
+moved s m = record { history = s.history ++ m.effect.entries; peers = m.peers }
+
+-- the verdict of the call that has a place in the history
+abbrev pub Verdicts : Type 0
+Verdicts = ℕ → Verdict
+
+abbrev pub peer_of : ℕ → List Peer → Option Peer
+peer_of zero peers = None
+peer_of (suc place) peers = slice_get peers place
+
+abbrev pub with_peer : ℕ → Peer → List Peer → List Peer
+with_peer zero peer peers = peers
+with_peer (suc place) peer peers = slice_set peers place peer
+
+abbrev pub quiet : List Peer → Move
+quiet peers = record { effect = record { entries = []; brings = []; prints = [] }; peers = peers }
+
+-- the place of the listener of a name
+abbrev pub listener_from : ℕ → List ℕ → List Listener → Option ℕ
+listener_from n name [] = None
+listener_from n name (l ∷ listeners) = if bytes_eq l.name name then Some n else listener_from (n + 1) name listeners
+
+-- Connections are opened in the order of their numbers; as far as is built, one is.
+abbrev pub on_listener : Standing → ℕ → Option ℕ → Option Move
+on_listener s conn None = None
+on_listener s conn (Some listener) =
+    if (length s.peers == 0) && (conn == length s.peers + 1)
+    then Some (record { effect = record { entries = Opened conn listener ∷ []; brings = []; prints = [] }; peers = s.peers ++ Open Unbound ∷ [] })
+    else None
+
+abbrev pub on_open : Config → Standing → ℕ → List ℕ → Option Move
+on_open config s conn name = on_listener s conn (listener_from 0 name config.listeners)
+
+-- bytes that are answered at once
+abbrev pub on_answer : Standing → ℕ → List ℕ → List ℕ → Session → Move
+on_answer s conn bytes answer session = record {
+  effect = record { entries = []; brings = (conn, bytes) ∷ []; prints = Out conn answer ∷ [] };
+  peers = with_peer conn (Open session) s.peers;
+}
+
+-- bytes that make a call, with its verdict
+abbrev pub on_call : Standing → ℕ → List ℕ → ℕ → ℕ → ℕ → ℕ → Session → Call → Verdict → Move
+on_call s conn bytes id context size stub_size session call verdict =
+    let reply = (acted (state_after nothing_open s.history) conn call verdict).1 in record {
+      effect = record {
+        entries = Called conn call verdict stub_size ∷ [];
+        brings = (conn, bytes) ∷ [];
+        prints = Out conn (answer_bytes id context size reply) ∷ [];
+      };
+      peers = with_peer conn (Open session) s.peers;
+    }
+
+-- as far as is built, a request that is no decoded call has no effect
+abbrev pub on_request : Verdicts → Standing → ℕ → List ℕ → ℕ → ℕ → ℕ → ℕ → Session → Result Call WireError → Option Move
+on_request verdicts s conn bytes id context size stub_size session (Err e) = None
+on_request verdicts s conn bytes id context size stub_size session (Ok call) =
+    Some (on_call s conn bytes id context size stub_size session call (verdicts (length s.history)))
+
+abbrev pub on_act : Verdicts → Standing → ℕ → List ℕ → Option (Act × Session) → Option Move
+on_act verdicts s conn bytes None = None
+on_act verdicts s conn bytes (Some (act.Answered answer, session)) = Some (on_answer s conn bytes answer session)
+on_act verdicts s conn bytes (Some (act.Call id context face opnum size stub, session)) =
+    on_request verdicts s conn bytes id context size (length stub) session (call_at opnum stub)
+
+abbrev pub on_data : Verdicts → Standing → ℕ → List ℕ → Option Peer → Option Move
+on_data verdicts s conn bytes None = None
+on_data verdicts s conn bytes (Some Ended) = None
+on_data verdicts s conn bytes (Some (Open session)) = on_act verdicts s conn bytes (heard conn session bytes)
+
+abbrev pub on_end : Standing → ℕ → Option Peer → Option Move
+on_end s conn None = None
+on_end s conn (Some Ended) = None
+on_end s conn (Some (Open session)) = Some (record {
+  effect = record { entries = Gone conn ∷ []; brings = []; prints = IsGone conn ∷ [] };
+  peers = with_peer conn Ended s.peers;
+})
+
+-- what an event does, if its condition holds
+abbrev pub on_event : Config → Verdicts → Standing → Option Event → Option Move
+on_event config verdicts s None = None
+on_event config verdicts s (Some event.Nothing) = Some (quiet s.peers)
+on_event config verdicts s (Some (event.Open conn name)) = on_open config s conn name
+on_event config verdicts s (Some (event.Data conn bytes)) = on_data verdicts s conn bytes (peer_of conn s.peers)
+on_event config verdicts s (Some (event.End conn)) = on_end s conn (peer_of conn s.peers)
+
+unfoldable pub on_line : Config → Verdicts → Standing → List ℕ → Option Move
+on_line config verdicts s line = on_event config verdicts s (event_of line)
+
+-- ---- the end
+
+-- the number of a connection, where it is open
+abbrev pub number_of : ℕ → Option Peer → List ℕ
+number_of conn None = []
+number_of conn (Some (Open session)) = conn ∷ []
+number_of conn (Some Ended) = []
+
+-- the numbers of the connections that are open, of which the first has this number
+abbrev pub open_from : ℕ → List Peer → List ℕ
+open_from n [] = []
+open_from n (peer ∷ peers) = number_of n (Some peer) ++ open_from (n + 1) peers
+
+-- those that are still open are ended in ascending order
+abbrev pub ending : Standing → Effect
+ending s = let open_ones = open_from 1 s.peers in record {
+  entries = map (λ conn. Gone conn) open_ones;
+  brings = [];
+  prints = map (λ conn. IsGone conn) open_ones;
+}
+
+-- ---- the whole
+
+-- the effects of the lines and last that of the end, and the status
+pub record Trace : Type 0 where
+  pub effects : List Effect
+  pub status : Status
+
+abbrev pub behind : List Effect → Trace → Trace
+behind effects t = record { effects = effects ++ t.effects; status = t.status }
+
+abbrev pub ends : Standing → Status → Trace
+ends s status = record { effects = ending s ∷ []; status = status }
+
+-- a line that has no effect ends the replay with its number
+abbrev pub follow : Standing → ℕ → Option Move → (Standing → Trace) → Trace
+follow s n None later = ends s (EventLine n)
+follow s n (Some move) later = behind (move.effect ∷ []) (later (moved s move))
+
+-- what the lines do from there on, of which the first has this number
+unfoldable pub trace_from : Config → Verdicts → Standing → ℕ → List (List ℕ) → Trace
+trace_from config verdicts s n [] = ends s Done
+trace_from config verdicts s n (line ∷ lines) =
+    follow s n (on_line config verdicts s line) (λ after. trace_from config verdicts after (n + 1) lines)
+
+abbrev pub at_start : Standing
+at_start = record { history = []; peers = [] }
+
+-- the verdict of a call, and Ran where there is none
+abbrev pub verdict_of : Option Entry → Verdict
+verdict_of None = Ran
+verdict_of (Some (Opened conn listener)) = Ran
+verdict_of (Some (Called conn call verdict bytes)) = verdict
+verdict_of (Some (Gone conn)) = Ran
+
+abbrev pub verdict_in : List Entry → Verdicts
+verdict_in history place = verdict_of (slice_get history place)
+
+-- what a replay of events does, where the calls have the verdicts of a history
+abbrev pub replayed : Config → List ℕ → List Entry → Trace
+replayed config events history = trace_from config (verdict_in history) at_start 1 (lines_of events)
+
+abbrev pub entries_of : List Effect → List Entry
+entries_of effects = flat_map (λ e. e.entries) effects
+
+abbrev pub output_of : List Effect → List ℕ
+output_of effects = flat_map (λ e. flat_map line_bytes e.prints) effects

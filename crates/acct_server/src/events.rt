@@ -1,0 +1,149 @@
+// What the lines of an event file say.
+ghost use Rattle.std.specs.Prelude.{◌≡◌, ◌+◌, ◌≤◌, Some, None, Ok, Err, IfOk, MatchOption, length, drop, option_map};
+ghost use Rattle.std.specs.List.{position_or_len};
+ghost use Rattle.acct_server.specs.declared.events.LineError.TheVariants.{NoMemory, Refused};
+ghost use Rattle.acct_server.specs.Events.{is_space, parted, decimal_from, number_of, brings, of_two, of_command, event_of};
+ghost use Rattle.hex.specs.Hex.{decode_of};
+
+use acct_base::{Seq, is_same, rest_of};
+use hex::FromHexError;
+use std::alloc::{AllocError, Global};
+
+/// What a line of an event file says.
+#[derive(Debug, Drop)]
+pub enum Event {
+    /// An empty line or a comment.
+    Nothing,
+    /// A client connects to the listener of this name.
+    Open { conn: u32, listener: Seq<u8> },
+    /// Bytes come on a connection.
+    Data { conn: u32, bytes: Seq<u8> },
+    /// The client ends a connection.
+    End { conn: u32 },
+}
+
+/// Why a line wasn't run.
+#[derive(Clone, Copy, Debug, PartialEq, Eq)]
+pub enum LineError {
+    /// It has no form, or its condition fails.
+    Refused,
+    NoMemory,
+}
+
+impl From<AllocError> for LineError {
+    ghost from_gives = { λ _ e. e ≡ NoMemory };
+
+    fn from(_: AllocError) -> Self {
+        LineError::NoMemory
+    }
+}
+
+// What stands before the first space, and what stands behind it.
+fn parted(bytes: &[u8]) -> Option<(&[u8], &[u8])>
+    ensures { option_map (λ parts. (parts.0.now, parts.1.now)) result ≡ parted bytes.now }
+{
+    for i in 0..bytes.len() {
+        if bytes[i] == b' ' {
+            return Some((&bytes[..i], rest_of(bytes, i + 1)));
+        }
+    }
+    None
+}
+
+// The number that at most ten digits spell.
+fn decimal_from_zero(word: &[u8]) -> Option<u64>
+    requires { length word.now ≤ 10 }
+    ensures { result ≡ decimal_from 0 word.now }
+{
+    let mut number: u64 = 0;
+    for byte in word {
+        if *byte < b'0' || b'9' < *byte {
+            return None;
+        }
+        number = 10 * number + (*byte - b'0') as u64;
+    }
+    Some(number)
+}
+
+// The number below 2^32 that digits without a leading zero spell.
+#[tactic(auto, unfolding(crate::specs::Events::number_of))]
+fn number_of(word: &[u8]) -> Option<u32>
+    ensures { result ≡ number_of word.now }
+{
+    if word.is_empty() || 10 < word.len() || word[0] == b'0' {
+        return None;
+    }
+    let number = decimal_from_zero(word)?;
+    if number < 0x1_0000_0000 {
+        Some(number as u32)
+    } else {
+        None
+    }
+}
+
+// What a data line brings.
+fn data_of(alloc: Global, conn: u32, digits: &[u8]) -> Result<Event, LineError>
+    ensures found { IfOk result (λ event. brings (Some conn) (decode_of digits.now) ≡ Some event) }
+    ensures refused { result ≡ Err Refused → brings (Some conn) (decode_of digits.now) ≡ None }
+{
+    match hex::decode(alloc, digits) {
+        Ok(bytes) => Ok(Event::Data {
+            conn,
+            bytes: Seq::from_vec(bytes),
+        }),
+        Err(FromHexError::OutOfMemory) => Err(LineError::NoMemory),
+        Err(_) => Err(LineError::Refused),
+    }
+}
+
+// An opening or data, behind the command.
+fn of_two(alloc: Global, command: &[u8], word: &[u8], rest: &[u8]) -> Result<Event, LineError>
+    ensures found { IfOk result (λ event. of_two command.now (Some (word.now, rest.now)) ≡ Some event) }
+    ensures refused { result ≡ Err Refused → of_two command.now (Some (word.now, rest.now)) ≡ None }
+{
+    let Some(conn) = number_of(word) else {
+        return Err(LineError::Refused);
+    };
+    if is_same(command, b"open") {
+        return Ok(Event::Open {
+            conn,
+            listener: Seq::copy_of(alloc, rest)?,
+        });
+    }
+    if is_same(command, b"data") {
+        return data_of(alloc, conn, rest);
+    }
+    Err(LineError::Refused)
+}
+
+// A line with a command.
+fn of_command(alloc: Global, line: &[u8]) -> Result<Event, LineError>
+    ensures found { IfOk result (λ event. of_command (parted line.now) ≡ Some event) }
+    ensures refused { result ≡ Err Refused → of_command (parted line.now) ≡ None }
+{
+    let Some((command, rest)) = parted(line) else {
+        return Err(LineError::Refused);
+    };
+    if is_same(command, b"end") {
+        return match number_of(rest) {
+            Some(conn) => Ok(Event::End { conn }),
+            None => Err(LineError::Refused),
+        };
+    }
+    match parted(rest) {
+        Some((word, rest)) => of_two(alloc, command, word, rest),
+        None => Err(LineError::Refused),
+    }
+}
+
+/// What a line says, or that it has no form.
+#[tactic(auto, unfolding(crate::specs::Events::event_of))]
+pub fn event_of(alloc: Global, line: &[u8]) -> Result<Event, LineError>
+    ensures found { IfOk result (λ event. event_of line.now ≡ Some event) }
+    ensures refused { result ≡ Err Refused → event_of line.now ≡ None }
+{
+    if line.is_empty() || line[0] == b'#' {
+        return Ok(Event::Nothing);
+    }
+    of_command(alloc, line)
+}

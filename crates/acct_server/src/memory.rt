@@ -1,0 +1,158 @@
+// A source and a sink in memory.
+ghost use Rattle.std.specs.Prelude.{◌≡◌, ◌+◌, ◌-◌, ◌^◌, ◌<◌, ◌≤◌, [], length, take, min, false, Some, None, IfOk};
+
+use crate::{Failed, Sink, Source};
+use acct_base::rest_of;
+use std::alloc::{AllocError, Global};
+use std::marker::Model;
+
+fn one_more(count: u64) -> u64
+    ensures { result ≡ min (count + 1) (2 ^ 64 - 1) }
+{
+    count.saturating_add(1)
+}
+
+// Copies as many bytes as fit, at most so many, and answers how many these are.
+fn copy_front(from: &[u8], most: usize, into: &mut [u8]) -> usize
+    requires { 0 < most }
+    ensures within { result ≤ length from.now }
+    ensures fits { result ≤ length into.old }
+    ensures copied { take result into.new ≡ take result from.now }
+    ensures all { result ≡ 0 → 0 < length into.new → from.now ≡ [] }
+{
+    let count = into.len().min(most).min(from.len());
+    into[..count].copy_from_slice(&from[..count]);
+    count
+}
+
+/// A source of given bytes. Its reads are numbered from 1, and those of the given numbers fail.
+#[derive(Drop)]
+pub struct MemorySource {
+    bytes: Vec<u8>,
+    place: usize,
+    most: usize,
+    failing: Vec<u64>,
+    reads: u64,
+    has_ended: bool,
+    fault_count: u64,
+}
+
+impl Model for MemorySource {
+    ghost use Rattle.std.specs.Prelude.{◌≤◌, ◌<◌, drop, vec_len};
+    ghost use Rattle.acct_server.specs.Memory.{SourceInMemory};
+
+    ghost Value = { SourceInMemory };
+
+    ghost view = { λ s. record { left = drop s.place s.bytes.items; ended = s.has_ended; faults = s.fault_count } };
+
+    ghost invariant = { λ s. (s.place ≤ vec_len s.bytes) × (0 < s.most) };
+}
+
+impl MemorySource {
+    /// A source that gives at most so many bytes a read.
+    pub fn new(bytes: Vec<u8>, most: usize, failing: Vec<u64>) -> Self
+        requires { 0 < most }
+        ensures { result ≡ record { left = bytes.items; ended = false; faults = 0 } }
+    {
+        MemorySource {
+            bytes,
+            place: 0,
+            most,
+            failing,
+            reads: 0,
+            has_ended: false,
+            fault_count: 0,
+        }
+    }
+}
+
+impl Source for MemorySource {
+    ghost left = { λ s. Some s.left };
+
+    ghost ended = { λ s. s.ended };
+
+    ghost faults = { λ s. s.faults };
+
+    fn read(&mut self, buf: &mut [u8]) -> Result<usize, Failed> {
+        self.reads = one_more(self.reads);
+        if self.failing.contains(&self.reads) {
+            self.fault_count = one_more(self.fault_count);
+            return Err(Failed);
+        }
+        let count = copy_front(rest_of(&self.bytes, self.place), self.most, buf);
+        self.place += count;
+        self.has_ended |= (count == 0) & !buf.is_empty();
+        Ok(count)
+    }
+}
+
+/// A sink with room for a number of bytes. Its writes are numbered from 1, and those of the given numbers fail; so does one
+/// whose piece has no room.
+#[derive(Drop)]
+pub struct MemorySink {
+    bytes: Vec<u8>,
+    room: usize,
+    most: usize,
+    failing: Vec<u64>,
+    writes: u64,
+    fault_count: u64,
+}
+
+impl Model for MemorySink {
+    ghost use Rattle.std.specs.Prelude.{◌≤◌, ◌<◌, vec_len, vec_capacity};
+    ghost use Rattle.acct_server.specs.Memory.{SinkInMemory};
+
+    ghost Value = { SinkInMemory };
+
+    ghost view = { λ s. record { held = s.bytes.items; room = s.room; faults = s.fault_count } };
+
+    ghost invariant = { λ s. (vec_len s.bytes ≤ s.room) × (s.room ≤ vec_capacity s.bytes) × (0 < s.most) };
+}
+
+impl MemorySink {
+    /// A sink that takes at most so many bytes a write, and takes the room for all of them now.
+    pub fn new(
+        alloc: Global,
+        room: usize,
+        most: usize,
+        failing: Vec<u64>,
+    ) -> Result<Self, AllocError>
+        requires { 0 < most }
+        ensures { IfOk result (λ sink. sink ≡ record { held = []; room = room; faults = 0 }) }
+    {
+        Ok(MemorySink {
+            bytes: Vec::with_capacity(alloc, room)?,
+            room,
+            most,
+            failing,
+            writes: 0,
+            fault_count: 0,
+        })
+    }
+
+    /// The bytes that it took.
+    pub fn as_slice(&self) -> &[u8]
+        ensures { result.now ≡ self.now.held }
+    {
+        &self.bytes
+    }
+}
+
+impl Sink for MemorySink {
+    ghost held = { λ s. Some s.held };
+
+    ghost faults = { λ s. s.faults };
+
+    fn write(&mut self, bytes: &[u8]) -> Result<usize, Failed> {
+        self.writes = one_more(self.writes);
+        if self.failing.contains(&self.writes) || bytes.len() > self.room - self.bytes.len() {
+            self.fault_count = one_more(self.fault_count);
+            return Err(Failed);
+        }
+        let count = bytes.len().min(self.most);
+        match self.bytes.extend_from_slice(&bytes[..count]) {
+            Ok(()) => Ok(count),
+            Err(_) => unreachable!(),
+        }
+    }
+}

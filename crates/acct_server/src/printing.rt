@@ -1,0 +1,42 @@
+// The lines that a replay prints.
+ghost use Rattle.std.specs.Prelude.{◌≡◌, ◌++◌, ◌∷◌, [], codes, IfOk, OnOk};
+ghost use Rattle.std.specs.String.{string_bytes};
+ghost use Rattle.std.specs.Fmt.{decimal};
+ghost use Rattle.acct_server.specs.Replayed.{out_line, gone_line};
+
+use std::alloc::{AllocError, Global};
+
+fn push_number(line: &mut Vec<u8>, alloc: Global, number: u32) -> Result<(), AllocError>
+    ensures { OnOk result (line.new.items ≡ line.old.items ++ decimal number) }
+{
+    let digits = format!(in alloc; "{number}")?;
+    line.extend_from_slice(digits.as_bytes())?;
+    Ok(())
+}
+
+/// The line that brings bytes sent on a connection.
+#[tactic(auto, unfolding(crate::specs::Replayed::out_line))]
+pub fn out_line(alloc: Global, conn: u32, bytes: &[u8]) -> Result<Vec<u8>, AllocError>
+    ensures { IfOk result (λ line. line.items ≡ out_line conn bytes.now) }
+{
+    let digits = hex::encode(alloc, bytes)?;
+    let mut line = Vec::new(alloc);
+    line.extend_from_slice(b"out ")?;
+    push_number(&mut line, alloc, conn)?;
+    line.push(b' ')?;
+    line.extend_from_slice(digits.as_bytes())?;
+    line.push(b'\n')?;
+    Ok(line)
+}
+
+/// The line that says that a connection is gone.
+#[tactic(auto, unfolding(crate::specs::Replayed::gone_line))]
+pub fn gone_line(alloc: Global, conn: u32) -> Result<Vec<u8>, AllocError>
+    ensures { IfOk result (λ line. line.items ≡ gone_line conn) }
+{
+    let mut line = Vec::new(alloc);
+    line.extend_from_slice(b"gone ")?;
+    push_number(&mut line, alloc, conn)?;
+    line.push(b'\n')?;
+    Ok(line)
+}

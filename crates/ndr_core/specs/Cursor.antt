@@ -1,0 +1,111 @@
+-- Where reading stands in a stub, and what the primitives of the transfer syntax read there (C706, chapter 14).
+use Rattle.std.specs.Prelude.{◌≡◌, ℕ, zero, suc, ◌+◌, ◌-◌, ◌*◌, ◌/◌, Bool, true, false, ◌==◌, ◌||◌, IsTrue, ◌≤◌, List, length, take, drop, Result, Ok, Err, nat_lt, nat_le, if◌then◌else◌}
+use Rattle.std.specs.Int.{Width, w32, byte_len, from_le_bytes}
+use Rattle.ndr_core.specs.declared.error.NdrError.{NdrError}
+use Rattle.ndr_core.specs.declared.error.NdrError.TheVariants.{Short, Count}
+
+-- A stub that is read, from a place on.
+pub record Cursor : Type 0 where
+  pub stub : List ℕ
+  pub place : ℕ
+
+-- The value that stands at a cursor and the cursor after it, or the bad place.
+abbrev pub Reads : Type 0 → Type 0
+Reads A = Cursor → Result (A × Cursor) NdrError
+
+-- What a call answered, and where it left its cursor, is what reading gives.
+abbrev pub Gives : {A : Type 0} → Result A NdrError → Cursor → Result (A × Cursor) NdrError → Type 0
+Gives (Ok x) after read = read ≡ Ok (x, after)
+Gives (Err e) after read = read ≡ Err e
+
+-- The reading goes on, in the same stub.
+pub record GoesOn (before after : Cursor) : Type 0 where
+  pub same : after.stub ≡ before.stub
+  pub onward : before.place ≤ after.place
+
+-- ---- alignment, always from the stub's start
+
+-- The least multiple of the size that is at least the place.
+abbrev pub aligned : ℕ → ℕ → ℕ
+aligned size place = (place + (size - 1)) / size * size
+
+-- The sizes of the primitives.
+abbrev pub IsSize : ℕ → Type 0
+IsSize n = IsTrue ((n == 1) || (n == 2) || (n == 4) || (n == 8))
+
+abbrev pub aligned_cursor : ℕ → Cursor → Cursor
+aligned_cursor size c = record { stub = c.stub; place = aligned size c.place }
+
+-- ---- numbers
+
+abbrev pub number_start : Width → Cursor → ℕ
+number_start w c = aligned (byte_len w) c.place
+
+abbrev pub number_end : Width → Cursor → ℕ
+number_end w c = number_start w c + byte_len w
+
+abbrev pub after_number : Width → Cursor → Cursor
+after_number w c = record { stub = c.stub; place = number_end w c }
+
+-- The little-endian number that stands behind the padding.
+abbrev pub number_there : Width → Cursor → ℕ
+number_there w c = from_le_bytes w (take (byte_len w) (drop (number_start w c) c.stub))
+
+-- A number that is whole; else its place, after alignment, is bad.
+abbrev pub number_at : Width → Reads ℕ
+number_at w c = if nat_lt (length c.stub) (number_end w c) then Err (Short (number_start w c)) else Ok (number_there w c, after_number w c)
+
+-- ---- one reading after another
+
+infixl 10 ◌>>=◌
+abbrev pub ◌>>=◌ : {A B : Type 0} → Result A NdrError → (A → Result B NdrError) → Result B NdrError
+(Ok x) >>= f = f x
+(Err e) >>= f = Err e
+
+abbrev pub done : {A : Type 0} → A → Cursor → Result (A × Cursor) NdrError
+done a c = Ok (a, c)
+
+-- The bad place of a number of this size that was read last.
+abbrev pub broken : ℕ → Cursor → NdrError
+broken size after = Count (after.place - size)
+
+-- A value that passes a test; else the number that was read last, of this size, is bad.
+abbrev pub test_passed : {A : Type 0} → ℕ → (A → Bool) → A × Cursor → Result (A × Cursor) NdrError
+test_passed size test p = if test p.0 then Ok p else Err (broken size p.1)
+
+abbrev pub testing : {A : Type 0} → ℕ → (A → Bool) → Reads A → Reads A
+testing size test r c = r c >>= test_passed size test
+
+-- A value made of what is read.
+abbrev pub making : {A B : Type 0} → (A → B) → Reads A → Reads B
+making make r c = r c >>= λ p. done (make p.0) p.1
+
+-- One value and then another, which may depend on the first.
+abbrev pub both : {A B : Type 0} → Reads A → (A → Reads B) → Reads (A × B)
+both {A = A} {B = B} r f c = r c >>= λ p. f p.0 p.1 >>= λ q. done (p.0, q.0) q.1
+
+abbrev pub second : {A B : Type 0} → A × B → B
+second p = p.1
+
+-- ---- what the calls read that are no plain number
+
+abbrev pub is_zero : ℕ → Bool
+is_zero n = n == 0
+
+-- A referent: the pointer isn't null.
+abbrev pub is_there : ℕ → Bool
+is_there zero = false
+is_there (suc n) = true
+
+abbrev pub pointer_at : Reads Bool
+pointer_at = making is_there (number_at w32)
+
+-- The offset 0, and then the actual count, which is at most so many.
+abbrev pub offset_at : Reads ℕ
+offset_at = testing 4 is_zero (number_at w32)
+
+abbrev pub count_at : ℕ → Reads ℕ
+count_at most = testing 4 (λ n. nat_le n most) (number_at w32)
+
+abbrev pub varying_at : ℕ → Reads ℕ
+varying_at most = making second (both offset_at (λ _. count_at most))

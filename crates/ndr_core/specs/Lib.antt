@@ -1,0 +1,9 @@
+pub mod Cursor
+pub mod Written
+pub mod Codec
+pub mod Steps
+pub mod Numbers
+pub mod Laws
+pub mod Shapes
+pub mod Parts
+pub mod Again
