@@ -9,7 +9,7 @@ use Rattle.rpc_pdu.proofs.HeaderFacts.{header_long, long_16, bad_early}
 use Rattle.rpc_pdu.proofs.Whole.{has_front, head_at}
 use Rattle.rpc_pdu.proofs.Stubs.{stub_within}
 use Rattle.rpc_pdu.proofs.Exact.{exact_to}
-use Rattle.rpc_pdu.proofs.Bounds.{AreBytes, bytes-take, few, whole}
+use Rattle.rpc_pdu.proofs.Bounds.{AreBytes, bytes-take, few, whole, room}
 use Rattle.rpc_pdu.proofs.fronts.read_pdu.Goals as goal
 
 pub body_of-requires-clause-header : goal.body_of-requires-clause-header
@@ -59,9 +59,12 @@ returns-in-Ok-clause-bounds c =
     let eight = are 8 in
     let nine = are 9 in
     let pdu = (exact_to c.args.side c.in-Ok.pdu c.in-Long.size c.args.bytes.now (whole_front c)).1 in
+    let most : c.in-Long.size ≤ 65535 = omega (arith, is, low, high, eight, nine) in
+    let took = length-take-le c.in-Long.size c.args.bytes.now c.if-bytes-used.false in
     record {
-      size_most = omega (arith, is, low, high, eight, nine);
+      size_most = most;
       stub_most = rw len at stub;
       few_parts = few c.args.side c.in-Ok.pdu (take c.in-Long.size c.args.bytes.now) (bytes-take c.in-Long.size c.args.bytes.now are) pdu;
+      written_most = room c.args.side c.in-Ok.pdu (take c.in-Long.size c.args.bytes.now) (omega (arith, most, took)) pdu;
       whole_ids = whole c.args.side c.in-Ok.pdu (take c.in-Long.size c.args.bytes.now) pdu;
     }
