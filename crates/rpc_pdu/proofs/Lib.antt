@@ -10,3 +10,4 @@ pub mod Places
 pub mod Exact
 pub mod Divided
 pub mod WrittenPdu
+pub mod Bounds

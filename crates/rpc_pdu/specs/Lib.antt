@@ -5,7 +5,7 @@ pub mod Lists
 pub mod Headers
 pub mod Bodies
 pub mod Front
-pub mod Reads
 pub mod Grammar
 pub mod Written
+pub mod Reads
 pub mod Laws

@@ -6,6 +6,7 @@ use Rattle.rpc_pdu.specs.declared.pdus.Pdu.TheVariants.{Bind, Alter, Request, Ca
 use Rattle.rpc_pdu.specs.declared.fronts.ReadPdu.{ReadPdu}
 use Rattle.rpc_pdu.specs.declared.fronts.ReadPdu.TheVariants as read
 use Rattle.rpc_pdu.specs.Front.{Whole, Rest, Refused, front}
+use Rattle.rpc_pdu.specs.Written.{size_of, HasFewParts, HasWholeIds}
 
 -- what is read is the front, unless memory ran out
 abbrev pub IsRead : ReadPdu → Side → List ℕ → Type 0
@@ -27,9 +28,16 @@ stub_length (AlterResp id xmit recv group outcomes) = 0
 stub_length (BindNak id reason) = 0
 stub_length (Fault id context status) = 0
 
--- a PDU that is read has at most 65,535 bytes, and its stub at most the bytes behind the first 24
+-- what is read has at most 65,535 bytes, and can be written again
+pub record IsBounded (pdu : Pdu) (used : ℕ) : Type 0 where
+  pub size_most : used ≤ 65535
+  pub stub_most : stub_length pdu ≤ used - 24
+  pub few_parts : HasFewParts pdu
+  pub written_most : size_of pdu ≤ 65535
+  pub whole_ids : HasWholeIds pdu
+
 abbrev pub IsWithin : ReadPdu → Type 0
-IsWithin (read.Got pdu used) = (used ≤ 65535) × (stub_length pdu ≤ used - 24)
+IsWithin (read.Got pdu used) = IsBounded pdu used
 IsWithin read.More = Unit {0}
 IsWithin (read.Refused place cause ptype id) = Unit {0}
 IsWithin read.NoMemory = Unit {0}

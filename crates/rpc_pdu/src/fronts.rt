@@ -37,7 +37,7 @@ pub enum ReadPdu {
 #[tactic(auto, unfolding(crate::specs::Front::front))]
 pub fn read_pdu(alloc: Global, side: Side, bytes: &[u8]) -> ReadPdu
     ensures front { IsRead result side bytes.now }
-    ensures size { IsWithin result }
+    ensures bounds { IsWithin result }
 {
     if bytes.len() < 16 {
         return ReadPdu::More;

@@ -21,3 +21,6 @@ pub use laws::{bytes_divide_once, front_is_stable, whole_is_exactly_a_pdu, writt
 pub use pdus::{Element, Outcome, Pdu, Side};
 pub use syntaxes::{Syntax, is_same_syntax, lsarpc, ndr, samr};
 pub use writing::{NoMemory, write_pdu};
+
+#[cfg(test)]
+mod tests;

@@ -4,10 +4,12 @@ use Rattle.std.proofs.lemmas.List.{get_or-take, length-take-le}
 use Rattle.rpc_pdu.specs.declared.headers.Header.TheVariants.{Long}
 use Rattle.rpc_pdu.specs.Headers.{least_length, header_of}
 use Rattle.rpc_pdu.specs.Bodies.{body_of}
-use Rattle.rpc_pdu.specs.Front.{front}
+use Rattle.rpc_pdu.specs.Front.{Whole, front}
 use Rattle.rpc_pdu.proofs.HeaderFacts.{header_long, long_16, bad_early}
-use Rattle.rpc_pdu.proofs.Whole.{HasWhole, has_front, head_at}
+use Rattle.rpc_pdu.proofs.Whole.{has_front, head_at}
 use Rattle.rpc_pdu.proofs.Stubs.{stub_within}
+use Rattle.rpc_pdu.proofs.Exact.{exact_to}
+use Rattle.rpc_pdu.proofs.Bounds.{AreBytes, bytes-take, few, whole, room}
 use Rattle.rpc_pdu.proofs.fronts.read_pdu.Goals as goal
 
 pub body_of-requires-clause-header : goal.body_of-requires-clause-header
@@ -35,23 +37,34 @@ returns-in-Bad-clause-front c =
     let long = c.if-bytes-lt16.false in
     (search rules, omega (arith, early, long))
 
+whole_front : (c : goal.In-Ok) → front c.args.side c.args.bytes.now ≡ Whole c.in-Ok.pdu c.in-Long.size
+whole_front c =
+    let low = long_16 c.args.side c.split_at.result.0.now c.in-Long.kind c.in-Long.size (sym c.in-Long.ensures) in
+    let header : header_of c.args.side (take 16 c.args.bytes.now) ≡ Long c.in-Long.kind c.in-Long.size = ap (λ (x : List ℕ). header_of c.args.side x) (sym c.split_at.ensures.front) ∙ sym c.in-Long.ensures in
+    has_front c.args.side c.args.bytes.now c.in-Ok.pdu c.in-Long.size (record { kind = c.in-Long.kind; header = header; sixteen = low; there = c.if-bytes-used.false; body = ap (λ (x : List ℕ). body_of c.in-Long.kind x) (sym c.split_at-in-Long.ensures.front) ∙ c.in-Ok.ensures })
+
 pub returns-in-Ok-clause-front : goal.returns-in-Ok-clause-front
 returns-in-Ok-clause-front c =
-    let low = long_16 c.args.side c.split_at.result.0.now c.in-Long.kind c.in-Long.size (sym c.in-Long.ensures) in
-    let header : header_of c.args.side (take 16 c.args.bytes.now) ≡ Long c.in-Long.kind c.in-Long.size = ap (λ (x : List ℕ). header_of c.args.side x) (sym c.split_at.ensures.front) ∙ sym c.in-Long.ensures in (
-      has_front c.args.side c.args.bytes.now c.in-Ok.pdu c.in-Long.size (record { kind = c.in-Long.kind; header = header; sixteen = low; there = c.if-bytes-used.false; body = ap (λ (x : List ℕ). body_of c.in-Long.kind x) (sym c.split_at-in-Long.ensures.front) ∙ c.in-Ok.ensures }),
-      low,
-      c.if-bytes-used.false,
-    )
+    (whole_front c, long_16 c.args.side c.split_at.result.0.now c.in-Long.kind c.in-Long.size (sym c.in-Long.ensures), c.if-bytes-used.false)
 
-pub returns-in-Ok-clause-size : goal.returns-in-Ok-clause-size
-returns-in-Ok-clause-size c =
+pub returns-in-Ok-clause-bounds : goal.returns-in-Ok-clause-bounds
+returns-in-Ok-clause-bounds c =
     let len : length c.split_at-in-Long.result.0.now ≡ c.in-Long.size = ap length c.split_at-in-Long.ensures.front ∙ length-take-le _ _ c.if-bytes-used.false in
     let stub = stub_within c.in-Long.kind c.split_at-in-Long.result.0.now c.in-Ok.pdu c.in-Ok.ensures in
     let h = header_long c.args.side c.split_at.result.0.now c.in-Long.kind c.in-Long.size (sym c.in-Long.ensures) in
     let is = h.size_is in
+    let are : AreBytes c.args.bytes.now = λ i. Fits-lt-pow {w = w8} (c.type_inv.bytes i) in
     let low : get_or c.split_at.result.0.now 8 0 ≡ get_or c.args.bytes.now 8 0 = ap (λ (x : List ℕ). get_or x 8 0) c.split_at.ensures.front ∙ get_or-take 16 c.args.bytes.now 8 0 (omega arith) in
     let high : get_or c.split_at.result.0.now 9 0 ≡ get_or c.args.bytes.now 9 0 = ap (λ (x : List ℕ). get_or x 9 0) c.split_at.ensures.front ∙ get_or-take 16 c.args.bytes.now 9 0 (omega arith) in
-    let eight : get_or c.args.bytes.now 8 0 < 256 = Fits-lt-pow {w = w8} (c.type_inv.bytes 8) in
-    let nine : get_or c.args.bytes.now 9 0 < 256 = Fits-lt-pow {w = w8} (c.type_inv.bytes 9) in
-    (omega (arith, is, low, high, eight, nine), rw len at stub)
+    let eight = are 8 in
+    let nine = are 9 in
+    let pdu = (exact_to c.args.side c.in-Ok.pdu c.in-Long.size c.args.bytes.now (whole_front c)).1 in
+    let most : c.in-Long.size ≤ 65535 = omega (arith, is, low, high, eight, nine) in
+    let took = length-take-le c.in-Long.size c.args.bytes.now c.if-bytes-used.false in
+    record {
+      size_most = most;
+      stub_most = rw len at stub;
+      few_parts = few c.args.side c.in-Ok.pdu (take c.in-Long.size c.args.bytes.now) (bytes-take c.in-Long.size c.args.bytes.now are) pdu;
+      written_most = room c.args.side c.in-Ok.pdu (take c.in-Long.size c.args.bytes.now) (omega (arith, most, took)) pdu;
+      whole_ids = whole c.args.side c.in-Ok.pdu (take c.in-Long.size c.args.bytes.now) pdu;
+    }
