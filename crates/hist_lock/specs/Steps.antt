@@ -1,6 +1,6 @@
 -- The kinds of step of the lock's table: the view that each leaves, and what it tells its thread.
 use Rattle.std.specs.Prelude.{◌≡◌, ◌≢◌, ℕ, ◌+◌, ◌%◌, ◌^◌, ◌<◌, ◌≤◌, List, [], ◌∷◌, ◌++◌, length, Option, Some, None, true, false}
-use Rattle.atomic_table.specs.Table.{Me, Step, rest}
+use Rattle.atomic_table.specs.Table.{Me, rest}
 use Rattle.hist_lock.specs.Lanes.{Mark}
 use Rattle.hist_lock.specs.Histories.{Starts, Rising, merged, longer}
 use Rattle.hist_lock.specs.Views.{Finds}

@@ -170,12 +170,7 @@ fn call_next<R: Wait>(
 }
 
 // Opens the connection, and makes twenty calls on it.
-fn work<R: Wait>(
-    rt: &R,
-    lock: &HistLock<Log>,
-    mut pass: Pass<Log>,
-    conn: u32,
-) -> Pass<Log>
+fn work<R: Wait>(rt: &R, lock: &HistLock<Log>, mut pass: Pass<Log>, conn: u32) -> Pass<Log>
     requires pass { IsPassOf lock.now pass }
     requires new { (view pass).own ≡ [] }
     ensures pass { IsPassOf lock.now result }

@@ -22,9 +22,9 @@ module _ (own : List (ℕ × Entry)) (h : List Entry) (conn next : ℕ) where
   called o m = (
     (o.0, o.1, (o.2.0, at_longer own _ o.2.0 _ o.2.1), o.3),
     λ p n i. ⊎_elim
-    (λ (old : get_elem? own i.0 ≡ some (p, Called conn n)). let lt = m p n (i.0, old) in omega arith)
-    (λ (new : (length h, Called conn next) ≡ (p, Called conn n)). let same : Called conn next ≡ Called conn n = ap (λ (z : ℕ × Entry). z.1) new in let number : next ≡ n = cc in omega arith)
-    (at_snoc own _ _ i.0 i.1),
+        (λ (old : get_elem? own i.0 ≡ some (p, Called conn n)). let lt = m p n (i.0, old) in omega arith)
+        (λ (new : (length h, Called conn next) ≡ (p, Called conn n)). let same : Called conn next ≡ Called conn n = ap (λ (z : ℕ × Entry). z.1) new in let number : next ≡ n = cc in omega arith)
+        (at_snoc own _ _ i.0 i.1),
   )
 
   ready_on : {A B : Type 0} (own' : List (ℕ × Entry)) (h' : List Entry) (r : Result A B) → MatchResult r (λ _. h' ≡ h ++ Called conn next ∷ []) (λ _. h' ≡ h) → own' ≡ own ++ placed (length h) (drop (length h) h') → Opened lane-value.it own conn → Numbered own conn next → Ready own'

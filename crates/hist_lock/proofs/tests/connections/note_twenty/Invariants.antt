@@ -1,4 +1,3 @@
-use Rattle.std.proofs.Common.{◌≡◌}
 use Rattle.hist_lock.specs.Views.{IsSamePass}
 use Rattle.hist_lock.specs.Passes.{view, IsPassOf}
 use Rattle.hist_lock.proofs.tests.connections.note_twenty.Given as goal

@@ -1,6 +1,6 @@
 use Rattle.std.proofs.Common.{◌≡◌, ℕ, ◌<◌, zero, suc, List, [], ◌∷◌, ◌++◌, length, drop, sym, refl, ap, ◌∙◌, subst}
 use Rattle.std.proofs.Math.Seq.{drop-append_seam}
-use mathlib.Core.Option.{some, some-injective, some-ne-none}
+use mathlib.Core.Option.{some-injective, some-ne-none}
 use Rattle.hist_lock.specs.Histories.{In, Opened, placed}
 use Rattle.hist_lock.specs.declared.tests.connections.Entry.{Entry}
 use Rattle.hist_lock.specs.declared.tests.connections.Entry.TheVariants as entry
