@@ -1,0 +1,4 @@
+pub mod Made
+pub mod Order
+pub mod Slots
+pub mod Value
