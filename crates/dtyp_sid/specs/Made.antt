@@ -17,3 +17,7 @@ sid_of authority subs =
 -- the SID with one more sub-authority behind
 abbrev pub with_last : SidValue → ℕ → SidValue
 with_last sid rid = record { authority = sid.authority; subs = sid.subs ++ rid ∷ [] }
+
+-- the SID of an authority alone
+abbrev pub authority_alone : ℕ → SidValue
+authority_alone authority = record { authority = authority; subs = [] }

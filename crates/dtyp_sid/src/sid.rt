@@ -1,7 +1,11 @@
 // The value of a SID.
-ghost use Rattle.std.specs.Prelude.{◌≡◌, ◌+◌, ◌<◌, ◌≤◌, ◌^◌, [], length, MatchOption, Some, None};
+ghost use Rattle.std.specs.Prelude.{◌≡◌, ◌+◌, ◌*◌, ◌<◌, ◌≤◌, ◌^◌, [], length, MatchOption, Some, None};
 
+ghost use Rattle.dtyp_sid.specs.Value.{IsSid};
+
+use crate::bytes::sub_at_front;
 use crate::errors::SidError;
+use acct_base::rest_of;
 use std::marker::Model;
 
 /// A security identifier (MS-DTYP 2.4.2): an identifier authority below 2^48, and at most 15 sub-authorities. It holds no
@@ -35,7 +39,8 @@ impl Model for Sid {
 
 impl Sid {
     ghost use Rattle.dtyp_sid.specs.Value.{SidValue, IsSid};
-    ghost use Rattle.dtyp_sid.specs.Made.{sid_of, with_last};
+    ghost use Rattle.dtyp_sid.specs.Made.{sid_of, with_last, authority_alone};
+    ghost use Rattle.dtyp_sid.specs.Bytes.{subs_at_front};
 
     /// The SID of an authority and its sub-authorities.
     pub fn new(authority: u64, subs: &[u32]) -> Result<Sid, SidError>
@@ -56,6 +61,36 @@ impl Sid {
         })
     }
 
+    /// The SID of an authority, with no sub-authority.
+    pub(crate) fn of_authority(authority: u64) -> Sid
+        requires { authority < 2 ^ 48 }
+        ensures { result ≡ authority_alone authority }
+    {
+        Sid {
+            authority,
+            count: 0,
+            slots: [0; 15],
+        }
+    }
+
+    /// The SID of an authority, and of so many sub-authorities in four bytes each.
+    pub(crate) fn from_front(authority: u64, bytes: &[u8], count: usize) -> Sid
+        requires authority { authority < 2 ^ 48 }
+        requires few { count ≤ 15 }
+        requires there { 4 * count ≤ length bytes.now }
+        ensures { result ≡ record { authority = authority; subs = subs_at_front count bytes.now } }
+    {
+        let mut slots = [0; 15];
+        for place in 0..count {
+            slots[place] = sub_at_front(rest_of(bytes, 4 * place));
+        }
+        Sid {
+            authority,
+            count,
+            slots,
+        }
+    }
+
     /// The identifier authority, below 2^48.
     pub fn authority(&self) -> u64
         ensures value { result ≡ self.now.authority }
@@ -70,6 +105,13 @@ impl Sid {
         ensures count { length result.now ≤ 15 }
     {
         &self.slots[..self.count]
+    }
+
+    /// A law: each SID keeps the limits of its parts.
+    pub fn keeps_limits(&self)
+        ensures { IsSid self.now }
+    {
+        limits_of(self.authority(), self.subs());
     }
 
     /// The SID without its last sub-authority, and that one, which is the relative identifier. There is none where the SID
@@ -106,4 +148,13 @@ impl Sid {
             slots,
         })
     }
+}
+
+/// An authority and sub-authorities within their limits are those of a SID.
+fn limits_of(authority: u64, subs: &[u32])
+    requires authority { authority < 2 ^ 48 }
+    requires count { length subs.now ≤ 15 }
+    ensures { IsSid (record { authority = authority; subs = subs.now }) }
+{
+    let _count = subs.len();
 }

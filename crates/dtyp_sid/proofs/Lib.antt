@@ -1,0 +1,4 @@
+pub mod Hexadecimals
+pub mod Reader
+pub mod Shown
+pub mod Texts
