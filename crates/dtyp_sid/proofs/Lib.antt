@@ -2,3 +2,4 @@ pub mod Hexadecimals
 pub mod Reader
 pub mod Shown
 pub mod Texts
+pub mod SidBytes

@@ -1,8 +1,8 @@
 -- The bytes of a SID (MS-DTYP 2.4.2.2): revision 1, the count of sub-authorities, the authority in six bytes with the highest
 -- first, and each sub-authority in four bytes with the lowest first
-use Rattle.std.specs.Prelude.{◌≡◌, ℕ, zero, suc, ◌+◌, ◌*◌, ◌<◌, List, [], ◌∷◌, ◌++◌, length, drop, slice_index, nat_lt, not, ◌==◌, if◌then◌else◌, All, w32}
-use Rattle.std.specs.Int.{bytes_high_first, to_le_bytes, from_le_bytes, from_be_bytes}
-use mir.Syntax.{w64}
+use Rattle.std.specs.Prelude.{◌≡◌, ℕ, zero, suc, ◌+◌, ◌*◌, ◌<◌, List, [], ◌∷◌, ◌++◌, length, drop, slice_index, nat_lt, not, ◌==◌, if◌then◌else◌, All}
+use Rattle.std.specs.Int.{w32, w64, bytes_high_first, to_le_bytes, from_le_bytes, from_be_bytes}
+
 use Rattle.std.specs.List.{flat_map}
 use Rattle.std.specs.declared.result.Result.{Result}
 use Rattle.std.specs.declared.result.Result.TheVariants.{Ok, Err}
@@ -10,9 +10,17 @@ use Rattle.dtyp_sid.specs.Value.{SidValue, IsSid}
 use Rattle.dtyp_sid.specs.declared.errors.BytesError.{BytesError}
 use Rattle.dtyp_sid.specs.declared.errors.BytesError.TheVariants.{Short, Revision, Count}
 
+-- the first eight bytes of a SID: the revision, the count and the authority
+unfoldable pub header_of : SidValue → List ℕ
+header_of sid = 1 ∷ length sid.subs ∷ bytes_high_first 6 sid.authority
+
+-- the sub-authorities in four bytes each
+unfoldable pub sub_bytes : List ℕ → List ℕ
+sub_bytes subs = flat_map (to_le_bytes w32) subs
+
 -- the written bytes of a SID
 unfoldable pub bytes_of : SidValue → List ℕ
-bytes_of sid = 1 ∷ length sid.subs ∷ (bytes_high_first 6 sid.authority ++ flat_map (to_le_bytes w32) sid.subs)
+bytes_of sid = header_of sid ++ sub_bytes sid.subs
 
 -- the number of the six bytes at the front, the highest first
 unfoldable pub authority_at_front : List ℕ → ℕ

@@ -1,7 +1,7 @@
 // Reading and writing the bytes of a SID.
-ghost use Rattle.std.specs.Prelude.{◌≡◌, ◌+◌, ◌*◌, ◌≤◌, ◌++◌, length, take, drop, IfOk, w32};
-ghost use Rattle.std.specs.Int.{from_le_bytes};
-ghost use Rattle.dtyp_sid.specs.Bytes.{bytes_of, sid_of_bytes, subs_at_front, BeginWithSid};
+ghost use Rattle.std.specs.Prelude.{◌≡◌, ◌+◌, ◌*◌, ◌^◌, ◌<◌, ◌≤◌, ◌++◌, length, take, drop, IfOk};
+ghost use Rattle.std.specs.Int.{w32, from_le_bytes};
+ghost use Rattle.dtyp_sid.specs.Bytes.{bytes_of, sid_of_bytes, authority_at_front, BeginWithSid};
 
 use crate::{BytesError, Sid};
 use acct_base::rest_of;
@@ -31,14 +31,15 @@ impl Sid {
     }
 
     /// Writes the bytes of the SID at the front and gives their number. The bytes behind stay as they were.
+    #[tactic(auto, unfolding(crate::specs::Bytes::bytes_of, crate::specs::Bytes::header_of))]
     pub fn to_bytes(&self, out: &mut [u8; 68]) -> usize
         ensures written { out.new ≡ bytes_of self.now ++ drop result out.old }
         ensures count { result ≡ 8 + 4 * length self.now.subs }
     {
         let subs = self.subs();
-        out[0] = 1;
-        out[1] = subs.len() as u8;
-        put(out, 2, rest_of(&self.authority().to_be_bytes(), 2));
+        let count = subs.len() as u8;
+        let [_, _, a, b, c, d, e, f] = self.authority().to_be_bytes();
+        put(out, 0, &[1, count, a, b, c, d, e, f]);
         let mut place = 8;
         for sub in subs {
             put(out, place, &sub.to_le_bytes());
@@ -60,7 +61,8 @@ fn put(out: &mut [u8; 68], place: usize, bytes: &[u8])
 #[tactic(auto, unfolding(crate::specs::Bytes::authority_at_front))]
 fn authority_at_front(bytes: &[u8]) -> u64
     requires { 6 ≤ length bytes.now }
-    ensures { result ≡ authority_at_front bytes.now }
+    ensures value { result ≡ authority_at_front bytes.now }
+    ensures below { result < 2 ^ 48 }
 {
     u64::from_be_bytes([
         0, 0, bytes[0], bytes[1], bytes[2], bytes[3], bytes[4], bytes[5],
