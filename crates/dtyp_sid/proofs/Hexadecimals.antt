@@ -38,7 +38,7 @@ digits_value-hexadecimal zero number below = omega arith
 digits_value-hexadecimal (suc count) number below =
     digits_value_push 16 (hexadecimal count (number / 16)) _
     ∙ (let power : 16 ^ (count + 1) ≡ 16 ^ count * 16 = pow_more 16 count in
-       let high : number / 16 < 16 ^ count = omega (arith, rw add-one at power) in
-       let front : digits_value 16 (hexadecimal count (number / 16)) ≡ number / 16 = digits_value-hexadecimal count (number / 16) high in
-       let last : digit_value (digit_char (number % 16)) ≡ number % 16 = digit_value-char (number % 16) (omega arith) in
-       omega arith)
+    let high : number / 16 < 16 ^ count = omega (arith, rw add-one at power) in
+    let front : digits_value 16 (hexadecimal count (number / 16)) ≡ number / 16 = digits_value-hexadecimal count (number / 16) high in
+    let last : digit_value (digit_char (number % 16)) ≡ number % 16 = digit_value-char (number % 16) (omega arith) in
+    omega arith)

@@ -3,3 +3,4 @@ pub mod Reader
 pub mod Shown
 pub mod Texts
 pub mod SidBytes
+pub mod Equal

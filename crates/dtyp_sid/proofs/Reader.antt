@@ -41,12 +41,12 @@ read_decimal start made reads n fits =
     decimal_by_steps (λ n ds. n < 2 ^ 32 → read_on start ds ≡ Some (made n))
     (λ n one _. ap (option_and_then (λ next. Some next)) (reads.first (48 + n) ∙ ap (option_map made) (first_digit_of n one)))
     (λ n ds ten front fits.
-        let number : n / 10 * 10 + n % 10 ≡ n = omega arith in
-        let some : 1 ≤ n / 10 = omega arith in
-        let below : n % 10 < 10 = omega arith in
-        read_on-from start (made (n / 10)) ds _ (front (omega arith))
-        ∙ ap (option_and_then (λ next. Some next)) (reads.more (n / 10) (n % 10) some below ∙ ap (option_map made) (more_digits_of (n / 10) (n % 10) some below (omega arith)))
-        ∙ ap (λ m. Some (made m)) number)
+    let number : n / 10 * 10 + n % 10 ≡ n = omega arith in
+    let some : 1 ≤ n / 10 = omega arith in
+    let below : n % 10 < 10 = omega arith in
+    read_on-from start (made (n / 10)) ds _ (front (omega arith))
+    ∙ ap (option_and_then (λ next. Some next)) (reads.more (n / 10) (n % 10) some below ∙ ap (option_map made) (more_digits_of (n / 10) (n % 10) some below (omega arith)))
+    ∙ ap (λ m. Some (made m)) number)
     n (omega arith) fits
 
 reads_authority : ReadsDigits (Opening 4) Decimal
@@ -70,7 +70,7 @@ read_hexadecimal count number (digit ∷ digits) are fit =
     ap (option_and_then (λ next. read_on next digits)) (after_hexadecimal count number digit (omega arith) are.0)
     ∙ read_hexadecimal (count + 1) (number * 16 + digit_value digit) digits are.1 (omega arith)
     ∙ (let same : count + 1 + length digits ≡ count + suc (length digits) = omega arith in
-       ap (λ n. Some (Hexadecimal n (digits_value_after 16 number (digit ∷ digits)))) same)
+    ap (λ n. Some (Hexadecimal n (digits_value_after 16 number (digit ∷ digits)))) same)
 
 -- a stage at which a text may end: its SID, and that a dash goes on with that SID
 pub record EndsWith (stage : Stage) (sid : SidValue) : Type 0 where
@@ -89,7 +89,7 @@ ends_sub : (sid : SidValue) (n : ℕ) → EndsWith (Sub sid n) (with_last sid n)
 unfolding stage_after finished
 ends_sub sid n = record {
   finishes = refl;
-  dashes = λ room. let less : length sid.subs < 14 = omega (arith, length-append sid.subs (n ∷ [])) in grind (arith, nat_tests)
+  dashes = λ room. let less : length sid.subs < 14 = omega (arith, length-append sid.subs (n ∷ [])) in grind (arith, nat_tests);
 }
 
 -- the sub-authorities are read one after another
@@ -108,18 +108,18 @@ unfolding subs_text
 read_subs [] stage sid ends fit below = record {
   last = stage;
   read = refl;
-  ends = let none : sid.subs ≡ sid.subs ++ [] = sym (append-nil sid.subs) in subst (λ (subs : List ℕ). EndsWith stage (record { authority = sid.authority; subs = subs })) none ends
+  ends = let none : sid.subs ≡ sid.subs ++ [] = sym (append-nil sid.subs) in subst (λ (subs : List ℕ). EndsWith stage (record { authority = sid.authority; subs = subs })) none ends;
 }
 read_subs (sub ∷ subs) stage sid ends fit below =
     let rest = read_subs subs (Sub sid sub) (with_last sid sub) (ends_sub sid sub) (omega (arith, length-append sid.subs (sub ∷ []))) (λ k d within. below (suc k) d (omega arith)) in
     record {
       last = rest.last;
       read =
-        ap (option_and_then (λ next. read_on next (decimal sub ++ subs_text subs))) (ends.dashes (omega arith))
-        ∙ read_on-from (Dashed sid) (Sub sid sub) (decimal sub) (subs_text subs) (read_decimal (Dashed sid) (Sub sid) (reads_sub sid) sub (below 0 0 (omega arith)))
-        ∙ rest.read;
+          ap (option_and_then (λ next. read_on next (decimal sub ++ subs_text subs))) (ends.dashes (omega arith))
+          ∙ read_on-from (Dashed sid) (Sub sid sub) (decimal sub) (subs_text subs) (read_decimal (Dashed sid) (Sub sid) (reads_sub sid) sub (below 0 0 (omega arith)))
+          ∙ rest.read;
       ends = let same : (sid.subs ++ sub ∷ []) ++ subs ≡ sid.subs ++ (sub ∷ subs) = append_assoc sid.subs (sub ∷ []) subs in
-        subst (λ (subs : List ℕ). EndsWith rest.last (record { authority = sid.authority; subs = subs })) same rest.ends
+          subst (λ (subs : List ℕ). EndsWith rest.last (record { authority = sid.authority; subs = subs })) same rest.ends;
     }
 
 -- the stage at which the authority's text ends
@@ -128,18 +128,18 @@ unfolding stage_after
 read_authority text authority (inl decimal') = record {
   last = Decimal authority;
   read = ap (read_on (Opening 4)) decimal'.spelled ∙ read_decimal (Opening 4) Decimal reads_authority authority decimal'.fits;
-  ends = ends_decimal authority
+  ends = ends_decimal authority;
 }
 read_authority text authority (inr hex) =
     let all : 0 + length hex.digits ≡ 12 = omega (arith, hex.twelve) in
     record {
       last = Hexadecimal 12 authority;
       read =
-        ap (read_on (Opening 4)) hex.spelled
-        ∙ read_hexadecimal 0 0 hex.digits hex.are_digits (omega arith)
-        ∙ ap (λ n. Some (Hexadecimal n (digits_value 16 hex.digits))) all
-        ∙ ap (λ n. Some (Hexadecimal 12 n)) hex.number;
-      ends = ends_hexadecimal authority
+          ap (read_on (Opening 4)) hex.spelled
+          ∙ read_hexadecimal 0 0 hex.digits hex.are_digits (omega arith)
+          ∙ ap (λ n. Some (Hexadecimal n (digits_value 16 hex.digits))) all
+          ∙ ap (λ n. Some (Hexadecimal 12 n)) hex.number;
+      ends = ends_hexadecimal authority;
     }
 
 -- each text of a SID is read to its end, and gives the SID
@@ -151,8 +151,8 @@ reads_text text sid is =
     record {
       last = tail.last;
       read =
-        ap (read_on (Opening 0)) (is.spelled ∙ append_assoc (codes "S-1-") is.authority (subs_text sid.subs))
-        ∙ read_on-from (Opening 4) head.last is.authority (subs_text sid.subs) head.read
-        ∙ tail.read;
-      ends = tail.ends
+          ap (read_on (Opening 0)) (is.spelled ∙ append_assoc (codes "S-1-") is.authority (subs_text sid.subs))
+          ∙ read_on-from (Opening 4) head.last is.authority (subs_text sid.subs) head.read
+          ∙ tail.read;
+      ends = tail.ends;
     }

@@ -54,7 +54,7 @@ alone_text head authority fits is = record {
   limits = record { authority_fits = fits; count_fits = omega arith; subs_fit = λ k d within. absurd (omega arith) };
   authority = head;
   is_authority = is;
-  spelled = sym (append-nil (codes "S-1-" ++ head))
+  spelled = sym (append-nil (codes "S-1-" ++ head));
 }
 
 -- the text of a SID with one more sub-authority
@@ -64,16 +64,16 @@ more_text front sid sub is room fits = record {
   limits = record {
     authority_fits = is.limits.authority_fits;
     count_fits = omega (arith, length-append sid.subs (sub ∷ []));
-    subs_fit = All-push (λ sub. sub < 2 ^ 32) sid.subs sub is.limits.subs_fit fits
+    subs_fit = All-push (λ sub. sub < 2 ^ 32) sid.subs sub is.limits.subs_fit fits;
   };
   authority = is.authority;
   is_authority = is.is_authority;
   spelled =
-    let one : subs_text (sub ∷ []) ≡ codes "-" ++ decimal sub = append-nil (codes "-" ++ decimal sub) in
-    let joined : subs_text (sid.subs ++ sub ∷ []) ≡ subs_text sid.subs ++ subs_text (sub ∷ []) = flat_map-append (λ sub. codes "-" ++ decimal sub) sid.subs (sub ∷ []) in
-    ap (λ text. text ++ (codes "-" ++ decimal sub)) is.spelled
-    ∙ append_assoc (codes "S-1-" ++ is.authority) (subs_text sid.subs) (codes "-" ++ decimal sub)
-    ∙ ap (λ text. codes "S-1-" ++ is.authority ++ text) (sym (joined ∙ ap (λ text. subs_text sid.subs ++ text) one))
+      let one : subs_text (sub ∷ []) ≡ codes "-" ++ decimal sub = append-nil (codes "-" ++ decimal sub) in
+      let joined : subs_text (sid.subs ++ sub ∷ []) ≡ subs_text sid.subs ++ subs_text (sub ∷ []) = flat_map-append (λ sub. codes "-" ++ decimal sub) sid.subs (sub ∷ []) in
+      ap (λ text. text ++ (codes "-" ++ decimal sub)) is.spelled
+      ∙ append_assoc (codes "S-1-" ++ is.authority) (subs_text sid.subs) (codes "-" ++ decimal sub)
+      ∙ ap (λ text. codes "S-1-" ++ is.authority ++ text) (sym (joined ∙ ap (λ text. subs_text sid.subs ++ text) one));
 }
 
 -- hexadecimal digits make an authority
@@ -125,7 +125,7 @@ more_digits_is number byte longer is =
       below = omega arith;
       written = omega arith;
       value = sym same;
-      fits = omega arith
+      fits = omega arith;
     }
 
 -- a decimal with one more digit
@@ -183,31 +183,32 @@ after_decimal number byte text next shows is = ⊎_elim (λ dash.
       front = codes "S-1-" ++ decimal number;
       is = alone_text (decimal number) number (omega (arith, shows.0)) (inl (record { fits = shows.0; spelled = refl }));
       room = omega arith;
-      spelled = ap (λ text. text ++ byte ∷ []) shows.1 ∙ ap (λ c. codes "S-1-" ++ decimal number ++ c ∷ []) is_dash
+      spelled = ap (λ text. text ++ byte ∷ []) shows.1 ∙ ap (λ c. codes "S-1-" ++ decimal number ++ c ∷ []) is_dash;
     }))
     (λ other. ⊎_elim (λ hex.
-        let is_x : byte ≡ 120 = (let e = hex.0 in grind (arith, nat_tests)) in
-        let is_zero : number ≡ 0 = (let e = hex.0 in grind (arith, nat_tests)) in
-        let next_is : Hexadecimal 0 0 ≡ next = cc in
-        subst (λ (next : Stage). Shows next (text ++ byte ∷ [])) next_is (record {
-          digits = [];
-          few = omega arith;
-          as_many = refl;
-          are_digits = tt;
-          value = refl;
-          spelled =
-            ap (λ text. text ++ byte ∷ []) (shows.1 ∙ ap (λ n. codes "S-1-" ++ decimal n) is_zero ∙ ap (λ text. codes "S-1-" ++ text) (decimal_digit 0 (omega arith)))
-            ∙ ap (λ c. codes "S-1-0" ++ c ∷ []) is_x
-        }))
-        (λ digit.
-        let found = some_map Decimal (more_digits number byte) next digit.1 in
-        let longer = more_digits_is number byte found.0 found.1 in
-        subst (λ (next : Stage). Shows next (text ++ byte ∷ [])) found.2
-        (longer.fits,
-            ap (λ text. text ++ byte ∷ []) shows.1
-            ∙ append_assoc (codes "S-1-") (decimal number) (byte ∷ [])
-            ∙ ap (λ text. codes "S-1-" ++ text) (sym (decimal_longer number byte found.0 longer))))
-        (if_cases ((byte == 120) && (number == 0)) (Some (Hexadecimal 0 0)) (option_map Decimal (more_digits number byte)) next other.1))
+    let is_x : byte ≡ 120 = (let e = hex.0 in grind (arith, nat_tests)) in
+    let is_zero : number ≡ 0 = (let e = hex.0 in grind (arith, nat_tests)) in
+    let next_is : Hexadecimal 0 0 ≡ next = cc in
+    subst (λ (next : Stage). Shows next (text ++ byte ∷ [])) next_is (record {
+      digits = [];
+      few = omega arith;
+      as_many = refl;
+      are_digits = tt;
+      value = refl;
+      spelled =
+          ap (λ text. text ++ byte ∷ []) (shows.1 ∙ ap (λ n. codes "S-1-" ++ decimal n) is_zero ∙ ap (λ text. codes "S-1-" ++ text) (decimal_digit 0 (omega arith)))
+          ∙ ap (λ c. codes "S-1-0" ++ c ∷ []) is_x;
+    }))
+    (λ digit.
+    let found = some_map Decimal (more_digits number byte) next digit.1 in
+    let longer = more_digits_is number byte found.0 found.1 in
+    subst (λ (next : Stage). Shows next (text ++ byte ∷ [])) found.2 (
+      longer.fits,
+      ap (λ text. text ++ byte ∷ []) shows.1
+          ∙ append_assoc (codes "S-1-") (decimal number) (byte ∷ [])
+          ∙ ap (λ text. codes "S-1-" ++ text) (sym (decimal_longer number byte found.0 longer)),
+    ))
+    (if_cases ((byte == 120) && (number == 0)) (Some (Hexadecimal 0 0)) (option_map Decimal (more_digits number byte)) next other.1))
     (if_cases (byte == 45) (Some (Dashed (authority_alone number))) (if (byte == 120) && (number == 0) then Some (Hexadecimal 0 0) else option_map Decimal (more_digits number byte)) next is)
 
 after_hexadecimal : (count number byte : ℕ) (text : List ℕ) (next : Stage) → Shows (Hexadecimal count number) text → stage_after (Hexadecimal count number) byte ≡ Some next → Shows next (text ++ byte ∷ [])
@@ -222,7 +223,7 @@ after_hexadecimal count number byte text next shows is = ⊎_elim (λ digit.
       as_many = length-append shows.digits (byte ∷ []) ∙ ap (λ n. n + 1) shows.as_many;
       are_digits = digits_push 16 shows.digits byte shows.are_digits is_digit;
       value = digits_value_push 16 shows.digits byte ∙ ap (λ n. n * 16 + digit_value byte) shows.value;
-      spelled = ap (λ text. text ++ byte ∷ []) shows.spelled ∙ append_assoc (codes "S-1-0x") shows.digits (byte ∷ [])
+      spelled = ap (λ text. text ++ byte ∷ []) shows.spelled ∙ append_assoc (codes "S-1-0x") shows.digits (byte ∷ []);
     }))
     (λ behind.
     let test = some_if _ (Dashed (authority_alone number)) next behind.1 in
@@ -232,9 +233,9 @@ after_hexadecimal count number byte text next shows is = ⊎_elim (λ digit.
     subst (λ (next : Stage). Shows next (text ++ byte ∷ [])) test.1 (record {
       front = text;
       is = subst (λ (text : List ℕ). IsText text (authority_alone number)) (sym shows.spelled)
-        (alone_text (codes "0x" ++ shows.digits) number fits (inr (record { digits = shows.digits; twelve = twelve; are_digits = shows.are_digits; spelled = refl; number = shows.value })));
+          (alone_text (codes "0x" ++ shows.digits) number fits (inr (record { digits = shows.digits; twelve = twelve; are_digits = shows.are_digits; spelled = refl; number = shows.value })));
       room = omega arith;
-      spelled = ap (λ c. text ++ c ∷ []) is_dash
+      spelled = ap (λ c. text ++ c ∷ []) is_dash;
     }))
     (if_cases (nat_lt count 12) _ _ next is)
 
@@ -249,9 +250,9 @@ after_dash sid byte text next shows is =
       room = shows.room;
       fits = omega (arith, digit.0);
       spelled =
-        ap (λ text. text ++ byte ∷ []) shows.spelled
-        ∙ append_assoc shows.front (codes "-") (byte ∷ [])
-        ∙ ap (λ text. shows.front ++ (codes "-" ++ text)) (ap (λ c. c ∷ []) digit.1 ∙ sym (decimal_digit found.0 digit.0))
+          ap (λ text. text ++ byte ∷ []) shows.spelled
+          ∙ append_assoc shows.front (codes "-") (byte ∷ [])
+          ∙ ap (λ text. shows.front ++ (codes "-" ++ text)) (ap (λ c. c ∷ []) digit.1 ∙ sym (decimal_digit found.0 digit.0));
     })
 
 after_sub : (sid : SidValue) (number byte : ℕ) (text : List ℕ) (next : Stage) → Shows (Sub sid number) text → stage_after (Sub sid number) byte ≡ Some next → Shows next (text ++ byte ∷ [])
@@ -264,7 +265,7 @@ after_sub sid number byte text next shows is = ⊎_elim (λ dash.
       front = text;
       is = subst (λ (text : List ℕ). IsText text (with_last sid number)) (sym shows.spelled) (more_text shows.front sid number shows.is shows.room shows.fits);
       room = omega (arith, length-append sid.subs (number ∷ []));
-      spelled = ap (λ c. text ++ c ∷ []) is_dash
+      spelled = ap (λ c. text ++ c ∷ []) is_dash;
     }))
     (λ digit.
     let found = some_map (Sub sid) (more_digits number byte) next digit.1 in
@@ -275,9 +276,9 @@ after_sub sid number byte text next shows is = ⊎_elim (λ dash.
       room = shows.room;
       fits = longer.fits;
       spelled =
-        ap (λ text. text ++ byte ∷ []) shows.spelled
-        ∙ append_assoc shows.front (codes "-" ++ decimal number) (byte ∷ [])
-        ∙ ap (λ text. shows.front ++ (codes "-" ++ text)) (sym (decimal_longer number byte found.0 longer))
+          ap (λ text. text ++ byte ∷ []) shows.spelled
+          ∙ append_assoc shows.front (codes "-" ++ decimal number) (byte ∷ [])
+          ∙ ap (λ text. shows.front ++ (codes "-" ++ text)) (sym (decimal_longer number byte found.0 longer));
     }))
     (if_cases (byte == 45) (if nat_lt (length sid.subs) 14 then Some (Dashed (with_last sid number)) else None) (option_map (Sub sid) (more_digits number byte)) next is)
 

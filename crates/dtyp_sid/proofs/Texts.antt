@@ -58,38 +58,58 @@ some_again (Some x) = refl
 
 -- each stage begins some text
 begins : (stage : Stage) (text : List ℕ) → Shows stage text → BeginsText text
-begins (Opening count) text shows =
-    (drop count (codes "S-1-") ++ codes "0", (authority_alone 0,
-        let is : IsText (codes "S-1-" ++ decimal 0) (authority_alone 0) = alone_text (decimal 0) 0 (omega arith) (inl (record { fits = omega arith; spelled = refl })) in
+begins (Opening count) text shows = (
+  drop count (codes "S-1-") ++ codes "0",
+  (
+    authority_alone 0,
+    let is : IsText (codes "S-1-" ++ decimal 0) (authority_alone 0) = alone_text (decimal 0) 0 (omega arith) (inl (record { fits = omega arith; spelled = refl })) in
         let spelled : text ++ (drop count (codes "S-1-") ++ codes "0") ≡ codes "S-1-" ++ decimal 0 =
-            ap (λ front. front ++ (drop count (codes "S-1-") ++ codes "0")) shows.1
-            ∙ sym (append_assoc (take count (codes "S-1-")) (drop count (codes "S-1-")) (codes "0"))
-            ∙ ap (λ front. front ++ codes "0") (take-append-drop count (codes "S-1-"))
-            ∙ ap (λ digits. codes "S-1-" ++ digits) (sym (decimal_digit 0 (omega arith))) in
-        subst (λ (text : List ℕ). IsText text (authority_alone 0)) (sym spelled) is))
-begins (Decimal number) text shows =
-    ([], (authority_alone number,
-        subst (λ (text : List ℕ). IsText text (authority_alone number)) (sym (append-nil text ∙ shows.1))
-        (alone_text (decimal number) number (omega (arith, shows.0)) (inl (record { fits = shows.0; spelled = refl })))))
+        ap (λ front. front ++ (drop count (codes "S-1-") ++ codes "0")) shows.1
+        ∙ sym (append_assoc (take count (codes "S-1-")) (drop count (codes "S-1-")) (codes "0"))
+        ∙ ap (λ front. front ++ codes "0") (take-append-drop count (codes "S-1-"))
+        ∙ ap (λ digits. codes "S-1-" ++ digits) (sym (decimal_digit 0 (omega arith))) in
+        subst (λ (text : List ℕ). IsText text (authority_alone 0)) (sym spelled) is,
+  ),
+)
+begins (Decimal number) text shows = (
+  [],
+  (
+    authority_alone number,
+    subst (λ (text : List ℕ). IsText text (authority_alone number)) (sym (append-nil text ∙ shows.1))
+        (alone_text (decimal number) number (omega (arith, shows.0)) (inl (record { fits = shows.0; spelled = refl }))),
+  ),
+)
 begins (Hexadecimal count number) text shows =
     let zeros = replicate (12 - count) 48 in
     let digits = shows.digits ++ zeros in
     let twelve : length digits ≡ 12 = length-append shows.digits zeros ∙ (let a : length zeros ≡ 12 - count = length-replicate (12 - count) 48 in omega (arith, shows.as_many, shows.few)) in
-    let are : AllDigits 16 digits = zeros_are_digits (12 - count) shows.digits shows.are_digits in
-    (zeros, (authority_alone (digits_value 16 digits),
+    let are : AllDigits 16 digits = zeros_are_digits (12 - count) shows.digits shows.are_digits in (
+      zeros,
+      (
+        authority_alone (digits_value 16 digits),
         subst (λ (text : List ℕ). IsText text (authority_alone (digits_value 16 digits)))
-        (sym (ap (λ text. text ++ zeros) shows.spelled ∙ append_assoc (codes "S-1-0x") shows.digits zeros))
-        (alone_text (codes "0x" ++ digits) (digits_value 16 digits) (hexadecimal_fits digits twelve are)
-        (inr (record { digits = digits; twelve = twelve; are_digits = are; spelled = refl; number = refl })))))
-begins (Dashed sid) text shows =
-    (decimal 0, (with_last sid 0,
-        subst (λ (text : List ℕ). IsText text (with_last sid 0))
+            (sym (ap (λ text. text ++ zeros) shows.spelled ∙ append_assoc (codes "S-1-0x") shows.digits zeros))
+            (alone_text (codes "0x" ++ digits) (digits_value 16 digits) (hexadecimal_fits digits twelve are)
+            (inr (record { digits = digits; twelve = twelve; are_digits = are; spelled = refl; number = refl }))),
+      ),
+    )
+begins (Dashed sid) text shows = (
+  decimal 0,
+  (
+    with_last sid 0,
+    subst (λ (text : List ℕ). IsText text (with_last sid 0))
         (sym (ap (λ text. text ++ decimal 0) shows.spelled ∙ append_assoc shows.front (codes "-") (decimal 0)))
-        (more_text shows.front sid 0 shows.is shows.room (omega arith))))
-begins (Sub sid number) text shows =
-    ([], (with_last sid number,
-        subst (λ (text : List ℕ). IsText text (with_last sid number)) (sym (append-nil text ∙ shows.spelled))
-        (more_text shows.front sid number shows.is shows.room shows.fits)))
+        (more_text shows.front sid 0 shows.is shows.room (omega arith)),
+  ),
+)
+begins (Sub sid number) text shows = (
+  [],
+  (
+    with_last sid number,
+    subst (λ (text : List ℕ). IsText text (with_last sid number)) (sym (append-nil text ∙ shows.spelled))
+        (more_text shows.front sid number shows.is shows.room shows.fits),
+  ),
+)
 
 -- one byte more of a text is read
 pub read_byte : (text : List ℕ) (place : ℕ) (stage : Stage) → place < length text → read_on (Opening 0) (take place text) ≡ Some stage
@@ -107,12 +127,12 @@ bad_at text place stage inside read stops =
     let fails : read_on (Opening 0) (take (place + 1) text) ≡ None = read_byte text place stage inside read ∙ stops in
     record {
       no_text = λ whole. begins_none _ fails (begins_shorter (take (place + 1) text) (drop (place + 1) text)
-        ([], (whole.0, subst (λ (t : List ℕ). IsText t whole.0) (sym (append-nil (take (place + 1) text ++ drop (place + 1) text) ∙ take-append-drop (place + 1) text)) whole.1)));
+          ([], (whole.0, subst (λ (t : List ℕ). IsText t whole.0) (sym (append-nil (take (place + 1) text ++ drop (place + 1) text) ∙ take-append-drop (place + 1) text)) whole.1)));
       within = omega arith;
       begins = begins stage (take place text) (shown _ stage read);
       longest = λ more after within starts. begins_none _ fails (begins_shorter (take (place + 1) text) (take (more - (place + 1)) (drop (place + 1) text))
-        (let all : more ≡ (place + 1) + (more - (place + 1)) = omega arith in
-         subst (λ (front : List ℕ). BeginsText front) (ap (λ n. take n text) all ∙ take-add (place + 1) (more - (place + 1)) text) starts))
+          (let all : more ≡ (place + 1) + (more - (place + 1)) = omega arith in
+          subst (λ (front : List ℕ). BeginsText front) (ap (λ n. take n text) all ∙ take-add (place + 1) (more - (place + 1)) text) starts));
     }
 
 -- a text that breaks at its end
@@ -121,7 +141,7 @@ bad_end text last read ends = record {
   no_text = no_text text last read ends;
   within = omega arith;
   begins = begins last (take (length text) text) (shown _ last (ap (read_on (Opening 0)) (take_all (length text) text (omega arith)) ∙ read));
-  longest = λ more after within starts. absurd (omega arith)
+  longest = λ more after within starts. absurd (omega arith);
 }
 
 -- the function from texts to SIDs is the grammar
@@ -148,15 +168,16 @@ written_authority : (authority : ℕ) → authority < 2 ^ 48 → IsDecimalAuthor
 unfolding authority_text
 written_authority authority fits =
     elim (nat_lt authority (2 ^ 32)) as (λ b. (nat_lt authority (2 ^ 32) ≡ b)
-        → IsDecimalAuthority (if b then decimal authority else codes "0x" ++ hexadecimal 12 authority) authority ⊎ IsHexadecimalAuthority (if b then decimal authority else codes "0x" ++ hexadecimal 12 authority) authority)
-    [ true ↦ λ below. inl (record { fits = grind (arith, nat_tests); spelled = refl })
-    | false ↦ λ above. inr (record {
+    → IsDecimalAuthority (if b then decimal authority else codes "0x" ++ hexadecimal 12 authority) authority ⊎ IsHexadecimalAuthority (if b then decimal authority else codes "0x" ++ hexadecimal 12 authority) authority) [
+      | true ↦ λ below. inl (record { fits = grind (arith, nat_tests); spelled = refl })
+      | false ↦ λ above. inr (record {
         digits = hexadecimal 12 authority;
         twelve = length-hexadecimal 12 authority;
         are_digits = hexadecimal_are_digits 12 authority;
         spelled = refl;
-        number = digits_value-hexadecimal 12 authority fits
-      }) ] refl
+        number = digits_value-hexadecimal 12 authority fits;
+      })
+    ] refl
 
 pub written_text : (sid : SidValue) → IsSid sid → IsText (text_of sid) sid
 unfolding text_of
@@ -164,7 +185,7 @@ written_text sid limits = record {
   limits = limits;
   authority = authority_text sid.authority;
   is_authority = written_authority sid.authority limits.authority_fits;
-  spelled = refl
+  spelled = refl;
 }
 
 -- a text of no SID

@@ -2,7 +2,6 @@
 -- first, and each sub-authority in four bytes with the lowest first
 use Rattle.std.specs.Prelude.{◌≡◌, ℕ, zero, suc, ◌+◌, ◌*◌, ◌<◌, List, [], ◌∷◌, ◌++◌, length, drop, slice_index, nat_lt, not, ◌==◌, if◌then◌else◌, All}
 use Rattle.std.specs.Int.{w32, w64, bytes_high_first, to_le_bytes, from_le_bytes, from_be_bytes}
-
 use Rattle.std.specs.List.{flat_map}
 use Rattle.std.specs.declared.result.Result.{Result}
 use Rattle.std.specs.declared.result.Result.TheVariants.{Ok, Err}
@@ -47,3 +46,7 @@ BeginWithSid bytes sid = (rest : List ℕ) × (bytes ≡ bytes_of sid ++ rest)
 -- what is written is read as the same SID, whatever bytes follow
 abbrev pub WrittenBytesAreRead : Type 0
 WrittenBytesAreRead = (sid : SidValue) (rest : List ℕ) → IsSid sid → sid_of_bytes (bytes_of sid ++ rest) ≡ Ok sid
+
+-- what is read is a SID, and the bytes begin with its written ones
+abbrev pub ReadBytesAreWritten : Type 0
+ReadBytesAreWritten = (bytes : List ℕ) (sid : SidValue) → All (λ byte. byte < 256) bytes → sid_of_bytes bytes ≡ Ok sid → IsSid sid × BeginWithSid bytes sid

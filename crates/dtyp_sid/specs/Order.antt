@@ -1,5 +1,5 @@
 -- Equality and order of SIDs: by authority, and then by the lists of sub-authorities
-use Rattle.std.specs.Prelude.{◌≡◌, ℕ, List, Bool, true, nat_eq, ◌++◌}
+use Rattle.std.specs.Prelude.{◌≡◌, ℕ, List, Bool, true, nat_eq, ◌++◌, ◌↔◌}
 use Rattle.std.specs.declared.cmp.Ordering.{Ordering}
 use Rattle.std.specs.declared.cmp.Ordering.TheVariants.{Equal}
 use Rattle.std.specs.declared.option.Option.{Option}
@@ -23,3 +23,7 @@ sid_partial_cmp = as_partial_cmp sid_cmp
 -- what a SID feeds a hasher: its authority, and its sub-authorities as a slice
 abbrev pub sid_hashed : SidValue → fed.HashWrites
 sid_hashed sid = fed.u64 sid.authority ++ fed.slice fed.u32 sid.subs
+
+-- equality and order tell SIDs apart by their values
+abbrev pub EqualSidsAreOne : Type 0
+EqualSidsAreOne = (left right : SidValue) → ((sid_eq left right ≡ true) ↔ (left ≡ right)) × ((sid_cmp left right ≡ Equal) ↔ (left ≡ right))

@@ -27,11 +27,11 @@ pushed count slots sub are room = record {
   count_fits = omega arith;
   all_there = length-set slots count sub ∙ are.all_there;
   zeros =
-    drop-set-lt (count + 1) slots count sub (omega arith)
-    ∙ sym (drop-drop 1 count slots)
-    ∙ ap (drop 1) are.zeros
-    ∙ drop-replicate 1 (15 - count) 0
-    ∙ (let one_less : 15 - count - 1 ≡ 15 - (count + 1) = omega arith in ap (λ n. replicate n 0) one_less)
+      drop-set-lt (count + 1) slots count sub (omega arith)
+      ∙ sym (drop-drop 1 count slots)
+      ∙ ap (drop 1) are.zeros
+      ∙ drop-replicate 1 (15 - count) 0
+      ∙ (let one_less : 15 - count - 1 ≡ 15 - (count + 1) = omega arith in ap (λ n. replicate n 0) one_less);
 }
 
 -- the last slot that is taken is freed
@@ -40,7 +40,7 @@ popped count last slots are before = record {
   count_fits = omega arith;
   all_there = length-set slots last 0 ∙ are.all_there;
   zeros =
-    drop-set slots last 0 (omega arith)
-    ∙ ap (λ rest. 0 ∷ rest) (ap (λ n. drop n slots) before ∙ are.zeros)
-    ∙ (let one_more : suc (15 - count) ≡ 15 - last = omega arith in ap (λ n. replicate n 0) one_more)
+      drop-set slots last 0 (omega arith)
+      ∙ ap (λ rest. 0 ∷ rest) (ap (λ n. drop n slots) before ∙ are.zeros)
+      ∙ (let one_more : suc (15 - count) ≡ 15 - last = omega arith in ap (λ n. replicate n 0) one_more);
 }

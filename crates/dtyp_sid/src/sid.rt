@@ -1,6 +1,5 @@
 // The value of a SID.
 ghost use Rattle.std.specs.Prelude.{◌≡◌, ◌+◌, ◌*◌, ◌<◌, ◌≤◌, ◌^◌, [], length, MatchOption, Some, None};
-
 ghost use Rattle.dtyp_sid.specs.Value.{IsSid};
 
 use crate::bytes::sub_at_front;

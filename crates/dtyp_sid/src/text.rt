@@ -43,7 +43,11 @@ fn push_hexadecimal(text: &mut String, count: usize, number: u64) -> Result<(), 
     if count > 0 {
         push_hexadecimal(text, count - 1, number / 16)?;
         let digit = (number % 16) as u8;
-        let glyph = if digit < 10 { b'0' + digit } else { b'a' + (digit - 10) };
+        let glyph = if digit < 10 {
+            b'0' + digit
+        } else {
+            b'a' + (digit - 10)
+        };
         text.push(char::from(glyph))?;
     }
     Ok(())

@@ -19,7 +19,7 @@ loop-place-preserved c =
     let place = c.loop-place.place in
     let sub : c.sub_at_front.result ≡ from_le_bytes w32 (drop (4 * place) bytes) = c.sub_at_front.ensures ∙ ap (from_le_bytes w32) c.rest_of.ensures.value in
     let more : take place c.loop-place.slots ++ c.sub_at_front.result ∷ [] ≡ subs_at_front (place + 1) bytes =
-        ap (λ subs. subs ++ c.sub_at_front.result ∷ []) c.loop-place.invariant.1
-        ∙ ap (λ sub. subs_at_front place bytes ++ sub ∷ []) sub
-        ∙ sym (rw add-one (subs_at_front-more place bytes)) in
+    ap (λ subs. subs ++ c.sub_at_front.result ∷ []) c.loop-place.invariant.1
+    ∙ ap (λ sub. subs_at_front place bytes ++ sub ∷ []) sub
+    ∙ sym (rw add-one (subs_at_front-more place bytes)) in
     (pushed _ _ _ are room, take_more_set c.loop-place.slots c.loop-place.place c.sub_at_front.result inside ∙ more)
