@@ -93,7 +93,7 @@ sink-not-handed-out told name w0 w1 w2 w3 w4 w5 config events e status differs t
           by_name (λ n. w5.source n ≡ w0.source n) name other
           (given.holds (gives.tells ∙ tells3 ∙ tells) (ap (λ (f : List ℕ → Bool). f name) (gives.knows ∙ knows3) ∙ (takes.part tells).1) ∙ sym (takes.part tells).0)
           (λ differ. by_name (λ n. n ≢ name → w5.source n ≡ w0.source n) standard_input other (λ d. input)
-            (λ not_input d. given.others other d ∙ gives.others other not_input ∙ fails.sources other ∙ taken.others other not_input ∙ takes.others other d) differ);
+          (λ not_input d. given.others other d ∙ gives.others other not_input ∙ fails.sources other ∙ taken.others other not_input ∙ takes.others other d) differ);
       sink = λ tells. given.sink ∙ gives.sink ∙ ap (λ (s : Seen _ _). s.sink) fails.kept ∙ taken.sink ∙ takes.sink;
       periods = given.periods ∙ gives.periods ∙ fails.periods ∙ taken.periods ∙ takes.periods;
     })

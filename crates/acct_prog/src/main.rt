@@ -61,3 +61,6 @@ fn main(rt: HostRuntime) -> io::Result<ExitCode> {
     }
     Ok(ExitCode::from(code))
 }
+
+#[cfg(test)]
+mod tests;

@@ -156,3 +156,63 @@ impl Sink for MemorySink {
         }
     }
 }
+
+/// A source of given bytes whose reads never fail: its count of faults is 0.
+#[derive(Drop)]
+pub struct SteadySource {
+    bytes: Vec<u8>,
+    place: usize,
+    has_ended: bool,
+}
+
+impl Model for SteadySource {
+    ghost use Rattle.std.specs.Prelude.{◌≤◌, drop, vec_len};
+    ghost use Rattle.acct_server.specs.Memory.{SourceInMemory};
+
+    ghost Value = { SourceInMemory };
+
+    ghost view = { λ s. record { left = drop s.place s.bytes.items; ended = s.has_ended; faults = 0 } };
+
+    ghost invariant = { λ s. s.place ≤ vec_len s.bytes };
+}
+
+impl SteadySource {
+    pub fn new(bytes: Vec<u8>) -> Self
+        ensures { result ≡ record { left = bytes.items; ended = false; faults = 0 } }
+    {
+        SteadySource {
+            bytes,
+            place: 0,
+            has_ended: false,
+        }
+    }
+}
+
+impl Source for SteadySource {
+    ghost left = { λ s. Some s.left };
+
+    ghost ended = { λ s. s.ended };
+
+    ghost faults = { λ s. 0 };
+
+    fn read(&mut self, buf: &mut [u8]) -> Result<usize, Failed> {
+        let count = copy_front(rest_of(&self.bytes, self.place), usize::MAX, buf);
+        self.place += count;
+        self.has_ended |= (count == 0) & !buf.is_empty();
+        Ok(count)
+    }
+}
+
+/// A sink whose writes never fail: its count of faults is 0. It keeps nothing of what it is given, and tells nothing of it.
+#[derive(Clone, Copy, Debug, PartialEq, Eq)]
+pub struct SteadySink;
+
+impl Sink for SteadySink {
+    ghost held = { λ _. None };
+
+    ghost faults = { λ _. 0 };
+
+    fn write(&mut self, bytes: &[u8]) -> Result<usize, Failed> {
+        Ok(bytes.len())
+    }
+}

@@ -1,0 +1,428 @@
+// The worked runs of the program, over worlds in memory.
+use crate::{MemoryWorld, account};
+use acct_machine::{Entry, Verdict};
+use acct_server::{MemorySink, MemorySource, Status, SteadySink, SteadySource};
+use std::alloc::Global;
+use std::test::Fail;
+
+const CONFIG: &[u8] =
+    b"[domain]\nname = \"CORP\"\nsid = \"S-1-5-21-1-2-3\"\n[[listener]]\nname = \"a\"\naddress = \"tcp:127.0.0.1:4045\"\ntoken = [\"S-1-5-21-1-2-3-500\", \"S-1-1-0\", \"S-1-5-32-544\"]\n";
+
+const OPEN: &str = "open 1 a\n";
+
+const BIND: &str =
+    "data 1 05000b03100000004800000001000000b810b810000000000100000000000100785734123412cdabef000123456789ac01000000045d888aeb1cc9119fe808002b10486002000000\n";
+
+const CONNECT: &str = "data 1 0500000310000000200000000200000008000000000039000000000000000002\n";
+
+const CLOSE: &str =
+    "data 1 05000003100000002c0000000300000014000000000001000000000000000000000001000000000000000001\n";
+
+const END: &str = "end 1\n";
+
+const ACK_LINE: &str =
+    "out 1 05000c03100000003800000001000000b810b81001000000010000000100000000000000045d888aeb1cc9119fe808002b10486002000000\n";
+
+const CONNECT_LINE: &str =
+    "out 1 050002031000000030000000020000001800000000000000000000000000000000000100000000000000000100000000\n";
+
+const CLOSE_LINE: &str =
+    "out 1 050002031000000030000000030000001800000000000000000000000000000000000000000000000000000000000000\n";
+
+const GONE_LINE: &str = "gone 1\n";
+
+fn joined(alloc: Global, pieces: &[&str]) -> Result<String, Fail> {
+    let mut text = String::new(alloc);
+    for piece in pieces {
+        text.push_str(piece)?;
+    }
+    Ok(text)
+}
+
+fn words(alloc: Global, pieces: &[&str]) -> Result<Vec<String>, Fail> {
+    let mut words = Vec::new(alloc);
+    for piece in pieces {
+        words.push(String::from_str(alloc, piece)?)?;
+    }
+    Ok(words)
+}
+
+/// How a run is made: which reads of the configuration and the events and which writes fail, and how many bytes each takes.
+#[derive(Clone, Copy)]
+struct Making<'a> {
+    config_failing: &'a [u64],
+    events_failing: &'a [u64],
+    writes_failing: &'a [u64],
+    read_size: usize,
+    write_size: usize,
+}
+
+const PLAIN: Making<'static> = Making {
+    config_failing: &[],
+    events_failing: &[],
+    writes_failing: &[],
+    read_size: 4096,
+    write_size: 4096,
+};
+
+fn world_of(
+    alloc: Global,
+    config: &[u8],
+    events: &[&str],
+    making: &Making<'_>,
+) -> Result<MemoryWorld<MemorySource, MemorySink>, Fail> {
+    let text = joined(alloc, events)?;
+    let read_size = making.read_size.max(1);
+    Ok(MemoryWorld::new(
+        alloc,
+        Vec::from_slice(alloc, b"first.toml")?,
+        MemorySource::new(
+            config.to_vec(alloc)?,
+            read_size,
+            making.config_failing.to_vec(alloc)?,
+        ),
+        MemorySource::new(
+            text.into_bytes(),
+            read_size,
+            making.events_failing.to_vec(alloc)?,
+        ),
+        MemorySink::new(
+            alloc,
+            65536,
+            making.write_size.max(1),
+            making.writes_failing.to_vec(alloc)?,
+        )?,
+    ))
+}
+
+/// What a run left: its status, the bytes written, and the history of its one period.
+#[derive(Drop)]
+struct Left {
+    status: Status,
+    written: Vec<u8>,
+    history: Vec<Entry>,
+    periods: usize,
+}
+
+fn run_made(
+    alloc: Global,
+    command: &[&str],
+    config: &[u8],
+    events: &[&str],
+    making: &Making<'_>,
+) -> Result<Left, Fail> {
+    let mut world = world_of(alloc, config, events, making)?;
+    let status = account(alloc, &words(alloc, command)?, &mut world);
+    let mut history = Vec::new(alloc);
+    for period in world.periods() {
+        history.extend_from_slice(period.history.as_slice())?;
+    }
+    let written = match world.sink() {
+        Some(sink) => sink.as_slice().to_vec(alloc)?,
+        None => Vec::new(alloc),
+    };
+    Ok(Left {
+        status,
+        written,
+        history,
+        periods: world.periods().len(),
+    })
+}
+
+fn run(alloc: Global, events: &[&str]) -> Result<Left, Fail> {
+    run_made(alloc, &["replay", "first.toml"], CONFIG, events, &PLAIN)
+}
+
+#[test]
+fn empty_replay(rt: HostRuntime) -> Result<(), Fail> {
+    let left = run(rt.alloc(), &[])?;
+    assert_eq!(rt; left.status, Status::Done);
+    assert!(rt; left.written.is_empty());
+    assert!(rt; left.history.is_empty());
+    assert_eq!(rt; left.periods, 1);
+    Ok(())
+}
+
+#[test]
+fn first_run(rt: HostRuntime) -> Result<(), Fail> {
+    let alloc = rt.alloc();
+    let left = run(alloc, &[OPEN, BIND, CONNECT, CLOSE, END])?;
+    assert_eq!(rt; left.status, Status::Done);
+    let wanted = joined(alloc, &[ACK_LINE, CONNECT_LINE, CLOSE_LINE, GONE_LINE])?;
+    assert_eq!(rt; left.written.as_slice(), wanted.as_bytes());
+    assert_eq!(rt; left.history.len(), 4);
+    assert_eq!(rt;
+        left.history[0],
+        Entry::Opened {
+            conn: 1,
+            listener: 0
+        }
+    );
+    assert!(rt;
+        matches!(
+            left.history[1],
+            Entry::Called {
+                conn: 1,
+                verdict: Verdict::Ran,
+                bytes: 8,
+                ..
+            }
+        )
+    );
+    assert!(rt;
+        matches!(
+            left.history[2],
+            Entry::Called {
+                conn: 1,
+                verdict: Verdict::Ran,
+                bytes: 20,
+                ..
+            }
+        )
+    );
+    assert_eq!(rt; left.history[3], Entry::Gone { conn: 1 });
+    Ok(())
+}
+
+#[test]
+fn first_run_over_steady_parts(rt: HostRuntime) -> Result<(), Fail> {
+    let alloc = rt.alloc();
+    let events = joined(alloc, &[OPEN, BIND, CONNECT, CLOSE, END])?;
+    let mut world = MemoryWorld::new(
+        alloc,
+        Vec::from_slice(alloc, b"first.toml")?,
+        SteadySource::new(CONFIG.to_vec(alloc)?),
+        SteadySource::new(events.into_bytes()),
+        SteadySink,
+    );
+    let status = account(alloc, &words(alloc, &["replay", "first.toml"])?, &mut world);
+    assert_eq!(rt; status, Status::Done);
+    assert_eq!(rt; world.periods().len(), 1);
+    Ok(())
+}
+
+#[test]
+fn lines_end_in_both_ways(rt: HostRuntime) -> Result<(), Fail> {
+    let alloc = rt.alloc();
+    let left = run(alloc, &["# a comment\r\n\r\nopen 1 a\r\n\n", BIND, "end 1"])?;
+    assert_eq!(rt; left.status, Status::Done);
+    let wanted = joined(alloc, &[ACK_LINE, GONE_LINE])?;
+    assert_eq!(rt; left.written.as_slice(), wanted.as_bytes());
+    // A carriage return before the end of the input belongs to the line.
+    let cut = run(alloc, &["open 1 a\r"])?;
+    assert_eq!(rt; cut.status, Status::EventLine(1));
+    Ok(())
+}
+
+#[test]
+fn a_fragmented_request_is_refused(rt: HostRuntime) -> Result<(), Fail> {
+    let alloc = rt.alloc();
+    let fragment = "data 1 0500000110000000200000000200000008000000000039000000000000000002\n";
+    let left = run(alloc, &[OPEN, BIND, fragment])?;
+    assert_eq!(rt; left.status, Status::EventLine(3));
+    let wanted = joined(alloc, &[ACK_LINE, GONE_LINE])?;
+    assert_eq!(rt; left.written.as_slice(), wanted.as_bytes());
+    assert_eq!(rt; left.history.len(), 2);
+    Ok(())
+}
+
+#[test]
+fn an_unknown_handle_is_a_fault(rt: HostRuntime) -> Result<(), Fail> {
+    let alloc = rt.alloc();
+    let left = run(alloc, &[OPEN, BIND, CLOSE, END])?;
+    assert_eq!(rt; left.status, Status::Done);
+    let fault = "out 1 0500032310000000200000000300000000000000000000001a00001c00000000\n";
+    let wanted = joined(alloc, &[ACK_LINE, fault, GONE_LINE])?;
+    assert_eq!(rt; left.written.as_slice(), wanted.as_bytes());
+    Ok(())
+}
+
+#[test]
+fn an_opening_with_an_invalid_bit_is_denied(rt: HostRuntime) -> Result<(), Fail> {
+    let alloc = rt.alloc();
+    // The desired access is 0x40, which is no bit of the server object.
+    let connect = "data 1 0500000310000000200000000200000008000000000039000000000040000000\n";
+    let left = run(alloc, &[OPEN, BIND, connect, END])?;
+    let denied =
+        "out 1 0500020310000000300000000200000018000000000000000000000000000000000000000000000000000000220000c0\n";
+    let wanted = joined(alloc, &[ACK_LINE, denied, GONE_LINE])?;
+    assert_eq!(rt; left.written.as_slice(), wanted.as_bytes());
+    Ok(())
+}
+
+#[test]
+fn a_configuration_without_its_last_byte(rt: HostRuntime) -> Result<(), Fail> {
+    let alloc = rt.alloc();
+    let (cut, _) = CONFIG.split_at(158);
+    let left = run_made(alloc, &["replay", "first.toml"], cut, &[OPEN], &PLAIN)?;
+    assert_eq!(rt; left.status, Status::Config(100));
+    assert!(rt; left.history.is_empty());
+    assert!(rt; left.written.is_empty());
+    Ok(())
+}
+
+#[test]
+fn other_lines_are_refused(rt: HostRuntime) -> Result<(), Fail> {
+    let alloc = rt.alloc();
+    let refused = [
+        "data 1 00\n",
+        "open 2 a\n",
+        "open 1 b\n",
+        "open 01 a\n",
+        "open 1  a\n",
+        "open 4294967297 a\n",
+        "end 1\n",
+        "close 1\n",
+        "open 1",
+    ];
+    for line in refused {
+        assert_eq!(rt; run(alloc, &[line])?.status, Status::EventLine(1), "{line}");
+    }
+    let later = [
+        "data 1 0\n",
+        "data 1 0g\n",
+        "data 1\n",
+        "data 1 \n",
+        "open 1 a\n",
+        "end 2\n",
+    ];
+    for line in later {
+        assert_eq!(rt;
+            run(alloc, &[OPEN, line])?.status,
+            Status::EventLine(2),
+            "{line}"
+        );
+    }
+    Ok(())
+}
+
+#[test]
+fn other_words_have_no_form(rt: HostRuntime) -> Result<(), Fail> {
+    let alloc = rt.alloc();
+    let others: [&[&str]; 5] = [
+        &[],
+        &["replay"],
+        &["replay", "-"],
+        &["replay", "first.toml", "x"],
+        &["play", "first.toml"],
+    ];
+    for command in others {
+        let left = run_made(alloc, command, CONFIG, &[OPEN], &PLAIN)?;
+        assert_eq!(rt; left.status, Status::Usage);
+        assert_eq!(rt; left.periods, 0);
+    }
+    Ok(())
+}
+
+#[test]
+fn a_source_above_the_limit_is_too_long(rt: HostRuntime) -> Result<(), Fail> {
+    let alloc = rt.alloc();
+    let line = "################################################################\n";
+    let mut text = String::new(alloc);
+    for _ in 0..16132 {
+        text.push_str(line)?;
+    }
+    let long = run_made(
+        alloc,
+        &["replay", "first.toml"],
+        CONFIG,
+        &[text.as_str()],
+        &PLAIN,
+    )?;
+    assert_eq!(rt; long.status, Status::InputTooLong);
+    let (most, _) = text.as_bytes().split_at(text.len().min(1048576));
+    let most = std::str::from_utf8(most).ok().unwrap_or("");
+    let left = run_made(alloc, &["replay", "first.toml"], CONFIG, &[most], &PLAIN)?;
+    assert_eq!(rt; left.status, Status::Done);
+    Ok(())
+}
+
+#[test]
+fn a_first_read_that_fails(rt: HostRuntime) -> Result<(), Fail> {
+    let alloc = rt.alloc();
+    let command = ["replay", "first.toml"];
+    let making = Making {
+        config_failing: &[1],
+        ..PLAIN
+    };
+    let left = run_made(alloc, &command, CONFIG, &[OPEN], &making)?;
+    assert_eq!(rt; left.status, Status::ReadFault);
+    assert!(rt; left.history.is_empty());
+    let making = Making {
+        events_failing: &[2],
+        ..PLAIN
+    };
+    let left = run_made(alloc, &command, CONFIG, &[OPEN], &making)?;
+    assert_eq!(rt; left.status, Status::ReadFault);
+    assert!(rt; left.history.is_empty());
+    Ok(())
+}
+
+#[test]
+fn a_first_write_that_fails(rt: HostRuntime) -> Result<(), Fail> {
+    let alloc = rt.alloc();
+    let making = Making {
+        writes_failing: &[1],
+        ..PLAIN
+    };
+    let events = [OPEN, BIND, CONNECT, CLOSE, END];
+    let left = run_made(alloc, &["replay", "first.toml"], CONFIG, &events, &making)?;
+    assert_eq!(rt; left.status, Status::WriteFault);
+    assert!(rt; left.written.is_empty());
+    // The bind made no entry, and the connect isn't in the history.
+    assert_eq!(rt;
+        left.history.as_slice(),
+        [Entry::Opened {
+            conn: 1,
+            listener: 0
+        }]
+        .as_slice()
+    );
+    Ok(())
+}
+
+#[test]
+fn each_write_fails_in_turn(rt: HostRuntime) -> Result<(), Fail> {
+    let alloc = rt.alloc();
+    let events = [OPEN, BIND, CONNECT, CLOSE, END];
+    let lines = [ACK_LINE, CONNECT_LINE, CLOSE_LINE, GONE_LINE];
+    for (place, calls) in [1, 2, 3, 4].iter().enumerate() {
+        let failing = [place as u64 + 1];
+        let making = Making {
+            writes_failing: &failing,
+            ..PLAIN
+        };
+        let left = run_made(alloc, &["replay", "first.toml"], CONFIG, &events, &making)?;
+        assert_eq!(rt; left.status, Status::WriteFault);
+        let (before, _) = lines.split_at(place.min(4));
+        assert_eq!(rt; left.written.as_slice(), joined(alloc, before)?.as_bytes());
+        assert_eq!(rt; left.history.len(), *calls);
+    }
+    Ok(())
+}
+
+#[test]
+fn one_byte_at_a_time(rt: HostRuntime) -> Result<(), Fail> {
+    let alloc = rt.alloc();
+    let making = Making {
+        read_size: 1,
+        write_size: 1,
+        ..PLAIN
+    };
+    let events = [OPEN, BIND, CONNECT, CLOSE, END];
+    let left = run_made(alloc, &["replay", "first.toml"], CONFIG, &events, &making)?;
+    assert_eq!(rt; left.status, Status::Done);
+    let wanted = joined(alloc, &[ACK_LINE, CONNECT_LINE, CLOSE_LINE, GONE_LINE])?;
+    assert_eq!(rt; left.written.as_slice(), wanted.as_bytes());
+    // A byte in the middle of the second line doesn't fit, and a front of the line is written.
+    let making = Making {
+        write_size: 1,
+        writes_failing: &[120],
+        ..PLAIN
+    };
+    let left = run_made(alloc, &["replay", "first.toml"], CONFIG, &events, &making)?;
+    assert_eq!(rt; left.status, Status::WriteFault);
+    assert_eq!(rt; left.written.len(), 119);
+    assert_eq!(rt; left.history.len(), 2);
+    Ok(())
+}
