@@ -2,8 +2,8 @@
 //! and for a client, and the bytes of a PDU.
 //!
 //! It stands on `acct_base` for lists and on `uuid`. The layer above uses that [`read_pdu`] gives the `front` of the
-//! stream, that a longer stream changes no decision ([`front_is_stable`]), that the bytes of a written PDU are `written`
-//! of it ([`write_pdu`]), and that the side which reads its type gets it back ([`written_is_read_back`]).
+//! stream, that a longer stream changes no decision ([`front_is_stable`]), that the bytes of a written PDU are
+//! `written` of it ([`write_pdu`]), and that the side which reads its type gets it back ([`written_is_read_back`]).
 #![tactic(auto)]
 
 mod bodies;
