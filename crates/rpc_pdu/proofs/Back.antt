@@ -1,16 +1,15 @@
 -- What is written reads back.
-use Rattle.std.proofs.Common.{◌≡◌, ℕ, zero, suc, ◌+◌, ◌*◌, ◌/◌, ◌%◌, ◌≤◌, ◌<◌, Bool, true, false, cond, ltb, List, [], ◌∷◌, ◌++◌, length, take, drop, get_or, Option, Some, None, refl, sym, ap, subst, ◌∙◌, append_assoc, arith, length-append, All}
+use Rattle.std.proofs.Common.{◌≡◌, ℕ, suc, ◌+◌, ◌*◌, ◌/◌, ◌%◌, false, ltb, List, [], ◌∷◌, ◌++◌, length, take, drop, Some, refl, sym, ap, ◌∙◌, append_assoc, arith, length-append, All}
 use Rattle.std.specs.List.{flat_map, AllByRecursion}
 use Rattle.std.proofs.Math.Seq.{take-append_seam, drop-append_seam}
 use Rattle.std.proofs.lemmas.Bool.{le-ltb}
-use Rattle.std.proofs.lemmas.List.{append-nil}
 use Rattle.std.proofs.lemmas.List.Elements.{recursion_from_All}
 use Rattle.uuid.proofs.RoundTrips.{swap_twice}
 use Rattle.rpc_pdu.specs.declared.syntaxes.Syntax.{Syntax}
 use Rattle.rpc_pdu.specs.declared.pdus.Element.{Element}
 use Rattle.rpc_pdu.specs.declared.pdus.Outcome.{Outcome}
-use Rattle.rpc_pdu.specs.Numbers.{u16_bytes, u32_bytes}
-use Rattle.rpc_pdu.specs.Reading.{Reader, ◌>>=◌, front_at, many}
+use Rattle.rpc_pdu.specs.Numbers.{u16_bytes}
+use Rattle.rpc_pdu.specs.Reading.{Reader, front_at, many}
 use Rattle.rpc_pdu.specs.Syntaxes.{syntax_of, syntax_bytes}
 use Rattle.rpc_pdu.specs.Lists.{syntax_at, element_at, outcome_at}
 use Rattle.rpc_pdu.specs.Written.{element_bytes, outcome_bytes, IsWhole, IsWholeElement, IsWholeOutcome}

@@ -1,12 +1,12 @@
 -- Bytes are in one way whole PDUs one after the other, and an end.
-use Rattle.std.proofs.Common.{◌≡◌, ℕ, zero, suc, ◌+◌, ◌-◌, ◌≤◌, ◌<◌, List, [], ◌∷◌, ◌++◌, length, take, drop, Option, Some, None, refl, sym, ap, subst, ◌∙◌, arith, length-append}
+use Rattle.std.proofs.Common.{◌≡◌, ℕ, zero, suc, ◌≤◌, ◌<◌, List, [], ◌∷◌, ◌++◌, length, take, drop, refl, sym, ap, subst, ◌∙◌, arith, length-append}
 use Rattle.std.proofs.Math.Seq.{take-append_seam, drop-append_seam}
 use Rattle.std.proofs.lemmas.List.{take-append-drop, length-drop}
 use Rattle.rpc_pdu.specs.declared.pdus.Side.{Side}
 use Rattle.rpc_pdu.specs.declared.pdus.Pdu.{Pdu}
 use Rattle.rpc_pdu.specs.Front.{Front, Whole, Rest, Refused, front}
 use Rattle.rpc_pdu.specs.Grammar.{IsPdu}
-use Rattle.rpc_pdu.specs.Laws.{IsEnd, IsDivided, DivideOnce, AllDivideOnce}
+use Rattle.rpc_pdu.specs.Laws.{IsEnd, IsDivided, AllDivideOnce}
 use Rattle.rpc_pdu.proofs.Whole.{front_has}
 use Rattle.rpc_pdu.proofs.Exact.{exact_to, exact_from}
 

@@ -1,8 +1,8 @@
 -- A whole PDU in front is exactly a PDU of the grammar.
-use Rattle.std.proofs.Common.{◌≡◌, ℕ, ◌+◌, ◌*◌, ◌/◌, ◌≤◌, ◌<◌, Bool, true, false, cond, ltb, ◌==◌, List, [], length, take, drop, get_or, Option, Some, None, refl, sym, ap, subst, ◌∙◌, arith, inl, inr}
+use Rattle.std.proofs.Common.{◌≡◌, ℕ, ◌+◌, ◌≤◌, ◌<◌, Bool, true, false, cond, ltb, ◌==◌, List, length, take, drop, get_or, Option, Some, None, refl, sym, ap, subst, ◌∙◌, arith, inl, inr}
 use Rattle.std.specs.List.{sum_by}
 use Rattle.std.proofs.lemmas.Bool.{ltb-false, le-ltb, eqb-true, false≢true}
-use Rattle.std.proofs.lemmas.List.{get_or-take, take-take, length-take-le}
+use Rattle.std.proofs.lemmas.List.{length-take-le}
 use Rattle.rpc_pdu.specs.declared.pdus.Side.{Side}
 use Rattle.rpc_pdu.specs.declared.pdus.Side.TheVariants.{Server, Client}
 use Rattle.rpc_pdu.specs.declared.pdus.Element.{Element}
@@ -13,15 +13,15 @@ use Rattle.rpc_pdu.specs.declared.headers.Kind.{Kind}
 use Rattle.rpc_pdu.specs.declared.headers.Kind.TheVariants as kind
 use Rattle.rpc_pdu.specs.Numbers.{u16_at, u32_at}
 use Rattle.rpc_pdu.specs.Headers.{kind_of, has_object, least_length}
-use Rattle.rpc_pdu.specs.Reading.{◌>>=◌, many}
+use Rattle.rpc_pdu.specs.Reading.{many}
 use Rattle.rpc_pdu.specs.Lists.{element_at, outcome_at, element_size}
 use Rattle.rpc_pdu.specs.Bodies.{bind_of, alter_of, outcomes_place, outcomes_in, bind_ack_of, alter_resp_of, body_of}
 use Rattle.rpc_pdu.specs.Front.{Whole, front}
-use Rattle.rpc_pdu.specs.Grammar.{IsHeader, ElementAt, OutcomeAt, HasSizes, IsBinding, IsBindingAnswer, IsRequest, IsResponse, IsFault, IsBindNak, IsPdu}
+use Rattle.rpc_pdu.specs.Grammar.{IsHeader, ElementAt, OutcomeAt, HasSizes, IsBinding, IsBindingAnswer, IsRequest, IsPdu}
 use Rattle.rpc_pdu.specs.Written.{type_of, reader_of, call_id}
 use Rattle.rpc_pdu.specs.Laws.{IsExact}
 use Rattle.rpc_pdu.proofs.HeaderFacts.{chosen, least_16, IsLong, header_long, long_header}
-use Rattle.rpc_pdu.proofs.Whole.{HasWhole, front_has, has_front, head_at}
+use Rattle.rpc_pdu.proofs.Whole.{front_has, has_front, head_at}
 use Rattle.rpc_pdu.proofs.Stubs.{made}
 use Rattle.rpc_pdu.proofs.Places.{bound, many_stand, many_reads, elements_read_at, outcomes_read_at}
 use Rattle.rpc_pdu.proofs.ReadBack.{kind_of_pdu, kind_is_read}

@@ -1,5 +1,5 @@
 -- What a header that gives a length comes to.
-use Rattle.std.proofs.Common.{◌≡◌, ℕ, ◌≤◌, Bool, true, false, cond, ltb, leb, ◌==◌, not, ◌&&◌, List, get_or, Option, Some, None, refl, sym, subst, ap, ◌∙◌, arith, inl, inr, ◌⊎◌}
+use Rattle.std.proofs.Common.{◌≡◌, ℕ, ◌≤◌, Bool, true, false, cond, ltb, leb, ◌==◌, not, ◌&&◌, List, get_or, Option, Some, None, refl, sym, subst, ap, arith, inl, inr, ◌⊎◌}
 use Rattle.std.proofs.lemmas.Bool.{ltb-false, le-ltb, leb-true, le-leb, eqb-true, eq-eqb, not-false, and_parts}
 use Rattle.rpc_pdu.specs.declared.pdus.Side.{Side}
 use Rattle.rpc_pdu.specs.declared.headers.Kind.{Kind}

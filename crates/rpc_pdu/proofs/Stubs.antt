@@ -1,16 +1,14 @@
 -- How long the stub of what is read can be.
-use Rattle.std.proofs.Common.{◌≡◌, ℕ, ◌≤◌, ◌-◌, Bool, true, false, cond, List, length, drop, get_or, Option, Some, None, refl, sym, ap, ◌∙◌, arith, inl, inr}
+use Rattle.std.proofs.Common.{◌≡◌, ℕ, ◌≤◌, ◌-◌, Bool, true, false, cond, List, length, drop, get_or, Option, Some, None, refl, sym, ap, ◌∙◌, arith}
 use Rattle.std.proofs.lemmas.List.{length-drop}
 use Rattle.rpc_pdu.specs.declared.headers.Kind.{Kind}
 use Rattle.rpc_pdu.specs.declared.headers.Kind.TheVariants as kind
-use Rattle.rpc_pdu.specs.declared.pdus.Element.{Element}
-use Rattle.rpc_pdu.specs.declared.pdus.Outcome.{Outcome}
 use Rattle.rpc_pdu.specs.declared.pdus.Pdu.{Pdu}
-use Rattle.rpc_pdu.specs.declared.pdus.Pdu.TheVariants.{Bind, Alter, Request, Cancel, Orphaned, BindAck, AlterResp, BindNak, Response, Fault}
+use Rattle.rpc_pdu.specs.declared.pdus.Pdu.TheVariants.{Bind, Alter, BindAck, AlterResp}
 use Rattle.rpc_pdu.specs.Headers.{has_object}
 use Rattle.rpc_pdu.specs.Reading.{◌>>=◌, many}
 use Rattle.rpc_pdu.specs.Lists.{element_at}
-use Rattle.rpc_pdu.specs.Bodies.{bind_of, alter_of, outcomes_in, bind_ack_of, alter_resp_of, stub_place, body_of}
+use Rattle.rpc_pdu.specs.Bodies.{bind_of, alter_of, outcomes_in, bind_ack_of, alter_resp_of, body_of}
 use Rattle.rpc_pdu.specs.Reads.{stub_length}
 
 some_is : {A : Type 0} (x y : A) → Some x ≡ Some y → x ≡ y

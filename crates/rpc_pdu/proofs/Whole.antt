@@ -1,18 +1,17 @@
 -- A whole PDU in front, by its parts, and what is decided of a longer stream.
 use Rattle.std.proofs.Common.{◌≡◌, ℕ, ◌≤◌, ◌<◌, Bool, true, false, cond, ltb, List, ◌++◌, length, get_or, take, Option, Some, None, refl, sym, ap, ◌∙◌, arith, inl, inr, length-append}
 use Rattle.std.proofs.lemmas.Bool.{ltb-false, le-ltb}
-use Rattle.std.proofs.lemmas.List.{take-append-le, get_or-take, length-take-le}
+use Rattle.std.proofs.lemmas.List.{take-append-le, get_or-take}
 use Rattle.rpc_pdu.specs.declared.pdus.Side.{Side}
 use Rattle.rpc_pdu.specs.declared.pdus.Pdu.{Pdu}
 use Rattle.rpc_pdu.specs.declared.headers.Kind.{Kind}
 use Rattle.rpc_pdu.specs.declared.headers.Header.{Header}
 use Rattle.rpc_pdu.specs.declared.headers.Header.TheVariants.{Bad, Long}
-use Rattle.rpc_pdu.specs.Numbers.{u32_at}
-use Rattle.rpc_pdu.specs.Headers.{least_length, header_of}
+use Rattle.rpc_pdu.specs.Headers.{header_of}
 use Rattle.rpc_pdu.specs.Bodies.{body_of}
-use Rattle.rpc_pdu.specs.Front.{Front, Whole, Rest, Refused, refusal, front_of_body, front_of_header, front}
+use Rattle.rpc_pdu.specs.Front.{Whole, Rest, front_of_body, front_of_header, front}
 use Rattle.rpc_pdu.specs.Laws.{Stays, IsStable}
-use Rattle.rpc_pdu.proofs.HeaderFacts.{chosen, IsLong, header_long, long_16, bad_early}
+use Rattle.rpc_pdu.proofs.HeaderFacts.{chosen, long_16, bad_early}
 
 -- the parts of a whole PDU in front
 pub record HasWhole (side : Side) (bytes : List ℕ) (pdu : Pdu) (size : ℕ) : Type 0 where

@@ -18,10 +18,18 @@ pub enum ReadPdu {
     },
     /// Bytes are missing, and nothing is refused yet.
     More,
-    /// The PDU is refused. The place counts bytes from its start; the cause is 1 where the version isn't 5.0 or 5.1,
-    /// 2 where the data representation isn't little-endian ASCII, 3 where the side doesn't read the type, 4 where
-    /// `frag_length` is below the type's least, 5 where there is a verifier, 6 where the body has no reading. `ptype` is the
-    /// type byte and `id` the call id.
+    /// The PDU is refused, by the first of these causes. The place counts bytes from its start.
+    ///
+    /// | cause | where | place |
+    /// |---|---|---|
+    /// | 1 | the version isn't 5.0 or 5.1 | 0 |
+    /// | 2 | the data representation isn't little-endian integers, ASCII and IEEE floats | 4 |
+    /// | 3 | the side doesn't read the type | 2 |
+    /// | 4 | `frag_length` is below the type's least length | 8 |
+    /// | 5 | `auth_length` isn't 0 | 10 |
+    /// | 6 | the body of a bind, an alter_context or their answers has no reading | 16 |
+    ///
+    /// `ptype` is the type byte and `id` the call id.
     Refused {
         place: usize,
         cause: u8,
@@ -32,8 +40,9 @@ pub enum ReadPdu {
     NoMemory,
 }
 
-/// Reads the PDU in front of bytes (C706, section 12.6). Version, representation, type, length and verifier are looked at as soon as
-/// there are 16 bytes, the body only once the whole PDU is there. Bytes after a body's last field are taken.
+/// Reads the PDU in front of bytes (C706, section 12.6). Version, representation, type, length and verifier are looked
+/// at as soon as there are 16 bytes, the body only once the whole PDU is there. Bytes after a body's last field are
+/// taken.
 #[tactic(auto, unfolding(crate::specs::Front::front))]
 pub fn read_pdu(alloc: Global, side: Side, bytes: &[u8]) -> ReadPdu
     ensures front { IsRead result side bytes.now }

@@ -36,7 +36,8 @@ pub struct Outcome {
 /// A PDU, by the fields that are kept of it (C706, section 12.6.4). `id` is the call id.
 #[derive(Debug, Drop)]
 pub enum Pdu {
-    /// Type 11. Sizes are the largest fragments that the client sends and takes, in bytes; `group` is the association group.
+    /// Type 11. `xmit` and `recv` are the largest fragments that the client sends and takes, in bytes; `group` is the
+    /// association group, 0 for a new one.
     Bind {
         id: u32,
         xmit: u16,

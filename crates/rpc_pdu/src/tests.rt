@@ -10,12 +10,15 @@ use std::alloc::Global;
 use std::process::Abort;
 use std::test::Fail;
 
-// A bind of SAMR and its answer, written down by hand from C706, sections 12.6.4.3 and 12.6.4.4.
+// A bind of SAMR as the client of python3-impacket 0.10.0 sends it, and its answer, written down by hand from C706,
+// section 12.6.4.4.
 const BIND: &str =
-    "05000b03 10000000 48000000 01000000 b810b810 00000000 01000000 00000100 78573412 3412cdab ef000123 456789ac 01000000 045d888a eb1cc911 9fe80800 2b104860 02000000";
+    "05000b03 10000000 48000000 01000000 b810b810 00000000 01000000 00000100 78573412 3412cdab \
+    ef000123 456789ac 01000000 045d888a eb1cc911 9fe80800 2b104860 02000000";
 
 const ACK: &str =
-    "05000c03 10000000 38000000 01000000 b810b810 01000000 01000000 01000000 00000000 045d888a eb1cc911 9fe80800 2b104860 02000000";
+    "05000c03 10000000 38000000 01000000 b810b810 01000000 01000000 01000000 00000000 045d888a \
+    eb1cc911 9fe80800 2b104860 02000000";
 
 /// The bytes in hexadecimal digits.
 fn bytes_of(alloc: Global, text: &str) -> Result<Vec<u8>, Fail> {
@@ -52,8 +55,8 @@ fn whole(rt: &impl Abort, alloc: Global, side: Side, bytes: &[u8]) -> Pdu
     }
 }
 
-/// Reads a PDU, compares what it says, and writes it. Each beginning of it is less than a PDU, and what follows it isn't
-/// looked at.
+/// Reads a PDU, compares what it says, and writes it. Each beginning of it is less than a PDU, and what follows it
+/// isn't looked at.
 fn reads(
     rt: &impl Abort,
     alloc: Global,
@@ -85,25 +88,44 @@ fn reads(
 #[test]
 fn a_bind_and_its_answer(rt: HostRuntime) -> Result<(), Fail> {
     let says =
-        "Bind { id: 1, xmit: 4280, recv: 4280, group: 0, elements: Seq { values: [Element { context: 0, subject: Syntax { id: 12345778-1234-abcd-ef00-0123456789ac, version: 1 }, transfers: Seq { values: [Syntax { id: 8a885d04-1ceb-11c9-9fe8-08002b104860, version: 2 }] } }] } }";
+        "Bind { id: 1, xmit: 4280, recv: 4280, group: 0, elements: Seq { values: [Element { context: \
+        0, subject: Syntax { id: 12345778-1234-abcd-ef00-0123456789ac, version: 1 }, transfers: Seq \
+        { values: [Syntax { id: 8a885d04-1ceb-11c9-9fe8-08002b104860, version: 2 }] } }] } }";
     reads(&rt, rt.alloc(), Side::Server, BIND, says, BIND)?;
     let says =
-        "BindAck { id: 1, xmit: 4280, recv: 4280, group: 1, outcomes: Seq { values: [Outcome { result: 0, reason: 0, syntax: Syntax { id: 8a885d04-1ceb-11c9-9fe8-08002b104860, version: 2 } }] } }";
+        "BindAck { id: 1, xmit: 4280, recv: 4280, group: 1, outcomes: Seq { values: [Outcome { \
+        result: 0, reason: 0, syntax: Syntax { id: 8a885d04-1ceb-11c9-9fe8-08002b104860, version: 2 \
+        } }] } }";
     reads(&rt, rt.alloc(), Side::Client, ACK, says, ACK)
 }
 
-// Captured from the SAMR client of python3-samba 4.17.12 over TCP: context 1 negotiates features, and the second asks for NDR64.
+// Captured from the SAMR client of python3-samba 4.17.12 over TCP: context 1 negotiates features, and the second bind
+// asks for NDR64.
 #[test]
 fn binds_with_feature_negotiation(rt: HostRuntime) -> Result<(), Fail> {
     let text =
-        "05000b03 10000000 74000000 01000000 d016d016 00000000 02000000 00000100 78573412 3412cdab ef000123 456789ac 01000000 045d888a eb1cc911 9fe80800 2b104860 02000000 01000100 78573412 3412cdab ef000123 456789ac 01000000 2c1cb76c 12984045 03000000 00000000 01000000";
+        "05000b03 10000000 74000000 01000000 d016d016 00000000 02000000 00000100 78573412 3412cdab \
+        ef000123 456789ac 01000000 045d888a eb1cc911 9fe80800 2b104860 02000000 01000100 78573412 \
+        3412cdab ef000123 456789ac 01000000 2c1cb76c 12984045 03000000 00000000 01000000";
     let says =
-        "Bind { id: 1, xmit: 5840, recv: 5840, group: 0, elements: Seq { values: [Element { context: 0, subject: Syntax { id: 12345778-1234-abcd-ef00-0123456789ac, version: 1 }, transfers: Seq { values: [Syntax { id: 8a885d04-1ceb-11c9-9fe8-08002b104860, version: 2 }] } }, Element { context: 1, subject: Syntax { id: 12345778-1234-abcd-ef00-0123456789ac, version: 1 }, transfers: Seq { values: [Syntax { id: 6cb71c2c-9812-4540-0300-000000000000, version: 1 }] } }] } }";
+        "Bind { id: 1, xmit: 5840, recv: 5840, group: 0, elements: Seq { values: [Element { context: \
+        0, subject: Syntax { id: 12345778-1234-abcd-ef00-0123456789ac, version: 1 }, transfers: Seq \
+        { values: [Syntax { id: 8a885d04-1ceb-11c9-9fe8-08002b104860, version: 2 }] } }, Element { \
+        context: 1, subject: Syntax { id: 12345778-1234-abcd-ef00-0123456789ac, version: 1 }, \
+        transfers: Seq { values: [Syntax { id: 6cb71c2c-9812-4540-0300-000000000000, version: 1 }] \
+        } }] } }";
     reads(&rt, rt.alloc(), Side::Server, text, says, text)?;
     let text =
-        "05000b03 10000000 74000000 01000000 d016d016 00000000 02000000 00000100 78573412 3412cdab ef000123 456789ac 01000000 33057171 babe3749 8319b5db ef9ccc36 01000000 01000100 78573412 3412cdab ef000123 456789ac 01000000 2c1cb76c 12984045 03000000 00000000 01000000";
+        "05000b03 10000000 74000000 01000000 d016d016 00000000 02000000 00000100 78573412 3412cdab \
+        ef000123 456789ac 01000000 33057171 babe3749 8319b5db ef9ccc36 01000000 01000100 78573412 \
+        3412cdab ef000123 456789ac 01000000 2c1cb76c 12984045 03000000 00000000 01000000";
     let says =
-        "Bind { id: 1, xmit: 5840, recv: 5840, group: 0, elements: Seq { values: [Element { context: 0, subject: Syntax { id: 12345778-1234-abcd-ef00-0123456789ac, version: 1 }, transfers: Seq { values: [Syntax { id: 71710533-beba-4937-8319-b5dbef9ccc36, version: 1 }] } }, Element { context: 1, subject: Syntax { id: 12345778-1234-abcd-ef00-0123456789ac, version: 1 }, transfers: Seq { values: [Syntax { id: 6cb71c2c-9812-4540-0300-000000000000, version: 1 }] } }] } }";
+        "Bind { id: 1, xmit: 5840, recv: 5840, group: 0, elements: Seq { values: [Element { context: \
+        0, subject: Syntax { id: 12345778-1234-abcd-ef00-0123456789ac, version: 1 }, transfers: Seq \
+        { values: [Syntax { id: 71710533-beba-4937-8319-b5dbef9ccc36, version: 1 }] } }, Element { \
+        context: 1, subject: Syntax { id: 12345778-1234-abcd-ef00-0123456789ac, version: 1 }, \
+        transfers: Seq { values: [Syntax { id: 6cb71c2c-9812-4540-0300-000000000000, version: 1 }] \
+        } }] } }";
     reads(&rt, rt.alloc(), Side::Server, text, says, text)
 }
 
@@ -111,51 +133,74 @@ fn binds_with_feature_negotiation(rt: HostRuntime) -> Result<(), Fail> {
 #[test]
 fn binds_with_several_transfer_syntaxes(rt: HostRuntime) -> Result<(), Fail> {
     let text =
-        "05000b03 10000000 88000000 03000000 d016d016 00000000 02000000 00000200 78573412 3412cdab ef000123 456789ac 01000000 33057171 babe3749 8319b5db ef9ccc36 01000000 045d888a eb1cc911 9fe80800 2b104860 02000000 01000100 78573412 3412cdab ef000123 456789ab 00000000 045d888a eb1cc911 9fe80800 2b104860 02000000";
+        "05000b03 10000000 88000000 03000000 d016d016 00000000 02000000 00000200 78573412 3412cdab \
+        ef000123 456789ac 01000000 33057171 babe3749 8319b5db ef9ccc36 01000000 045d888a eb1cc911 \
+        9fe80800 2b104860 02000000 01000100 78573412 3412cdab ef000123 456789ab 00000000 045d888a \
+        eb1cc911 9fe80800 2b104860 02000000";
     let says =
-        "Bind { id: 3, xmit: 5840, recv: 5840, group: 0, elements: Seq { values: [Element { context: 0, subject: Syntax { id: 12345778-1234-abcd-ef00-0123456789ac, version: 1 }, transfers: Seq { values: [Syntax { id: 71710533-beba-4937-8319-b5dbef9ccc36, version: 1 }, Syntax { id: 8a885d04-1ceb-11c9-9fe8-08002b104860, version: 2 }] } }, Element { context: 1, subject: Syntax { id: 12345778-1234-abcd-ef00-0123456789ab, version: 0 }, transfers: Seq { values: [Syntax { id: 8a885d04-1ceb-11c9-9fe8-08002b104860, version: 2 }] } }] } }";
+        "Bind { id: 3, xmit: 5840, recv: 5840, group: 0, elements: Seq { values: [Element { context: \
+        0, subject: Syntax { id: 12345778-1234-abcd-ef00-0123456789ac, version: 1 }, transfers: Seq \
+        { values: [Syntax { id: 71710533-beba-4937-8319-b5dbef9ccc36, version: 1 }, Syntax { id: \
+        8a885d04-1ceb-11c9-9fe8-08002b104860, version: 2 }] } }, Element { context: 1, subject: \
+        Syntax { id: 12345778-1234-abcd-ef00-0123456789ab, version: 0 }, transfers: Seq { values: \
+        [Syntax { id: 8a885d04-1ceb-11c9-9fe8-08002b104860, version: 2 }] } }] } }";
     reads(&rt, rt.alloc(), Side::Server, text, says, text)
 }
 
-// The first was captured from the client of python3-impacket 0.10.0, the second packed by the `ncacn_packet` of python3-samba 4.17.12.
+// The first was captured from the client of python3-impacket 0.10.0, the second packed by the `ncacn_packet` of
+// python3-samba 4.17.12.
 #[test]
 fn an_alter_context_and_its_answer(rt: HostRuntime) -> Result<(), Fail> {
     let text =
-        "05000e03 10000000 48000000 01000000 b810b810 00000000 01000000 01000100 78573412 3412cdab ef000123 456789ab 00000000 045d888a eb1cc911 9fe80800 2b104860 02000000";
+        "05000e03 10000000 48000000 01000000 b810b810 00000000 01000000 01000100 78573412 3412cdab \
+        ef000123 456789ab 00000000 045d888a eb1cc911 9fe80800 2b104860 02000000";
     let says =
-        "Alter { id: 1, xmit: 4280, recv: 4280, group: 0, elements: Seq { values: [Element { context: 1, subject: Syntax { id: 12345778-1234-abcd-ef00-0123456789ab, version: 0 }, transfers: Seq { values: [Syntax { id: 8a885d04-1ceb-11c9-9fe8-08002b104860, version: 2 }] } }] } }";
+        "Alter { id: 1, xmit: 4280, recv: 4280, group: 0, elements: Seq { values: [Element { \
+        context: 1, subject: Syntax { id: 12345778-1234-abcd-ef00-0123456789ab, version: 0 }, \
+        transfers: Seq { values: [Syntax { id: 8a885d04-1ceb-11c9-9fe8-08002b104860, version: 2 }] \
+        } }] } }";
     reads(&rt, rt.alloc(), Side::Server, text, says, text)?;
     let text =
-        "05000f03 10000000 38000000 04000000 b810b810 f0530000 00000000 01000000 00000000 045d888a eb1cc911 9fe80800 2b104860 02000000";
+        "05000f03 10000000 38000000 04000000 b810b810 f0530000 00000000 01000000 00000000 045d888a \
+        eb1cc911 9fe80800 2b104860 02000000";
     let says =
-        "AlterResp { id: 4, xmit: 4280, recv: 4280, group: 21488, outcomes: Seq { values: [Outcome { result: 0, reason: 0, syntax: Syntax { id: 8a885d04-1ceb-11c9-9fe8-08002b104860, version: 2 } }] } }";
+        "AlterResp { id: 4, xmit: 4280, recv: 4280, group: 21488, outcomes: Seq { values: [Outcome { \
+        result: 0, reason: 0, syntax: Syntax { id: 8a885d04-1ceb-11c9-9fe8-08002b104860, version: 2 \
+        } }] } }";
     reads(&rt, rt.alloc(), Side::Client, text, says, text)
 }
 
-// The first was packed by the `ncacn_packet` of python3-samba 4.17.12, for port 135. The second was captured from the `DCERPCServer` of
-// python3-impacket 0.10.0, which answers a pipe's name and pads it with letters. We write the empty address.
+// The first was packed by the `ncacn_packet` of python3-samba 4.17.12, for port 135. The second was captured from the
+// `DCERPCServer` of python3-impacket 0.10.0, which answers a pipe's name and pads it with letters. We write the empty
+// address.
 #[test]
 fn answers_with_a_secondary_address(rt: HostRuntime) -> Result<(), Fail> {
+    let text =
+        "05000c03 10000000 54000000 03000000 b810b810 f0530000 04003133 35000000 02000000 00000000 \
+        045d888a eb1cc911 9fe80800 2b104860 02000000 02000200 00000000 00000000 00000000 00000000 \
+        00000000";
+    let again =
+        "05000c03 10000000 50000000 03000000 b810b810 f0530000 01000000 02000000 00000000 045d888a \
+        eb1cc911 9fe80800 2b104860 02000000 02000200 00000000 00000000 00000000 00000000 00000000";
     let says =
-        "BindAck { id: 3, xmit: 4280, recv: 4280, group: 21488, outcomes: Seq { values: [Outcome { result: 0, reason: 0, syntax: Syntax { id: 8a885d04-1ceb-11c9-9fe8-08002b104860, version: 2 } }, Outcome { result: 2, reason: 2, syntax: Syntax { id: 00000000-0000-0000-0000-000000000000, version: 0 } }] } }";
-    reads(
-        &rt,
-        rt.alloc(),
-        Side::Client,
-        "05000c03 10000000 54000000 03000000 b810b810 f0530000 04003133 35000000 02000000 00000000 045d888a eb1cc911 9fe80800 2b104860 02000000 02000200 00000000 00000000 00000000 00000000 00000000",
-        says,
-        "05000c03 10000000 50000000 03000000 b810b810 f0530000 01000000 02000000 00000000 045d888a eb1cc911 9fe80800 2b104860 02000000 02000200 00000000 00000000 00000000 00000000 00000000",
-    )?;
+        "BindAck { id: 3, xmit: 4280, recv: 4280, group: 21488, outcomes: Seq { values: [Outcome { \
+        result: 0, reason: 0, syntax: Syntax { id: 8a885d04-1ceb-11c9-9fe8-08002b104860, version: 2 \
+        } }, Outcome { result: 2, reason: 2, syntax: Syntax { id: \
+        00000000-0000-0000-0000-000000000000, version: 0 } }] } }";
+    reads(&rt, rt.alloc(), Side::Client, text, says, again)?;
+    let text =
+        "05000c03 10000000 5c000000 01000000 d016d016 34120000 0b005c50 4950455c 73616d72 00414141 \
+        02000000 00000000 045d888a eb1cc911 9fe80800 2b104860 02000000 01000200 045d888a eb1cc911 \
+        9fe80800 2b104860 02000000";
+    let again =
+        "05000c03 10000000 50000000 01000000 d016d016 34120000 01000000 02000000 00000000 045d888a \
+        eb1cc911 9fe80800 2b104860 02000000 01000200 045d888a eb1cc911 9fe80800 2b104860 02000000";
     let says =
-        "BindAck { id: 1, xmit: 5840, recv: 5840, group: 4660, outcomes: Seq { values: [Outcome { result: 0, reason: 0, syntax: Syntax { id: 8a885d04-1ceb-11c9-9fe8-08002b104860, version: 2 } }, Outcome { result: 1, reason: 2, syntax: Syntax { id: 8a885d04-1ceb-11c9-9fe8-08002b104860, version: 2 } }] } }";
-    reads(
-        &rt,
-        rt.alloc(),
-        Side::Client,
-        "05000c03 10000000 5c000000 01000000 d016d016 34120000 0b005c50 4950455c 73616d72 00414141 02000000 00000000 045d888a eb1cc911 9fe80800 2b104860 02000000 01000200 045d888a eb1cc911 9fe80800 2b104860 02000000",
-        says,
-        "05000c03 10000000 50000000 01000000 d016d016 34120000 01000000 02000000 00000000 045d888a eb1cc911 9fe80800 2b104860 02000000 01000200 045d888a eb1cc911 9fe80800 2b104860 02000000",
-    )
+        "BindAck { id: 1, xmit: 5840, recv: 5840, group: 4660, outcomes: Seq { values: [Outcome { \
+        result: 0, reason: 0, syntax: Syntax { id: 8a885d04-1ceb-11c9-9fe8-08002b104860, version: 2 \
+        } }, Outcome { result: 1, reason: 2, syntax: Syntax { id: \
+        8a885d04-1ceb-11c9-9fe8-08002b104860, version: 2 } }] } }";
+    reads(&rt, rt.alloc(), Side::Client, text, says, again)
 }
 
 // Packed by the `ncacn_packet` of python3-samba 4.17.12.
@@ -166,17 +211,19 @@ fn a_refused_bind(rt: HostRuntime) -> Result<(), Fail> {
     reads(&rt, rt.alloc(), Side::Client, text, says, text)
 }
 
-// A Connect2 of SAMR from a hand-written stream, a request and a response captured from python3-impacket 0.10.0, and a response packed
-// by the `ncacn_packet` of python3-samba 4.17.12.
+// A Connect2 of SAMR, captured from the SAMR client of python3-samba 4.17.12; a request and a response, captured from
+// python3-impacket 0.10.0; and a response packed by the `ncacn_packet` of python3-samba.
 #[test]
 fn requests_and_responses(rt: HostRuntime) -> Result<(), Fail> {
     let text = "05000003 10000000 20000000 02000000 08000000 00003900 00000000 00000002";
     let says =
-        "Request { id: 2, flags: 3, context: 0, opnum: 57, stub: Seq { values: [0, 0, 0, 0, 0, 0, 0, 2] } }";
+        "Request { id: 2, flags: 3, context: 0, opnum: 57, stub: Seq { values: [0, 0, 0, 0, 0, 0, 0, \
+        2] } }";
     reads(&rt, rt.alloc(), Side::Server, text, says, text)?;
     let text = "05000003 10000000 1d000000 02000000 05000000 00006300 61626364 65";
     let says =
-        "Request { id: 2, flags: 3, context: 0, opnum: 99, stub: Seq { values: [97, 98, 99, 100, 101] } }";
+        "Request { id: 2, flags: 3, context: 0, opnum: 99, stub: Seq { values: [97, 98, 99, 100, \
+        101] } }";
     reads(&rt, rt.alloc(), Side::Server, text, says, text)?;
     let text = "05000203 10000000 1c000000 01000000 04000000 00000000 01020304";
     let says =
@@ -184,23 +231,21 @@ fn requests_and_responses(rt: HostRuntime) -> Result<(), Fail> {
     reads(&rt, rt.alloc(), Side::Client, text, says, text)?;
     let text = "05000203 10000000 1e000000 06000000 06000000 01000000 61626364 6566";
     let says =
-        "Response { id: 6, flags: 3, context: 1, hint: 6, stub: Seq { values: [97, 98, 99, 100, 101, 102] } }";
+        "Response { id: 6, flags: 3, context: 1, hint: 6, stub: Seq { values: [97, 98, 99, 100, 101, \
+        102] } }";
     reads(&rt, rt.alloc(), Side::Client, text, says, text)
 }
 
 // Packed by the `ncacn_packet` of python3-samba 4.17.12. The object UUID isn't kept, and so isn't written.
 #[test]
 fn an_object_uuid_is_passed_over(rt: HostRuntime) -> Result<(), Fail> {
+    let text =
+        "05000083 10000000 2c000000 06000000 04000000 01000500 04030201 06050807 090a0b0c 0d0e0f10 \
+        61626364";
+    let again = "05000083 10000000 1c000000 06000000 04000000 01000500 61626364";
     let says =
         "Request { id: 6, flags: 131, context: 1, opnum: 5, stub: Seq { values: [97, 98, 99, 100] } }";
-    reads(
-        &rt,
-        rt.alloc(),
-        Side::Server,
-        "05000083 10000000 2c000000 06000000 04000000 01000500 04030201 06050807 090a0b0c 0d0e0f10 61626364",
-        says,
-        "05000083 10000000 1c000000 06000000 04000000 01000500 61626364",
-    )
+    reads(&rt, rt.alloc(), Side::Server, text, says, again)
 }
 
 // Packed by the `ncacn_packet` of python3-samba 4.17.12.
@@ -312,7 +357,8 @@ fn each_cause_has_its_place(rt: HostRuntime) -> Result<(), Fail> {
         ),
         (
             Side::Server,
-            "05000e03 10000000 34000000 01000000 b810b810 00000000 01000000 00000100 78573412 3412cdab ef000123 456789ac 01000000",
+            "05000e03 10000000 34000000 01000000 b810b810 00000000 01000000 00000100 78573412 3412cdab \
+            ef000123 456789ac 01000000",
             (16, 6, 14, 1),
         ),
         (
@@ -404,8 +450,10 @@ fn each_cause_has_its_place(rt: HostRuntime) -> Result<(), Fail> {
 fn minor_version_flags_and_what_is_left_are_taken(rt: HostRuntime) -> Result<(), Fail> {
     // Minor version 1, every flag, and bytes 6 and 7 of a bind; then bytes behind its last element.
     let texts = [
-        "05010bff 1000ffff 48000000 01000000 b810b810 00000000 01000000 00000100 78573412 3412cdab ef000123 456789ac 01000000 045d888a eb1cc911 9fe80800 2b104860 02000000",
-        "05000b03 10000000 4c000000 01000000 b810b810 00000000 01ffffff 000001ff 78573412 3412cdab ef000123 456789ac 01000000 045d888a eb1cc911 9fe80800 2b104860 02000000 ffffffff",
+        "05010bff 1000ffff 48000000 01000000 b810b810 00000000 01000000 00000100 78573412 3412cdab \
+            ef000123 456789ac 01000000 045d888a eb1cc911 9fe80800 2b104860 02000000",
+        "05000b03 10000000 4c000000 01000000 b810b810 00000000 01ffffff 000001ff 78573412 3412cdab \
+            ef000123 456789ac 01000000 045d888a eb1cc911 9fe80800 2b104860 02000000 ffffffff",
     ];
     for text in texts {
         let bytes = bytes_of(rt.alloc(), text)?;
@@ -424,7 +472,8 @@ fn syntaxes_have_their_names(rt: HostRuntime) -> Result<(), Fail> {
     let names = format!(in rt.alloc(); "{} {} {}", samr().id, lsarpc().id, ndr().id)?;
     assert_eq!(rt;
         names.as_str(),
-        "12345778-1234-abcd-ef00-0123456789ac 12345778-1234-abcd-ef00-0123456789ab 8a885d04-1ceb-11c9-9fe8-08002b104860"
+        "12345778-1234-abcd-ef00-0123456789ac 12345778-1234-abcd-ef00-0123456789ab \
+        8a885d04-1ceb-11c9-9fe8-08002b104860"
     );
     assert_eq!(rt;
         (samr().version, lsarpc().version, ndr().version),

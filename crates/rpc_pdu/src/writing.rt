@@ -95,7 +95,8 @@ fn push_syntax(out: &mut Vec<u8>, syntax: &Syntax) -> Result<(), AllocError>
 }
 
 fn push_syntaxes(out: &mut Vec<u8>, syntaxes: &[Syntax]) -> Result<(), AllocError>
-    ensures bytes { OnOk result (out.new.items ≡ out.old.items ++ flat_map syntax_bytes syntaxes.now) }
+    ensures bytes { OnOk result
+        (out.new.items ≡ out.old.items ++ flat_map syntax_bytes syntaxes.now) }
     ensures whole { OnOk result (All IsWhole syntaxes.now) }
 {
     for syntax in syntaxes {
@@ -120,7 +121,8 @@ fn push_element(out: &mut Vec<u8>, element: &Element) -> Result<(), AllocError>
 
 fn push_elements(out: &mut Vec<u8>, elements: &[Element]) -> Result<(), AllocError>
     requires { All HasFewTransfers elements.now }
-    ensures bytes { OnOk result (out.new.items ≡ out.old.items ++ flat_map element_bytes elements.now) }
+    ensures bytes { OnOk result
+        (out.new.items ≡ out.old.items ++ flat_map element_bytes elements.now) }
     ensures whole { OnOk result (All IsWholeElement elements.now) }
 {
     for element in elements {
@@ -140,7 +142,8 @@ fn push_outcome(out: &mut Vec<u8>, outcome: &Outcome) -> Result<(), AllocError>
 }
 
 fn push_outcomes(out: &mut Vec<u8>, outcomes: &[Outcome]) -> Result<(), AllocError>
-    ensures bytes { OnOk result (out.new.items ≡ out.old.items ++ flat_map outcome_bytes outcomes.now) }
+    ensures bytes { OnOk result
+        (out.new.items ≡ out.old.items ++ flat_map outcome_bytes outcomes.now) }
     ensures whole { OnOk result (All IsWholeOutcome outcomes.now) }
 {
     for outcome in outcomes {
@@ -180,7 +183,8 @@ fn push_outcome_list(out: &mut Vec<u8>, outcomes: &[Outcome]) -> Result<(), Allo
 
 fn push_request(out: &mut Vec<u8>, context: u16, opnum: u16, stub: &[u8]) -> Result<(), AllocError>
     requires { length stub.now ≤ 65511 }
-    ensures { OnOk result (out.new.items ≡ out.old.items ++ (u32_bytes (length stub.now) ++ u16_bytes context ++ u16_bytes opnum ++ stub.now)) }
+    ensures { OnOk result (out.new.items ≡ out.old.items
+        ++ (u32_bytes (length stub.now) ++ u16_bytes context ++ u16_bytes opnum ++ stub.now)) }
 {
     push_u32(out, stub.len() as u32)?;
     push_u16(out, context)?;
@@ -190,7 +194,8 @@ fn push_request(out: &mut Vec<u8>, context: u16, opnum: u16, stub: &[u8]) -> Res
 }
 
 fn push_response(out: &mut Vec<u8>, context: u16, hint: u32, stub: &[u8]) -> Result<(), AllocError>
-    ensures { OnOk result (out.new.items ≡ out.old.items ++ (u32_bytes hint ++ u16_bytes context ++ 0 ∷ 0 ∷ stub.now)) }
+    ensures { OnOk result (out.new.items ≡ out.old.items
+        ++ (u32_bytes hint ++ u16_bytes context ++ 0 ∷ 0 ∷ stub.now)) }
 {
     push_u32(out, hint)?;
     push_u16(out, context)?;
@@ -200,7 +205,8 @@ fn push_response(out: &mut Vec<u8>, context: u16, hint: u32, stub: &[u8]) -> Res
 }
 
 fn push_fault(out: &mut Vec<u8>, context: u16, status: u32) -> Result<(), AllocError>
-    ensures { OnOk result (out.new.items ≡ out.old.items ++ (u32_bytes 0 ++ u16_bytes context ++ 0 ∷ 0 ∷ u32_bytes status ++ u32_bytes 0)) }
+    ensures { OnOk result (out.new.items ≡ out.old.items
+        ++ (u32_bytes 0 ++ u16_bytes context ++ 0 ∷ 0 ∷ u32_bytes status ++ u32_bytes 0)) }
 {
     push_u32(out, 0)?;
     push_u16(out, context)?;
@@ -283,8 +289,10 @@ fn push_body(out: &mut Vec<u8>, pdu: &Pdu) -> Result<(), AllocError>
     }
 }
 
-/// The bytes of a PDU (C706, section 12.6). A request or response is written as one fragment with the flags of its value, and
-/// without an object UUID; a request's `alloc_hint` is the number of its stub bytes.
+/// The bytes of a PDU (C706, section 12.6). The flags of a request or response are those of its value, an object UUID
+/// isn't written, and a request's `alloc_hint` is the number of its stub bytes.
+///
+/// The side that reads the PDU's type gets it back, whatever follows (clause `back`).
 #[tactic(auto, unfolding(crate::specs::Written::written))]
 pub fn write_pdu(alloc: Global, pdu: &Pdu) -> Result<Vec<u8>, NoMemory>
     requires parts { HasFewParts pdu.now }

@@ -1,4 +1,4 @@
-use Rattle.std.proofs.Common.{◌≡◌, ◌≤◌, ◌<◌, List, ℕ, length, get_or, take, sym, ap, ◌∙◌, arith, rules, w8}
+use Rattle.std.proofs.Common.{◌≡◌, ◌≤◌, List, ℕ, length, get_or, take, sym, ap, ◌∙◌, arith, rules, w8}
 use Rattle.std.proofs.Math.Facts.{Fits-lt-pow}
 use Rattle.std.proofs.lemmas.List.{get_or-take, length-take-le}
 use Rattle.rpc_pdu.specs.declared.headers.Header.TheVariants.{Long}

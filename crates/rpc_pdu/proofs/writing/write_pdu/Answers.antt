@@ -1,6 +1,6 @@
 use Rattle.std.proofs.Common.{◌≡◌, List, ℕ, ◌++◌, length, ap, ◌∙◌, arith, w16, rules}
 use Rattle.std.proofs.Math.Facts.{Fits-of_lt}
-use Rattle.rpc_pdu.specs.Written.{body_bytes, written}
+use Rattle.rpc_pdu.specs.Written.{body_bytes}
 use Rattle.rpc_pdu.proofs.WrittenPdu.{read_back, size_from, written_from}
 use Rattle.rpc_pdu.proofs.writing.write_pdu.Goals as goal
 
