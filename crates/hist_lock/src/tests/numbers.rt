@@ -106,18 +106,23 @@ fn two_threads_make_a_hundred_turns_each(rt: HostRuntime) -> Result<(), Fail> {
     };
     assert_eq!(&rt; numbers.label, 7);
     assert_eq!(&rt; numbers.items.len(), 200);
-    let mut low = 0;
-    let mut high = 1000;
-    for number in &numbers.items {
-        if *number < 1000 {
-            assert_eq!(&rt; *number, low);
-            low = low.wrapping_add(1);
-        } else {
-            assert_eq!(&rt; *number, high);
-            high = high.wrapping_add(1);
+    assert!(&rt; are_in_order(numbers.items.as_slice(), 0));
+    assert!(&rt; are_in_order(numbers.items.as_slice(), 1000));
+    Ok(())
+}
+
+// Of the numbers below 1000, or of the others, there are a hundred, each one above the last.
+fn are_in_order(items: &[u64], from: u64) -> bool {
+    let mut next = from;
+    for item in items {
+        if (*item < 1000) == (from < 1000) {
+            if *item != next {
+                return false;
+            }
+            next = next.wrapping_add(1);
         }
     }
-    Ok(())
+    next == from.wrapping_add(100)
 }
 
 #[test]
