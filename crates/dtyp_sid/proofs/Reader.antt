@@ -1,13 +1,13 @@
 -- What the reader of texts makes of the pieces of a text
-use Rattle.std.proofs.Common.{◌≡◌, ℕ, zero, suc, ◌+◌, ◌-◌, ◌*◌, ◌/◌, ◌%◌, ◌^◌, ◌<◌, ◌≤◌, ◌⊎◌, inl, inr, List, [], ◌∷◌, ◌++◌, length, take, arith, refl, sym, ap, ◌∙◌, rules, Option, Some, None, All, codes, append_assoc, subst}
-use Rattle.std.specs.Prelude.{option_and_then, option_map, nat_lt}
+use Rattle.std.proofs.Common.{◌≡◌, ℕ, suc, ◌+◌, ◌*◌, ◌/◌, ◌%◌, ◌^◌, ◌<◌, ◌≤◌, ◌⊎◌, inl, inr, List, [], ◌∷◌, ◌++◌, length, arith, refl, sym, ap, ◌∙◌, Some, None, All, codes, append_assoc, subst}
+use Rattle.std.specs.Prelude.{option_and_then, option_map}
 use Rattle.std.specs.Char.{digit_value}
 use Rattle.std.specs.Fmt.{decimal}
 use Rattle.std.specs.Str.Parse.{AllDigits, digits_value, digits_value_after}
-use Rattle.std.proofs.lemmas.Fmt.{decimal_by_steps, decimal_step}
+use Rattle.std.proofs.lemmas.Fmt.{decimal_by_steps}
 use Rattle.std.proofs.lemmas.Bool.Decides.{nat_tests}
 use Rattle.std.proofs.lemmas.List.{append-nil, length-append}
-use Rattle.dtyp_sid.specs.Value.{SidValue, IsSid}
+use Rattle.dtyp_sid.specs.Value.{SidValue}
 use Rattle.dtyp_sid.specs.Made.{with_last, authority_alone}
 use Rattle.dtyp_sid.specs.Text.{IsText, IsDecimalAuthority, IsHexadecimalAuthority, subs_text}
 use Rattle.dtyp_sid.specs.Reading.{first_digit, more_digits, stage_after, read_on, finished}

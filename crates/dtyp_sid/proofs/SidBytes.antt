@@ -1,7 +1,7 @@
 -- The bytes of SIDs, written and read
-use Rattle.std.proofs.Common.{◌≡◌, ℕ, zero, suc, ◌+◌, ◌-◌, ◌*◌, ◌/◌, ◌%◌, ◌^◌, ◌<◌, ◌≤◌, List, [], ◌∷◌, ◌++◌, length, take, drop, get_or, arith, refl, sym, ap, ◌∙◌, rules, append_assoc, subst, Bool, true, false, All, Ok, Err, Result, lit<, ⊎_elim}
+use Rattle.std.proofs.Common.{◌≡◌, ℕ, zero, suc, ◌+◌, ◌*◌, ◌/◌, ◌%◌, ◌^◌, ◌<◌, ◌≤◌, List, [], ◌∷◌, ◌++◌, length, take, drop, get_or, arith, refl, sym, ap, ◌∙◌, append_assoc, subst, Bool, true, false, All, Ok, Err, Result, ⊎_elim}
 use Rattle.std.specs.Prelude.{nat_lt, if◌then◌else◌, not, ◌==◌, slice_index}
-use Rattle.std.specs.Int.{w32, w64, byte_at, bytes_high_first, to_le_bytes, from_le_bytes, from_be_bytes}
+use Rattle.std.specs.Int.{w32, bytes_high_first, to_le_bytes, from_le_bytes}
 use Rattle.std.specs.List.{flat_map}
 use Rattle.std.proofs.lemmas.Nat.{from_le_bytes-to_le_bytes_4, from_be_bytes-to_be_bytes_8, le_bytes_4, be_bytes_8}
 use Rattle.std.proofs.lemmas.Bool.Decides.{nat_tests}

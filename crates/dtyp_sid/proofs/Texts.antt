@@ -1,6 +1,6 @@
 -- The reader against the grammar of texts
-use Rattle.std.proofs.Common.{◌≡◌, ℕ, zero, suc, ◌+◌, ◌-◌, ◌*◌, ◌^◌, ◌<◌, ◌≤◌, ◌⊎◌, inl, inr, List, [], ◌∷◌, ◌++◌, length, take, drop, get_or, replicate, arith, refl, sym, ap, ◌∙◌, rules, Option, Some, None, codes, append_assoc, subst, Bool, true, false, Decides}
-use Rattle.std.specs.Prelude.{option_and_then, nat_lt, if◌then◌else◌, ◌↔◌}
+use Rattle.std.proofs.Common.{◌≡◌, ℕ, zero, suc, ◌+◌, ◌-◌, ◌^◌, ◌<◌, ◌⊎◌, inl, inr, List, [], ◌∷◌, ◌++◌, length, take, drop, get_or, replicate, arith, refl, sym, ap, ◌∙◌, Option, Some, None, codes, append_assoc, subst, true, false}
+use Rattle.std.specs.Prelude.{option_and_then, nat_lt, if◌then◌else◌}
 use Rattle.std.specs.Fmt.{decimal}
 use Rattle.std.specs.Str.Parse.{AllDigits, digits_value}
 use Rattle.std.proofs.lemmas.Fmt.{decimal_digit}
@@ -10,7 +10,7 @@ use Rattle.std.proofs.Math.Seq.{take-add}
 use Rattle.std.proofs.lemmas.Int.Digits.{digits_push}
 use Rattle.dtyp_sid.specs.Value.{SidValue, IsSid}
 use Rattle.dtyp_sid.specs.Made.{with_last, authority_alone}
-use Rattle.dtyp_sid.specs.Text.{IsText, IsDecimalAuthority, IsHexadecimalAuthority, IsSidText, BeginsText, IsBadPlace, subs_text, text_of, authority_text, hexadecimal}
+use Rattle.dtyp_sid.specs.Text.{IsText, IsDecimalAuthority, IsHexadecimalAuthority, IsSidText, BeginsText, IsBadPlace, text_of, authority_text, hexadecimal}
 use Rattle.dtyp_sid.specs.Reading.{stage_after, read_on, finished, sid_of_text}
 use Rattle.dtyp_sid.specs.declared.reading.Stage.{Stage}
 use Rattle.dtyp_sid.specs.declared.reading.Stage.TheVariants.{Opening, Decimal, Hexadecimal, Dashed, Sub}

@@ -1,5 +1,5 @@
 -- Equality and order of SIDs: by authority, and then by the lists of sub-authorities
-use Rattle.std.specs.Prelude.{◌≡◌, ℕ, List, Bool, true, nat_eq, ◌++◌, ◌↔◌}
+use Rattle.std.specs.Prelude.{◌≡◌, Bool, true, nat_eq, ◌++◌, ◌↔◌}
 use Rattle.std.specs.declared.cmp.Ordering.{Ordering}
 use Rattle.std.specs.declared.cmp.Ordering.TheVariants.{Equal}
 use Rattle.std.specs.declared.option.Option.{Option}

@@ -1,5 +1,5 @@
 -- How a text is read, byte by byte: the stages of the reader, and the SID that it has read
-use Rattle.std.specs.Prelude.{◌≡◌, ℕ, ◌+◌, ◌-◌, ◌*◌, ◌^◌, ◌<◌, ◌≤◌, ◌↔◌, Bool, ◌&&◌, not, List, [], ◌∷◌, length, slice_index, nat_lt, ◌==◌, if◌then◌else◌, codes, option_and_then, option_map}
+use Rattle.std.specs.Prelude.{◌≡◌, ℕ, ◌+◌, ◌-◌, ◌*◌, ◌^◌, ◌<◌, ◌≤◌, ◌↔◌, ◌&&◌, not, List, [], ◌∷◌, length, slice_index, nat_lt, ◌==◌, if◌then◌else◌, codes, option_and_then, option_map}
 use Rattle.std.specs.Char.{is_ascii_digit, digit_value, is_digit}
 use Rattle.std.specs.declared.option.Option.{Option}
 use Rattle.std.specs.declared.option.Option.TheVariants.{Some, None}

@@ -1,6 +1,6 @@
 -- How the sub-authorities lie in fifteen slots: from the front, with zeros behind them
-use Rattle.std.specs.Prelude.{◌≡◌, ℕ, suc, ◌+◌, ◌-◌, ◌^◌, ◌<◌, ◌≤◌, List, [], ◌∷◌, ◌++◌, length, replicate, take, drop, refl, slice_set}
-use Rattle.std.proofs.Common.{ap, ◌∙◌, sym, arith, rules, set}
+use Rattle.std.specs.Prelude.{◌≡◌, ℕ, suc, ◌+◌, ◌-◌, ◌<◌, ◌≤◌, List, ◌∷◌, ◌++◌, length, replicate, take, drop}
+use Rattle.std.proofs.Common.{ap, ◌∙◌, sym, arith, set}
 use Rattle.std.proofs.lemmas.List.{length-take-le, take-append-drop, drop-set-lt, drop-drop, drop-replicate, drop-set}
 use Rattle.std.proofs.Math.ListN.{length-set}
 

@@ -1,6 +1,5 @@
 -- The value of a SID (MS-DTYP 2.4.2): an identifier authority of 48 bits, and at most fifteen sub-authorities of 32 bits
-use Rattle.std.specs.Prelude.{◌≡◌, ℕ, ◌+◌, ◌-◌, ◌^◌, ◌<◌, ◌≤◌, List, [], ◌∷◌, ◌++◌, length, replicate, take, drop, All, Bool, nat_lt, nat_le, nat_eq, Result, Ok, Err, if◌then◌else◌, ◌==◌, ◌&&◌}
-use lib.Pointwise.{pointwise}
+use Rattle.std.specs.Prelude.{ℕ, ◌^◌, ◌<◌, ◌≤◌, List, length, All}
 
 -- what contracts see of a SID
 pub record SidValue : Type 0 where

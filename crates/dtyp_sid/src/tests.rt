@@ -5,10 +5,9 @@ use std::collections::HashMap;
 use std::process::Abort;
 use std::test::Fail;
 
-/// The bytes of a SID, read from its text.
-fn bytes_of_text(rt: &impl Abort, text: &str, out: &mut [u8; 68]) -> usize {
+fn sid_of(rt: &impl Abort, text: &str) -> Sid {
     match parse_text(text) {
-        Ok(sid) => sid.to_bytes(out),
+        Ok(sid) => sid,
         Err(bad) => panic!(rt; "no SID at {}", bad.place),
     }
 }
@@ -20,7 +19,7 @@ fn has_text(alloc: Global, sid: &Sid, text: &str) -> Result<bool, Fail> {
 /// Whether a text and bytes spell the same SID, and the text is the written one.
 fn spell_one(rt: &impl Abort, alloc: Global, text: &str, bytes: &[u8]) -> Result<bool, Fail> {
     let mut out = [0xEE; 68];
-    let count = bytes_of_text(rt, text, &mut out);
+    let count = sid_of(rt, text).to_bytes(&mut out);
     if count > 68 || &out[..count] != bytes || out[67] != 0xEE {
         return Ok(false);
     }
@@ -130,27 +129,29 @@ fn parts_make_a_sid(rt: HostRuntime) {
 
 #[test]
 fn the_last_number_is_split_off_and_put_back(rt: HostRuntime) {
-    match parse_text("S-1-5-21-1-2-3-500") {
-        Ok(sid) => {
-            let parts = sid.split_rid();
-            assert!(rt; parts.map(|parts| parts.1) == Some(500));
-            let domain = parts.map(|parts| parts.0);
-            assert!(rt; domain == parse_text("S-1-5-21-1-2-3").ok());
-            assert!(rt; domain.and_then(|domain| domain.with_rid(500)) == Some(sid));
-            assert_eq!(rt; sid.authority(), 5);
-            assert_eq!(rt; sid.subs(), [21, 1, 2, 3, 500].as_slice());
-            sid.keeps_limits();
+    let sid = sid_of(&rt, "S-1-5-21-1-2-3-500");
+    match sid.split_rid() {
+        Some((domain, rid)) => {
+            assert_eq!(rt; rid, 500);
+            assert_eq!(rt; domain, sid_of(&rt, "S-1-5-21-1-2-3"));
+            assert_eq!(rt; domain.with_rid(rid), Some(sid));
         }
-        Err(_) => panic!(rt; "no SID"),
+        None => panic!(rt; "no last number"),
     }
-    match Sid::new(5, &[]) {
-        Ok(sid) => assert!(rt; sid.split_rid().is_none()),
-        Err(_) => panic!(rt; "no SID"),
-    }
-    match Sid::new(5, &[1; 15]) {
-        Ok(sid) => assert!(rt; sid.with_rid(1).is_none()),
-        Err(_) => panic!(rt; "no SID"),
-    }
+    assert!(rt; sid_of(&rt, "S-1-5").split_rid().is_none());
+    let full = sid_of(&rt, "S-1-5-1-2-3-4-5-6-7-8-9-10-11-12-13-14-15");
+    assert!(rt; full.with_rid(16).is_none());
+}
+
+#[test]
+fn parts_are_seen(rt: HostRuntime) {
+    let sid = sid_of(&rt, "S-1-5-32-544");
+    assert_eq!(rt; sid.authority(), 5);
+    let subs = sid.subs();
+    assert_eq!(rt; subs.len(), 2);
+    assert_eq!(rt; subs[0], 32);
+    assert_eq!(rt; subs[1], 544);
+    sid.keeps_limits();
 }
 
 #[test]
@@ -168,16 +169,12 @@ fn sids_are_ordered_by_authority_and_then_as_lists(rt: HostRuntime) {
 
 #[test]
 fn a_sid_is_a_key(rt: HostRuntime) -> Result<(), Fail> {
-    let mut names = HashMap::new(rt.alloc());
-    for (text, name) in [("S-1-1-0", "Everyone"), ("S-1-5-18", "SYSTEM")] {
-        if let Ok(sid) = parse_text(text) {
-            names.insert(sid, name)?;
-        }
-    }
-    match parse_text("S-1-0x000000000005-18") {
-        Ok(sid) => assert_eq!(rt; names.get(&sid).copied(), Some("SYSTEM")),
-        Err(_) => panic!(rt; "no SID"),
-    }
+    let mut numbers = HashMap::new(rt.alloc());
+    numbers.insert(sid_of(&rt, "S-1-1-0"), 1)?;
+    numbers.insert(sid_of(&rt, "S-1-5-18"), 2)?;
+    let same = sid_of(&rt, "S-1-0x000000000005-18");
+    assert_eq!(rt; numbers.get(&same).copied(), Some(2));
+    assert_eq!(rt; numbers.get(&sid_of(&rt, "S-1-5-19")).copied(), None);
     Ok(())
 }
 

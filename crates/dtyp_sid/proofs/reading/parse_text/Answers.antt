@@ -1,8 +1,6 @@
-use Rattle.std.proofs.Common.{◌≡◌, ℕ, ◌+◌, ◌<◌, ◌≤◌, ap, sym, ◌∙◌, arith, take, get_or, length, Some, None, subst, List}
-use Rattle.std.specs.Prelude.{option_and_then}
+use Rattle.std.proofs.Common.{◌≡◌, ℕ, ◌<◌, ◌≤◌, ap, sym, ◌∙◌, get_or, length, subst, List}
 use Rattle.std.proofs.lemmas.List.{take_all}
-use Rattle.dtyp_sid.specs.Reading.{read_on, sid_of_text, finished, stage_after}
-use Rattle.dtyp_sid.specs.Text.{IsBadPlace}
+use Rattle.dtyp_sid.specs.Reading.{read_on, stage_after}
 use Rattle.dtyp_sid.specs.declared.reading.Stage.TheVariants.{Opening}
 use Rattle.dtyp_sid.proofs.Texts.{read_byte, bad_at, bad_end, read_text, sid_of_text-none, sid_of_text-is}
 use Rattle.dtyp_sid.proofs.reading.parse_text.Goals as goal

@@ -1,4 +1,4 @@
-use Rattle.std.proofs.Common.{◌≡◌, ap, sym, ◌∙◌, arith, drop, subst, w8}
+use Rattle.std.proofs.Common.{◌≡◌, ap, ◌∙◌, arith, drop, subst, w8}
 use Rattle.std.specs.Prelude.{slice_index}
 use Rattle.std.proofs.Math.Facts.{Fits-lt-pow}
 use Rattle.dtyp_sid.specs.Value.{SidValue}
