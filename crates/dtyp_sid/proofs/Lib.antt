@@ -1,0 +1,6 @@
+pub mod Hexadecimals
+pub mod Reader
+pub mod Shown
+pub mod Texts
+pub mod SidBytes
+pub mod Equal

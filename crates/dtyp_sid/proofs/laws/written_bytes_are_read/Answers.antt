@@ -1,0 +1,5 @@
+use Rattle.dtyp_sid.proofs.SidBytes.{read_written}
+use Rattle.dtyp_sid.proofs.laws.written_bytes_are_read.Goals as goal
+
+pub returns : goal.returns
+returns c = read_written

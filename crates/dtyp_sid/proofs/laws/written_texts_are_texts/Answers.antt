@@ -1,0 +1,5 @@
+use Rattle.dtyp_sid.proofs.Texts.{written_text}
+use Rattle.dtyp_sid.proofs.laws.written_texts_are_texts.Goals as goal
+
+pub returns : goal.returns
+returns c = written_text

@@ -1,0 +1,7 @@
+use Rattle.std.proofs.Common.{◌≡◌, take}
+use Rattle.dtyp_sid.specs.Slots.{AreSlots}
+use Rattle.dtyp_sid.specs.Bytes.{subs_at_front}
+use Rattle.dtyp_sid.proofs.sid.Sid.from_front.Given as goal
+
+abbrev pub invariant-loop-place : goal.invariant-loop-place
+invariant-loop-place l = AreSlots l.place l.slots × (take l.place l.slots ≡ subs_at_front l.place l.bytes)

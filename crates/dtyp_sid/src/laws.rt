@@ -1,0 +1,40 @@
+//! Laws of SIDs, their texts and bytes, each the contract of a function that does nothing.
+ghost use Rattle.dtyp_sid.specs.Text.{TextsAreOfOne, WrittenTextsAreTexts, WrittenTextsDiffer};
+ghost use Rattle.dtyp_sid.specs.Reading.{ReadTextsAreTexts};
+ghost use Rattle.dtyp_sid.specs.Bytes.{WrittenBytesAreRead, ReadBytesAreWritten};
+ghost use Rattle.dtyp_sid.specs.Order.{EqualSidsAreOne};
+
+/// No text is that of two SIDs.
+pub fn texts_are_of_one()
+    ensures { TextsAreOfOne }
+{}
+
+/// The written text of a SID is one of its texts.
+pub fn written_texts_are_texts()
+    ensures { WrittenTextsAreTexts }
+{}
+
+/// Two SIDs with one written text are one SID.
+pub fn written_texts_differ()
+    ensures { WrittenTextsDiffer }
+{}
+
+/// The function from texts to SIDs gives a SID exactly for its texts.
+pub fn read_texts_are_texts()
+    ensures { ReadTextsAreTexts }
+{}
+
+/// What is written is read as the same SID, whatever bytes follow.
+pub fn written_bytes_are_read()
+    ensures { WrittenBytesAreRead }
+{}
+
+/// What is read at the front of bytes is a SID, and the bytes begin with its written ones.
+pub fn read_bytes_are_written()
+    ensures { ReadBytesAreWritten }
+{}
+
+/// `==` holds, and the order answers `Equal`, exactly where two SIDs are one.
+pub fn equal_sids_are_one()
+    ensures { EqualSidsAreOne }
+{}
