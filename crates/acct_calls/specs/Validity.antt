@@ -29,9 +29,18 @@ may_stand point = not (is_surrogate point) && (nat_le 0x20 point && not (is_forb
 abbrev pub is_dot_or_space : ℕ → Bool
 is_dot_or_space point = (point == 0x2E) || (point == 0x20)
 
--- whether an account of the kind may have the name: from one unit to the kind's most, of code points that may stand in it,
--- and not of dots and spaces alone
+-- from one unit to the kind's most
+abbrev pub has_length : Kind → List ℕ → Bool
+has_length kind units = nat_le 1 (length units) && nat_le (length units) (most_units kind)
+
+-- each code point may stand in a name
+abbrev pub all_may_stand : List ℕ → Bool
+all_may_stand units = list_all may_stand (code_points units)
+
+-- the name has nothing but dots and spaces
+abbrev pub is_dots_and_spaces : List ℕ → Bool
+is_dots_and_spaces units = list_all is_dot_or_space (code_points units)
+
+-- whether an account of the kind may have the name
 unfoldable pub is_valid_name : Kind → List ℕ → Bool
-is_valid_name kind units =
-    (nat_le 1 (length units) && nat_le (length units) (most_units kind))
-    && (list_all may_stand (code_points units) && not (list_all is_dot_or_space (code_points units)))
+is_valid_name kind units = has_length kind units && (all_may_stand units && not (is_dots_and_spaces units))

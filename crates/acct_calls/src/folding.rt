@@ -7,6 +7,7 @@ use crate::code_points::{FirstPoint, first_point, push_point};
 use std::alloc::Global;
 use unicode::case::simple_fold;
 
+#[tactic(auto, unfolding(crate::specs::Folding::folded_point))]
 pub fn fold_point(point: u32) -> u32
     requires { point ≤ 0x10_FFFF }
     ensures value { result ≡ folded_point point }
@@ -34,17 +35,17 @@ pub fn fold_units(alloc: Global, units: &[u16]) -> Result<Vec<u16>, NoMemory>
 pub fn same_units(left: &[u16], right: &[u16]) -> bool
     ensures { result ≡ is_same left.now right.now }
 {
-    let mut left = left;
-    let mut right = right;
-    while let Some(ours) = first_point(left) {
-        let Some(theirs) = first_point(right) else {
+    let mut ours = left;
+    let mut theirs = right;
+    while let Some(our_first) = first_point(ours) {
+        let Some(their_first) = first_point(theirs) else {
             return false;
         };
-        if fold_point(ours.point) != fold_point(theirs.point) {
+        if fold_point(our_first.point) != fold_point(their_first.point) {
             return false;
         }
-        left = ours.rest;
-        right = theirs.rest;
+        ours = our_first.rest;
+        theirs = their_first.rest;
     }
-    right.is_empty()
+    theirs.is_empty()
 }

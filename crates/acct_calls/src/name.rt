@@ -46,8 +46,7 @@ impl Name {
 
     /// The units in order.
     pub fn units(&self) -> &[u16]
-        ensures value { result.now ≡ self.now }
-        ensures fit { AreUnits result.now }
+        ensures { result.now ≡ self.now }
     {
         self.units.as_slice()
     }
@@ -98,6 +97,13 @@ impl Name {
     pub fn has_units(&self)
         ensures { AreUnits self.now }
     {
-        let _units = self.units();
+        are_units(self.units());
     }
+}
+
+// What a slice of units holds are units.
+fn are_units(units: &[u16])
+    ensures { AreUnits units.now }
+{
+    let _count = units.len();
 }

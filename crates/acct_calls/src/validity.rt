@@ -1,8 +1,6 @@
 // The rules for names of accounts.
 ghost use Rattle.std.specs.Prelude.{◌≡◌, ◌≤◌};
-ghost use Rattle.std.specs.List.{list_all};
-ghost use Rattle.acct_calls.specs.CodePoints.{code_points};
-ghost use Rattle.acct_calls.specs.Validity.{most_units, may_stand, is_dot_or_space, is_valid_name};
+ghost use Rattle.acct_calls.specs.Validity.{most_units, has_length, may_stand, all_may_stand, is_dots_and_spaces, is_valid_name};
 
 use crate::code_points::{FirstPoint, first_point};
 use acct_codes::Kind;
@@ -33,7 +31,7 @@ fn may_stand(point: u32) -> bool
 }
 
 fn all_may_stand(units: &[u16]) -> bool
-    ensures { result ≡ list_all may_stand (code_points units.now) }
+    ensures { result ≡ all_may_stand units.now }
 {
     let mut left = units;
     while let Some(FirstPoint { point, rest }) = first_point(left) {
@@ -45,8 +43,8 @@ fn all_may_stand(units: &[u16]) -> bool
     true
 }
 
-fn are_dots_and_spaces(units: &[u16]) -> bool
-    ensures { result ≡ list_all is_dot_or_space (code_points units.now) }
+fn is_dots_and_spaces(units: &[u16]) -> bool
+    ensures { result ≡ is_dots_and_spaces units.now }
 {
     let mut left = units;
     while let Some(FirstPoint { point, rest }) = first_point(left) {
@@ -58,11 +56,15 @@ fn are_dots_and_spaces(units: &[u16]) -> bool
     true
 }
 
+fn has_length(units: &[u16], kind: Kind) -> bool
+    ensures { result ≡ has_length kind units.now }
+{
+    1 <= units.len() && units.len() <= most_units(kind)
+}
+
+#[tactic(auto, unfolding(crate::specs::Validity::is_valid_name))]
 pub fn is_valid_name(units: &[u16], kind: Kind) -> bool
     ensures { result ≡ is_valid_name kind units.now }
 {
-    !units.is_empty()
-        && units.len() <= most_units(kind)
-        && all_may_stand(units)
-        && !are_dots_and_spaces(units)
+    has_length(units, kind) && all_may_stand(units) && !is_dots_and_spaces(units)
 }
