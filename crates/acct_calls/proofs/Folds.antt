@@ -132,7 +132,7 @@ pub equivalence : IsEquivalence
 equivalence = record {
   reflexive = λ name. (is_same_decides name name).1 refl;
   symmetric = λ left right. same_from_decides (is_same left right) (is_same right left) (is_same_decides left right) (Decides-like (is_same right left) sym sym (is_same_decides right left));
-  transitive = λ left middle right first second. (is_same_decides left right).1 ((is_same_decides left middle).0 first ∙ (is_same_decides middle right).0 second)
+  transitive = λ left middle right first second. (is_same_decides left right).1 ((is_same_decides left middle).0 first ∙ (is_same_decides middle right).0 second);
 }
 
 pub folded_same : (units : List ℕ) → AreUnits units → is_same (folded units) units ≡ true
@@ -144,9 +144,10 @@ alike_folded left right same = ap units_of same
 
 pub same_alike : (left right : List ℕ) → AreUnits left → AreUnits right → (is_same left right ≡ true) ↔ (folded left ≡ folded right)
 same_alike left right left_fits right_fits =
-    let tells = is_same_decides left right in
-    (λ same. alike_folded left right (tells.0 same),
-     λ alike. tells.1 (sym (folded_points-folded left left_fits) ∙ ap folded_points alike ∙ folded_points-folded right right_fits))
+    let tells = is_same_decides left right in (
+      λ same. alike_folded left right (tells.0 same),
+      λ alike. tells.1 (sym (folded_points-folded left left_fits) ∙ ap folded_points alike ∙ folded_points-folded right right_fits),
+    )
 
 -- ---- steps of the loops
 

@@ -60,7 +60,7 @@ pair_from_test high low test = record {
   high_from = grind (arith, nat_tests);
   high_below = grind (arith, nat_tests);
   low_from = grind (arith, nat_tests);
-  low_below = grind (arith, nat_tests)
+  low_below = grind (arith, nat_tests);
 }
 
 pub large_is_not_high : (point : ℕ) (b : Bool) → 0x1_0000 ≤ point → (is_high_surrogate point && b) ≡ false

@@ -1,7 +1,10 @@
 // The name of an account.
-ghost use Rattle.std.specs.Prelude.{◌≡◌, chars, IfOk};
+ghost use Rattle.std.specs.Prelude.{◌≡◌, ◌↔◌, chars, IfOk, IsTrue};
+ghost use Rattle.std.specs.Str.{bytes_eq};
+ghost use Rattle.std.proofs.Common.{rules};
+ghost use Rattle.std.specs.Cmp.Rules.{comparing};
 ghost use Rattle.acct_calls.specs.CodePoints.{AreUnits, units_of};
-ghost use Rattle.acct_calls.specs.Folding.{folded, is_same};
+ghost use Rattle.acct_calls.specs.Folding.{folded, is_same, AreSame};
 ghost use Rattle.acct_calls.specs.Validity.{is_valid_name};
 
 use crate::NoMemory;
@@ -79,7 +82,8 @@ impl Name {
     /// Whether two names are one: their code points are equal after simple case folding, an unpaired surrogate being
     /// itself. It takes no memory.
     pub fn same(&self, other: &Name) -> bool
-        ensures { result ≡ is_same self.now other.now }
+        ensures value { result ≡ is_same self.now other.now }
+        ensures meaning { IsTrue result ↔ AreSame self.now other.now }
     {
         same_units(self.units(), other.units())
     }
@@ -99,6 +103,21 @@ impl Name {
     {
         are_units(self.units());
     }
+}
+
+/// `==` tells names apart by their units; `same` is the equality of names.
+impl PartialEq for Name {
+    ghost eq = { bytes_eq };
+
+    ghost laws = { Prim.search (comparing, rules) };
+
+    fn eq(&self, other: &Name) -> bool {
+        self.units() == other.units()
+    }
+}
+
+impl Eq for Name {
+    ghost laws = { Prim.search (comparing, rules) };
 }
 
 // What a slice of units holds are units.

@@ -1,5 +1,9 @@
 // A list of names.
 ghost use Rattle.std.specs.Prelude.{◌≡◌, [], ◌∷◌, ◌++◌, IfOk, OnOk, OnErr};
+ghost use Rattle.std.specs.Str.{bytes_eq};
+ghost use Rattle.std.proofs.Common.{rules};
+ghost use Rattle.std.specs.Cmp.Rules.{comparing};
+ghost use lib.Pointwise.{pointwise};
 
 use crate::{Name, NoMemory};
 use acct_base::Seq;
@@ -71,4 +75,18 @@ impl Names {
         }
         Ok(Names::from_vec(names))
     }
+}
+
+impl PartialEq for Names {
+    ghost eq = { pointwise bytes_eq };
+
+    ghost laws = { Prim.search (comparing, rules) };
+
+    fn eq(&self, other: &Names) -> bool {
+        self.as_slice() == other.as_slice()
+    }
+}
+
+impl Eq for Names {
+    ghost laws = { Prim.search (comparing, rules) };
 }
