@@ -12,46 +12,35 @@ fn are_same(alloc: Global, left: &str, right: &str) -> Result<(bool, bool), NoMe
     Ok((left.same(&right) && right.same(&left), folded))
 }
 
-#[test]
-fn names_differ_in_case_alone(rt: HostRuntime) -> Result<(), Fail> {
-    for (left, right) in [
-        ("Administrator", "aDMINISTRATOR"),
-        ("ÄÖÉñ", "äöéÑ"),
-        ("ΟΔΥΣΣΕΥΣ", "οδυσσευς"),
-        ("οδυσσευς", "οδυσσευσ"),
-        ("STRAẞE", "straße"),
-        ("\u{212A}elvin", "kELVIN"),
-        ("\u{10400}x", "\u{10428}X"),
-        ("\u{1FD3}", "\u{0390}"),
-        ("", ""),
-    ] {
-        assert_eq!(rt;
-            are_same(rt.alloc(), left, right)?,
-            (true, true),
-            "{left} {right}"
-        );
-    }
-    Ok(())
-}
+/// Pairs of texts, of which each is the other in another case.
+const SAME: &str = "Administrator aDMINISTRATOR
+ÄÖÉñ äöéÑ
+ΟΔΥΣΣΕΥΣ οδυσσευς
+οδυσσευς οδυσσευσ
+STRAẞE straße
+\u{212A}elvin kELVIN
+\u{10400}x \u{10428}X
+\u{1FD3} \u{0390}";
+
+/// Pairs of texts that no case folding of single code points makes equal.
+const DIFFERENT: &str = "alice alicia
+alice al
+straße strasse
+İ i
+ı I
+É E\u{0301}
+\u{10400} \u{10429}";
 
 #[test]
-fn names_differ(rt: HostRuntime) -> Result<(), Fail> {
-    for (left, right) in [
-        ("alice", "alicia"),
-        ("alice", "alice "),
-        ("", "a"),
-        ("straße", "strasse"),
-        ("İ", "i"),
-        ("ı", "I"),
-        ("É", "E\u{0301}"),
-        ("\u{10400}", "\u{10429}"),
-    ] {
-        assert_eq!(rt;
-            are_same(rt.alloc(), left, right)?,
-            (false, false),
-            "{left} {right}"
-        );
+fn names_differ_in_case_alone(rt: HostRuntime) -> Result<(), Fail> {
+    for (pairs, same) in [(SAME, true), (DIFFERENT, false)] {
+        for pair in pairs.lines() {
+            let (left, right) = pair.split_once(' ').unwrap_or(("", pair));
+            assert_eq!(rt; are_same(rt.alloc(), left, right)?, (same, same), "{pair}");
+        }
     }
+    assert_eq!(rt; are_same(rt.alloc(), "", "")?, (true, true));
+    assert_eq!(rt; are_same(rt.alloc(), "", "a")?, (false, false));
     Ok(())
 }
 
@@ -143,8 +132,12 @@ fn foldings_are_those_of_perl(rt: HostRuntime) -> Result<(), Fail> {
     Ok(())
 }
 
-fn validity(alloc: Global, text: &str) -> Result<(bool, bool, bool), NoMemory> {
-    let name = Name::from_text(alloc, text)?;
+/// Whether a user, a group and an alias may have the name that a character and some text behind it make.
+fn validity(alloc: Global, c: char, behind: &str) -> Result<(bool, bool, bool), NoMemory> {
+    let mut units = Name::from_text(alloc, behind)?.into_units();
+    let mut own = [0; 2];
+    units.extend_from_slice(c.encode_utf16(&mut own))?;
+    let name = Name::from_units(units);
     Ok((
         name.is_valid(Kind::User),
         name.is_valid(Kind::Group),
@@ -155,30 +148,17 @@ fn validity(alloc: Global, text: &str) -> Result<(bool, bool, bool), NoMemory> {
 #[test]
 fn names_are_valid_by_their_characters(rt: HostRuntime) -> Result<(), Fail> {
     let alloc = rt.alloc();
-    for text in [
-        "a",
-        "a b",
-        ".a",
-        "a.",
-        "a ",
-        "$",
-        "#",
-        "'",
-        "@",
-        "(x)",
-        "\u{7F}",
-        "ß",
-        "\u{10400}",
-        "\u{E000}",
-        "\u{D7FF}",
-    ] {
-        assert_eq!(rt; validity(alloc, text)?, (true, true, true), "{text}");
+    for c in "a$#'@()!%^_-\u{7F}ß\u{10400}\u{E000}\u{D7FF}".chars() {
+        for others in ["", ". ", "a"] {
+            assert_eq!(rt; validity(alloc, c, others)?, (true, true, true), "{c}");
+        }
     }
-    for text in [
-        "", " ", ".", ". .", "...", "\u{1F}", "a\u{0}", "a\n", "a\"", "a/b", "\\", "[", "]", ":",
-        ";", "|", "=", ",", "+", "*", "?", "<", ">",
-    ] {
-        assert_eq!(rt; validity(alloc, text)?, (false, false, false), "{text}");
+    for c in "\"/\\[]:;|=,+*?<>\u{1F}\n\u{0}".chars() {
+        assert_eq!(rt; validity(alloc, c, "a")?, (false, false, false), "{c}");
+    }
+    for c in ". ".chars() {
+        assert_eq!(rt; validity(alloc, c, ". .")?, (false, false, false), "{c}");
+        assert_eq!(rt; validity(alloc, c, "a")?, (true, true, true), "{c}");
     }
     for units in [
         [0xD800, 0x61],
@@ -188,7 +168,12 @@ fn names_are_valid_by_their_characters(rt: HostRuntime) -> Result<(), Fail> {
     ] {
         assert!(rt; !name_of(alloc, &units)?.is_valid(Kind::Group));
     }
-    let name = Name::from_text(alloc, "a")?;
+    Ok(())
+}
+
+#[test]
+fn other_objects_have_no_names(rt: HostRuntime) -> Result<(), Fail> {
+    let name = Name::from_text(rt.alloc(), "a")?;
     for kind in [Kind::Server, Kind::Domain, Kind::Policy, Kind::Account] {
         assert!(rt; !name.is_valid(kind));
     }
@@ -204,6 +189,7 @@ fn names_are_valid_by_their_lengths(rt: HostRuntime) -> Result<(), Fail> {
     let alloc = rt.alloc();
     assert!(rt; repeated(alloc, 0x61, 20)?.is_valid(Kind::User));
     assert!(rt; !repeated(alloc, 0x61, 21)?.is_valid(Kind::User));
+    assert!(rt; !repeated(alloc, 0x61, 0)?.is_valid(Kind::User));
     for kind in [Kind::Group, Kind::Alias] {
         assert!(rt; repeated(alloc, 0x61, 256)?.is_valid(kind));
         assert!(rt; !repeated(alloc, 0x61, 257)?.is_valid(kind));
