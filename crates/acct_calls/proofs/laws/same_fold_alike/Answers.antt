@@ -1,0 +1,5 @@
+use Rattle.acct_calls.proofs.Folds.{same_alike}
+use Rattle.acct_calls.proofs.laws.same_fold_alike.Goals as goal
+
+pub returns : goal.returns
+returns c = same_alike

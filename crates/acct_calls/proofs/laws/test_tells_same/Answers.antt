@@ -1,0 +1,5 @@
+use Rattle.acct_calls.proofs.Folds.{tells_same}
+use Rattle.acct_calls.proofs.laws.test_tells_same.Goals as goal
+
+pub returns : goal.returns
+returns c = tells_same

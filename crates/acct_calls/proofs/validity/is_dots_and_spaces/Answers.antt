@@ -1,0 +1,9 @@
+use Rattle.std.proofs.Common.{sym, ap, ◌∙◌}
+use Rattle.std.specs.List.{list_all}
+use Rattle.acct_calls.specs.Validity.{is_dots_and_spaces, is_dot_or_space}
+use Rattle.acct_calls.proofs.Points.{code_points-nil}
+use Rattle.acct_calls.proofs.validity.is_dots_and_spaces.Goals as goal
+
+pub returns : goal.returns
+returns c =
+    sym (sym c.loop-point.invariant ∙ ap is_dots_and_spaces c.in_default.ensures.points ∙ ap (list_all is_dot_or_space) code_points-nil)

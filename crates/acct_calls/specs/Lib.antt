@@ -1,0 +1,3 @@
+pub mod CodePoints
+pub mod Folding
+pub mod Validity
