@@ -1,5 +1,5 @@
 -- What a world shows over the calls of a command.
-use Rattle.std.proofs.Common.{◌≡◌, ◌≢◌, ℕ, ◌+◌, ◌-◌, ◌^◌, ◌≤◌, min, ◌⊎◌, inl, inr, Bool, true, false, List, ◌∷◌, [], ◌++◌, Some, Result, Ok, Err, refl, sym, ◌∙◌, ap, subst, arith, MatchResult}
+use Rattle.std.proofs.Common.{◌≡◌, ◌≢◌, ℕ, ◌≤◌, ◌⊎◌, inl, inr, Bool, true, false, List, ◌∷◌, [], ◌++◌, Result, Ok, Err, refl, sym, ◌∙◌, ap, subst, arith, MatchResult}
 use Rattle.std.specs.Str.{bytes_eq}
 use Rattle.std.proofs.lemmas.Slice.Eq.{bytes_eq-Decides}
 use Rattle.acct_server.specs.Causes.{Rose}
@@ -10,7 +10,7 @@ use Rattle.acct_prog.specs.declared.period.Period.{Period}
 use Rattle.acct_prog.specs.declared.take.TakeError.{TakeError}
 use Rattle.acct_prog.specs.declared.take.TakeError.TheVariants as take
 use Rattle.acct_prog.specs.World.{Seen, TakesSource, GivesSource, TakesSink, GivesSink, KeepsPeriod}
-use Rattle.acct_prog.specs.Commanded.{standard_input, TakeCause, NotHandedOut, HasRun, Returned, Commanded, read_status, write_status}
+use Rattle.acct_prog.specs.Commanded.{standard_input, TakeCause, Returned, Commanded, read_status, write_status}
 
 -- what holds of a name and of each other name holds of all
 by_name : (P : List ℕ → Type 0) (name other : List ℕ) → P name → (other ≢ name → P other) → P other

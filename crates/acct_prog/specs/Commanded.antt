@@ -1,5 +1,5 @@
 -- What the command `replay CONFIG` does to a world.
-use Rattle.std.specs.Prelude.{◌≡◌, ℕ, Bool, true, List, ◌∷◌, [], ◌++◌, ◌⊎◌, codes, Some}
+use Rattle.std.specs.Prelude.{◌≡◌, ℕ, true, List, ◌∷◌, [], ◌++◌, ◌⊎◌, codes, Some}
 use Rattle.acct_server.specs.Causes.{Rose}
 use Rattle.acct_server.specs.declared.status.Status.{Status}
 use Rattle.acct_server.specs.declared.status.Status.TheVariants.{ReadFault, WriteFault, NoMemory}

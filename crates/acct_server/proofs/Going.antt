@@ -1,17 +1,16 @@
 -- A replay that has come to a line, and how it goes on.
-use Rattle.std.proofs.Common.{◌≡◌, ℕ, ◌+◌, ◌≤◌, List, [], ◌∷◌, ◌++◌, ◌⊎◌, inl, inr, take, length, Option, Some, None, refl, sym, ◌∙◌, ap, subst, append_assoc, arith, IfSome}
+use Rattle.std.proofs.Common.{◌≡◌, ℕ, ◌+◌, List, [], ◌∷◌, ◌++◌, inl, inr, take, length, Option, Some, None, refl, sym, ◌∙◌, ap, subst, append_assoc, arith, IfSome}
 use Rattle.std.specs.Io.KnownBytes.{Appends}
 use Rattle.std.specs.List.{flat_map}
 use Rattle.std.proofs.lemmas.List.{append-nil, take-append-le, take_all}
 use Rattle.std.proofs.lemmas.List.Concat.{flat_map-append}
 use Rattle.acct_machine.specs.declared.config.Config.{Config}
 use Rattle.acct_machine.specs.declared.entry.Entry.{Entry}
-use Rattle.acct_server.specs.declared.peers.Peer.{Peer}
 use Rattle.acct_server.specs.declared.status.Status.{Status}
 use Rattle.acct_server.specs.declared.status.Status.TheVariants.{Done, EventLine}
 use Rattle.acct_server.specs.Events.{lines_of}
 use Rattle.acct_server.specs.Replayed.{Effect, Move, Standing, Trace, Verdicts, on_line, moved, behind, follow, ends, ending, trace_from, at_start, verdict_in, replayed, entries_of, output_of, line_bytes}
-use Rattle.acct_server.specs.Running.{Running, standing, Does, Enters, Refuses, MayStop}
+use Rattle.acct_server.specs.Running.{Running, standing, Does, Refuses, MayStop}
 use Rattle.acct_server.specs.Leaves.{Leaves, Breaks, Stops, Finishes, FinishBreaks}
 use Rattle.acct_server.proofs.Bytes.{Appends-then, Appends-none}
 

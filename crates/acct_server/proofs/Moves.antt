@@ -1,7 +1,6 @@
 -- What a run does is the move of its line.
-use Rattle.std.proofs.Common.{◌≡◌, ℕ, ◌+◌, ◌==◌, ◌&&◌, Bool, true, false, cond, List, [], ◌∷◌, ◌++◌, length, Option, Some, None, Result, Ok, Err, refl, sym, ◌∙◌, ap, subst, arith, slice_get, IfOk}
+use Rattle.std.proofs.Common.{◌≡◌, ℕ, ◌+◌, ◌==◌, ◌&&◌, true, List, [], ◌∷◌, ◌++◌, length, Option, Some, Result, Ok, refl, sym, ◌∙◌, ap, subst, arith, slice_get, IfOk}
 use Rattle.std.proofs.lemmas.Bool.Decides.{nat_tests}
-use Rattle.std.specs.List.{flat_map}
 use Rattle.std.proofs.lemmas.List.{append-nil}
 use Rattle.acct_machine.specs.declared.calls.Call.{Call}
 use Rattle.acct_machine.specs.declared.entry.Verdict.{Verdict}
@@ -18,7 +17,7 @@ use Rattle.acct_server.specs.declared.events.Event.{Event}
 use Rattle.acct_server.specs.declared.events.Event.TheVariants as event
 use Rattle.acct_server.specs.declared.peers.Peer.{Peer}
 use Rattle.acct_server.specs.declared.peers.Peer.TheVariants.{Open, Ended}
-use Rattle.acct_server.specs.Replayed.{Standing, Move, Verdicts, Effect, on_listener, on_open, listener_from, peer_of, with_peer, out_line, gone_line, IsGone, on_end, on_event, quiet, on_answer, on_request, on_call, verdict_in, verdict_of}
+use Rattle.acct_server.specs.Replayed.{Standing, Move, on_listener, on_open, listener_from, peer_of, with_peer, out_line, gone_line, IsGone, on_end, on_event, quiet, on_answer, on_request, on_call, verdict_in, verdict_of}
 use Rattle.acct_server.specs.Running.{Running, standing, Does, Enters, Refuses, MayStop}
 
 -- the move of an opening

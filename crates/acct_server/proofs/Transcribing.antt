@@ -1,5 +1,5 @@
 -- What is sent on each connection is the transcript of what came.
-use Rattle.std.proofs.Common.{◌≡◌, ◌≢◌, ℕ, zero, suc, ◌+◌, ◌≤◌, ◌==◌, ◌&&◌, ◌⊎◌, inl, inr, Bool, true, false, cond, List, [], ◌∷◌, ◌++◌, length, take, drop, map, Option, Some, None, Result, Ok, Err, slice_get, slice_set, refl, sym, ◌∙◌, ap, subst, arith, length-append, IfSome}
+use Rattle.std.proofs.Common.{◌≡◌, ◌≢◌, ℕ, zero, suc, ◌+◌, ◌≤◌, ◌==◌, ◌&&◌, ◌⊎◌, inl, inr, Bool, true, false, cond, List, [], ◌∷◌, ◌++◌, length, drop, map, Option, Some, None, Result, Ok, Err, slice_get, slice_set, refl, sym, ◌∙◌, ap, subst, arith, length-append, IfSome}
 use Rattle.std.proofs.lemmas.Bool.{cases_eq}
 use Rattle.std.proofs.lemmas.Bool.Decides.{nat_tests}
 use Rattle.std.proofs.lemmas.List.{append-nil, drop_at}
@@ -13,7 +13,7 @@ use Rattle.acct_machine.specs.declared.calls.Face.{Face}
 use Rattle.acct_machine.specs.declared.calls.Reply.{Reply}
 use Rattle.acct_machine.specs.declared.config.Config.{Config}
 use Rattle.acct_machine.specs.declared.entry.Entry.{Entry}
-use Rattle.acct_machine.specs.declared.entry.Entry.TheVariants.{Opened, Called, Gone}
+use Rattle.acct_machine.specs.declared.entry.Entry.TheVariants.{Opened, Gone}
 use Rattle.acct_machine.specs.declared.entry.Verdict.{Verdict}
 use Rattle.acct_machine.specs.State.{State, nothing_open}
 use Rattle.acct_machine.specs.Step.{state_after, step, acted}
@@ -33,9 +33,9 @@ use Rattle.acct_server.specs.Stubs.{call_at}
 use Rattle.acct_server.specs.Acts.{hear, on_front, on_taken, taken, heard, alone, is_plain, acts}
 use Rattle.acct_server.specs.Transcript.{transcript, answered, answer_bytes, decoded_calls, with_call}
 use Rattle.acct_server.specs.Events.{event_of, lines_of}
-use Rattle.acct_server.specs.Replayed.{Effect, Move, Standing, Trace, Verdicts, Printed, Out, IsGone, on_line, on_event, on_open, on_listener, listener_from, on_data, on_act, on_request, on_call, on_answer, on_end, quiet, moved, peer_of, with_peer, behind, follow, ends, ending, number_of, open_from, trace_from, at_start, verdict_in, replayed, entries_of}
+use Rattle.acct_server.specs.Replayed.{Effect, Move, Standing, Trace, Verdicts, IsGone, on_line, on_event, on_listener, listener_from, on_data, on_act, on_request, on_call, on_answer, on_end, quiet, moved, peer_of, with_peer, follow, ends, ending, open_from, trace_from, at_start, verdict_in, replayed, entries_of}
 use Rattle.acct_server.specs.Leaves.{Leaves}
-use Rattle.acct_server.specs.Connections.{on_connection, sent_by_line, brought, sent_in, received, sent, Transcribes}
+use Rattle.acct_server.specs.Connections.{sent_by_line, brought, sent_in, received, sent, Transcribes}
 
 -- ---- one PDU in front of a stream
 

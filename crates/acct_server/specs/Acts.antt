@@ -1,13 +1,13 @@
 -- The acts of a connection's stream, as far as PDUs are built: a bind of SAMR with one element, and requests of one fragment
 -- (C706, chapters 9 and 12).
-use Rattle.std.specs.Prelude.{◌≡◌, ℕ, zero, suc, ◌≤◌, ◌==◌, Bool, true, false, ◌&&◌, List, [], ◌∷◌, length, drop, Option, Some, None, min, max, bit_and, slice_index, if◌then◌else◌, nat_le}
+use Rattle.std.specs.Prelude.{◌≡◌, ℕ, zero, suc, ◌≤◌, ◌==◌, Bool, true, ◌&&◌, List, [], ◌∷◌, length, drop, Option, Some, None, min, max, bit_and, slice_index, if◌then◌else◌, nat_le}
 use Rattle.std.specs.List.{list_any}
 use Rattle.rpc_pdu.specs.declared.pdus.Side.TheVariants.{Server}
 use Rattle.rpc_pdu.specs.declared.pdus.Element.{Element}
 use Rattle.rpc_pdu.specs.declared.pdus.Outcome.{Outcome}
 use Rattle.rpc_pdu.specs.declared.syntaxes.Syntax.{Syntax}
 use Rattle.rpc_pdu.specs.declared.pdus.Pdu.{Pdu}
-use Rattle.rpc_pdu.specs.declared.pdus.Pdu.TheVariants.{Bind, Alter, Request, Cancel, Orphaned, BindAck, AlterResp, BindNak, Response, Fault}
+use Rattle.rpc_pdu.specs.declared.pdus.Pdu.TheVariants.{Bind, Request, BindAck}
 use Rattle.rpc_pdu.specs.Syntaxes.{same_syntax, samr, ndr}
 use Rattle.rpc_pdu.specs.Front.{Front, Whole, Rest, Refused, front}
 use Rattle.rpc_pdu.specs.Written.{written}

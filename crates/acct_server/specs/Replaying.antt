@@ -1,6 +1,6 @@
 -- The clauses of a replay, by the sources and the sink before and after it. The functions tell of a source the bytes that it has
 -- left and its count of faults, of a sink the bytes that it holds and its count.
-use Rattle.std.specs.Prelude.{◌≡◌, ℕ, List, [], ◌⊎◌, Option, IfSome}
+use Rattle.std.specs.Prelude.{◌≡◌, ℕ, List, [], Option, IfSome}
 use Rattle.std.specs.Io.KnownBytes.{Keeps}
 use Rattle.acct_machine.specs.declared.entry.Entry.{Entry}
 use Rattle.acct_machine.specs.Legal.{Legal}

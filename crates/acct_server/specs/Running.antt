@@ -1,16 +1,13 @@
 -- A run of event lines so far, and what a line does to it.
-use Rattle.std.specs.Prelude.{◌≡◌, ℕ, ◌+◌, ◌^◌, ◌<◌, ◌≤◌, Bool, true, false, List, [], ◌++◌, ◌⊎◌, Option, Some, None, length, ◌&&◌, nat_le}
+use Rattle.std.specs.Prelude.{◌≡◌, ℕ, ◌^◌, ◌<◌, Bool, true, false, List, ◌++◌, ◌⊎◌, Option, Some, None, length}
 use Rattle.std.specs.List.{flat_map}
 use Rattle.acct_machine.specs.declared.entry.Entry.{Entry}
 use Rattle.acct_machine.specs.Shown.{Shown}
-use Rattle.acct_machine.specs.State.{State, nothing_open, is_live}
-use Rattle.acct_machine.specs.Step.{state_after}
-use Rattle.acct_server.specs.declared.acts.Session.{Session}
-use Rattle.acct_server.specs.declared.acts.Session.TheVariants.{Unbound, Bound}
+use Rattle.acct_machine.specs.State.{State, is_live}
 use Rattle.acct_server.specs.declared.peers.Peer.{Peer}
 use Rattle.acct_server.specs.declared.peers.Peer.TheVariants.{Open, Ended}
 use Rattle.acct_server.specs.Acts.{has_size}
-use Rattle.acct_server.specs.Replayed.{Standing, Move, Verdicts, Effect, moved, peer_of, verdict_in, line_bytes, ending}
+use Rattle.acct_server.specs.Replayed.{Standing, Move, Verdicts, peer_of, verdict_in, line_bytes, ending}
 
 -- the machine, and the connections
 pub record Running : Type 0 where

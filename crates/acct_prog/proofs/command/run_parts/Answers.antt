@@ -1,5 +1,3 @@
-use Rattle.acct_prog.specs.declared.period.Period.{Period}
-use Rattle.acct_server.specs.Replaying.{Telling, Parts, IsReplay}
 use Rattle.acct_prog.proofs.Worlds.{returned}
 use Rattle.acct_prog.proofs.command.run_parts.Goals as goal
 

@@ -1,4 +1,3 @@
-use Rattle.acct_server.specs.Replaying.{Telling, Parts}
 use Rattle.acct_prog.proofs.Worlds.{events-not-handed-out, sink-not-handed-out, has-run}
 use Rattle.acct_prog.proofs.command.run_replay.Goals as goal
 

@@ -1,4 +1,4 @@
-use Rattle.std.proofs.Common.{◌≡◌, ◌≢◌, ◌-◌, ◌<◌, get_or, length, arith}
+use Rattle.std.proofs.Common.{◌≢◌, ◌-◌, ◌<◌, get_or, arith}
 use Rattle.acct_server.proofs.FirstLine.{lines-feed_at, lines-return_at, lines-all_at}
 use Rattle.acct_server.proofs.lines.next_line.Goals as goal
 use Rattle.acct_server.proofs.lines.next_line.Goals.{else-at-gt0-via-then-at-gt0+else-bytes-at-eq13, else-at-gt0-via-else-at-gt0}

@@ -1,6 +1,5 @@
-use Rattle.std.proofs.Common.{Option, List, ℕ, ◌≡◌, ◌+◌, [], sym, ap, ◌∙◌, subst, take, arith, Err}
+use Rattle.std.proofs.Common.{Option, List, ℕ, ◌≡◌, [], sym, ap, ◌∙◌, subst, take, arith, Err}
 use Rattle.std.specs.Io.KnownBytes.{Appends}
-use Rattle.acct_server.specs.declared.status.Status.TheVariants.{EventLine}
 use Rattle.acct_server.specs.declared.events.LineError.{LineError}
 use Rattle.acct_server.specs.declared.events.LineError.TheVariants.{NoMemory, Refused}
 use Rattle.acct_server.specs.Running.{Running}

@@ -1,4 +1,4 @@
-use Rattle.std.proofs.Common.{◌≡◌, List, ℕ, take, drop, sym, ap, ◌∙◌, subst, ◌++◌, ◌+◌}
+use Rattle.std.proofs.Common.{◌≡◌, List, ℕ, drop, sym, ap, ◌∙◌, ◌++◌, ◌+◌}
 use Rattle.acct_server.specs.Memory.{SourceInMemory}
 use Rattle.acct_server.proofs.Bytes.{read-splits, none-behind}
 use Rattle.acct_server.proofs.memory.SteadySourceSource.read.Goals as goal

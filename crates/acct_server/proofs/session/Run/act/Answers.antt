@@ -1,7 +1,6 @@
-use Rattle.std.proofs.Common.{◌≡◌, IfOk, Option, Some, List, ℕ, sym, ap, ◌∙◌, subst}
+use Rattle.std.proofs.Common.{◌≡◌, IfOk, Some, List, ℕ, sym, ap, ◌∙◌, subst}
 use Rattle.acct_server.specs.declared.acts.Act.{Act}
 use Rattle.acct_server.specs.declared.acts.Act.TheVariants.{Answered}
-use Rattle.acct_server.specs.declared.acts.Session.{Session}
 use Rattle.acct_server.specs.Replayed.{on_act}
 use Rattle.acct_server.specs.Running.{standing, Does}
 use Rattle.acct_server.proofs.session.Run.act.Goals as goal

@@ -1,4 +1,4 @@
-use Rattle.std.proofs.Common.{◌≡◌, Ok, List, ℕ, sym, ap, ◌∙◌, subst, inr}
+use Rattle.std.proofs.Common.{Ok, List, ℕ, ap, ◌∙◌, subst, inr}
 use Rattle.acct_server.specs.Replayed.{on_request, out_line}
 use Rattle.acct_server.specs.Running.{Running, standing, Does, MayStop}
 use Rattle.acct_server.proofs.Moves.{call-enters, call-does}

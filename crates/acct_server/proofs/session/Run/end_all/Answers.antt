@@ -1,4 +1,4 @@
-use Rattle.std.proofs.Common.{◌≡◌, ◌++◌, ◌+◌, map, length, ap, ◌∙◌, arith}
+use Rattle.std.proofs.Common.{◌≡◌, ◌++◌, map, length, ap, ◌∙◌, arith}
 use Rattle.acct_machine.specs.declared.entry.Entry.TheVariants.{Gone}
 use Rattle.acct_server.specs.Replayed.{open_from}
 use Rattle.acct_server.specs.Running.{Running}

@@ -1,8 +1,7 @@
 use Rattle.std.proofs.Common.{◌≡◌, Err, List, ℕ, sym, ap, ◌∙◌}
-use Rattle.acct_server.specs.declared.events.Event.{Event}
-use Rattle.acct_server.specs.declared.events.Event.TheVariants.{Nothing, Open, Data, End}
-use Rattle.acct_server.specs.declared.events.LineError.TheVariants.{Refused, NoMemory}
-use Rattle.acct_server.proofs.Moves.{nothing-does, event-does, event-refuses, event-stops}
+use Rattle.acct_server.specs.declared.events.Event.TheVariants.{Open, End}
+use Rattle.acct_server.specs.declared.events.LineError.TheVariants.{Refused}
+use Rattle.acct_server.proofs.Moves.{nothing-does, event-does, event-refuses}
 use Rattle.acct_server.proofs.session.Run.event.Goals as goal
 
 pub returns-in-Nothing-clause-does : goal.returns-in-Nothing-clause-does

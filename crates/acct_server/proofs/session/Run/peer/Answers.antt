@@ -1,6 +1,3 @@
-use Rattle.std.proofs.Common.{◌≡◌, List, ◌∙◌, ap}
-use Rattle.acct_server.specs.declared.peers.Peer.{Peer}
-use Rattle.acct_server.specs.Replayed.{peer_of}
 use Rattle.acct_server.proofs.session.Run.peer.Goals as goal
 
 pub returns-clause-sized : goal.returns-clause-sized
