@@ -1,5 +1,5 @@
 -- Simple folding: what its table keeps, what a folded name is, and when two names are one
-use Rattle.std.proofs.Common.{◌≡◌, ℕ, ◌<◌, ◌≤◌, ◌⊎◌, inl, inr, Bool, true, false, not, cond, ◌&&◌, ◌==◌, nat_lt, List, [], ◌∷◌, ◌++◌, length, map, slice_index_or, refl, sym, ap, subst, ◌∙◌, arith, Decides}
+use Rattle.std.proofs.Common.{◌≡◌, ℕ, ◌<◌, inl, inr, Bool, true, false, not, ◌&&◌, ◌==◌, nat_lt, List, [], ◌∷◌, ◌++◌, length, map, slice_index_or, refl, sym, ap, subst, ◌∙◌, arith, Decides}
 use Rattle.std.specs.Prelude.{◌↔◌}
 use Rattle.std.specs.Str.{bytes_eq}
 use Rattle.std.specs.Char.Escape.{encode_utf16}
@@ -8,13 +8,13 @@ use Rattle.std.proofs.lemmas.Bool.{cases_Bool, and_parts, and_right, cond-true, 
 use Rattle.std.proofs.lemmas.Bool.Decides.{nat_tests, same_from_decides, Decides-like}
 use Rattle.std.proofs.lemmas.Slice.Eq.{bytes_eq-Decides}
 use Rattle.ucd_table.proofs.Computing.{tables}
-use Rattle.ucd_table.proofs.RangedFacts.{values_ok, at_values, Stepped-at_values}
+use Rattle.ucd_table.proofs.RangedFacts.{values_ok, Stepped-at_values}
 use Rattle.ucd_case.specs.CaseFolding.{simple_folding, simple_fold}
 use Rattle.ucd_case.proofs.CaseFoldingLemmas.{simple_folding_stepped}
 use Rattle.ucd_case.proofs.BoundLemmas.{simple_fold_idem}
 use Rattle.acct_calls.specs.CodePoints.{AreUnits, is_surrogate, code_points, units_of}
 use Rattle.acct_calls.specs.Folding.{folded_point, folded_points, folded, is_same, AreSame, IsEquivalence}
-use Rattle.acct_calls.proofs.Points.{Apart, Fits, Fits-from, starts_low, code_points-nil, code_points-alone, code_points-pair, units_of-nil, units_of-cons, units_of-code_points, code_points-units_of, Apart-code_points}
+use Rattle.acct_calls.proofs.Points.{Apart, Fits-from, starts_low, code_points-nil, code_points-alone, code_points-pair, units_of-nil, units_of-cons, code_points-units_of, Apart-code_points}
 
 -- ---- the table
 

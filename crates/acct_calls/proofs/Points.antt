@@ -1,5 +1,5 @@
 -- Code points of units, a step at a time, and how units and code points give each other back
-use Rattle.std.proofs.Common.{◌≡◌, ℕ, zero, suc, ◌+◌, ◌-◌, ◌*◌, ◌/◌, ◌%◌, ◌^◌, ◌<◌, ◌≤◌, ◌⊎◌, inl, inr, Bool, true, false, cond, ◌&&◌, List, [], ◌∷◌, ◌++◌, length, All, map, refl, sym, ap, subst, ◌∙◌, arith, zero-lt-suc, suc-le-suc, take, drop, slice_index_or}
+use Rattle.std.proofs.Common.{◌≡◌, ℕ, zero, suc, ◌+◌, ◌-◌, ◌/◌, ◌%◌, ◌<◌, ◌≤◌, ◌⊎◌, inl, inr, Bool, true, false, cond, ◌&&◌, List, [], ◌∷◌, ◌++◌, length, All, refl, sym, ap, subst, ◌∙◌, arith, zero-lt-suc, suc-le-suc, take, drop, slice_index_or}
 use Rattle.std.specs.Char.{IsScalar}
 use Rattle.std.specs.Char.Escape.{encode_utf16}
 use Rattle.std.specs.Char.Utf16.{is_high_surrogate, is_low_surrogate, surrogate_pair_char}
@@ -9,8 +9,7 @@ use Rattle.std.proofs.Math.Seq.{take-length}
 use Rattle.std.proofs.Math.Utf8.{scalar_cases}
 use Rattle.std.proofs.lemmas.List.{append-nil}
 use Rattle.std.proofs.lemmas.Grind.{flat_map-append}
-use Rattle.std.specs.List.{flat_map}
-use Rattle.acct_calls.specs.CodePoints.{AreUnits, is_surrogate, code_points, units_of}
+use Rattle.acct_calls.specs.CodePoints.{AreUnits, code_points, units_of}
 
 -- the list begins with a low surrogate
 abbrev pub starts_low : List ℕ → Bool

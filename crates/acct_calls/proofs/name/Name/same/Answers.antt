@@ -1,4 +1,4 @@
-use Rattle.std.proofs.Common.{◌≡◌, IsTrue, ap, sym, subst, ◌∙◌}
+use Rattle.std.proofs.Common.{◌≡◌, IsTrue, sym, subst}
 use Rattle.std.specs.Prelude.{◌↔◌, Bool}
 use Rattle.acct_calls.specs.Folding.{is_same, AreSame}
 use Rattle.acct_calls.proofs.Folds.{tells_same}
