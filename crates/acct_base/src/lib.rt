@@ -1,7 +1,7 @@
 //! The words that every crate of the account server cites: the list type, and a few calls on bytes.
 //!
-//! It stands on nothing of ours. The layers above use that a contract sees a `Seq` as the list of its values, however the
-//! heap holds them, so that a struct with such a field is plain data.
+//! It stands on nothing of ours. The layers above use that a contract sees a `Seq` as the list of its values, however
+//! the heap holds them, so that a struct with such a field is plain data.
 #![tactic(auto)]
 
 mod bytes;

@@ -9,8 +9,8 @@ pub enum Face {
     Lsa,
 }
 
-/// A context handle, by the number of its UUID: that of its connection times 2^64, and its serial there. The zero handle
-/// has the number 0.
+/// A context handle, by the number of its UUID: that of its connection times 2^64, and its serial there. The zero
+/// handle has the number 0.
 #[derive(Clone, Copy, Debug, PartialEq, Eq)]
 pub struct Handle {
     pub number: u128,

@@ -18,8 +18,8 @@ pub fn access_is_denied_exactly()
     ensures ran { DeniesRan }
 {}
 
-/// Each handle that is open after a history was opened by a call of its connection there that ran, and has the grant that
-/// the call's opening gave.
+/// Each handle that is open after a history was opened by a call of its connection there that ran, and has the grant
+/// that the call's opening gave.
 pub fn grants_come_from_openings()
     ensures { GrantsInHistory }
 {}

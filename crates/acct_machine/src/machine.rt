@@ -119,8 +119,8 @@ impl Machine {
         }
     }
 
-    /// Makes a call of a live connection, whose stub had so many bytes. After NoMemory nothing has changed: there was no
-    /// room to enter the call. A call that is entered may still be answered that memory wanted for its handle.
+    /// Makes a call of a live connection, whose stub had so many bytes. After NoMemory nothing has changed: there was
+    /// no room to enter the call. A call that is entered may still be answered that memory wanted for its handle.
     pub fn act(&mut self, conn: u32, call: Call, bytes: u32) -> Acted
         requires live { is_live conn (state_of self.old).conns ≡ true }
         requires spelled { IsSpelled call }

@@ -1,5 +1,5 @@
 // The real world: files, the standard streams, and no word on what they hold.
-ghost use Rattle.std.specs.Prelude.{None, false, []};
+ghost use Rattle.std.specs.Prelude.{◌≡◌, None, false, []};
 
 use crate::period::Period;
 use crate::take::TakeError;
@@ -83,7 +83,10 @@ pub struct HostWorld<'a, R: Files<File = File> + Input + Print> {
 }
 
 impl<'a, R: Files<File = File> + Input + Print> HostWorld<'a, R> {
-    pub fn new(rt: &'a R) -> Self {
+    /// The real world of a runtime.
+    pub fn new(rt: &'a R) -> Self
+        ensures { result.source_faults ≡ 0 }
+    {
         HostWorld {
             rt,
             source_faults: 0,

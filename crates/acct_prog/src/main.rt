@@ -1,8 +1,8 @@
 //! The program `account`: its top call over a world that hands out sources and the sink, worlds in memory and the real
 //! one, and `main`, which makes the real world and calls `account`.
 //!
-//! It stands on `acct_server`. What the program promises are the clauses of [`account`]: over a world that tells, the words
-//! without a form take no part, and a replay leaves the history, the lines and the status of its events.
+//! It stands on `acct_server`. What the program promises are the clauses of [`account`]: over a world that tells, the
+//! words without a form take no part, and a replay leaves the history, the lines and the status of its events.
 #![tactic(auto)]
 
 mod command;

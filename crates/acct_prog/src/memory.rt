@@ -1,5 +1,6 @@
 // A world in memory.
-ghost use Rattle.std.specs.Prelude.{◌≡◌, ◌≢◌, Some, None, Err, IfOk, OnErr, true};
+ghost use Rattle.std.specs.Prelude.{◌≡◌, ◌≢◌, [], Some, None, Err, IfOk, OnErr, true};
+ghost use Rattle.std.specs.Option.{option_copied};
 ghost use Rattle.acct_prog.specs.declared.take.TakeError.TheVariants.{Failed};
 
 use crate::period::Period;
@@ -20,8 +21,8 @@ fn given<P>(held: Option<P>) -> Result<P, TakeError>
     }
 }
 
-/// A world with one configuration under its name, the events, a sink, and the periods that it was given. A part that is out
-/// can't be had again. It tells what it holds.
+/// A world with one configuration under its name, the events, a sink, and the periods that it was given. A part that
+/// is out can't be had again. It tells what it holds.
 #[derive(Drop)]
 pub struct MemoryWorld<S: Source + Drop, T: Sink + Drop> {
     name: Vec<u8>,
@@ -33,7 +34,13 @@ pub struct MemoryWorld<S: Source + Drop, T: Sink + Drop> {
 
 impl<S: Source + Drop, T: Sink + Drop> MemoryWorld<S, T> {
     /// A world that holds these parts.
-    pub fn new(alloc: Global, name: Vec<u8>, config: S, events: S, sink: T) -> Self {
+    pub fn new(alloc: Global, name: Vec<u8>, config: S, events: S, sink: T) -> Self
+        ensures name { result.name ≡ name }
+        ensures config { result.config ≡ Some config }
+        ensures events { result.events ≡ Some events }
+        ensures sink { result.sink ≡ Some sink }
+        ensures periods { result.periods.items ≡ [] }
+    {
         MemoryWorld {
             name,
             config: Some(config),
@@ -44,12 +51,16 @@ impl<S: Source + Drop, T: Sink + Drop> MemoryWorld<S, T> {
     }
 
     /// The sink, if it is not out.
-    pub fn sink(&self) -> Option<&T> {
+    pub fn sink(&self) -> Option<&T>
+        ensures { option_copied result ≡ self.now.sink }
+    {
         self.sink.as_ref()
     }
 
     /// The periods that it was given.
-    pub fn periods(&self) -> &[Period] {
+    pub fn periods(&self) -> &[Period]
+        ensures { result.now ≡ self.now.periods.items }
+    {
         &self.periods
     }
 }

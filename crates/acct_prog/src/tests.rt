@@ -47,7 +47,8 @@ fn words(alloc: Global, pieces: &[&str]) -> Result<Vec<String>, Fail> {
     Ok(words)
 }
 
-/// How a run is made: which reads of the configuration and the events and which writes fail, and how many bytes each takes.
+/// How a run is made: which reads of the configuration and the events and which writes fail, and how many bytes each
+/// takes.
 #[derive(Clone, Copy)]
 struct Making<'a> {
     config_failing: &'a [u64],

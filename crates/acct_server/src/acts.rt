@@ -18,8 +18,8 @@ pub enum Act {
     Answered {
         bytes: Seq<u8>,
     },
-    /// A whole request: its call id and context, the interface of the context, the opnum, the size of the fragments of its
-    /// reply in bytes, and its stub.
+    /// A whole request: its call id and context, the interface of the context, the opnum, the size of the fragments
+    /// of its reply in bytes, and its stub.
     Call {
         id: u32,
         context: u16,

@@ -86,8 +86,8 @@ impl Source for MemorySource {
     }
 }
 
-/// A sink with room for a number of bytes. Its writes are numbered from 1, and those of the given numbers fail; so does one
-/// whose piece has no room.
+/// A sink with room for a number of bytes. Its writes are numbered from 1, and those of the given numbers fail; so
+/// does one whose piece has no room.
 #[derive(Drop)]
 pub struct MemorySink {
     bytes: Vec<u8>,
@@ -203,7 +203,8 @@ impl Source for SteadySource {
     }
 }
 
-/// A sink whose writes never fail: its count of faults is 0. It keeps nothing of what it is given, and tells nothing of it.
+/// A sink whose writes never fail: its count of faults is 0. It keeps nothing of what it is given, and tells nothing
+/// of it.
 #[derive(Clone, Copy, Debug, PartialEq, Eq)]
 pub struct SteadySink;
 

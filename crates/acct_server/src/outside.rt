@@ -21,8 +21,8 @@ pub trait Source {
     /// How many reads have failed. The count stops at 2^64 - 1.
     ghost faults: { Self → ℕ };
 
-    /// Reads some bytes into the front of a buffer, and answers how many; none into a buffer with room is the end. A read
-    /// that fails moves nothing.
+    /// Reads some bytes into the front of a buffer, and answers how many; none into a buffer with room is the end. A
+    /// read that fails moves nothing.
     fn read(&mut self, buf: &mut [u8]) -> Result<usize, Failed>
         ensures bound { ReadsAtMost result buf.new }
         ensures bytes { ReadConsumes (left self.old) (left self.new) result buf.new }

@@ -133,12 +133,12 @@ pub fn replay<S: Source, T: Sink>(
     events: &mut S,
     out: &mut T,
 ) -> Replayed
-    // Where the lines were run to their end or to a refused one, the history, the lines written and the status are those
-    // of the events, with the verdicts of the history.
+    // Where the lines were run to their end or to a refused one, the history, the lines written and the status are
+    // those of the events, with the verdicts of the history.
     ensures through { IsRunThrough result.status → IfSome (S.left events.old) (λ bytes.
         Leaves first_config (T.held out.old) (T.held out.new) bytes result.history result.status) }
-    // On every connection what was sent is the transcript of the acts of its whole stream with the replies of its calls,
-    // and its calls in the history are the decoded calls of these acts, in order.
+    // On every connection what was sent is the transcript of the acts of its whole stream with the replies of its
+    // calls, and its calls in the history are the decoded calls of these acts, in order.
     ensures transcribes { IsRunThrough result.status → IfSome (S.left events.old) (λ bytes.
         (k : ℕ) → Transcribes first_config bytes result.history k) }
     // After a fault of the sink: the entries up to the event whose lines met it, and a front of its lines.

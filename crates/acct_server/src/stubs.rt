@@ -176,8 +176,8 @@ pub fn write_reply(alloc: Global, status: u32, outs: &Outs) -> Result<Vec<u8>, A
     Ok(to.into_bytes())
 }
 
-/// A call is read exactly where it is spelled, no stub spells two calls of one opnum, and the machine's calls are those that some
-/// stub spells.
+/// A call is read exactly where it is spelled, no stub spells two calls of one opnum, and the machine's calls are
+/// those that some stub spells.
 pub fn calls_are_spelled()
     ensures read { IsReadWhereSpelled }
     ensures one { HasOneCall }

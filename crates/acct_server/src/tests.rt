@@ -31,7 +31,8 @@ fn close(handle: Handle) -> Call {
 fn a_connect_is_read(rt: HostRuntime) {
     let null = [0, 0, 0, 0, 0, 0, 0, 2];
     assert_eq!(rt; read_call(57, &null), Ok(connect(0x0200_0000)));
-    // The name `\\a` with its end, as clients send it: maximum 4, offset 0, actual 4. Bytes behind the access are taken.
+    // The name `\\a` with its end, as clients send it: maximum 4, offset 0, actual 4. Bytes behind the access are
+    // taken.
     let named = [
         0, 0, 2, 0, 4, 0, 0, 0, 0, 0, 0, 0, 4, 0, 0, 0, 0x5c, 0, 0x5c, 0, 0x61, 0, 0, 0, 0x31, 0,
         0, 0, 9,

@@ -1,8 +1,9 @@
 //! Security identifiers (MS-DTYP 2.4.2): their values, order, texts and bytes.
 //!
-//! It stands on the calls on bytes of `acct_base`. The layers above use that a contract sees a `Sid` as its authority and
-//! the list of its sub-authorities, that `==` and the order are those of that value, that `parse_text` reads exactly the
-//! texts of the grammar and `text` writes one of them, and that `from_bytes` reads what `to_bytes` writes.
+//! It stands on the calls on bytes of `acct_base`. The layers above use that a contract sees a `Sid` as its authority
+//! and the list of its sub-authorities, that `==` and the order are those of that value, that `parse_text` reads
+//! exactly the texts of the grammar and `text` writes one of them, and that `from_bytes` reads what `to_bytes`
+//! writes.
 #![tactic(auto)]
 
 mod bytes;

@@ -21,8 +21,8 @@ enum Stage {
     Sub(Sid, u32),
 }
 
-/// The SID that a text spells: `S-1-`, the authority in decimal below 2^32 or as `0x` and 12 hexadecimal digits, and each
-/// sub-authority in decimal behind a dash, at most 15 of them. No decimal has leading zeros. It takes no memory.
+/// The SID that a text spells: `S-1-`, the authority in decimal below 2^32 or as `0x` and 12 hexadecimal digits, and
+/// each sub-authority in decimal behind a dash, at most 15 of them. No decimal has leading zeros. It takes no memory.
 pub fn parse_text(text: &str) -> Result<Sid, BadText>
     ensures ok { IfOk result (IsText text.now) }
     ensures refused { IfErr result (λ bad. IsBadPlace text.now bad.place) }

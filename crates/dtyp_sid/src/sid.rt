@@ -7,8 +7,8 @@ use crate::errors::SidError;
 use acct_base::rest_of;
 use std::marker::Model;
 
-/// A security identifier (MS-DTYP 2.4.2): an identifier authority below 2^48, and at most 15 sub-authorities. It holds no
-/// heap memory. SIDs are ordered by authority, and then by their sub-authorities as lists.
+/// A security identifier (MS-DTYP 2.4.2): an identifier authority below 2^48, and at most 15 sub-authorities. It
+/// holds no heap memory. SIDs are ordered by authority, and then by their sub-authorities as lists.
 #[derive(Clone, Copy, Debug)]
 pub struct Sid {
     // below 2^48
@@ -113,8 +113,8 @@ impl Sid {
         limits_of(self.authority(), self.subs());
     }
 
-    /// The SID without its last sub-authority, and that one, which is the relative identifier. There is none where the SID
-    /// has no sub-authority.
+    /// The SID without its last sub-authority, and that one, which is the relative identifier. There is none where
+    /// the SID has no sub-authority.
     pub fn split_rid(&self) -> Option<(Sid, u32)>
         ensures { MatchOption result (self.now.subs ≡ [])
             (λ parts. self.now ≡ with_last parts.0 parts.1) }

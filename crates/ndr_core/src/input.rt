@@ -7,7 +7,8 @@ ghost use Rattle.ndr_core.specs.Cursor.{Cursor, Gives, GoesOn, IsSize, aligned_c
 use crate::error::NdrError;
 use std::marker::Model;
 
-/// Reads a stub from a place on. Each number stands at the next multiple of its size from the stub's start, little-endian.
+/// Reads a stub from a place on. Each number stands at the next multiple of its size from the stub's start,
+/// little-endian.
 #[derive(Drop)]
 pub struct In<'a> {
     stub: &'a [u8],
@@ -120,8 +121,8 @@ impl<'a> In<'a> {
         self.u32()
     }
 
-    /// The actual count of a varying array, behind its offset. An offset other than 0 is refused at the offset, and a count above
-    /// `most` at the count.
+    /// The actual count of a varying array, behind its offset. An offset other than 0 is refused at the offset, and a
+    /// count above `most` at the count.
     pub fn varying(&mut self, most: u32) -> Result<u32, NdrError>
         ensures value { Gives result self.new (varying_at most self.old) }
         ensures onward { GoesOn self.old self.new }

@@ -1,9 +1,10 @@
-//! Cursors over stubs of the transfer syntax NDR (C706, chapter 14): the primitives, their alignment and their places. And, in
-//! specs/, what a shape is.
+//! Cursors over stubs of the transfer syntax NDR (C706, chapter 14): the primitives, their alignment and their
+//! places. And, in specs/, what a shape is.
 //!
-//! It stands on nothing of ours. A stub is read by an `In` and written by an `Out`, which contracts see as a `Cursor` and a `Written`.
-//! Each call of an `In` says the value and the place behind it, or the bad place: `Short` exactly where a primitive isn't whole, `Count`
-//! exactly where a number breaks its rule. Each call of an `Out` says the bytes that it appends, and wants nothing but memory.
+//! It stands on nothing of ours. A stub is read by an `In` and written by an `Out`, which contracts see as a `Cursor`
+//! and a `Written`. Each call of an `In` says the value and the place behind it, or the bad place: `Short` exactly
+//! where a primitive isn't whole, `Count` exactly where a number breaks its rule. Each call of an `Out` says the
+//! bytes that it appends, and wants nothing but memory.
 #![tactic(auto)]
 
 mod error;

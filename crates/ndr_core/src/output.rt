@@ -7,8 +7,8 @@ ghost use Rattle.ndr_core.specs.Written.{Written, put_number, put_padding, put_p
 use std::alloc::{AllocError, Global};
 use std::marker::Model;
 
-/// Writes a stub. Each number is appended at the next multiple of its size, behind zeros, little-endian. After want of memory the stub
-/// is as it was before the call.
+/// Writes a stub. Each number is appended at the next multiple of its size, behind zeros, little-endian. After want
+/// of memory the stub is as it was before the call.
 #[derive(Drop)]
 pub struct Out {
     bytes: Vec<u8>,

@@ -1,7 +1,8 @@
 use crate::{In, NdrError, Out};
 use std::test::Fail;
 
-/// The reply's stub to SamrLookupNamesInDomain of two known names and an unknown one between: the RIDs, their uses, and the status.
+/// The reply's stub to SamrLookupNamesInDomain of two known names and an unknown one between: the RIDs, their uses,
+/// and the status.
 const LOOKED_UP: [u8; 52] = [
     3, 0, 0, 0, 0, 0, 2, 0, 3, 0, 0, 0, 0xe8, 3, 0, 0, 0, 0, 0, 0, 0xe8, 3, 0, 0, 3, 0, 0, 0, 4, 0,
     2, 0, 3, 0, 0, 0, 1, 0, 0, 0, 8, 0, 0, 0, 1, 0, 0, 0, 7, 1, 0, 0,
@@ -39,7 +40,8 @@ fn lists_are_written(rt: HostRuntime) -> Result<(), Fail> {
     Ok(())
 }
 
-/// The stub of a SamrSetInformationUser of the comment `hey` from its information class on, as an independent program writes it.
+/// The stub of a SamrSetInformationUser of the comment `hey` from its information class on, as an independent program
+/// writes it.
 const COMMENT: [u8; 30] = [
     13, 0, 13, 0, 6, 0, 6, 0, 0, 0, 2, 0, 3, 0, 0, 0, 0, 0, 0, 0, 3, 0, 0, 0, 104, 0, 101, 0, 121,
     0,
