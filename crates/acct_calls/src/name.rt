@@ -89,9 +89,10 @@ impl Name {
         same_units(self.units(), other.units())
     }
 
-    /// Whether a user, a group or an alias may have the name (MS-SAMR 3.1.1.8.4). A user's name has 1 to 20 units, that of a group or an alias
-    /// 1 to 256; it has no unpaired surrogate, no code point below 0x20 and none of `" / \ [ ] : ; | = , + * ? < >`, and is
-    /// not made of dots and spaces alone. Objects of other kinds have no name. It takes no memory.
+    /// Whether a user, a group or an alias may have the name (MS-SAMR 3.1.1.8.4). A user's name has 1 to 20 units, that of a
+    /// group or an alias 1 to 256; it has no unpaired surrogate, no code point below 0x20 and none of
+    /// `" / \ [ ] : ; | = , + * ? < >`, and is not made of dots and spaces alone. Objects of other kinds have no name. It
+    /// takes no memory.
     pub fn is_valid(&self, kind: Kind) -> bool
         ensures { result ≡ is_valid_name kind self.now }
     {
