@@ -1,4 +1,4 @@
--- Simple case folding of names, and equality after it (The Unicode Standard, section 3.13; MS-SAMR 3.1.1.8.4)
+-- Simple case folding of names, and equality after it (The Unicode Standard, section 3.13)
 use Rattle.std.specs.Prelude.{◌≡◌, ℕ, Bool, true, List, map, ◌↔◌, if◌then◌else◌}
 use Rattle.std.specs.Str.{bytes_eq}
 use Rattle.unicode.specs.CaseFolding.{simple_fold}
@@ -28,7 +28,7 @@ AreSame left right = folded_points left ≡ folded_points right
 abbrev pub TestTellsSame : Type 0
 TestTellsSame = (left right : List ℕ) → (is_same left right ≡ true) ↔ AreSame left right
 
--- each name is one with itself; of two names in either order; and two names that are one with a third are one
+-- a name is one with itself; two names are one in either order; names that are one with the same name are one
 pub record IsEquivalence : Type 0 where
   pub reflexive : (name : List ℕ) → is_same name name ≡ true
   pub symmetric : (left right : List ℕ) → is_same left right ≡ is_same right left

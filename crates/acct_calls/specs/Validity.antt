@@ -1,4 +1,4 @@
--- Which names an account may have (MS-SAMR 3.1.1.6, 3.1.1.8.4)
+-- Which names an account may have (MS-SAMR 3.1.1.8.4)
 use Rattle.std.specs.Prelude.{ℕ, Bool, not, ◌&&◌, ◌||◌, ◌==◌, List, length, codes, nat_le}
 use Rattle.std.specs.List.{list_all, list_any}
 use Rattle.acct_codes.specs.declared.kind.Kind.{Kind}
