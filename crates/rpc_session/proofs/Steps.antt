@@ -1,6 +1,8 @@
 -- One PDU after the other, as a loop takes them.
-use Rattle.std.proofs.Common.{◌≡◌, ℕ, ◌+◌, List, [], ◌∷◌, ◌++◌, drop, Option, refl, sym, ap, subst, ◌∙◌, append_assoc}
-use Rattle.std.proofs.lemmas.List.{append-nil}
+use Rattle.std.proofs.Common.{◌≡◌, ℕ, ◌+◌, List, [], ◌∷◌, ◌++◌, drop, Option, refl, sym, ap, subst, ◌∙◌, append_assoc, arith}
+use Rattle.std.proofs.lemmas.List.{append-nil, drop-drop}
+use Rattle.std.specs.Prelude.{Result, Ok, Err}
+use Rattle.std.specs.Result.{OnErr}
 use Rattle.rpc_pdu.specs.Laws.{IsStable}
 use Rattle.rpc_session.specs.declared.sessions.Act.{Act}
 use Rattle.rpc_session.specs.declared.sessions.Session.{Session}
@@ -68,3 +70,13 @@ heard_more cut conn stream piece h k before now so_far told =
 pub heard_nothing : (conn : ℕ) → IsSoFar conn [] (Going conn 0 Unbound []) []
 unfolding hear hear_in
 heard_nothing conn = record { told = refl; stands = refl }
+
+pub on_err : {T E : Type 0} (r : Result T E) (P : Type 0) → P → OnErr r P
+on_err (Ok x) P p = tt
+on_err (Err e) P p = p
+
+-- the same place of the rest, counted from the start
+pub moved : (before now : List Act) (conn place at size : ℕ) (s : Session) (bytes : List ℕ) (all : Heard) → IsHearing before now conn (place + at + size) s (drop size (drop at bytes)) all → IsHearing before now conn (place + (at + size)) s (drop (at + size) bytes) all
+moved before now conn place at size s bytes all h =
+    let sum : place + at + size ≡ place + (at + size) = omega arith in
+    subst (λ (n : ℕ). IsHearing before now conn n s (drop (at + size) bytes) all) sum (subst (λ (x : List ℕ). IsHearing before now conn (place + at + size) s x all) (drop-drop size at bytes) h)
