@@ -4,9 +4,10 @@ ghost use Rattle.rpc_session.specs.declared.hearing.Hearing.TheVariants.{Going, 
 ghost use Rattle.rpc_pdu.specs.Written.{type_of, call_id, HasFewParts};
 ghost use Rattle.rpc_session.specs.Taking.{taken};
 ghost use Rattle.rpc_session.specs.Hearings.{Heard, stepped, heard_next, joined, listed, hear, on, Begins, HasRoom};
-ghost use Rattle.rpc_session.specs.Acts.{acts, IsSoFar, IsCutAnywhere, IsRoomByLength};
+ghost use Rattle.rpc_session.specs.Acts.{acts, IsSoFar};
 
 use crate::answers::closing;
+use crate::laws::streams_are_cut_anywhere;
 use crate::sessions::{Act, Session, Step, extended, take_pdu};
 use acct_base::{Seq, rest_of};
 use rpc_pdu::{NoMemory, Pdu, ReadPdu, Side, front_is_stable, read_pdu};
@@ -198,20 +199,6 @@ fn hear(
             }
         }
     }
-}
-
-/// A stream may be cut anywhere.
-pub fn streams_are_cut_anywhere()
-    ensures { IsCutAnywhere }
-{
-    front_is_stable();
-}
-
-/// There is room for a piece where the pieces have fewer than 2^64 bytes in all.
-pub fn room_by_length()
-    ensures { IsRoomByLength }
-{
-    front_is_stable();
 }
 
 /// A connection's stream, which comes in pieces. A contract sees what is left to hear.

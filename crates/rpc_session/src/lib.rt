@@ -8,11 +8,13 @@
 mod answers;
 mod contexts;
 mod hearing;
+mod laws;
 mod replies;
 mod sessions;
 
 pub use acct_machine::Face;
 pub use contexts::Context;
-pub use hearing::{Bytes2Acts, Hearing, room_by_length, streams_are_cut_anywhere};
+pub use hearing::{Bytes2Acts, Hearing};
+pub use laws::{acts_are_of_pdus, calls_fit, room_by_length, streams_are_cut_anywhere};
 pub use replies::{fault_bytes, reply_bytes};
 pub use sessions::{Act, Binding, Gathered, Session, Sizes};
