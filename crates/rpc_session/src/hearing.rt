@@ -97,11 +97,7 @@ fn stepped(
     let id = call_id(&pdu);
     match take_pdu(alloc, conn, session, pdu)? {
         Step::Refuses(cause) => Ok(Next::Ends(closing(alloc, place, cause, ptype, id)?)),
-        Step::Goes { act, session } => Ok(Next::Goes {
-            act,
-            session,
-            size,
-        }),
+        Step::Goes { act, session } => Ok(Next::Goes { act, session, size }),
     }
 }
 
@@ -232,12 +228,7 @@ impl Bytes2Acts {
 
     /// Adds the acts that a piece completes. The pieces have fewer than 2^64 bytes in all (see [`room_by_length`]). After a refusal
     /// nothing is added. After want of memory the acts that were added stay, and every later call answers it.
-    pub fn feed(
-        &mut self,
-        alloc: Global,
-        piece: &[u8],
-        acts: &mut Vec<Act>,
-    ) -> Result<(), NoMemory>
+    pub fn feed(&mut self, alloc: Global, piece: &[u8], acts: &mut Vec<Act>) -> Result<(), NoMemory>
         requires { HasRoom self.old piece.now }
         // The acts of all pieces are those of the joined stream.
         ensures stream { (conn : ℕ) → (stream : List ℕ) → IsSoFar conn stream self.old acts.old.items → OnOk result (IsSoFar conn (stream ++ piece.now) self.new acts.new.items) }

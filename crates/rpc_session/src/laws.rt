@@ -1,5 +1,6 @@
 // The laws of a connection's acts, for the crates above to cite. Each is brought in by a call, which does nothing.
 ghost use Rattle.rpc_session.specs.Acts.{IsCutAnywhere, IsRoomByLength, AllFit, AreOfPdus};
+ghost use Rattle.rpc_session.specs.Replies.{RepliesBringStubs};
 
 use rpc_pdu::{front_is_stable, whole_is_exactly_a_pdu};
 
@@ -29,3 +30,8 @@ pub fn acts_are_of_pdus()
     front_is_stable();
     whole_is_exactly_a_pdu();
 }
+
+/// The responses of a reply bring its stub: each part but the last has as many bytes as fit, and there is none behind a stub's end.
+pub fn replies_bring_stubs()
+    ensures { RepliesBringStubs }
+{}

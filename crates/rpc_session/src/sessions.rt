@@ -243,7 +243,13 @@ fn dropped(binding: Binding, id: u32) -> Binding
     } = binding;
     let kept = match gathered {
         None => None,
-        Some(request) => { if request.id == id { None } else { Some(request) } }
+        Some(request) => {
+            if request.id == id {
+                None
+            } else {
+                Some(request)
+            }
+        }
     };
     Binding {
         sizes,
