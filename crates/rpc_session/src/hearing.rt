@@ -1,5 +1,5 @@
 // What a connection hears.
-ghost use Rattle.std.specs.Prelude.{◌≡◌, ◌++◌, ◌+◌, ◌^◌, ◌<◌, ◌≤◌, [], length, drop, List, ℕ, OnOk, OnErr, IfOk, IsErr};
+ghost use Rattle.std.specs.Prelude.{◌≡◌, ◌++◌, ◌+◌, ◌^◌, ◌<◌, ◌≤◌, [], length, drop, List, ℕ, OnOk, OnErr, IfOk, IsErr, IsOk};
 ghost use Rattle.rpc_session.specs.declared.hearing.Hearing.TheVariants.{Going, Ended, Lost};
 ghost use Rattle.rpc_pdu.specs.Written.{type_of, call_id, HasFewParts};
 ghost use Rattle.rpc_session.specs.Taking.{taken};
@@ -237,6 +237,8 @@ impl Bytes2Acts {
         // The first of the piece's acts may stand there; nothing more is heard.
         ensures err { OnErr result ((self.new ≡ Lost) × Begins acts.old.items acts.new.items (on self.old piece.now).acts) }
         ensures lost { self.old ≡ Lost → IsErr result }
+        // After a refusal a piece is taken, and nothing is added.
+        ensures ended { self.old ≡ Ended → IsOk result × (self.new ≡ Ended) × (acts.new.items ≡ acts.old.items) }
     {
         streams_are_cut_anywhere();
         fed(alloc, &mut self.hearing, piece, acts)
@@ -253,6 +255,7 @@ fn fed(
     ensures ok { OnOk result (record { acts = acts.new.items; leaves = hearing.new } ≡ joined acts.old.items (on hearing.old piece.now)) }
     ensures err { OnErr result ((hearing.new ≡ Lost) × Begins acts.old.items acts.new.items (on hearing.old piece.now).acts) }
     ensures lost { hearing.old ≡ Lost → IsErr result }
+    ensures ended { hearing.old ≡ Ended → IsOk result × (hearing.new ≡ Ended) × (acts.new.items ≡ acts.old.items) }
 {
     match mem::replace(hearing, Hearing::Lost) {
         Hearing::Lost => Err(AllocError),
