@@ -1,0 +1,6 @@
+use Rattle.std.proofs.Common.{◌≡◌, map, take}
+use Rattle.rpc_session.specs.Contexts.{outcome}
+use Rattle.rpc_session.proofs.contexts.outcomes.Given as goal
+
+abbrev pub invariant-loop-element : goal.invariant-loop-element
+invariant-loop-element l = l.outcomes.items ≡ map outcome (take l.element-index l.elements)

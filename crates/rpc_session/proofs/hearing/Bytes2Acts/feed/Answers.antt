@@ -1,0 +1,12 @@
+use Rattle.std.proofs.Common.{◌∙◌, ap}
+use Rattle.std.proofs.lemmas.Result.{on_ok_weaker}
+use Rattle.rpc_session.specs.declared.hearing.Hearing.{Hearing}
+use Rattle.rpc_session.specs.Hearings.{joined, on}
+use Rattle.rpc_session.proofs.Steps.{heard_more}
+use Rattle.rpc_session.proofs.hearing.Bytes2Acts.feed.Goals as goal
+
+pub returns-clause-stream : goal.returns-clause-stream
+returns-clause-stream c = λ conn stream so_far.
+    on_ok_weaker c.fed.result
+    (λ told. heard_more c.streams_are_cut_anywhere.ensures conn stream c.args.piece.now c.args.self.now c.fed.new.hearing c.args.acts.now.items c.fed.new.acts.items so_far (told ∙ ap (λ (h : Hearing). joined c.args.acts.now.items (on h c.args.piece.now)) c.self.view_is))
+    c.fed.ensures.ok

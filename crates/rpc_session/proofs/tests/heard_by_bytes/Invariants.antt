@@ -1,0 +1,6 @@
+use Rattle.std.proofs.Common.{take}
+use Rattle.rpc_session.specs.Acts.{IsSoFar}
+use Rattle.rpc_session.proofs.tests.heard_by_bytes.Given as goal
+
+abbrev pub invariant-loop-byte : goal.invariant-loop-byte
+invariant-loop-byte l = IsSoFar 1 (take l.byte-index l.stream) l.connection l.acts.items

@@ -1,0 +1,62 @@
+-- The acts of a connection's stream.
+use Rattle.std.specs.Prelude.{◌≡◌, ℕ, ◌+◌, ◌≤◌, ◌<◌, ◌^◌, List, [], ◌∷◌, ◌++◌, length, All}
+use Rattle.rpc_pdu.specs.declared.pdus.Pdu.{Pdu}
+use Rattle.rpc_pdu.specs.declared.pdus.Side.TheVariants.{Server}
+use Rattle.rpc_pdu.specs.Front.{Front, Whole, Rest, Refused, front}
+use Rattle.rpc_pdu.specs.Laws.{IsDivided}
+use Rattle.rpc_pdu.specs.Written.{type_of, call_id}
+use Rattle.rpc_session.specs.declared.sessions.Act.{Act}
+use Rattle.rpc_session.specs.declared.sessions.Act.TheVariants.{Answered, Call, Closed}
+use Rattle.rpc_session.specs.declared.sessions.Session.{Session}
+use Rattle.rpc_session.specs.declared.sessions.Session.TheVariants.{Unbound}
+use Rattle.rpc_session.specs.declared.sessions.Step.{Step}
+use Rattle.rpc_session.specs.declared.sessions.Step.TheVariants.{Refuses, Goes}
+use Rattle.rpc_session.specs.declared.hearing.Hearing.{Hearing}
+use Rattle.rpc_session.specs.Answers.{closing}
+use Rattle.rpc_session.specs.Taking.{taken}
+use Rattle.rpc_session.specs.Hearings.{listed, hear, joined, on, HasRoom}
+
+-- the acts of the whole stream of the connection with this number
+abbrev pub acts : ℕ → List ℕ → List Act
+acts conn stream = (hear conn 0 Unbound stream).acts
+
+-- what was heard, and what is left to hear, after the stream so far
+pub record IsSoFar (conn : ℕ) (stream : List ℕ) (hearing : Hearing) (acts_so_far : List Act) : Type 0 where
+  pub told : acts_so_far ≡ acts conn stream
+  pub stands : hearing ≡ (hear conn 0 Unbound stream).leaves
+
+-- pieces may be heard one after the other
+abbrev pub IsCutAnywhere : Type 0
+IsCutAnywhere = (hearing : Hearing) (front more : List ℕ) → on hearing (front ++ more) ≡ joined (on hearing front).acts (on (on hearing front).leaves more)
+
+-- the pieces so far with this one have fewer than 2 ^ 64 bytes
+abbrev pub IsRoomByLength : Type 0
+IsRoomByLength = (conn : ℕ) (stream : List ℕ) (hearing : Hearing) (acts_so_far : List Act) (piece : List ℕ) → IsSoFar conn stream hearing acts_so_far → length stream + length piece < 2 ^ 64 → HasRoom hearing piece
+
+-- what a call's reply is cut by, and its stub, lie within the limits
+abbrev pub IsFit : Act → Type 0
+IsFit (Answered bytes) = Unit {0}
+IsFit (Call id context face opnum size stub) = (1432 ≤ size) × (size ≤ 4280) × (length stub ≤ 1048576)
+IsFit (Closed place cause bytes) = Unit {0}
+
+abbrev pub AllFit : Type 0
+AllFit = (conn : ℕ) (stream : List ℕ) → All IsFit (acts conn stream)
+
+-- the acts of whole PDUs one after the other, each with its own bytes, and of the end behind them, the first of which begins at a place:
+-- nothing behind a refusal is an act
+abbrev pub said_by : ℕ → Pdu → Step → (Session → List Act) → List Act
+said_by place pdu (Refuses cause) later = closing place cause (type_of pdu) (call_id pdu) ∷ []
+said_by place pdu (Goes act session) later = listed act ++ later session
+
+abbrev pub said_last : ℕ → Front → List Act
+said_last place (Whole pdu size) = []
+said_last place Rest = []
+said_last place (Refused at cause ptype id) = closing (place + at) cause ptype id ∷ []
+
+abbrev pub said : ℕ → ℕ → Session → List (Pdu × List ℕ) → List ℕ → List Act
+said conn place session [] end = said_last place (front Server end)
+said conn place session (part ∷ parts) end = said_by place part.0 (taken conn session part.0) (λ after. said conn (place + length part.1) after parts end)
+
+-- the acts of a stream are those of the PDUs that it is divided into
+abbrev pub AreOfPdus : Type 0
+AreOfPdus = (conn : ℕ) (stream : List ℕ) (parts : List (Pdu × List ℕ)) (end : List ℕ) → IsDivided Server parts end stream → acts conn stream ≡ said conn 0 Unbound parts end

@@ -1,0 +1,34 @@
+-- What is answered on a connection without a call (C706, sections 12.6.3.1 and 12.6.4).
+use Rattle.std.specs.Prelude.{ℕ, ◌==◌, Bool, List, map, min, max, if◌then◌else◌}
+use Rattle.rpc_pdu.specs.declared.pdus.Element.{Element}
+use Rattle.rpc_pdu.specs.declared.pdus.Pdu.TheVariants.{BindAck, AlterResp, BindNak}
+use Rattle.rpc_pdu.specs.Written.{written}
+use Rattle.rpc_session.specs.declared.sessions.Act.{Act}
+use Rattle.rpc_session.specs.declared.sessions.Act.TheVariants.{Closed}
+use Rattle.rpc_session.specs.declared.sessions.Sizes.{Sizes}
+use Rattle.rpc_session.specs.Contexts.{outcome}
+use Rattle.rpc_session.specs.Replies.{fault_bytes}
+
+-- the size of fragments that is answered, for the one that was asked
+abbrev pub size_for : ℕ → ℕ
+size_for asked = min 4280 (max 1432 asked)
+
+-- what the client sends at most is what is received at most, and the other way round
+abbrev pub sizes_for : ℕ → ℕ → Sizes
+sizes_for xmit recv = record { xmit = size_for recv; recv = size_for xmit }
+
+-- the answers to bind and to alter_context; the association group is the connection's number
+unfoldable pub bind_answer : ℕ → ℕ → Sizes → List Element → List ℕ
+bind_answer conn id sizes elements = written (BindAck id sizes.xmit sizes.recv conn (map outcome elements))
+
+unfoldable pub alter_answer : ℕ → ℕ → Sizes → List Element → List ℕ
+alter_answer conn id sizes elements = written (AlterResp id sizes.xmit sizes.recv conn (map outcome elements))
+
+-- The answer to a PDU that is refused: a bind_nak where its type byte is 11, with reason 4 (protocol version not supported)
+-- where the version is refused; otherwise the fault nca_s_proto_error, on context 0.
+unfoldable pub refusal_bytes : ℕ → ℕ → ℕ → List ℕ
+refusal_bytes cause ptype id =
+    if ptype == 11 then written (BindNak id (if cause == 1 then 4 else 0)) else fault_bytes id 0 0x1C01000B
+
+abbrev pub closing : ℕ → ℕ → ℕ → ℕ → Act
+closing place cause ptype id = Closed place cause (refusal_bytes cause ptype id)

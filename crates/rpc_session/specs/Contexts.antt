@@ -1,0 +1,54 @@
+-- Which presentation contexts are accepted, and what is answered to each one that is offered (C706, sections 12.6.3.1 and 12.6.4.4).
+use Rattle.std.specs.Prelude.{ℕ, ◌==◌, Bool, true, false, not, List, [], ◌∷◌, ◌++◌, Option, Some, None, if◌then◌else◌}
+use Rattle.std.specs.List.{filter, find, list_any}
+use Rattle.rpc_pdu.specs.declared.pdus.Element.{Element}
+use Rattle.rpc_pdu.specs.declared.pdus.Outcome.{Outcome}
+use Rattle.rpc_pdu.specs.declared.syntaxes.Syntax.{Syntax}
+use Rattle.rpc_pdu.specs.Syntaxes.{same_syntax, samr, lsarpc, ndr}
+use Rattle.acct_machine.specs.declared.calls.Face.{Face}
+use Rattle.acct_machine.specs.declared.calls.Face.TheVariants.{Samr, Lsa}
+use Rattle.rpc_session.specs.declared.contexts.Context.{Context}
+
+-- the interface with this abstract syntax, where it is served
+unfoldable pub face_of : Syntax → Option Face
+face_of subject = if same_syntax subject samr then Some Samr else (if same_syntax subject lsarpc then Some Lsa else None)
+
+-- whether NDR is among the transfer syntaxes
+unfoldable pub offers_ndr : List Syntax → Bool
+offers_ndr transfers = list_any (λ t. same_syntax t ndr) transfers
+
+-- the interface of an element that is accepted
+abbrev pub judged : Option Face → Bool → Option Face
+judged None offered = None
+judged (Some face) offered = if offered then Some face else None
+
+unfoldable pub accepted : Element → Option Face
+accepted e = judged (face_of e.subject) (offers_ndr e.transfers)
+
+-- no syntax: 16 zero bytes and version 0
+abbrev pub no_syntax : Syntax
+no_syntax = record { id = 0 ∷ 0 ∷ 0 ∷ 0 ∷ 0 ∷ 0 ∷ 0 ∷ 0 ∷ 0 ∷ 0 ∷ 0 ∷ 0 ∷ 0 ∷ 0 ∷ 0 ∷ 0 ∷ []; version = 0 }
+
+-- an acceptance, or a rejection by the provider (2), because of the abstract syntax (1) or the transfer syntaxes (2)
+abbrev pub answered : Option Face → Bool → Outcome
+answered None offered = record { result = 2; reason = 1; syntax = no_syntax }
+answered (Some face) offered = if offered then record { result = 0; reason = 0; syntax = ndr } else record { result = 2; reason = 2; syntax = no_syntax }
+
+unfoldable pub outcome : Element → Outcome
+outcome e = answered (face_of e.subject) (offers_ndr e.transfers)
+
+-- an accepted id that comes again is replaced; a rejected element changes nothing
+abbrev pub replaced : List Context → ℕ → Option Face → List Context
+replaced contexts id None = contexts
+replaced contexts id (Some face) = filter (λ c. not (c.id == id)) contexts ++ record { id = id; face = face } ∷ []
+
+abbrev pub with_element : List Context → Element → List Context
+with_element contexts e = replaced contexts e.context (accepted e)
+
+-- the accepted contexts after one element and another
+abbrev pub with_elements : List Context → List Element → List Context
+with_elements contexts [] = contexts
+with_elements contexts (e ∷ es) = with_elements (with_element contexts e) es
+
+abbrev pub face_at : ℕ → List Context → Option Context
+face_at id contexts = find (λ c. c.id == id) contexts

@@ -1,0 +1,59 @@
+-- The bytes that answer a call: a fault, or a reply's stub cut into responses (C706, sections 12.6.3 and 12.6.4).
+use Rattle.std.specs.Prelude.{◌≡◌, ℕ, zero, suc, ◌+◌, ◌-◌, ◌*◌, ◌/◌, ◌≤◌, ◌<◌, Bool, true, false, List, [], ◌∷◌, ◌++◌, length, take, drop, min, if◌then◌else◌, nat_le}
+use Rattle.std.specs.List.{concat}
+use Rattle.rpc_pdu.specs.declared.pdus.Pdu.TheVariants.{Response, Fault}
+use Rattle.rpc_pdu.specs.Written.{written}
+
+unfoldable pub fault_bytes : ℕ → ℕ → ℕ → List ℕ
+fault_bytes id context status = written (Fault id context status)
+
+-- the largest multiple of 8 that fits a fragment's size behind its first 24 bytes
+abbrev pub most_of : ℕ → ℕ
+most_of size = 8 * ((size - 24) / 8)
+
+abbrev pub first_flag : Bool → ℕ
+first_flag true = 1
+first_flag false = 0
+
+-- a response with a part of the stub, of which so many bytes are left with this part
+unfoldable pub response : ℕ → ℕ → ℕ → ℕ → List ℕ → List ℕ
+response id context flags left part = written (Response id flags context (min left 0xFFFFFFFF) part)
+
+-- In at most so many responses and one: each but the last has as many bytes as fit, the last has the others.
+unfoldable pub reply_in : ℕ → ℕ → ℕ → ℕ → Bool → List ℕ → List ℕ
+reply_in zero id context most first stub = response id context (first_flag first + 2) (length stub) stub
+reply_in (suc turns) id context most first stub =
+    if nat_le (length stub) most then response id context (first_flag first + 2) (length stub) stub
+    else response id context (first_flag first) (length stub) (take most stub) ++ reply_in turns id context most false (drop most stub)
+
+unfoldable pub reply_from : ℕ → ℕ → ℕ → Bool → List ℕ → List ℕ
+reply_from id context most first stub = reply_in (length stub) id context most first stub
+
+-- the responses that bring a reply's stub in fragments of at most so many bytes
+abbrev pub reply_bytes : ℕ → ℕ → ℕ → List ℕ → List ℕ
+reply_bytes id context size stub = reply_from id context (most_of size) true stub
+
+-- The responses that bring the parts of a stub one after the other: FIRST is on the first alone and LAST on the last alone, and each
+-- hint is the number of stub bytes from that response on.
+abbrev pub responses : ℕ → ℕ → Bool → List (List ℕ) → List ℕ
+responses id context first [] = []
+responses id context first (part ∷ []) = response id context (first_flag first + 2) (length part) part
+responses id context first (part ∷ next ∷ parts) =
+    response id context (first_flag first) (length (concat (part ∷ next ∷ parts))) part ++ responses id context false (next ∷ parts)
+
+-- each part but the last has as many bytes as fit, and something is left behind it; the last has at most as many
+abbrev pub AreParts : ℕ → List (List ℕ) → Type 0
+AreParts most [] = ⊥
+AreParts most (last ∷ []) = length last ≤ most
+AreParts most (part ∷ next ∷ parts) = (length part ≡ most) × (0 < length (concat (next ∷ parts))) × AreParts most (next ∷ parts)
+
+-- these bytes are responses whose parts, joined, are the stub
+pub record BringsStub (id context most : ℕ) (first : Bool) (stub bytes : List ℕ) : Type 0 where
+  pub part : List ℕ
+  pub others : List (List ℕ)
+  pub cut : AreParts most (part ∷ others)
+  pub joined : concat (part ∷ others) ≡ stub
+  pub bytes_are : bytes ≡ responses id context first (part ∷ others)
+
+abbrev pub RepliesBringStubs : Type 0
+RepliesBringStubs = (id context size : ℕ) (stub : List ℕ) → 1432 ≤ size → BringsStub id context (most_of size) true stub (reply_bytes id context size stub)

@@ -1,0 +1,94 @@
+// What is answered on a connection without a call.
+ghost use Rattle.std.specs.Prelude.{◌≡◌, ◌≤◌, length, IfOk};
+ghost use Rattle.rpc_session.specs.Answers.{size_for, sizes_for, bind_answer, alter_answer, refusal_bytes, closing};
+
+use crate::contexts::outcomes;
+use crate::replies::fault_bytes;
+use crate::sessions::{Act, Sizes};
+use acct_base::Seq;
+use rpc_pdu::{Element, NoMemory, Pdu, write_pdu};
+use std::alloc::Global;
+
+fn size_for(asked: u16) -> u16
+    ensures { result ≡ size_for asked }
+{
+    asked.max(1432).min(4280)
+}
+
+/// The sizes for those that a bind asks for.
+pub fn sizes_for(xmit: u16, recv: u16) -> Sizes
+    ensures { result ≡ sizes_for xmit recv }
+{
+    Sizes {
+        xmit: size_for(recv),
+        recv: size_for(xmit),
+    }
+}
+
+/// The answer to a bind.
+#[tactic(auto, unfolding(crate::specs::Answers::bind_answer))]
+pub fn bind_answer(
+    alloc: Global,
+    conn: u32,
+    id: u32,
+    sizes: Sizes,
+    elements: &[Element],
+) -> Result<Seq<u8>, NoMemory>
+    requires { length elements.now ≤ 255 }
+    ensures { IfOk result (λ bytes. bytes ≡ bind_answer conn id sizes elements.now) }
+{
+    let answer = Pdu::BindAck {
+        id,
+        xmit: sizes.xmit,
+        recv: sizes.recv,
+        group: conn,
+        outcomes: outcomes(alloc, elements)?,
+    };
+    Ok(Seq::from_vec(write_pdu(alloc, &answer)?))
+}
+
+/// The answer to an alter_context.
+#[tactic(auto, unfolding(crate::specs::Answers::alter_answer))]
+pub fn alter_answer(
+    alloc: Global,
+    conn: u32,
+    id: u32,
+    sizes: Sizes,
+    elements: &[Element],
+) -> Result<Seq<u8>, NoMemory>
+    requires { length elements.now ≤ 255 }
+    ensures { IfOk result (λ bytes. bytes ≡ alter_answer conn id sizes elements.now) }
+{
+    let answer = Pdu::AlterResp {
+        id,
+        xmit: sizes.xmit,
+        recv: sizes.recv,
+        group: conn,
+        outcomes: outcomes(alloc, elements)?,
+    };
+    Ok(Seq::from_vec(write_pdu(alloc, &answer)?))
+}
+
+#[tactic(auto, unfolding(crate::specs::Answers::refusal_bytes))]
+fn refusal_bytes(alloc: Global, cause: u8, ptype: u8, id: u32) -> Result<Seq<u8>, NoMemory>
+    ensures { IfOk result (λ bytes. bytes ≡ refusal_bytes cause ptype id) }
+{
+    if ptype == 11 {
+        let reason = if cause == 1 { 4 } else { 0 };
+        let answer = Pdu::BindNak { id, reason };
+        return Ok(Seq::from_vec(write_pdu(alloc, &answer)?));
+    }
+    Seq::copy_of(alloc, &fault_bytes(id, 0, 0x1C01000B))
+}
+
+/// The last act, after a refusal.
+pub fn closing(alloc: Global, place: u64, cause: u8, ptype: u8, id: u32) -> Result<Act, NoMemory>
+    ensures { IfOk result (λ act. act ≡ closing place cause ptype id) }
+{
+    let bytes = refusal_bytes(alloc, cause, ptype, id)?;
+    Ok(Act::Closed {
+        place,
+        cause,
+        bytes,
+    })
+}

@@ -1,0 +1,277 @@
+// What a connection hears.
+ghost use Rattle.std.specs.Prelude.{◌≡◌, ◌++◌, ◌+◌, ◌^◌, ◌<◌, ◌≤◌, [], length, drop, List, ℕ, OnOk, OnErr, IfOk, IsErr, IsOk};
+ghost use Rattle.rpc_session.specs.declared.hearing.Hearing.TheVariants.{Going, Ended, Lost};
+ghost use Rattle.rpc_pdu.specs.Written.{type_of, call_id, HasFewParts};
+ghost use Rattle.rpc_session.specs.Taking.{taken};
+ghost use Rattle.rpc_session.specs.Hearings.{Heard, stepped, heard_next, joined, listed, hear, on, Begins, HasRoom};
+ghost use Rattle.rpc_session.specs.Acts.{acts, IsSoFar};
+
+use crate::answers::closing;
+use crate::laws::streams_are_cut_anywhere;
+use crate::sessions::{Act, Session, Step, extended, take_pdu};
+use acct_base::{Seq, rest_of};
+use rpc_pdu::{NoMemory, Pdu, ReadPdu, Side, front_is_stable, read_pdu};
+use std::alloc::{AllocError, Global};
+use std::marker::Model;
+use std::mem;
+
+/// What stands in front of the bytes that are left.
+#[derive(Debug, Drop)]
+pub enum Next {
+    /// No whole PDU, and no refusal.
+    Waits(Session),
+    /// A refusal.
+    Ends(Act),
+    /// A PDU of this size, which gives an act or none and leaves the session so.
+    Goes {
+        act: Option<Act>,
+        session: Session,
+        size: usize,
+    },
+}
+
+/// What is left to hear of a connection.
+#[derive(Debug, Drop)]
+pub enum Hearing {
+    /// The connection's number, the place of the first byte that isn't taken, the session after the PDUs so far, and the
+    /// bytes that are no whole PDU yet.
+    Going {
+        conn: u32,
+        place: u64,
+        session: Session,
+        rest: Seq<u8>,
+    },
+    /// A PDU was refused.
+    Ended,
+    /// Memory ran out.
+    Lost,
+}
+
+fn type_of(pdu: &Pdu) -> u8
+    ensures { result ≡ type_of pdu.now }
+{
+    match pdu {
+        Pdu::Request { .. } => 0,
+        Pdu::Response { .. } => 2,
+        Pdu::Fault { .. } => 3,
+        Pdu::Bind { .. } => 11,
+        Pdu::BindAck { .. } => 12,
+        Pdu::BindNak { .. } => 13,
+        Pdu::Alter { .. } => 14,
+        Pdu::AlterResp { .. } => 15,
+        Pdu::Cancel { .. } => 18,
+        Pdu::Orphaned { .. } => 19,
+    }
+}
+
+fn call_id(pdu: &Pdu) -> u32
+    ensures { result ≡ call_id pdu.now }
+{
+    match pdu {
+        Pdu::Bind { id, .. }
+        | Pdu::Alter { id, .. }
+        | Pdu::Request { id, .. }
+        | Pdu::Cancel { id }
+        | Pdu::Orphaned { id }
+        | Pdu::BindAck { id, .. }
+        | Pdu::AlterResp { id, .. }
+        | Pdu::BindNak { id, .. }
+        | Pdu::Response { id, .. }
+        | Pdu::Fault { id, .. } => *id,
+    }
+}
+
+/// A whole PDU, which begins at a place of the stream.
+fn stepped(
+    alloc: Global,
+    conn: u32,
+    place: u64,
+    session: Session,
+    pdu: Pdu,
+    size: usize,
+) -> Result<Next, NoMemory>
+    requires { HasFewParts pdu }
+    ensures { IfOk result (λ next. next ≡ stepped place pdu size (taken conn session pdu)) }
+{
+    let ptype = type_of(&pdu);
+    let id = call_id(&pdu);
+    match take_pdu(alloc, conn, session, pdu)? {
+        Step::Refuses(cause) => Ok(Next::Ends(closing(alloc, place, cause, ptype, id)?)),
+        Step::Goes { act, session } => Ok(Next::Goes { act, session, size }),
+    }
+}
+
+/// What stands in front of the bytes that are left, the first of which has this place in the stream.
+#[tactic(auto, unfolding(crate::specs::Hearings::heard_next))]
+fn heard_next(
+    alloc: Global,
+    conn: u32,
+    place: u64,
+    session: Session,
+    bytes: &[u8],
+) -> Result<Next, NoMemory>
+    requires { place + length bytes.now < 2 ^ 64 }
+    ensures { IfOk result (λ next. next ≡ heard_next conn place session bytes.now) }
+{
+    match read_pdu(alloc, Side::Server, bytes) {
+        ReadPdu::NoMemory => Err(AllocError),
+        ReadPdu::More => Ok(Next::Waits(session)),
+        ReadPdu::Refused {
+            place: at,
+            cause,
+            ptype,
+            id,
+        } => {
+            let act = closing(alloc, place + at as u64, cause, ptype, id)?;
+            Ok(Next::Ends(act))
+        }
+        ReadPdu::Got { pdu, used } => stepped(alloc, conn, place, session, pdu, used),
+    }
+}
+
+/// The bytes from a place on. They are copied where some in front are left out, so that no more memory is kept than they take.
+fn kept(alloc: Global, bytes: Seq<u8>, place: usize) -> Result<Seq<u8>, NoMemory>
+    requires { place ≤ length bytes }
+    ensures { IfOk result (λ rest. rest ≡ drop place bytes) }
+{
+    if place == 0 {
+        return Ok(bytes);
+    }
+    Seq::copy_of(alloc, rest_of(bytes.as_slice(), place))
+}
+
+fn add(acts: &mut Vec<Act>, act: Option<Act>) -> Result<(), NoMemory>
+    ensures ok { OnOk result (acts.new.items ≡ acts.old.items ++ listed act) }
+    ensures err { OnErr result (acts.new.items ≡ acts.old.items) }
+{
+    match act {
+        None => Ok(()),
+        Some(act) => {
+            acts.push(act)?;
+            Ok(())
+        }
+    }
+}
+
+/// Hears bytes, the first of which has this place in the stream. The acts are added to those that were there.
+fn hear(
+    alloc: Global,
+    conn: u32,
+    place: u64,
+    session: Session,
+    bytes: Seq<u8>,
+    acts: &mut Vec<Act>,
+) -> Result<Hearing, NoMemory>
+    requires { place + length bytes < 2 ^ 64 }
+    ensures ok { IfOk result (λ leaves. record { acts = acts.new.items; leaves = leaves } ≡ joined acts.old.items (hear conn place session bytes)) }
+    ensures err { OnErr result (Begins acts.old.items acts.new.items (hear conn place session bytes).acts) }
+{
+    front_is_stable();
+    let mut at = 0;
+    let mut session = session;
+    loop {
+        let here = place + at as u64;
+        match heard_next(alloc, conn, here, session, rest_of(bytes.as_slice(), at))? {
+            Next::Waits(waiting) => {
+                return Ok(Hearing::Going {
+                    conn,
+                    place: here,
+                    session: waiting,
+                    rest: kept(alloc, bytes, at)?,
+                });
+            }
+            Next::Ends(act) => {
+                acts.push(act)?;
+                return Ok(Hearing::Ended);
+            }
+            Next::Goes {
+                act,
+                session: after,
+                size,
+            } => {
+                add(acts, act)?;
+                session = after;
+                at += size;
+            }
+        }
+    }
+}
+
+/// A connection's stream, which comes in pieces. A contract sees what is left to hear.
+#[derive(Debug, Drop)]
+pub struct Bytes2Acts {
+    hearing: Hearing,
+}
+
+impl Model for Bytes2Acts {
+    ghost use Rattle.rpc_session.specs.declared.hearing.Hearing.{Hearing};
+
+    ghost Value = { Hearing };
+
+    ghost view = { λ stream. stream.hearing };
+}
+
+impl Bytes2Acts {
+    /// The stream of the connection with this number, of which nothing has come.
+    pub fn new(alloc: Global, conn: u32) -> Bytes2Acts
+        ensures { IsSoFar conn [] result [] }
+    {
+        Bytes2Acts {
+            hearing: Hearing::Going {
+                conn,
+                place: 0,
+                session: Session::Unbound,
+                rest: Seq::new(alloc),
+            },
+        }
+    }
+
+    /// Adds the acts that a piece completes. The pieces have fewer than 2^64 bytes in all (see [`room_by_length`]). After a refusal
+    /// nothing is added. After want of memory the acts that were added stay, and every later call answers it.
+    pub fn feed(&mut self, alloc: Global, piece: &[u8], acts: &mut Vec<Act>) -> Result<(), NoMemory>
+        requires { HasRoom self.old piece.now }
+        // The acts of all pieces are those of the joined stream.
+        ensures stream { (conn : ℕ) → (stream : List ℕ) → IsSoFar conn stream self.old acts.old.items → OnOk result (IsSoFar conn (stream ++ piece.now) self.new acts.new.items) }
+        // The same of any one piece.
+        ensures ok { OnOk result (record { acts = acts.new.items; leaves = self.new } ≡ joined acts.old.items (on self.old piece.now)) }
+        // The first of the piece's acts may stand there; nothing more is heard.
+        ensures err { OnErr result ((self.new ≡ Lost) × Begins acts.old.items acts.new.items (on self.old piece.now).acts) }
+        ensures lost { self.old ≡ Lost → IsErr result }
+        // After a refusal a piece is taken, and nothing is added.
+        ensures ended { self.old ≡ Ended → IsOk result × (self.new ≡ Ended) × (acts.new.items ≡ acts.old.items) }
+    {
+        streams_are_cut_anywhere();
+        fed(alloc, &mut self.hearing, piece, acts)
+    }
+}
+
+fn fed(
+    alloc: Global,
+    hearing: &mut Hearing,
+    piece: &[u8],
+    acts: &mut Vec<Act>,
+) -> Result<(), NoMemory>
+    requires { HasRoom hearing.old piece.now }
+    ensures ok { OnOk result (record { acts = acts.new.items; leaves = hearing.new } ≡ joined acts.old.items (on hearing.old piece.now)) }
+    ensures err { OnErr result ((hearing.new ≡ Lost) × Begins acts.old.items acts.new.items (on hearing.old piece.now).acts) }
+    ensures lost { hearing.old ≡ Lost → IsErr result }
+    ensures ended { hearing.old ≡ Ended → IsOk result × (hearing.new ≡ Ended) × (acts.new.items ≡ acts.old.items) }
+{
+    match mem::replace(hearing, Hearing::Lost) {
+        Hearing::Lost => Err(AllocError),
+        Hearing::Ended => {
+            *hearing = Hearing::Ended;
+            Ok(())
+        }
+        Hearing::Going {
+            conn,
+            place,
+            session,
+            rest,
+        } => {
+            let bytes = extended(rest, piece)?;
+            *hearing = hear(alloc, conn, place, session, bytes, acts)?;
+            Ok(())
+        }
+    }
+}

@@ -1,0 +1,121 @@
+// The bytes that answer a call.
+ghost use Rattle.std.specs.Prelude.{◌≡◌, ◌++◌, ◌≤◌, ◌<◌, ◌^◌, length, take, IfOk, OnOk};
+ghost use Rattle.rpc_pdu.specs.Numbers.{u16_bytes, u32_bytes};
+ghost use Rattle.rpc_session.specs.Replies.{fault_bytes, first_flag, response, reply_bytes};
+
+use acct_base::{Seq, rest_of};
+use rpc_pdu::{NoMemory, Pdu, write_pdu};
+use std::alloc::Global;
+
+fn u16_bytes(number: u16) -> [u8; 2]
+    ensures { result ≡ u16_bytes number }
+{
+    [(number % 256) as u8, (number / 256) as u8]
+}
+
+fn u32_bytes(number: u32) -> [u8; 4]
+    ensures { result ≡ u32_bytes number }
+{
+    let low = (number % 65536) as u16;
+    let high = (number / 65536) as u16;
+    [
+        (low % 256) as u8,
+        (low / 256) as u8,
+        (high % 256) as u8,
+        (high / 256) as u8,
+    ]
+}
+
+/// A fault with a status, on a call and a context. It takes no memory.
+#[tactic(auto, unfolding(crate::specs::Replies::fault_bytes, rpc_pdu::specs::Written::written, rpc_pdu::specs::Written::body_bytes))]
+pub fn fault_bytes(id: u32, context: u16, status: u32) -> [u8; 32]
+    ensures { result ≡ fault_bytes id context status }
+{
+    let call = u32_bytes(id);
+    let on = u16_bytes(context);
+    let code = u32_bytes(status);
+    [
+        5, 0, 3, 0x23, 0x10, 0, 0, 0, 32, 0, 0, 0, call[0], call[1], call[2], call[3], 0, 0, 0, 0,
+        on[0], on[1], 0, 0, code[0], code[1], code[2], code[3], 0, 0, 0, 0,
+    ]
+}
+
+#[tactic(auto, unfolding(crate::specs::Replies::response))]
+fn push_response(
+    alloc: Global,
+    out: &mut Vec<u8>,
+    id: u32,
+    context: u16,
+    flags: u8,
+    left: usize,
+    part: &[u8],
+) -> Result<(), NoMemory>
+    requires { length part.now < 8192 }
+    ensures { OnOk result (out.new.items ≡ out.old.items ++ response id context flags left part.now) }
+{
+    let hint = if left < 0xFFFFFFFF {
+        left as u32
+    } else {
+        0xFFFFFFFF
+    };
+    let pdu = Pdu::Response {
+        id,
+        flags,
+        context,
+        hint,
+        stub: Seq::copy_of(alloc, part)?,
+    };
+    out.extend_from_slice(&write_pdu(alloc, &pdu)?)?;
+    Ok(())
+}
+
+fn first_flag(first: bool) -> u8
+    ensures value { result ≡ first_flag first }
+    ensures small { result ≤ 1 }
+{
+    if first { 1 } else { 0 }
+}
+
+fn front_of(bytes: &[u8], count: usize) -> &[u8]
+    requires { count ≤ length bytes.now }
+    ensures value { result.now ≡ take count bytes.now }
+    ensures length { length result.now ≡ count }
+{
+    let (front, _) = bytes.split_at(count);
+    front
+}
+
+/// The responses that bring a stub, each of at most `size` bytes.
+pub fn reply_bytes(
+    alloc: Global,
+    id: u32,
+    context: u16,
+    size: u16,
+    stub: &[u8],
+) -> Result<Vec<u8>, NoMemory>
+    requires low { 1432 ≤ size }
+    requires high { size ≤ 4280 }
+    ensures { IfOk result (λ bytes. bytes.items ≡ reply_bytes id context size stub.now) }
+{
+    let most = 8 * ((size as usize - 24) / 8);
+    let mut out = Vec::new(alloc);
+    let mut first = true;
+    let mut rest = stub;
+    while rest.len() > most {
+        let part = front_of(rest, most);
+        push_response(
+            alloc,
+            &mut out,
+            id,
+            context,
+            first_flag(first),
+            rest.len(),
+            part,
+        )?;
+        rest = rest_of(rest, most);
+        first = false;
+    }
+    let flags = first_flag(first) + 2;
+    push_response(alloc, &mut out, id, context, flags, rest.len(), rest)?;
+    Ok(out)
+}

@@ -1,0 +1,347 @@
+// What one whole PDU does in a session.
+ghost use Rattle.std.specs.Prelude.{◌≡◌, ◌==◌, ◌++◌, ◌≤◌, not, bit_and, IfOk, length, Some, None};
+ghost use Rattle.rpc_pdu.specs.Written.{HasFewParts};
+ghost use Rattle.rpc_session.specs.Taking.{binds, asked, gathers, begins, goes_on, requests, without, taken_first, taken_later, taken};
+
+use crate::answers::{alter_answer, bind_answer, sizes_for};
+use crate::contexts::{Context, face_at, with_elements};
+use crate::replies::fault_bytes;
+use acct_base::Seq;
+use acct_machine::Face;
+use rpc_pdu::{NoMemory, Pdu};
+use std::alloc::Global;
+
+/// What a client's PDU asks for.
+#[derive(Debug, Drop)]
+pub enum Act {
+    /// It is answered by these bytes, without a call.
+    Answered {
+        bytes: Seq<u8>,
+    },
+    /// A whole request: its call id and context, the interface of the context, the opnum, the size of the fragments of its
+    /// reply in bytes, and its stub.
+    Call {
+        id: u32,
+        context: u16,
+        face: Face,
+        opnum: u16,
+        size: u16,
+        stub: Seq<u8>,
+    },
+    /// The PDU is refused and nothing more is heard. The place counts bytes from the stream's start. Causes 1 to 6 are those
+    /// of `read_pdu`; 7 is a first fragment while another request is gathered, 8 a later fragment while none with its
+    /// call id is, 9 a stub of more than 1,048,576 bytes, 10 a bind after a bind or another type before it, 11 more than 16 accepted
+    /// contexts.
+    Closed {
+        place: u64,
+        cause: u8,
+        bytes: Seq<u8>,
+    },
+}
+
+/// The largest fragments that are sent and received, in bytes.
+#[derive(Clone, Copy, Debug, PartialEq, Eq)]
+pub struct Sizes {
+    pub xmit: u16,
+    pub recv: u16,
+}
+
+/// A request of which not all fragments have come.
+#[derive(Debug, Drop)]
+pub struct Gathered {
+    pub id: u32,
+    pub context: u16,
+    pub opnum: u16,
+    pub stub: Seq<u8>,
+}
+
+/// What a bind made of a connection.
+#[derive(Debug, Drop)]
+pub struct Binding {
+    pub sizes: Sizes,
+    pub contexts: Seq<Context>,
+    pub gathered: Option<Gathered>,
+}
+
+/// How a connection stands between two of its PDUs.
+#[derive(Debug, Drop)]
+pub enum Session {
+    /// No bind has come.
+    Unbound,
+    Bound(Binding),
+}
+
+/// What a whole PDU does.
+#[derive(Debug, Drop)]
+pub enum Step {
+    /// It is refused with this cause.
+    Refuses(u8),
+    /// It gives an act or none, and leaves the session so.
+    Goes { act: Option<Act>, session: Session },
+}
+
+fn binds(after: Binding, answer: Seq<u8>) -> Step
+    ensures { result ≡ binds after answer }
+{
+    if after.contexts.as_slice().len() > 16 {
+        return Step::Refuses(11);
+    }
+    Step::Goes {
+        act: Some(Act::Answered { bytes: answer }),
+        session: Session::Bound(after),
+    }
+}
+
+fn asked(
+    alloc: Global,
+    request: Gathered,
+    size: u16,
+    context: Option<Context>,
+) -> Result<Act, NoMemory>
+    ensures { IfOk result (λ act. act ≡ asked request size context) }
+{
+    match context {
+        None => Ok(Act::Answered {
+            bytes: Seq::copy_of(alloc, &fault_bytes(request.id, request.context, 0x1C010003))?,
+        }),
+        Some(c) => Ok(Act::Call {
+            id: request.id,
+            context: request.context,
+            face: c.face,
+            opnum: request.opnum,
+            size,
+            stub: request.stub,
+        }),
+    }
+}
+
+fn is_first(flags: u8) -> bool
+    ensures { result ≡ not (bit_and flags 1 == 0) }
+{
+    flags & 1 != 0
+}
+
+fn is_last(flags: u8) -> bool
+    ensures { result ≡ not (bit_and flags 2 == 0) }
+{
+    flags & 2 != 0
+}
+
+/// A request with one more fragment: it waits for the others, or is whole.
+fn put(alloc: Global, binding: Binding, flags: u8, request: Gathered) -> Result<Step, NoMemory>
+    requires { length request.stub ≤ 1048576 }
+    ensures { IfOk result (λ step. step ≡ gathers binding flags request) }
+{
+    let Binding {
+        sizes,
+        contexts,
+        ..
+    } = binding;
+    if !is_last(flags) {
+        return Ok(Step::Goes {
+            act: None,
+            session: Session::Bound(Binding {
+                sizes,
+                contexts,
+                gathered: Some(request),
+            }),
+        });
+    }
+    let context = face_at(request.context, contexts.as_slice());
+    let act = asked(alloc, request, sizes.xmit, context)?;
+    Ok(Step::Goes {
+        act: Some(act),
+        session: Session::Bound(Binding {
+            sizes,
+            contexts,
+            gathered: None,
+        }),
+    })
+}
+
+/// The first fragment of a request.
+fn begins(alloc: Global, binding: Binding, flags: u8, request: Gathered) -> Result<Step, NoMemory>
+    ensures { IfOk result (λ step. step ≡ begins binding flags request binding.gathered) }
+{
+    if binding.gathered.is_some() {
+        return Ok(Step::Refuses(7));
+    }
+    if request.stub.as_slice().len() > 1048576 {
+        return Ok(Step::Refuses(9));
+    }
+    put(alloc, binding, flags, request)
+}
+
+/// The bytes of both. The first grow in place.
+pub fn extended(bytes: Seq<u8>, more: &[u8]) -> Result<Seq<u8>, NoMemory>
+    ensures { IfOk result (λ all. all ≡ bytes ++ more.now) }
+{
+    let mut bytes = bytes.into_vec();
+    bytes.extend_from_slice(more)?;
+    Ok(Seq::from_vec(bytes))
+}
+
+/// A later fragment, for the request gathered so far.
+fn more(
+    alloc: Global,
+    binding: Binding,
+    flags: u8,
+    request: Gathered,
+    id: u32,
+    stub: &[u8],
+) -> Result<Step, NoMemory>
+    ensures { IfOk result (λ step. step ≡ goes_on binding flags id stub.now (Some request)) }
+{
+    if request.id != id {
+        return Ok(Step::Refuses(8));
+    }
+    if stub.len() > 1048576 || request.stub.as_slice().len() > 1048576 - stub.len() {
+        return Ok(Step::Refuses(9));
+    }
+    let request = Gathered {
+        id: request.id,
+        context: request.context,
+        opnum: request.opnum,
+        stub: extended(request.stub, stub)?,
+    };
+    put(alloc, binding, flags, request)
+}
+
+fn goes_on(
+    alloc: Global,
+    binding: Binding,
+    flags: u8,
+    id: u32,
+    stub: &[u8],
+) -> Result<Step, NoMemory>
+    ensures { IfOk result (λ step. step ≡ goes_on binding flags id stub.now binding.gathered) }
+{
+    let Binding {
+        sizes,
+        contexts,
+        gathered,
+    } = binding;
+    let binding = Binding {
+        sizes,
+        contexts,
+        gathered: None,
+    };
+    match gathered {
+        None => Ok(Step::Refuses(8)),
+        Some(request) => more(alloc, binding, flags, request, id, stub),
+    }
+}
+
+/// A session without the request that is gathered with a call id.
+fn dropped(binding: Binding, id: u32) -> Binding
+    ensures { result ≡ record binding { gathered = without id binding.gathered } }
+{
+    let Binding {
+        sizes,
+        contexts,
+        gathered,
+    } = binding;
+    let kept = match gathered {
+        None => None,
+        Some(request) => {
+            if request.id == id {
+                None
+            } else {
+                Some(request)
+            }
+        }
+    };
+    Binding {
+        sizes,
+        contexts,
+        gathered: kept,
+    }
+}
+
+#[tactic(auto, unfolding(crate::specs::Taking::taken_first))]
+fn taken_first(alloc: Global, conn: u32, pdu: Pdu) -> Result<Step, NoMemory>
+    requires { HasFewParts pdu }
+    ensures { IfOk result (λ step. step ≡ taken_first conn pdu) }
+{
+    match pdu {
+        Pdu::Bind {
+            id,
+            xmit,
+            recv,
+            elements,
+            ..
+        } => {
+            let sizes = sizes_for(xmit, recv);
+            let answer = bind_answer(alloc, conn, id, sizes, elements.as_slice())?;
+            let after = Binding {
+                sizes,
+                contexts: with_elements(Seq::new(alloc), elements.as_slice())?,
+                gathered: None,
+            };
+            Ok(binds(after, answer))
+        }
+        _ => Ok(Step::Refuses(10)),
+    }
+}
+
+#[tactic(auto, unfolding(crate::specs::Taking::taken_later))]
+fn taken_later(alloc: Global, conn: u32, binding: Binding, pdu: Pdu) -> Result<Step, NoMemory>
+    requires { HasFewParts pdu }
+    ensures { IfOk result (λ step. step ≡ taken_later conn binding pdu) }
+{
+    match pdu {
+        Pdu::Alter { id, elements, .. } => {
+            let sizes = binding.sizes;
+            let answer = alter_answer(alloc, conn, id, sizes, elements.as_slice())?;
+            let Binding {
+                contexts,
+                gathered,
+                ..
+            } = binding;
+            let after = Binding {
+                sizes,
+                contexts: with_elements(contexts, elements.as_slice())?,
+                gathered,
+            };
+            Ok(binds(after, answer))
+        }
+        Pdu::Request {
+            id,
+            flags,
+            context,
+            opnum,
+            stub,
+        } => {
+            if !is_first(flags) {
+                return goes_on(alloc, binding, flags, id, stub.as_slice());
+            }
+            let request = Gathered {
+                id,
+                context,
+                opnum,
+                stub,
+            };
+            begins(alloc, binding, flags, request)
+        }
+        Pdu::Cancel { .. } => Ok(Step::Goes {
+            act: None,
+            session: Session::Bound(binding),
+        }),
+        Pdu::Orphaned { id } => Ok(Step::Goes {
+            act: None,
+            session: Session::Bound(dropped(binding, id)),
+        }),
+        _ => Ok(Step::Refuses(10)),
+    }
+}
+
+/// What a whole PDU does.
+pub fn take_pdu(alloc: Global, conn: u32, session: Session, pdu: Pdu) -> Result<Step, NoMemory>
+    requires { HasFewParts pdu }
+    ensures { IfOk result (λ step. step ≡ taken conn session pdu) }
+{
+    match session {
+        Session::Unbound => taken_first(alloc, conn, pdu),
+        Session::Bound(binding) => taken_later(alloc, conn, binding, pdu),
+    }
+}

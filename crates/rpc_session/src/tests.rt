@@ -1,0 +1,286 @@
+// Streams of several PDUs, cut anywhere. The PDUs are written down from C706, sections 12.6.3 and 12.6.4.
+ghost use Rattle.std.specs.Prelude.{◌≡◌, ◌≤◌, length};
+
+use crate::{
+    Act, Bytes2Acts, acts_are_of_pdus, calls_fit, fault_bytes, replies_bring_stubs, reply_bytes,
+    room_by_length, streams_are_cut_anywhere,
+};
+use std::alloc::Global;
+use std::test::Fail;
+
+const BIND: &str =
+    "05000b03 10000000 48000000 01000000 b810b810 00000000 01000000 00000100 78573412 3412cdab ef000123 456789ac 01000000 045d888a eb1cc911 9fe80800 2b104860 02000000";
+
+const ACK: &str =
+    "answered 05000c03 10000000 38000000 01000000 b810b810 01000000 01000000 01000000 00000000 045d888a eb1cc911 9fe80800 2b104860 02000000";
+
+/// The bytes in hexadecimal digits.
+fn bytes_of(alloc: Global, texts: &[&str]) -> Result<Vec<u8>, Fail> {
+    let mut bytes = Vec::new(alloc);
+    let mut high: Option<u8> = None;
+    for text in texts {
+        for letter in text.bytes() {
+            let digit = match letter {
+                b'0'..=b'9' => letter - b'0',
+                b'a'..=b'f' => letter - b'a' + 10,
+                _ => continue,
+            };
+            match high {
+                None => high = Some(digit),
+                Some(first) => {
+                    bytes.push(first.wrapping_mul(16) | digit)?;
+                    high = None;
+                }
+            }
+        }
+    }
+    Ok(bytes)
+}
+
+/// Hexadecimal digits, with a space behind each four bytes.
+fn hex_of(alloc: Global, bytes: &[u8]) -> Result<String, Fail> {
+    let mut text = String::new(alloc);
+    for (place, byte) in bytes.iter().enumerate() {
+        if place > 0 && place % 4 == 0 {
+            text.push(' ')?;
+        }
+        write!(text, "{byte:02x}")?;
+    }
+    Ok(text)
+}
+
+/// The acts as text, with commas between them.
+fn shown(alloc: Global, acts: &[Act]) -> Result<String, Fail> {
+    let mut text = String::new(alloc);
+    for act in acts {
+        if !text.is_empty() {
+            text.push_str(", ")?;
+        }
+        match act {
+            Act::Answered { bytes } => {
+                write!(text, "answered {}", hex_of(alloc, bytes.as_slice())?)?;
+            }
+            Act::Call {
+                id,
+                context,
+                face,
+                opnum,
+                size,
+                stub,
+            } => {
+                let stub = hex_of(alloc, stub.as_slice())?;
+                write!(text, "call {id} {context} {face:?} {opnum} {size} {stub}")?;
+            }
+            Act::Closed {
+                place,
+                cause,
+                bytes,
+            } => {
+                let bytes = hex_of(alloc, bytes.as_slice())?;
+                write!(text, "closed {place} {cause} {bytes}")?;
+            }
+        }
+    }
+    Ok(text)
+}
+
+/// The acts of a stream in two pieces.
+fn heard_in_two(alloc: Global, stream: &[u8], cut: usize) -> Result<Vec<Act>, Fail>
+    requires { cut ≤ length stream.now }
+{
+    room_by_length();
+    let mut acts = Vec::new(alloc);
+    let mut connection = Bytes2Acts::new(alloc, 1);
+    let (front, rest) = stream.split_at(cut);
+    connection.feed(alloc, front, &mut acts)?;
+    connection.feed(alloc, rest, &mut acts)?;
+    Ok(acts)
+}
+
+/// The acts of a stream byte by byte.
+fn heard_by_bytes(alloc: Global, stream: &[u8]) -> Result<Vec<Act>, Fail> {
+    room_by_length();
+    let mut acts = Vec::new(alloc);
+    let mut connection = Bytes2Acts::new(alloc, 1);
+    for byte in stream {
+        connection.feed(alloc, &[*byte], &mut acts)?;
+    }
+    Ok(acts)
+}
+
+/// However it is cut, a stream gives these acts.
+fn gives(
+    rt: &impl std::process::Abort,
+    alloc: Global,
+    texts: &[&str],
+    says: &str,
+) -> Result<(), Fail> {
+    let stream = bytes_of(alloc, texts)?;
+    for cut in 0..stream.len() {
+        let acts = heard_in_two(alloc, &stream, cut)?;
+        assert_eq!(rt; shown(alloc, &acts)?.as_str(), says);
+    }
+    let acts = heard_by_bytes(alloc, &stream)?;
+    assert_eq!(rt; shown(alloc, &acts)?.as_str(), says);
+    Ok(())
+}
+
+#[test]
+fn first_run_cut_anywhere(rt: HostRuntime) -> Result<(), Fail> {
+    gives(
+        &rt,
+        rt.alloc(),
+        &[
+            BIND,
+            "05000003 10000000 20000000 02000000 08000000 00003900 00000000 00000002",
+            "05000003 10000000 2c000000 03000000 14000000 00000100 00000000 00000000 00000100 00000000 00000001",
+        ],
+        "answered 05000c03 10000000 38000000 01000000 b810b810 01000000 01000000 01000000 00000000 045d888a eb1cc911 9fe80800 2b104860 02000000, call 2 0 Samr 57 4280 00000000 00000002, call 3 0 Samr 1 4280 00000000 00000000 00000100 00000000 00000001",
+    )
+}
+
+#[test]
+fn three_transfer_syntaxes(rt: HostRuntime) -> Result<(), Fail> {
+    gives(
+        &rt,
+        rt.alloc(),
+        &[
+            "05000b03 10000000 a0000000 01000000 b810b810 00000000 03000000",
+            "00000100 78573412 3412cdab ef000123 456789ac 01000000 045d888a eb1cc911 9fe80800 2b104860 02000000",
+            "01000100 78573412 3412cdab ef000123 456789ac 01000000 33057171 babe3749 8319b5db ef9ccc36 01000000",
+            "02000100 78573412 3412cdab ef000123 456789ac 01000000 2c1cb76c 12984045 03000000 00000000 01000000",
+            "05000003 10000000 1c000000 02000000 04000000 01003900 00000002",
+        ],
+        "answered 05000c03 10000000 68000000 01000000 b810b810 01000000 01000000 03000000 00000000 045d888a eb1cc911 9fe80800 2b104860 02000000 02000200 00000000 00000000 00000000 00000000 00000000 02000200 00000000 00000000 00000000 00000000 00000000, answered 05000323 10000000 20000000 02000000 00000000 01000000 0300011c 00000000",
+    )
+}
+
+#[test]
+fn fragments_and_a_second_first(rt: HostRuntime) -> Result<(), Fail> {
+    gives(
+        &rt,
+        rt.alloc(),
+        &[
+            BIND,
+            "05000001 10000000 1c000000 02000000 04000000 00003900 00000000",
+            "05000000 10000000 1c000000 02000000 04000000 00003900 00000002",
+            "05000002 10000000 18000000 02000000 00000000 00003900",
+            "05000001 10000000 1c000000 03000000 04000000 00003900 00000002",
+            "05000001 10000000 1c000000 03000000 04000000 00003900 00000002",
+            "05000003 10000000 1c000000 04000000 04000000 00003900 00000002",
+        ],
+        "answered 05000c03 10000000 38000000 01000000 b810b810 01000000 01000000 01000000 00000000 045d888a eb1cc911 9fe80800 2b104860 02000000, call 2 0 Samr 57 4280 00000000 00000002, closed 180 7 05000323 10000000 20000000 03000000 00000000 00000000 0b00011c 00000000",
+    )
+}
+
+#[test]
+fn refused_binds(rt: HostRuntime) -> Result<(), Fail> {
+    let rest =
+        "01000000 b810b810 00000000 01000000 00000100 78573412 3412cdab ef000123 456789ac 01000000 045d888a eb1cc911 9fe80800 2b104860 02000000";
+    for (head, says) in [
+        (
+            "05000b03 10000000 48001000",
+            "closed 10 5 05000d03 10000000 18000000 01000000 00000105 00000000",
+        ),
+        (
+            "04000b03 10000000 48000000",
+            "closed 0 1 05000d03 10000000 18000000 01000000 04000105 00000000",
+        ),
+        (
+            "05000b03 11000000 48000000",
+            "closed 4 2 05000d03 10000000 18000000 01000000 00000105 00000000",
+        ),
+        (
+            "05000c03 10000000 48000000",
+            "closed 2 3 05000323 10000000 20000000 01000000 00000000 00000000 0b00011c 00000000",
+        ),
+        (
+            "05000b03 10000000 1b000000",
+            "closed 8 4 05000d03 10000000 18000000 01000000 00000105 00000000",
+        ),
+        (
+            "05000e03 10000000 48000000",
+            "closed 0 10 05000323 10000000 20000000 01000000 00000000 00000000 0b00011c 00000000",
+        ),
+    ] {
+        gives(&rt, rt.alloc(), &[head, rest], says)?;
+    }
+    Ok(())
+}
+
+#[test]
+fn refused_behind_a_bind(rt: HostRuntime) -> Result<(), Fail> {
+    for (pdu, says) in [
+        (
+            BIND,
+            "closed 72 10 05000d03 10000000 18000000 01000000 00000105 00000000",
+        ),
+        (
+            "05000002 10000000 1c000000 02000000 04000000 00003900 00000002",
+            "closed 72 8 05000323 10000000 20000000 02000000 00000000 00000000 0b00011c 00000000",
+        ),
+    ] {
+        let alloc = rt.alloc();
+        let says = format!(in alloc; "{ACK}, {says}")?;
+        gives(&rt, alloc, &[BIND, pdu], says.as_str())?;
+    }
+    Ok(())
+}
+
+#[test]
+fn replies_and_faults(rt: HostRuntime) -> Result<(), Fail> {
+    let alloc = rt.alloc();
+    let stub = bytes_of(
+        alloc,
+        &["00000000 00000000 00000100 00000000 00000001 00000000"],
+    )?;
+    let reply = reply_bytes(alloc, 2, 0, 4280, &stub)?;
+    assert_eq!(rt;
+        hex_of(alloc, &reply)?.as_str(),
+        "05000203 10000000 30000000 02000000 18000000 00000000 00000000 00000000 00000100 00000000 00000001 00000000"
+    );
+    assert_eq!(rt;
+        hex_of(alloc, &fault_bytes(2, 0, 0x1C010002))?.as_str(),
+        "05000323 10000000 20000000 02000000 00000000 00000000 0200011c 00000000"
+    );
+    // 2,816 bytes are twice what fits 1,432, and no empty response follows.
+    let reply = reply_bytes(alloc, 2, 0, 1432, &[7; 2816])?;
+    assert_eq!(rt; reply.len(), 2864);
+    assert_eq!(rt;
+        hex_of(alloc, &reply[..24])?.as_str(),
+        "05000201 10000000 98050000 02000000 000b0000 00000000"
+    );
+    assert_eq!(rt;
+        hex_of(alloc, &reply[1432..1456])?.as_str(),
+        "05000202 10000000 98050000 02000000 80050000 00000000"
+    );
+    Ok(())
+}
+
+#[test]
+fn long_stub_byte_by_byte(rt: HostRuntime) -> Result<(), Fail> {
+    let alloc = rt.alloc();
+    let mut stream = bytes_of(alloc, &[BIND])?;
+    for flags in [1, 0, 0, 0, 0, 0, 0, 0, 0, 0, 0, 0, 0, 0, 0, 2] {
+        stream.extend_from_slice(&[
+            5, 0, 0, flags, 0x10, 0, 0, 0, 0x18, 0x10, 0, 0, 2, 0, 0, 0, 0, 0x10, 0, 0, 0, 0, 57, 0,
+        ])?;
+        stream.extend_from_slice(&[7; 4096])?;
+    }
+    let acts = heard_by_bytes(alloc, &stream)?;
+    match acts.as_slice() {
+        [Act::Answered { .. }, Act::Call { stub, .. }] => {
+            assert_eq!(rt; stub.as_slice().len(), 65536);
+        }
+        _ => panic!(rt; "no call"),
+    }
+    Ok(())
+}
+
+#[test]
+fn laws_can_be_cited(_rt: HostRuntime) {
+    acts_are_of_pdus();
+    calls_fit();
+    replies_bring_stubs();
+    streams_are_cut_anywhere();
+}
