@@ -73,8 +73,7 @@ impl Name {
         Ok(Name::from_units(self.units().to_vec(alloc)?))
     }
 
-    /// The name after simple case folding, which may have another number of units. An unpaired surrogate folds to
-    /// itself.
+    /// The name after simple case folding, which may have another number of units. An unpaired surrogate folds to itself.
     pub fn fold(&self, alloc: Global) -> Result<Name, NoMemory>
         ensures { IfOk result (λ name. name ≡ folded self.now) }
     {
@@ -90,16 +89,10 @@ impl Name {
         same_units(self.units(), other.units())
     }
 
-<<<<<<< HEAD
-    /// Whether a user, a group or an alias may have the name. A user's name has 1 to 20 units, that of a group or an
-    /// alias 1 to 256; it has no unpaired surrogate, no code point below 0x20 and none of `" / \ [ ] : ; | = , + * ?
-    /// < >`, and is not made of dots and spaces alone. Objects of other kinds have no name. It takes no memory.
-=======
     /// Whether a user, a group or an alias may have the name (MS-SAMR 3.1.1.8.4). A user's name has 1 to 20 units, that of a
     /// group or an alias 1 to 256; it has no unpaired surrogate, no code point below 0x20 and none of
     /// `" / \ [ ] : ; | = , + * ? < >`, and is not made of dots and spaces alone. Objects of other kinds have no name. It
     /// takes no memory.
->>>>>>> cdbc2231d0aa71290e3b98562814f078a2532487
     pub fn is_valid(&self, kind: Kind) -> bool
         ensures { result ≡ is_valid_name kind self.now }
     {
