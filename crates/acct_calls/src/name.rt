@@ -16,8 +16,8 @@ use acct_codes::Kind;
 use std::alloc::Global;
 use std::marker::Model;
 
-/// A name: a list of UTF-16 units (as in RPC_UNICODE_STRING, MS-DTYP 2.3.10), of any length and not always well-formed. A
-/// contract sees the list of the units.
+/// A name: a list of UTF-16 units (as in RPC_UNICODE_STRING, MS-DTYP 2.3.10), of any length and not always
+/// well-formed. A contract sees the list of the units.
 #[derive(Debug, Drop)]
 pub struct Name {
     units: Seq<u16>,
@@ -73,7 +73,8 @@ impl Name {
         Ok(Name::from_units(self.units().to_vec(alloc)?))
     }
 
-    /// The name after simple case folding, which may have another number of units. An unpaired surrogate folds to itself.
+    /// The name after simple case folding, which may have another number of units. An unpaired surrogate folds to
+    /// itself.
     pub fn fold(&self, alloc: Global) -> Result<Name, NoMemory>
         ensures { IfOk result (λ name. name ≡ folded self.now) }
     {
@@ -89,10 +90,10 @@ impl Name {
         same_units(self.units(), other.units())
     }
 
-    /// Whether a user, a group or an alias may have the name (MS-SAMR 3.1.1.8.4). A user's name has 1 to 20 units, that of a
-    /// group or an alias 1 to 256; it has no unpaired surrogate, no code point below 0x20 and none of
-    /// `" / \ [ ] : ; | = , + * ? < >`, and is not made of dots and spaces alone. Objects of other kinds have no name. It
-    /// takes no memory.
+    /// Whether a user, a group or an alias may have the name (MS-SAMR 3.1.1.8.4). A user's name has 1 to 20 units,
+    /// that of a group or an alias 1 to 256; it has no unpaired surrogate, no code point below 0x20 and none of
+    /// `" / \ [ ] : ; | = , + * ? < >`, and is not made of dots and spaces alone. Objects of other kinds have no
+    /// name. It takes no memory.
     pub fn is_valid(&self, kind: Kind) -> bool
         ensures { result ≡ is_valid_name kind self.now }
     {

@@ -33,8 +33,8 @@ pub enum Next {
 /// What is left to hear of a connection.
 #[derive(Debug, Drop)]
 pub enum Hearing {
-    /// The connection's number, the place of the first byte that isn't taken, the session after the PDUs so far, and the
-    /// bytes that are no whole PDU yet.
+    /// The connection's number, the place of the first byte that isn't taken, the session after the PDUs so far, and
+    /// the bytes that are no whole PDU yet.
     Going {
         conn: u32,
         place: u64,
@@ -129,7 +129,8 @@ fn heard_next(
     }
 }
 
-/// The bytes from a place on. They are copied where some in front are left out, so that no more memory is kept than they take.
+/// The bytes from a place on. They are copied where some in front are left out, so that no more memory is kept than
+/// they take.
 fn kept(alloc: Global, bytes: Seq<u8>, place: usize) -> Result<Seq<u8>, NoMemory>
     requires { place ≤ length bytes }
     ensures { IfOk result (λ rest. rest ≡ drop place bytes) }
@@ -226,8 +227,9 @@ impl Bytes2Acts {
         }
     }
 
-    /// Adds the acts that a piece completes. The pieces have fewer than 2^64 bytes in all (see [`room_by_length`]). After a refusal
-    /// nothing is added. After want of memory the acts that were added stay, and every later call answers it.
+    /// Adds the acts that a piece completes. The pieces have fewer than 2^64 bytes in all (see [`room_by_length`]).
+    /// After a refusal nothing is added. After want of memory the acts that were added stay, and every later call
+    /// answers it.
     pub fn feed(&mut self, alloc: Global, piece: &[u8], acts: &mut Vec<Act>) -> Result<(), NoMemory>
         requires { HasRoom self.old piece.now }
         // The acts of all pieces are those of the joined stream.

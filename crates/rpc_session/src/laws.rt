@@ -31,7 +31,8 @@ pub fn acts_are_of_pdus()
     whole_is_exactly_a_pdu();
 }
 
-/// The responses of a reply bring its stub: each part but the last has as many bytes as fit, and there is none behind a stub's end.
+/// The responses of a reply bring its stub: each part but the last has as many bytes as fit, and there is none behind
+/// a stub's end.
 pub fn replies_bring_stubs()
     ensures { RepliesBringStubs }
 {}

@@ -18,8 +18,8 @@ pub enum Act {
     Answered {
         bytes: Seq<u8>,
     },
-    /// A whole request: its call id and context, the interface of the context, the opnum, the size of the fragments of its
-    /// reply in bytes, and its stub.
+    /// A whole request: its call id and context, the interface of the context, the opnum, the size of the fragments
+    /// of its reply in bytes, and its stub.
     Call {
         id: u32,
         context: u16,
@@ -28,10 +28,10 @@ pub enum Act {
         size: u16,
         stub: Seq<u8>,
     },
-    /// The PDU is refused and nothing more is heard. The place counts bytes from the stream's start. Causes 1 to 6 are those
-    /// of `read_pdu`; 7 is a first fragment while another request is gathered, 8 a later fragment while none with its
-    /// call id is, 9 a stub of more than 1,048,576 bytes, 10 a bind after a bind or another type before it, 11 more than 16 accepted
-    /// contexts.
+    /// The PDU is refused and nothing more is heard. The place counts bytes from the stream's start. Causes 1 to 6
+    /// are those of `read_pdu`; 7 is a first fragment while another request is gathered, 8 a later fragment while
+    /// none with its call id is, 9 a stub of more than 1,048,576 bytes, 10 a bind after a bind or another type before
+    /// it, 11 more than 16 accepted contexts.
     Closed {
         place: u64,
         cause: u8,
