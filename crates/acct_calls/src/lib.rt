@@ -1,9 +1,9 @@
 //! The names of accounts: lists of UTF-16 units, their simple case folding, equality and validity.
 //!
 //! It stands on the kinds of objects of `acct_codes`, the list type of `acct_base`, and the case folding of
-//! `unicode`. The layers above use that a contract sees a `Name` as the list of its units and `Names` as the list of
-//! those, that `same` is equality of the folded code points and an equivalence, and that `is_valid` is the rules for
-//! names of accounts.
+//! `unicode`, of whose table `ucd_case` and `ucd_table` have the lemmas that the proofs cite. The layers above use that
+//! a contract sees a `Name` as the list of its units and `Names` as the list of those, that `same` is equality of the
+//! folded code points and an equivalence, and that `is_valid` is the rules for names of accounts.
 #![tactic(auto)]
 
 mod code_points;
