@@ -1,6 +1,5 @@
 pub mod Bytes
 pub mod FirstLine
-pub mod Parts
 pub mod Lengths
 pub mod Spelled
 pub mod Served

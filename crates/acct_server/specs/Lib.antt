@@ -4,7 +4,6 @@ pub mod Memory
 pub mod Whole
 pub mod Events
 pub mod Acts
-pub mod Replies
 pub mod Layouts
 pub mod Stubs
 pub mod Transcript

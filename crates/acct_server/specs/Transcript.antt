@@ -8,7 +8,7 @@ use Rattle.acct_server.specs.declared.acts.Act.TheVariants as act
 use Rattle.acct_server.specs.declared.stubs.WireError.{WireError}
 use Rattle.acct_server.specs.declared.stubs.WireError.TheVariants.{NotServed, BadStub}
 use Rattle.acct_server.specs.Stubs.{call_at, spell_reply}
-use Rattle.acct_server.specs.Replies.{fault_bytes, reply_bytes}
+use Rattle.rpc_session.specs.Replies.{fault_bytes, reply_bytes}
 
 -- the answer to a decoded call, by its reply
 unfoldable pub answer_bytes : ℕ → ℕ → ℕ → Reply → List ℕ

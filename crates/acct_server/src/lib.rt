@@ -1,9 +1,9 @@
 //! Replays of the account server: event lines in, and the bytes that the server sends out.
 //!
-//! It stands on `acct_machine` for the history and the replies, on `rpc_pdu` for PDUs, on `ndr_core` for stubs and on
-//! the kit's `hex`. The layer above uses [`replay`]: whatever bytes came, what was sent on each connection is the
-//! transcript of the acts of its stream with the replies of its calls in the one history, which is legal, and every
-//! status has its cause.
+//! It stands on `acct_machine` for the history and the replies, on `rpc_pdu` for PDUs, on `rpc_session` for the
+//! bytes of replies, on `ndr_core` for stubs and on the kit's `hex`. The layer above uses [`replay`]: whatever bytes
+//! came, what was sent on each connection is the transcript of the acts of its stream with the replies of its calls in
+//! the one history, which is legal, and every status has its cause.
 //!
 //! The way of a line: [`Event`] says what it asks for, the acts what its bytes ask for, the stubs which call that is,
 //! the machine enters it and replies, the replies are cut into responses and printed.
@@ -18,7 +18,6 @@ mod outside;
 mod peers;
 mod printing;
 mod replays;
-mod replies;
 mod session;
 mod status;
 mod stubs;

@@ -18,10 +18,10 @@ use crate::acts::{Act, Session, heard};
 use crate::events::{Event, LineError, event_of};
 use crate::peers::Peer;
 use crate::printing::{gone_line, out_line};
-use crate::replies::{fault_bytes, reply_bytes};
 use crate::stubs::{read_call, write_reply};
 use acct_base::is_same;
 use acct_machine::{Acted, Call, Config, Entry, Listener, Machine, Opened, Reply};
+use rpc_session::{fault_bytes, reply_bytes};
 use std::alloc::{AllocError, Global};
 use std::marker::Model;
 
@@ -55,7 +55,7 @@ fn answer_bytes(alloc: Global, asked: Asked, reply: &Reply) -> Result<Vec<u8>, A
     ensures { IfOk result (λ bytes. bytes.items ≡ answer_bytes asked.id asked.context asked.size reply.now) }
 {
     match reply {
-        Reply::Fault(status) => fault_bytes(alloc, asked.id, asked.context, *status),
+        Reply::Fault(status) => fault_bytes(asked.id, asked.context, *status).to_vec(alloc),
         Reply::Done { status, outs } => {
             let stub = write_reply(alloc, *status, outs)?;
             reply_bytes(alloc, asked.id, asked.context, asked.size, &stub)
