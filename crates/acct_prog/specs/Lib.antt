@@ -2,3 +2,4 @@ pub mod Words
 pub mod World
 pub mod Memory
 pub mod Commanded
+pub mod Statuses

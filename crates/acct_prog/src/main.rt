@@ -5,6 +5,9 @@
 //! words without a form take no part, and a replay leaves the history, the lines and the status of its events.
 #![tactic(auto)]
 
+ghost use Rattle.std.specs.Prelude.{◌≡◌};
+ghost use Rattle.acct_prog.specs.Statuses.{code_of, word_of};
+
 mod command;
 mod host;
 mod memory;
@@ -22,7 +25,10 @@ use std::{env, io};
 pub use take::TakeError;
 pub use world::World;
 
-fn code_of(status: Status) -> u8 {
+/// The exit code of a status.
+fn code_of(status: Status) -> u8
+    ensures { result ≡ code_of status }
+{
     match status {
         Status::Done => 0,
         Status::NoMemory => 1,
@@ -35,7 +41,10 @@ fn code_of(status: Status) -> u8 {
     }
 }
 
-fn word_of(status: Status) -> &'static str {
+/// Its word.
+fn word_of(status: Status) -> &'static str
+    ensures { result.now ≡ word_of status }
+{
     match status {
         Status::Done => "done",
         Status::NoMemory => "memory",

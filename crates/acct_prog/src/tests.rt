@@ -215,13 +215,201 @@ fn lines_end_in_both_ways(rt: HostRuntime) -> Result<(), Fail> {
     Ok(())
 }
 
+/// The parts of an element of a bind: SAMR version 1, LSARPC version 0, and NDR version 2.
+const SAMR: &str = "785734123412cdabef000123456789ac01000000";
+
+const LSARPC: &str = "785734123412cdabef000123456789ab00000000";
+
+const NDR: &str = "045d888aeb1cc9119fe808002b10486002000000";
+
+/// NDR64 (71710533-beba-4937-8319-b5dbef9ccc36, version 1), and the negotiation of features.
+const NDR64: &str = "33057171babe37498319b5dbef9ccc3601000000";
+
+const FEATURES: &str = "2c1cb76c12984045030000000000000001000000";
+
+const NO_SYNTAX: &str = "0000000000000000000000000000000000000000";
+
 #[test]
-fn a_fragmented_request_is_refused(rt: HostRuntime) -> Result<(), Fail> {
+fn three_contexts(rt: HostRuntime) -> Result<(), Fail> {
     let alloc = rt.alloc();
-    let fragment = "data 1 0500000110000000200000000200000008000000000039000000000000000002\n";
-    let left = run(alloc, &[OPEN, BIND, fragment])?;
-    assert_eq!(rt; left.status, Status::EventLine(3));
-    let wanted = joined(alloc, &[ACK_LINE, GONE_LINE])?;
+    let bind = joined(
+        alloc,
+        &[
+            "data 1 05000b0310000000a000000001000000b810b8100000000003000000",
+            "00000100",
+            SAMR,
+            NDR,
+            "01000100",
+            SAMR,
+            NDR64,
+            "02000100",
+            SAMR,
+            FEATURES,
+            "\n",
+        ],
+    )?;
+    let connect = "data 1 0500000310000000200000000200000008000000010039000000000000000002\n";
+    let left = run(alloc, &[OPEN, bind.as_str(), connect, END])?;
+    assert_eq!(rt; left.status, Status::Done);
+    let wanted = joined(
+        alloc,
+        &[
+            "out 1 05000c03100000006800000001000000b810b810010000000100000003000000",
+            "00000000",
+            NDR,
+            "02000200",
+            NO_SYNTAX,
+            "02000200",
+            NO_SYNTAX,
+            "\nout 1 0500032310000000200000000200000000000000010000000300011c00000000\n",
+            GONE_LINE,
+        ],
+    )?;
+    assert_eq!(rt; left.written.as_slice(), wanted.as_bytes());
+    Ok(())
+}
+
+/// The digits of a data line.
+fn digits_of(line: &str) -> &str {
+    line.strip_prefix("data 1 ").unwrap_or(line).trim_end()
+}
+
+fn data_line(alloc: Global, digits: &str) -> Result<String, Fail> {
+    joined(alloc, &["data 1 ", digits, "\n"])
+}
+
+#[test]
+fn a_stream_cut_anywhere(rt: HostRuntime) -> Result<(), Fail> {
+    let alloc = rt.alloc();
+    let stream = joined(
+        alloc,
+        &[digits_of(BIND), digits_of(CONNECT), digits_of(CLOSE)],
+    )?;
+    let wanted = joined(alloc, &[ACK_LINE, CONNECT_LINE, CLOSE_LINE, GONE_LINE])?;
+    let mut bytes = String::new(alloc);
+    let count = stream.len() / 2;
+    assert_eq!(rt; count, 148);
+    for place in 0..count {
+        let (front, back) = stream
+            .as_str()
+            .split_at_checked(2 * place)
+            .unwrap_or(("", ""));
+        let first = data_line(alloc, front)?;
+        let second = data_line(alloc, back)?;
+        let left = run(alloc, &[OPEN, first.as_str(), second.as_str(), END])?;
+        assert_eq!(rt; left.status, Status::Done);
+        assert_eq!(rt;
+            left.written.as_slice(),
+            wanted.as_bytes(),
+            "cut at {place}"
+        );
+        assert_eq!(rt; left.history.len(), 4);
+        let (byte, _) = back.split_at_checked(2).unwrap_or(("", ""));
+        bytes.push_str(data_line(alloc, byte)?.as_str())?;
+    }
+    let left = run(alloc, &[OPEN, bytes.as_str(), END])?;
+    assert_eq!(rt; left.status, Status::Done);
+    assert_eq!(rt; left.written.as_slice(), wanted.as_bytes());
+    Ok(())
+}
+
+#[test]
+fn fragments_and_a_second_first(rt: HostRuntime) -> Result<(), Fail> {
+    let alloc = rt.alloc();
+    let first_of_three = "data 1 05000001100000001c00000002000000040000000000390000000000\n";
+    let second_of_three = "data 1 05000000100000001c00000002000000040000000000390000000002\n";
+    let third_of_three = "data 1 050000021000000018000000020000000000000000003900\n";
+    let other_first = "data 1 05000001100000001c00000003000000040000000000390000000000\n";
+    let events = [
+        OPEN,
+        BIND,
+        first_of_three,
+        second_of_three,
+        third_of_three,
+        other_first,
+        other_first,
+        CLOSE,
+        END,
+    ];
+    let left = run(alloc, &events)?;
+    assert_eq!(rt; left.status, Status::Done);
+    let fault = "out 1 0500032310000000200000000300000000000000000000000b00011c00000000\n";
+    let wanted = joined(alloc, &[ACK_LINE, CONNECT_LINE, fault, "closed 1 180 7\n"])?;
+    assert_eq!(rt; left.written.as_slice(), wanted.as_bytes());
+    // What comes behind the refusal is ignored, and the connection is gone once.
+    assert_eq!(rt; left.history.len(), 3);
+    assert_eq!(rt; left.history[2], Entry::Gone { conn: 1 });
+    // An ended connection takes nothing more, though the server had closed it.
+    let after = run(alloc, &[OPEN, BIND, other_first, other_first, END, CLOSE])?;
+    assert_eq!(rt; after.status, Status::EventLine(6));
+    Ok(())
+}
+
+#[test]
+fn refused_binds(rt: HostRuntime) -> Result<(), Fail> {
+    let alloc = rt.alloc();
+    let verifier = joined(
+        alloc,
+        &[
+            "data 1 05000b03100000004800100001000000b810b810000000000100000000000100",
+            SAMR,
+            NDR,
+            "\n",
+        ],
+    )?;
+    let left = run(alloc, &[OPEN, verifier.as_str()])?;
+    assert_eq!(rt; left.status, Status::Done);
+    let wanted = "out 1 05000d031000000018000000010000000000010500000000\nclosed 1 10 5\n";
+    assert_eq!(rt; left.written.as_slice(), wanted.as_bytes());
+    let version = joined(
+        alloc,
+        &[
+            "data 1 04000b03100000004800000001000000b810b810000000000100000000000100",
+            SAMR,
+            NDR,
+            "\n",
+        ],
+    )?;
+    let left = run(alloc, &[OPEN, version.as_str()])?;
+    let wanted = "out 1 05000d031000000018000000010000000400010500000000\nclosed 1 0 1\n";
+    assert_eq!(rt; left.written.as_slice(), wanted.as_bytes());
+    assert_eq!(rt; left.history.len(), 2);
+    Ok(())
+}
+
+#[test]
+fn requests_that_are_no_calls(rt: HostRuntime) -> Result<(), Fail> {
+    let alloc = rt.alloc();
+    // Opnum 55, and a stub of 6 bytes for a connect: the connection goes on.
+    let not_served = "data 1 0500000310000000200000000200000008000000000037000000000000000002\n";
+    let bad_stub = "data 1 05000003100000001e000000020000000600000000003900000000000000\n";
+    let left = run(alloc, &[OPEN, BIND, not_served, bad_stub, CONNECT, END])?;
+    assert_eq!(rt; left.status, Status::Done);
+    let wanted = joined(
+        alloc,
+        &[
+            ACK_LINE,
+            "out 1 0500032310000000200000000200000000000000000000000200011c00000000\n",
+            "out 1 050003231000000020000000020000000000000000000000f706000000000000\n",
+            CONNECT_LINE,
+            GONE_LINE,
+        ],
+    )?;
+    assert_eq!(rt; left.written.as_slice(), wanted.as_bytes());
+    assert_eq!(rt; left.history.len(), 3);
+    // LSARPC is accepted, and none of its operations is served yet.
+    let bind = joined(
+        alloc,
+        &[
+            "data 1 05000b03100000004800000001000000b810b810000000000100000000000100",
+            LSARPC,
+            NDR,
+            "\n",
+        ],
+    )?;
+    let left = run(alloc, &[OPEN, bind.as_str(), CLOSE, END])?;
+    let fault = "out 1 0500032310000000200000000300000000000000000000000200011c00000000\n";
+    let wanted = joined(alloc, &[ACK_LINE, fault, GONE_LINE])?;
     assert_eq!(rt; left.written.as_slice(), wanted.as_bytes());
     assert_eq!(rt; left.history.len(), 2);
     Ok(())
@@ -283,7 +471,6 @@ fn other_lines_are_refused(rt: HostRuntime) -> Result<(), Fail> {
         "data 1 0\n",
         "data 1 0g\n",
         "data 1\n",
-        "data 1 \n",
         "open 1 a\n",
         "end 2\n",
     ];
@@ -294,6 +481,8 @@ fn other_lines_are_refused(rt: HostRuntime) -> Result<(), Fail> {
             "{line}"
         );
     }
+    // No digits are no bytes.
+    assert_eq!(rt; run(alloc, &[OPEN, "data 1 \n"])?.status, Status::Done);
     Ok(())
 }
 

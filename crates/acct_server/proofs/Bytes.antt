@@ -1,5 +1,5 @@
--- Bytes that a sink took one after another.
-use Rattle.std.proofs.Common.{◌≡◌, Result, Ok, Err, OnOk, OnErr, is_err, true, false, ◌==◌, length, ℕ, zero, suc, zero-add, arith, ◌∷◌, ◌+◌, List, ◌++◌, take, drop, Option, Some, None, refl, sym, ◌∙◌, ap, append_assoc, []}
+-- Bytes that a sink took one after another, and clauses of results.
+use Rattle.std.proofs.Common.{◌≡◌, Result, Ok, Err, OnOk, OnErr, IfOk, is_err, true, false, ◌==◌, length, ℕ, zero, suc, zero-add, arith, ◌∷◌, ◌+◌, List, ◌++◌, take, drop, Option, Some, None, refl, sym, ◌∙◌, ap, append_assoc, []}
 use Rattle.std.proofs.lemmas.List.{append-nil, take_all, take-append-drop, drop-drop, drop_all}
 use Rattle.std.proofs.lemmas.Bool.Decides.{nat_tests}
 use Rattle.std.specs.Io.KnownBytes.{Appends}
@@ -39,3 +39,23 @@ read-splits place n bytes rest is =
 
 pub none-behind : (place n : ℕ) (bytes rest : List ℕ) → rest ≡ drop place bytes → n ≡ 0 → rest ≡ [] → drop (place + n) bytes ≡ []
 none-behind place n bytes rest is no_more none = sym (drop-drop n place bytes) ∙ ap (λ (xs : List ℕ). drop n xs) (sym is ∙ none) ∙ drop_all n [] (omega arith)
+
+pub on-ok : {T E : Type 0} {P Q : Type 0} (r : Result T E) → (P → Q) → OnOk r P → OnOk r Q
+on-ok (Ok x) to h = to h
+on-ok (Err e) to h = tt
+
+pub on-err : {T E : Type 0} {Q : Type 0} (r : Result T E) → Q → OnErr r Q
+on-err (Ok x) q = tt
+on-err (Err e) q = q
+
+pub if-ok : {T E : Type 0} {P Q : T → Type 0} (r : Result T E) → ((x : T) → P x → Q x) → IfOk r P → IfOk r Q
+if-ok (Ok x) to h = to x h
+if-ok (Err e) to h = tt
+
+pub on-ok-2 : {T E : Type 0} {P Q R : Type 0} (r : Result T E) → (P → Q → R) → OnOk r P → OnOk r Q → OnOk r R
+on-ok-2 (Ok x) to p q = to p q
+on-ok-2 (Err e) to p q = tt
+
+pub err-to : {T E : Type 0} {P Q : Type 0} (r : Result T E) → (P → Q) → OnErr r P → OnErr r Q
+err-to (Ok x) to h = tt
+err-to (Err e) to h = to h

@@ -212,16 +212,34 @@ pub going-may-stop : (config : Config) (held now : Option (List ℕ)) (events : 
     → Going config held now events old number ahead → lines_of ahead ≡ line ∷ lines_of after → MayStop (λ verdicts. on_line old.machine.config verdicts (standing old) line) old new → Stops config held now events new.machine.history
 going-may-stop config held now events old new number ahead line after going lines (inl same) = going-stops config held now events old new number ahead going same
 going-may-stop config held now events old new number ahead line after going lines (inr enters) =
-    let e = enters.move.effect in
-    let others = trace_from config (verdict_in (new.machine.history ++ [])) (moved (standing old) enters.move) (number + 1 + 1) (lines_of after) in
+    let h = new.machine.history ++ [] in
+    let move = enters.move [] in
+    let e = move.effect in
+    let longer : h ≡ old.machine.history ++ enters.front = append-nil new.machine.history ∙ enters.history in
+    let from_here : trace_from config (verdict_in h) at_start 1 (lines_of events) ≡ behind going.done (trace_from config (verdict_in h) (standing old) (number + 1) (lines_of ahead)) =
+    subst (λ (x : List Entry). trace_from config (verdict_in x) at_start 1 (lines_of events) ≡ behind going.done (trace_from config (verdict_in x) (standing old) (number + 1) (lines_of ahead))) (sym longer) (going.rest enters.front) in
+    let known : on_line config (verdict_in h) (standing old) line ≡ Some move = subst (λ (c : Config). on_line c (verdict_in h) (standing old) line ≡ Some move) going.configured (enters.is []) in
+    let others = trace_from config (verdict_in h) (moved (standing old) move) (number + 1 + 1) (lines_of after) in
     let is : replayed config events new.machine.history ≡ behind (going.done ++ e ∷ []) others =
-    whole config events new.machine.history ∙ met config held now events old new number ahead line after going enters.move lines enters.is enters.history [] in
+    whole config events new.machine.history
+    ∙ from_here
+    ∙ ap (λ (ls : List (List ℕ)). behind going.done (trace_from config (verdict_in h) (standing old) (number + 1) ls)) lines
+    ∙ ap (λ (t : Trace). behind going.done t) (at_move config (verdict_in h) (standing old) (number + 1) line (lines_of after) move known)
+    ∙ behind-behind going.done (e ∷ []) others in
     let all : (replayed config events new.machine.history).effects ≡ going.done ++ e ∷ others.effects = ap (λ (t : Trace). t.effects) is ∙ append_assoc going.done (e ∷ []) others.effects in
-    let stands : new.machine.history ≡ entries_of (going.done ++ e ∷ []) = enters.history ∙ ap (λ (h : List Entry). h ++ e.entries) going.entries ∙ sym (entries-push going.done e) in
+    let left = enters.others [] ++ entries_of others.effects in
+    let stands : new.machine.history ≡ entries_of going.done ++ enters.front = enters.history ∙ ap (λ (x : List Entry). x ++ enters.front) going.entries in
+    let of_line : e.entries ++ entries_of others.effects ≡ enters.front ++ left =
+    ap (λ (x : List Entry). x ++ entries_of others.effects) (enters.begins []) ∙ append_assoc enters.front (enters.others []) (entries_of others.effects) in
     record {
-      later = entries_of others.effects;
+      later = left;
       written = length (output_of going.done);
-      entries = ap (λ (t : Trace). entries_of t.effects) is ∙ flat_map-append (λ x. x.entries) (going.done ++ e ∷ []) others.effects ∙ ap (λ (h : List Entry). h ++ entries_of others.effects) (sym stands);
+      entries =
+          ap (λ (es : List Effect). entries_of es) all
+          ∙ flat_map-append (λ x. x.entries) going.done (e ∷ others.effects)
+          ∙ ap (λ (x : List Entry). entries_of going.done ++ x) of_line
+          ∙ sym (append_assoc (entries_of going.done) enters.front left)
+          ∙ ap (λ (x : List Entry). x ++ left) (sym stands);
       lines = subst (λ (es : List Effect). Appends held now (take (length (output_of going.done)) (output_of es))) (sym all) (front_lines held now going.done (e ∷ others.effects) going.lines);
     }
 

@@ -7,4 +7,6 @@ pub mod ReplyStubs
 pub mod Moves
 pub mod Closing
 pub mod Going
+pub mod Placing
+pub mod Heard
 pub mod Transcribing

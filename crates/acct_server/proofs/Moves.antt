@@ -1,28 +1,33 @@
 -- What a run does is the move of its line.
-use Rattle.std.proofs.Common.{◌≡◌, ℕ, ◌+◌, ◌==◌, ◌&&◌, true, List, [], ◌∷◌, ◌++◌, length, Option, Some, Result, Ok, refl, sym, ◌∙◌, ap, subst, arith, slice_get, IfOk}
+use Rattle.std.proofs.Common.{◌≡◌, ℕ, ◌+◌, ◌==◌, ◌&&◌, true, List, [], ◌∷◌, ◌++◌, length, map, Option, Some, Result, Ok, Err, refl, sym, ◌∙◌, ap, subst, arith, append_assoc, slice_get, IfOk, inr}
 use Rattle.std.proofs.lemmas.Bool.Decides.{nat_tests}
 use Rattle.std.proofs.lemmas.List.{append-nil}
+use Rattle.std.proofs.lemmas.List.Concat.{flat_map-append}
+use Rattle.std.specs.List.{flat_map}
 use Rattle.acct_machine.specs.declared.calls.Call.{Call}
-use Rattle.acct_machine.specs.declared.entry.Verdict.{Verdict}
-use Rattle.acct_server.specs.declared.acts.Session.{Session}
+use Rattle.acct_machine.specs.declared.calls.Reply.{Reply}
 use Rattle.acct_machine.specs.declared.entry.Entry.{Entry}
 use Rattle.acct_machine.specs.declared.entry.Entry.TheVariants.{Opened, Called, Gone}
-use Rattle.acct_machine.specs.Shown.{Shown}
+use Rattle.acct_machine.specs.declared.entry.Verdict.{Verdict}
 use Rattle.acct_machine.specs.Machine.{with_entry, state_of}
+use Rattle.acct_machine.specs.Shown.{Shown}
 use Rattle.acct_machine.specs.Step.{acted}
-use Rattle.acct_machine.specs.declared.calls.Reply.{Reply}
-use Rattle.acct_server.specs.Transcript.{answer_bytes}
-use Rattle.acct_server.specs.declared.acts.Session.TheVariants.{Unbound}
+use Rattle.rpc_session.specs.declared.sessions.Act.{Act}
+use Rattle.rpc_session.specs.declared.sessions.Act.TheVariants as act
+use Rattle.rpc_session.specs.declared.hearing.Hearing.{Hearing}
+use Rattle.rpc_session.specs.Hearings.{on}
 use Rattle.acct_server.specs.declared.events.Event.{Event}
 use Rattle.acct_server.specs.declared.events.Event.TheVariants as event
 use Rattle.acct_server.specs.declared.peers.Peer.{Peer}
 use Rattle.acct_server.specs.declared.peers.Peer.TheVariants.{Open, Ended}
-use Rattle.acct_server.specs.Replayed.{Standing, Move, on_listener, on_open, listener_from, peer_of, with_peer, out_line, gone_line, IsGone, on_end, on_event, quiet, on_answer, on_request, on_call, verdict_in, verdict_of}
-use Rattle.acct_server.specs.Running.{Running, standing, Does, Enters, Refuses, MayStop}
+use Rattle.acct_server.specs.declared.stubs.WireError.{WireError}
+use Rattle.acct_server.specs.Transcript.{answer_bytes, undecoded_bytes}
+use Rattle.acct_server.specs.Replayed.{Standing, Move, Doing, Verdicts, Printed, Out, IsClosed, IsGone, on_listener, on_open, listener_from, nothing_heard, gone, number_of, peer_of, with_peer, line_bytes, on_end, on_event, quiet, on_heard, on_data, on_act, on_acts, on_request, on_call, prints_only, both, verdict_in, verdict_of}
+use Rattle.acct_server.specs.Running.{Running, standing, Acts, Began, Hears, Does, Refuses, MayStop}
 
 -- the move of an opening
 abbrev opening : Standing → ℕ → ℕ → Move
-opening s conn listener = record { effect = record { entries = Opened conn listener ∷ []; brings = []; prints = [] }; peers = s.peers ++ Open Unbound ∷ [] }
+opening s conn listener = record { effect = record { entries = Opened conn listener ∷ []; brings = []; prints = [] }; peers = s.peers ++ Open (nothing_heard conn) ∷ [] }
 
 opens : (s : Standing) (conn listener : ℕ) (found : Option ℕ) → found ≡ Some listener → length s.peers ≡ 0 → conn ≡ 1 → on_listener s conn found ≡ Some (opening s conn listener)
 opens s conn listener found is none first =
@@ -30,7 +35,7 @@ opens s conn listener found is none first =
     rw (is, passes) refl
 
 pub open-does : (old new : Running) (conn given listener : ℕ) (name output : List ℕ) → listener_from 0 name old.machine.config.listeners ≡ Some listener → length old.peers ≡ 0 → conn ≡ 1 → given ≡ conn
-    → new.machine ≡ with_entry old.machine (Opened given listener) → new.peers ≡ old.peers ++ Open Unbound ∷ [] → output ≡ [] → Does (λ verdicts. on_open old.machine.config (standing old) conn name) old output new
+    → new.machine ≡ with_entry old.machine (Opened given listener) → new.peers ≡ old.peers ++ Open (nothing_heard conn) ∷ [] → output ≡ [] → Does (λ verdicts. on_open old.machine.config (standing old) conn name) old output new
 open-does old new conn given listener name output found none first same machine peers printed = record {
   move = opening (standing old) conn listener;
   is = λ later. opens (standing old) conn listener (listener_from 0 name old.machine.config.listeners) found none first;
@@ -40,16 +45,41 @@ open-does old new conn given listener name output found none first same machine 
   prints = printed;
 }
 
--- the move of bytes that are answered at once
-pub answer-does : (old new : Running) (conn : ℕ) (bytes answer output : List ℕ) (session : Session) → new ≡ record old { peers = with_peer conn (Open session) old.peers } → output ≡ out_line conn answer
-    → Does (λ verdicts. Some (on_answer (standing old) conn bytes answer session)) old output new
-answer-does old new conn bytes answer output session same printed = record {
-  move = on_answer (standing old) conn bytes answer session;
-  is = λ later. refl;
-  history = ap (λ (r : Running). r.machine.history) same ∙ sym (append-nil old.machine.history);
-  peers = ap (λ (r : Running). r.peers) same;
-  config = ap (λ (r : Running). r.machine.config) same;
-  prints = printed ∙ sym (append-nil (out_line conn answer));
+-- ---- acts
+
+-- an act that makes no entry
+pub prints-act : (what : Verdicts → Doing) (before now : List Entry) (lines : List Printed) (old_lines new_lines : List ℕ) → ((verdicts : Verdicts) → what verdicts ≡ prints_only lines) → now ≡ before
+    → new_lines ≡ old_lines ++ flat_map line_bytes lines → Acts what before now old_lines new_lines
+prints-act what before now lines old_lines new_lines is same printed = record {
+  doing = prints_only lines;
+  is = λ later. is (verdict_in (now ++ later));
+  history = same ∙ sym (append-nil before);
+  prints = printed;
+}
+
+-- a request that is no decoded call was answered
+pub undecoded-acts : (before : List Entry) (conn id context size stub_size : ℕ) (r : Result Call WireError) (e : WireError) (old_lines new_lines : List ℕ) → r ≡ Err e → new_lines ≡ old_lines ++ line_bytes (Out conn (undecoded_bytes id context e))
+    → Acts (λ verdicts. on_request verdicts before conn id context size stub_size r) before before old_lines new_lines
+undecoded-acts before conn id context size stub_size r e old_lines new_lines is printed =
+    prints-act (λ verdicts. on_request verdicts before conn id context size stub_size r) before before (Out conn (undecoded_bytes id context e) ∷ []) old_lines new_lines
+    (λ verdicts. ap (λ (x : Result Call WireError). on_request verdicts before conn id context size stub_size x) is) refl (printed ∙ ap (λ (bs : List ℕ). old_lines ++ bs) (sym (append-nil _)))
+
+-- bytes were answered without a call
+pub answered-acts : (before : List Entry) (conn : ℕ) (bytes old_lines new_lines : List ℕ) → new_lines ≡ old_lines ++ line_bytes (Out conn bytes) → Acts (λ verdicts. on_act verdicts before conn (act.Answered bytes)) before before old_lines new_lines
+answered-acts before conn bytes old_lines new_lines printed =
+    prints-act (λ verdicts. on_act verdicts before conn (act.Answered bytes)) before before (Out conn bytes ∷ []) old_lines new_lines (λ verdicts. refl) refl (printed ∙ ap (λ (bs : List ℕ). old_lines ++ bs) (sym (append-nil _)))
+
+-- no act was done yet
+pub none-done : (conn : ℕ) (before : List Entry) (lines : List ℕ) → lines ≡ [] → Acts (λ verdicts. on_acts verdicts before conn []) before before [] lines
+none-done conn before lines none = record { doing = prints_only []; is = λ later. refl; history = sym (append-nil before); prints = none }
+
+-- memory was wanted before any entry
+pub begins-none : (what : Verdicts → Doing) (before now : List Entry) → now ≡ before → Began what before now
+begins-none what before now same = record {
+  front = [];
+  history = same ∙ sym (append-nil before);
+  others = λ later. (what (verdict_in (now ++ later))).entries;
+  begins = λ later. refl;
 }
 
 -- a verdict in its history
@@ -57,50 +87,168 @@ slice_get-here : (history later : List Entry) (e : Entry) → slice_get ((histor
 slice_get-here [] later e = refl
 slice_get-here (a ∷ history) later e = slice_get-here history later e
 
--- the move of a call that was entered
-pub call-is : (old : Running) (new later : List Entry) (conn : ℕ) (bytes : List ℕ) (id context size stub_size : ℕ) (session : Session) (call : Call) (verdict : Verdict) → new ≡ old.machine.history ++ Called conn call verdict stub_size ∷ []
-    → on_request (verdict_in (new ++ later)) (standing old) conn bytes id context size stub_size session (Ok call) ≡ Some (on_call (standing old) conn bytes id context size stub_size session call verdict)
-call-is old new later conn bytes id context size stub_size session call verdict is =
-    let at : verdict_in (new ++ later) (length old.machine.history) ≡ verdict =
-    ap (λ (h : List Entry). verdict_in (h ++ later) (length old.machine.history)) is ∙ ap (λ (o : Option Entry). verdict_of o) (slice_get-here old.machine.history later (Called conn call verdict stub_size)) in
-    ap (λ (v : Verdict). Some (on_call (standing old) conn bytes id context size stub_size session call v)) at
+-- what a call does that was entered
+call-is : (before now later : List Entry) (conn id context size stub_size : ℕ) (call : Call) (verdict : Verdict) → now ≡ before ++ Called conn call verdict stub_size ∷ []
+    → on_request (verdict_in (now ++ later)) before conn id context size stub_size (Ok call) ≡ on_call before conn id context size stub_size call verdict
+call-is before now later conn id context size stub_size call verdict is =
+    let at : verdict_in (now ++ later) (length before) ≡ verdict =
+    ap (λ (h : List Entry). verdict_in (h ++ later) (length before)) is ∙ ap (λ (o : Option Entry). verdict_of o) (slice_get-here before later (Called conn call verdict stub_size)) in
+    ap (λ (v : Verdict). on_call before conn id context size stub_size call v) at
 
 -- the entry of a call stands
-pub call-enters : (old new : Running) (conn : ℕ) (bytes : List ℕ) (id context size stub_size : ℕ) (session : Session) (call : Call) (verdict : Verdict) → new.machine ≡ with_entry old.machine (Called conn call verdict stub_size)
-    → Enters (λ verdicts. on_request verdicts (standing old) conn bytes id context size stub_size session (Ok call)) old new
-call-enters old new conn bytes id context size stub_size session call verdict is =
-    let history : new.machine.history ≡ old.machine.history ++ Called conn call verdict stub_size ∷ [] = ap (λ (m : Shown). m.history) is in record {
-      move = on_call (standing old) conn bytes id context size stub_size session call verdict;
-      is = λ later. call-is old new.machine.history later conn bytes id context size stub_size session call verdict history;
+pub call-began : (old now : Shown) (conn id context size stub_size : ℕ) (call : Call) (verdict : Verdict) → now ≡ with_entry old (Called conn call verdict stub_size)
+    → Began (λ verdicts. on_request verdicts old.history conn id context size stub_size (Ok call)) old.history now.history
+call-began old now conn id context size stub_size call verdict is =
+    let history : now.history ≡ old.history ++ Called conn call verdict stub_size ∷ [] = ap (λ (m : Shown). m.history) is in record {
+      front = Called conn call verdict stub_size ∷ [];
       history = history;
+      others = λ later. [];
+      begins = λ later. ap (λ (d : Doing). d.entries) (call-is old.history now.history later conn id context size stub_size call verdict history);
     }
 
--- the move of a call that was answered
-pub call-does : (old new : Running) (conn : ℕ) (bytes answer output : List ℕ) (id context size stub_size : ℕ) (session : Session) (call : Call) (verdict : Verdict) (reply : Reply)
-    → new.machine ≡ with_entry old.machine (Called conn call verdict stub_size) → new.peers ≡ with_peer conn (Open session) old.peers → reply ≡ (acted (state_of old.machine) conn call verdict).1
-    → answer ≡ answer_bytes id context size reply → output ≡ out_line conn answer → Does (λ verdicts. on_request verdicts (standing old) conn bytes id context size stub_size session (Ok call)) old output new
-call-does old new conn bytes answer output id context size stub_size session call verdict reply is peers replied answered printed =
-    let history : new.machine.history ≡ old.machine.history ++ Called conn call verdict stub_size ∷ [] = ap (λ (m : Shown). m.history) is in record {
-      move = on_call (standing old) conn bytes id context size stub_size session call verdict;
-      is = λ later. call-is old new.machine.history later conn bytes id context size stub_size session call verdict history;
+-- a call was answered
+pub call-acts : (old now : Shown) (conn id context size stub_size : ℕ) (call : Call) (verdict : Verdict) (reply : Reply) (answer old_lines new_lines : List ℕ) → now ≡ with_entry old (Called conn call verdict stub_size)
+    → reply ≡ (acted (state_of old) conn call verdict).1 → answer ≡ answer_bytes id context size reply → new_lines ≡ old_lines ++ line_bytes (Out conn answer)
+    → Acts (λ verdicts. on_request verdicts old.history conn id context size stub_size (Ok call)) old.history now.history old_lines new_lines
+call-acts old now conn id context size stub_size call verdict reply answer old_lines new_lines is replied answered printed =
+    let history : now.history ≡ old.history ++ Called conn call verdict stub_size ∷ [] = ap (λ (m : Shown). m.history) is in record {
+      doing = on_call old.history conn id context size stub_size call verdict;
+      is = λ later. call-is old.history now.history later conn id context size stub_size call verdict history;
       history = history;
-      peers = peers;
-      config = ap (λ (m : Shown). m.config) is;
-      prints = printed ∙ ap (λ (bs : List ℕ). out_line conn bs) (answered ∙ ap (λ (r : Reply). answer_bytes id context size r) replied) ∙ sym (append-nil _);
+      prints = printed ∙ ap (λ (bs : List ℕ). old_lines ++ line_bytes (Out conn bs)) (answered ∙ ap (λ (r : Reply). answer_bytes id context size r) replied) ∙ ap (λ (bs : List ℕ). old_lines ++ bs) (sym (append-nil _));
     }
+
+-- a refusal was answered
+pub close-acts : (old now : Shown) (conn place cause : ℕ) (bytes old_lines new_lines : List ℕ) → now ≡ with_entry old (Gone conn) → new_lines ≡ old_lines ++ (line_bytes (Out conn bytes) ++ line_bytes (IsClosed conn place cause))
+    → Acts (λ verdicts. on_act verdicts old.history conn (act.Closed place cause bytes)) old.history now.history old_lines new_lines
+close-acts old now conn place cause bytes old_lines new_lines is printed = record {
+  doing = record { entries = Gone conn ∷ []; prints = Out conn bytes ∷ IsClosed conn place cause ∷ [] };
+  is = λ later. refl;
+  history = ap (λ (m : Shown). m.history) is;
+  prints = printed ∙ ap (λ (bs : List ℕ). old_lines ++ (line_bytes (Out conn bytes) ++ bs)) (sym (append-nil (line_bytes (IsClosed conn place cause))));
+}
+
+-- what acts do one after the other, and then one more
+acts-both : (verdicts : Verdicts) (conn : ℕ) (first : List Act) (history : List Entry) (second : List Act)
+    → on_acts verdicts history conn (first ++ second) ≡ both (on_acts verdicts history conn first) (on_acts verdicts (history ++ (on_acts verdicts history conn first).entries) conn second)
+acts-both verdicts conn [] history second = ap (λ (h : List Entry). on_acts verdicts h conn second) (sym (append-nil history))
+acts-both verdicts conn (a ∷ first) history second =
+    let one = on_act verdicts history conn a in
+    let now = history ++ one.entries in
+    let others = on_acts verdicts now conn first in
+    let last = λ (h : List Entry). on_acts verdicts h conn second in
+    ap (λ (d : Doing). both one d) (acts-both verdicts conn first now second)
+    ∙ ap (λ (h : List Entry). both one (both others (last h))) (append_assoc history one.entries others.entries)
+    ∙ both-assoc one others (last (history ++ (one.entries ++ others.entries)))
+  where
+    both-assoc : (x y z : Doing) → both x (both y z) ≡ both (both x y) z
+    both-assoc x y z = λ i. record { entries = sym (append_assoc x.entries y.entries z.entries) i; prints = sym (append_assoc x.prints y.prints z.prints) i }
+
+one-act : (verdicts : Verdicts) (history : List Entry) (conn : ℕ) (a : Act) → on_acts verdicts history conn (a ∷ []) ≡ on_act verdicts history conn a
+one-act verdicts history conn a =
+    let d = on_act verdicts history conn a in λ i. record { entries = append-nil d.entries i; prints = append-nil d.prints i }
+
+-- what the acts before do, by whatever entries the history goes on, and one act more
+next-is : (conn : ℕ) (first : List Act) (a : Act) (before mid now : List Entry) (d e : Doing) → ((later : List Entry) → on_acts (verdict_in (mid ++ later)) before conn first ≡ d) → mid ≡ before ++ d.entries → (more : List Entry) → now ≡ mid ++ more
+    → (later : List Entry) → on_act (verdict_in (now ++ later)) mid conn a ≡ e → on_acts (verdict_in (now ++ later)) before conn (first ++ a ∷ []) ≡ both d e
+next-is conn first a before mid now d e is stands more longer later last =
+    let v = verdict_in (now ++ later) in
+    let earlier : on_acts v before conn first ≡ d =
+    subst (λ (h : List Entry). on_acts (verdict_in h) before conn first ≡ d) (sym (ap (λ (h : List Entry). h ++ later) longer ∙ append_assoc mid more later)) (is (more ++ later)) in
+    let from_mid : before ++ (on_acts v before conn first).entries ≡ mid = ap (λ (x : Doing). before ++ x.entries) earlier ∙ sym stands in
+    acts-both v conn first before (a ∷ [])
+    ∙ ap (λ (h : List Entry). both (on_acts v before conn first) (on_acts v h conn (a ∷ []))) from_mid
+    ∙ ap (λ (x : Doing). both x (on_acts v mid conn (a ∷ []))) earlier
+    ∙ ap (λ (x : Doing). both d x) (one-act v mid conn a ∙ last)
+
+pub acts-go-on : (conn : ℕ) (first : List Act) (a : Act) (before mid now : List Entry) (old_lines mid_lines new_lines : List ℕ) → Acts (λ verdicts. on_acts verdicts before conn first) before mid old_lines mid_lines
+    → Acts (λ verdicts. on_act verdicts mid conn a) mid now mid_lines new_lines → Acts (λ verdicts. on_acts verdicts before conn (first ++ a ∷ [])) before now old_lines new_lines
+acts-go-on conn first a before mid now old_lines mid_lines new_lines done next = record {
+  doing = both done.doing next.doing;
+  is = λ later. next-is conn first a before mid now done.doing next.doing done.is done.history next.doing.entries next.history later (next.is later);
+  history = next.history ∙ ap (λ (h : List Entry). h ++ next.doing.entries) done.history ∙ append_assoc before done.doing.entries next.doing.entries;
+  prints =
+      next.prints
+      ∙ ap (λ (bs : List ℕ). bs ++ flat_map line_bytes next.doing.prints) done.prints
+      ∙ append_assoc old_lines (flat_map line_bytes done.doing.prints) (flat_map line_bytes next.doing.prints)
+      ∙ ap (λ (bs : List ℕ). old_lines ++ bs) (sym (flat_map-append line_bytes done.doing.prints next.doing.prints));
+}
+
+-- memory was wanted at an act behind others, and more acts come behind it
+pub acts-stop : (conn : ℕ) (first : List Act) (a : Act) (rest : List Act) (before mid now : List Entry) (old_lines mid_lines : List ℕ) → Acts (λ verdicts. on_acts verdicts before conn first) before mid old_lines mid_lines
+    → Began (λ verdicts. on_act verdicts mid conn a) mid now → Began (λ verdicts. on_acts verdicts before conn (first ++ a ∷ rest)) before now
+acts-stop conn first a rest before mid now old_lines mid_lines done began =
+    let v = λ (later : List Entry). verdict_in (now ++ later) in
+    let last = λ (later : List Entry). on_act (v later) mid conn a in
+    let so_far = λ (later : List Entry). both done.doing (last later) in
+    let behind = λ (later : List Entry). (on_acts (v later) (before ++ (on_acts (v later) before conn (first ++ a ∷ [])).entries) conn rest).entries in
+    let all : (later : List Entry) → (on_acts (v later) before conn (first ++ a ∷ rest)).entries ≡ (done.doing.entries ++ (last later).entries) ++ behind later =
+    λ later.
+    ap (λ (as' : List Act). (on_acts (v later) before conn as').entries) (sym (append_assoc first (a ∷ []) rest))
+    ∙ ap (λ (d : Doing). d.entries) (acts-both (v later) conn (first ++ a ∷ []) before rest)
+    ∙ ap (λ (d : Doing). d.entries ++ behind later) (next-is conn first a before mid now done.doing (last later) done.is done.history began.front began.history later refl) in
+    record {
+      front = done.doing.entries ++ began.front;
+      history = began.history ∙ ap (λ (h : List Entry). h ++ began.front) done.history ∙ append_assoc before done.doing.entries began.front;
+      others = λ later. began.others later ++ behind later;
+      begins = λ later.
+          all later
+          ∙ ap (λ (es : List Entry). (done.doing.entries ++ es) ++ behind later) (began.begins later)
+          ∙ append_assoc done.doing.entries (began.front ++ began.others later) (behind later)
+          ∙ ap (λ (es : List Entry). done.doing.entries ++ es) (append_assoc began.front (began.others later) (behind later))
+          ∙ sym (append_assoc done.doing.entries began.front (began.others later ++ behind later));
+    }
+
+-- ---- lines
+
+-- the move of bytes that were heard, once their acts were done
+pub data-does : (old mid new : Running) (conn : ℕ) (bytes output : List ℕ) (as' : List Act) → Hears conn bytes old as' mid → Acts (λ verdicts. on_acts verdicts mid.machine.history conn as') mid.machine.history new.machine.history [] output
+    → new.peers ≡ mid.peers → new.machine.config ≡ mid.machine.config → Does (λ verdicts. on_data verdicts (standing old) conn bytes (peer_of conn old.peers)) old output new
+data-does old mid new conn bytes output as' hears done peers config =
+    let heard = on hears.hearing bytes in
+    let same : mid.machine.history ≡ old.machine.history = ap (λ (r : Running). r.machine.history) hears.left in
+    let d = done.doing in
+    let is : (later : List Entry) → on_acts (verdict_in (new.machine.history ++ later)) old.machine.history conn heard.acts ≡ d =
+    λ later. ap (λ (h : List Entry). on_acts (verdict_in (new.machine.history ++ later)) h conn heard.acts) (sym same) ∙ ap (λ (x : List Act). on_acts (verdict_in (new.machine.history ++ later)) mid.machine.history conn x) (sym hears.completed) ∙ done.is later in
+    record {
+      move = record { effect = record { entries = d.entries; brings = (conn, bytes) ∷ []; prints = d.prints }; peers = with_peer conn (Open heard.leaves) old.peers };
+      is = λ later.
+          ap (λ (p : Option Peer). on_data (verdict_in (new.machine.history ++ later)) (standing old) conn bytes p) hears.stood
+          ∙ ap (λ (x : Doing). Some (record { effect = record { entries = x.entries; brings = (conn, bytes) ∷ []; prints = x.prints }; peers = with_peer conn (Open heard.leaves) old.peers })) (is later);
+      history = done.history ∙ ap (λ (h : List Entry). h ++ d.entries) same;
+      peers = peers ∙ ap (λ (r : Running). r.peers) hears.left;
+      config = config ∙ ap (λ (r : Running). r.machine.config) hears.left;
+      prints = done.prints;
+    }
+
+pub data-stops : (old mid new : Running) (conn : ℕ) (bytes : List ℕ) (as' : List Act) → Hears conn bytes old as' mid → Began (λ verdicts. on_acts verdicts mid.machine.history conn as') mid.machine.history new.machine.history
+    → MayStop (λ verdicts. on_data verdicts (standing old) conn bytes (peer_of conn old.peers)) old new
+data-stops old mid new conn bytes as' hears began =
+    let heard = on hears.hearing bytes in
+    let same : mid.machine.history ≡ old.machine.history = ap (λ (r : Running). r.machine.history) hears.left in
+    inr (record {
+      front = began.front;
+      history = began.history ∙ ap (λ (h : List Entry). h ++ began.front) same;
+      move = λ later. on_heard (verdict_in (new.machine.history ++ later)) (standing old) conn bytes heard;
+      is = λ later. ap (λ (p : Option Peer). on_data (verdict_in (new.machine.history ++ later)) (standing old) conn bytes p) hears.stood;
+      others = began.others;
+      begins = λ later.
+          ap (λ (h : List Entry). (on_acts (verdict_in (new.machine.history ++ later)) h conn heard.acts).entries) (sym same)
+          ∙ ap (λ (x : List Act). (on_acts (verdict_in (new.machine.history ++ later)) mid.machine.history conn x).entries) (sym hears.completed)
+          ∙ began.begins later;
+    })
 
 -- the move of an end
-pub end-does : (old new : Running) (conn : ℕ) (session : Session) (output : List ℕ) → peer_of conn old.peers ≡ Some (Open session) → new.machine ≡ with_entry old.machine (Gone conn) → new.peers ≡ with_peer conn Ended old.peers
-    → output ≡ gone_line conn → Does (λ verdicts. on_end (standing old) conn (peer_of conn old.peers)) old output new
-end-does old new conn session output stands machine peers printed =
-    let move : Move = record { effect = record { entries = Gone conn ∷ []; brings = []; prints = IsGone conn ∷ [] }; peers = with_peer conn Ended old.peers } in record {
-      move = move;
-      is = λ later. ap (λ (o : Option Peer). on_end (standing old) conn o) stands;
-      history = ap (λ (m : Shown). m.history) machine;
-      peers = peers;
-      config = ap (λ (m : Shown). m.config) machine;
-      prints = printed ∙ sym (append-nil (gone_line conn));
-    }
+pub end-does : (old new : Running) (conn : ℕ) (h : Hearing) (output : List ℕ) → peer_of conn old.peers ≡ Some (Open h) → new.machine.history ≡ old.machine.history ++ map Gone (number_of conn (Some (Open h))) → new.machine.config ≡ old.machine.config
+    → new.peers ≡ with_peer conn Ended old.peers → output ≡ flat_map line_bytes (map IsGone (number_of conn (Some (Open h)))) → Does (λ verdicts. on_end (standing old) conn (peer_of conn old.peers)) old output new
+end-does old new conn h output stands history config peers printed = record {
+  move = record { effect = gone (number_of conn (Some (Open h))); peers = with_peer conn Ended old.peers };
+  is = λ later. ap (λ (o : Option Peer). on_end (standing old) conn o) stands;
+  history = history;
+  peers = peers;
+  config = config;
+  prints = printed;
+}
 
 -- the move of a line that says nothing
 pub nothing-does : (run : Running) (e : Event) (output : List ℕ) → e ≡ event.Nothing → output ≡ [] → Does (λ verdicts. on_event run.machine.config verdicts (standing run) (Some e)) run output run

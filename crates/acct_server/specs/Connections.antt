@@ -4,15 +4,16 @@ use Rattle.std.specs.List.{flat_map}
 use Rattle.acct_machine.specs.declared.config.Config.{Config}
 use Rattle.acct_machine.specs.declared.entry.Entry.{Entry}
 use Rattle.acct_machine.specs.Legal.{replies, calls_of}
-use Rattle.acct_server.specs.Acts.{acts}
+use Rattle.rpc_session.specs.Acts.{acts}
 use Rattle.acct_server.specs.Transcript.{transcript, decoded_calls}
-use Rattle.acct_server.specs.Replayed.{Effect, Printed, Out, IsGone, replayed}
+use Rattle.acct_server.specs.Replayed.{Effect, Printed, Out, IsClosed, IsGone, replayed}
 
 abbrev pub on_connection : ℕ → ℕ × List ℕ → List ℕ
 on_connection k (conn, bytes) = if conn == k then bytes else []
 
 abbrev pub sent_by_line : ℕ → Printed → List ℕ
 sent_by_line k (Out conn bytes) = if conn == k then bytes else []
+sent_by_line k (IsClosed conn place cause) = []
 sent_by_line k (IsGone conn) = []
 
 abbrev pub brought : ℕ → Effect → List ℕ

@@ -1,5 +1,5 @@
 -- The lines of an event file, and what each of them says.
-use Rattle.std.specs.Prelude.{ℕ, ◌+◌, ◌-◌, ◌*◌, ◌^◌, ◌==◌, Bool, false, ◌&&◌, not, List, [], ◌∷◌, length, codes, Option, Some, None, Result, Ok, Err, if◌then◌else◌, nat_lt, nat_le}
+use Rattle.std.specs.Prelude.{ℕ, ◌+◌, ◌-◌, ◌*◌, ◌^◌, ◌≤◌, ◌==◌, Bool, false, ◌&&◌, not, List, [], ◌∷◌, length, codes, Option, Some, None, Result, Ok, Err, if◌then◌else◌, nat_lt, nat_le}
 use Rattle.std.specs.List.{before_first, after_first, position_or_len}
 use Rattle.std.specs.Str.{bytes_eq}
 use Rattle.hex.specs.Hex.{decode_of}
@@ -78,3 +78,10 @@ of_command (Some (command, rest)) = if bytes_eq command (codes "end") then ends 
 unfoldable pub event_of : List ℕ → Option Event
 event_of [] = Some Nothing
 event_of (b ∷ line) = if b == 35 then Some Nothing else of_command (parted (b ∷ line))
+
+-- data has at most so many bytes
+abbrev pub DataFits : ℕ → Event → Type 0
+DataFits most Nothing = Unit {0}
+DataFits most (Open conn listener) = Unit {0}
+DataFits most (Data conn bytes) = length bytes ≤ most
+DataFits most (End conn) = Unit {0}

@@ -3,7 +3,6 @@ pub mod Ends
 pub mod Memory
 pub mod Whole
 pub mod Events
-pub mod Acts
 pub mod Layouts
 pub mod Stubs
 pub mod Transcript

@@ -1,5 +1,5 @@
 -- What a replay of event lines leaves: the entries of the history, the lines that it prints, and the status.
-use Rattle.std.specs.Prelude.{ℕ, zero, suc, ◌+◌, ◌==◌, ◌&&◌, List, [], ◌∷◌, ◌++◌, length, codes, map, Option, Some, None, Result, Ok, Err, slice_get, slice_set, if◌then◌else◌}
+use Rattle.std.specs.Prelude.{ℕ, zero, suc, ◌+◌, ◌==◌, Bool, false, ◌&&◌, List, [], ◌∷◌, ◌++◌, length, codes, map, Option, Some, None, Result, Ok, Err, slice_get, slice_set, if◌then◌else◌}
 use Rattle.std.specs.Fmt.{decimal}
 use Rattle.std.specs.List.{flat_map}
 use Rattle.std.specs.Str.{bytes_eq}
@@ -13,10 +13,12 @@ use Rattle.acct_machine.specs.declared.entry.Entry.{Entry}
 use Rattle.acct_machine.specs.declared.entry.Entry.TheVariants.{Opened, Called, Gone}
 use Rattle.acct_machine.specs.State.{nothing_open}
 use Rattle.acct_machine.specs.Step.{state_after, acted}
-use Rattle.acct_server.specs.declared.acts.Act.{Act}
-use Rattle.acct_server.specs.declared.acts.Act.TheVariants as act
-use Rattle.acct_server.specs.declared.acts.Session.{Session}
-use Rattle.acct_server.specs.declared.acts.Session.TheVariants.{Unbound}
+use Rattle.rpc_session.specs.declared.sessions.Act.{Act}
+use Rattle.rpc_session.specs.declared.sessions.Act.TheVariants as act
+use Rattle.rpc_session.specs.declared.sessions.Session.TheVariants.{Unbound}
+use Rattle.rpc_session.specs.declared.hearing.Hearing.{Hearing}
+use Rattle.rpc_session.specs.declared.hearing.Hearing.TheVariants.{Going}
+use Rattle.rpc_session.specs.Hearings.{Heard, on, is_going}
 use Rattle.acct_server.specs.declared.events.Event.{Event}
 use Rattle.acct_server.specs.declared.events.Event.TheVariants as event
 use Rattle.acct_server.specs.declared.peers.Peer.{Peer}
@@ -24,26 +26,31 @@ use Rattle.acct_server.specs.declared.peers.Peer.TheVariants.{Open, Ended}
 use Rattle.acct_server.specs.declared.stubs.WireError.{WireError}
 use Rattle.acct_server.specs.declared.status.Status.{Status}
 use Rattle.acct_server.specs.declared.status.Status.TheVariants.{Done, EventLine}
-use Rattle.acct_server.specs.Acts.{heard}
 use Rattle.acct_server.specs.Events.{event_of, lines_of}
-use Rattle.acct_server.specs.Stubs.{call_at}
-use Rattle.acct_server.specs.Transcript.{answer_bytes}
+use Rattle.acct_server.specs.Stubs.{call_on}
+use Rattle.acct_server.specs.Transcript.{answer_bytes, undecoded_bytes}
 
 -- ---- lines that are printed
 
--- bytes that are sent on a connection, and a connection that is gone
+-- bytes that are sent on a connection; a connection that the server closes, with the place in its stream and the cause of the PDU that it
+-- refused; and a connection that is gone
 pub data Printed : Type 0 where
   Out : ℕ → List ℕ → Printed
+  IsClosed : ℕ → ℕ → ℕ → Printed
   IsGone : ℕ → Printed
 
 unfoldable pub out_line : ℕ → List ℕ → List ℕ
 out_line conn bytes = codes "out " ++ decimal conn ++ 32 ∷ encode_lower bytes ++ 10 ∷ []
+
+unfoldable pub closed_line : ℕ → ℕ → ℕ → List ℕ
+closed_line conn place cause = codes "closed " ++ decimal conn ++ 32 ∷ decimal place ++ 32 ∷ decimal cause ++ 10 ∷ []
 
 unfoldable pub gone_line : ℕ → List ℕ
 gone_line conn = codes "gone " ++ decimal conn ++ 10 ∷ []
 
 abbrev pub line_bytes : Printed → List ℕ
 line_bytes (Out conn bytes) = out_line conn bytes
+line_bytes (IsClosed conn place cause) = closed_line conn place cause
 line_bytes (IsGone conn) = gone_line conn
 
 -- ---- what a line of the events does
@@ -82,6 +89,10 @@ with_peer (suc place) peer peers = slice_set peers place peer
 abbrev pub quiet : List Peer → Move
 quiet peers = record { effect = record { entries = []; brings = []; prints = [] }; peers = peers }
 
+-- a connection of which no byte has come
+abbrev pub nothing_heard : ℕ → Hearing
+nothing_heard conn = Going conn 0 Unbound []
+
 -- the place of the listener of a name
 abbrev pub listener_from : ℕ → List ℕ → List Listener → Option ℕ
 listener_from n name [] = None
@@ -92,55 +103,82 @@ abbrev pub on_listener : Standing → ℕ → Option ℕ → Option Move
 on_listener s conn None = None
 on_listener s conn (Some listener) =
     if (length s.peers == 0) && (conn == length s.peers + 1)
-    then Some (record { effect = record { entries = Opened conn listener ∷ []; brings = []; prints = [] }; peers = s.peers ++ Open Unbound ∷ [] })
+    then Some (record { effect = record { entries = Opened conn listener ∷ []; brings = []; prints = [] }; peers = s.peers ++ Open (nothing_heard conn) ∷ [] })
     else None
 
 abbrev pub on_open : Config → Standing → ℕ → List ℕ → Option Move
 on_open config s conn name = on_listener s conn (listener_from 0 name config.listeners)
 
--- bytes that are answered at once
-abbrev pub on_answer : Standing → ℕ → List ℕ → List ℕ → Session → Move
-on_answer s conn bytes answer session = record {
-  effect = record { entries = []; brings = (conn, bytes) ∷ []; prints = Out conn answer ∷ [] };
-  peers = with_peer conn (Open session) s.peers;
-}
+-- ---- what the bytes on a connection do
 
--- bytes that make a call, with its verdict
-abbrev pub on_call : Standing → ℕ → List ℕ → ℕ → ℕ → ℕ → ℕ → Session → Call → Verdict → Move
-on_call s conn bytes id context size stub_size session call verdict =
-    let reply = (acted (state_after nothing_open s.history) conn call verdict).1 in record {
-      effect = record {
-        entries = Called conn call verdict stub_size ∷ [];
-        brings = (conn, bytes) ∷ [];
-        prints = Out conn (answer_bytes id context size reply) ∷ [];
-      };
-      peers = with_peer conn (Open session) s.peers;
+-- the entries that an act makes, and the lines that it prints
+pub record Doing : Type 0 where
+  pub entries : List Entry
+  pub prints : List Printed
+
+abbrev pub prints_only : List Printed → Doing
+prints_only lines = record { entries = []; prints = lines }
+
+abbrev pub both : Doing → Doing → Doing
+both first second = record { entries = first.entries ++ second.entries; prints = first.prints ++ second.prints }
+
+-- a call, with its verdict
+abbrev pub on_call : List Entry → ℕ → ℕ → ℕ → ℕ → ℕ → Call → Verdict → Doing
+on_call history conn id context size stub_size call verdict =
+    let reply = (acted (state_after nothing_open history) conn call verdict).1 in
+    record { entries = Called conn call verdict stub_size ∷ []; prints = Out conn (answer_bytes id context size reply) ∷ [] }
+
+-- a request that is no decoded call is answered outside the history
+abbrev pub on_request : Verdicts → List Entry → ℕ → ℕ → ℕ → ℕ → ℕ → Result Call WireError → Doing
+on_request verdicts history conn id context size stub_size (Err e) = prints_only (Out conn (undecoded_bytes id context e) ∷ [])
+on_request verdicts history conn id context size stub_size (Ok call) = on_call history conn id context size stub_size call (verdicts (length history))
+
+-- after a refusal the connection is gone
+abbrev pub on_act : Verdicts → List Entry → ℕ → Act → Doing
+on_act verdicts history conn (act.Answered bytes) = prints_only (Out conn bytes ∷ [])
+on_act verdicts history conn (act.Call id context face opnum size stub) = on_request verdicts history conn id context size (length stub) (call_on face opnum stub)
+on_act verdicts history conn (act.Closed place cause bytes) = record { entries = Gone conn ∷ []; prints = Out conn bytes ∷ IsClosed conn place cause ∷ [] }
+
+-- one act after the other, each with the history that those before it left
+abbrev pub on_acts : Verdicts → List Entry → ℕ → List Act → Doing
+on_acts verdicts history conn [] = prints_only []
+on_acts verdicts history conn (a ∷ acts) =
+    let first = on_act verdicts history conn a in both first (on_acts verdicts (history ++ first.entries) conn acts)
+
+-- the acts that the bytes complete; a connection that the server closed hears nothing more
+abbrev pub on_heard : Verdicts → Standing → ℕ → List ℕ → Heard → Move
+on_heard verdicts s conn bytes heard =
+    let doing = on_acts verdicts s.history conn heard.acts in record {
+      effect = record { entries = doing.entries; brings = (conn, bytes) ∷ []; prints = doing.prints };
+      peers = with_peer conn (Open heard.leaves) s.peers;
     }
-
--- as far as is built, a request that is no decoded call has no effect
-abbrev pub on_request : Verdicts → Standing → ℕ → List ℕ → ℕ → ℕ → ℕ → ℕ → Session → Result Call WireError → Option Move
-on_request verdicts s conn bytes id context size stub_size session (Err e) = None
-on_request verdicts s conn bytes id context size stub_size session (Ok call) =
-    Some (on_call s conn bytes id context size stub_size session call (verdicts (length s.history)))
-
-abbrev pub on_act : Verdicts → Standing → ℕ → List ℕ → Option (Act × Session) → Option Move
-on_act verdicts s conn bytes None = None
-on_act verdicts s conn bytes (Some (act.Answered answer, session)) = Some (on_answer s conn bytes answer session)
-on_act verdicts s conn bytes (Some (act.Call id context face opnum size stub, session)) =
-    on_request verdicts s conn bytes id context size (length stub) session (call_at opnum stub)
 
 abbrev pub on_data : Verdicts → Standing → ℕ → List ℕ → Option Peer → Option Move
 on_data verdicts s conn bytes None = None
 on_data verdicts s conn bytes (Some Ended) = None
-on_data verdicts s conn bytes (Some (Open session)) = on_act verdicts s conn bytes (heard conn session bytes)
+on_data verdicts s conn bytes (Some (Open hearing)) = Some (on_heard verdicts s conn bytes (on hearing bytes))
+
+-- ---- the end of a connection
+
+-- it was opened, and neither ended nor closed by the server
+abbrev pub is_served : Option Peer → Bool
+is_served None = false
+is_served (Some (Open hearing)) = is_going hearing
+is_served (Some Ended) = false
+
+-- the number of a connection, where it is served
+abbrev pub number_of : ℕ → Option Peer → List ℕ
+number_of conn peer = if is_served peer then conn ∷ [] else []
+
+abbrev pub gone : List ℕ → Effect
+gone conns = record { entries = map (λ conn. Gone conn) conns; brings = []; prints = map (λ conn. IsGone conn) conns }
 
 abbrev pub on_end : Standing → ℕ → Option Peer → Option Move
 on_end s conn None = None
 on_end s conn (Some Ended) = None
-on_end s conn (Some (Open session)) = Some (record {
-  effect = record { entries = Gone conn ∷ []; brings = []; prints = IsGone conn ∷ [] };
-  peers = with_peer conn Ended s.peers;
-})
+on_end s conn (Some (Open hearing)) = Some (record { effect = gone (number_of conn (Some (Open hearing))); peers = with_peer conn Ended s.peers })
+
+-- ---- each line
 
 -- what an event does, if its condition holds
 abbrev pub on_event : Config → Verdicts → Standing → Option Event → Option Move
@@ -155,24 +193,14 @@ on_line config verdicts s line = on_event config verdicts s (event_of line)
 
 -- ---- the end
 
--- the number of a connection, where it is open
-abbrev pub number_of : ℕ → Option Peer → List ℕ
-number_of conn None = []
-number_of conn (Some (Open session)) = conn ∷ []
-number_of conn (Some Ended) = []
+-- the numbers of the connections that are served, of which the first has this number
+abbrev pub served_from : ℕ → List Peer → List ℕ
+served_from n [] = []
+served_from n (peer ∷ peers) = number_of n (Some peer) ++ served_from (n + 1) peers
 
--- the numbers of the connections that are open, of which the first has this number
-abbrev pub open_from : ℕ → List Peer → List ℕ
-open_from n [] = []
-open_from n (peer ∷ peers) = number_of n (Some peer) ++ open_from (n + 1) peers
-
--- those that are still open are ended in ascending order
+-- those that are still served are ended in ascending order
 abbrev pub ending : Standing → Effect
-ending s = let open_ones = open_from 1 s.peers in record {
-  entries = map (λ conn. Gone conn) open_ones;
-  brings = [];
-  prints = map (λ conn. IsGone conn) open_ones;
-}
+ending s = gone (served_from 1 s.peers)
 
 -- ---- the whole
 

@@ -1,13 +1,16 @@
 -- A run of event lines so far, and what a line does to it.
-use Rattle.std.specs.Prelude.{◌≡◌, ℕ, ◌^◌, ◌<◌, Bool, true, false, List, ◌++◌, ◌⊎◌, Option, Some, None, length}
+use Rattle.std.specs.Prelude.{◌≡◌, ℕ, ◌^◌, ◌<◌, ◌≤◌, ◌+◌, Bool, true, false, List, ◌++◌, ◌⊎◌, Option, Some, None, length}
 use Rattle.std.specs.List.{flat_map}
 use Rattle.acct_machine.specs.declared.entry.Entry.{Entry}
 use Rattle.acct_machine.specs.Shown.{Shown}
 use Rattle.acct_machine.specs.State.{State, is_live}
 use Rattle.acct_server.specs.declared.peers.Peer.{Peer}
 use Rattle.acct_server.specs.declared.peers.Peer.TheVariants.{Open, Ended}
-use Rattle.acct_server.specs.Acts.{has_size}
-use Rattle.acct_server.specs.Replayed.{Standing, Move, Verdicts, peer_of, verdict_in, line_bytes, ending}
+use Rattle.rpc_session.specs.declared.hearing.Hearing.{Hearing}
+use Rattle.rpc_session.specs.declared.sessions.Act.{Act}
+use Rattle.rpc_session.specs.Hearings.{on}
+use Rattle.rpc_session.specs.Acts.{acts, is_refusal, IsSoFar}
+use Rattle.acct_server.specs.Replayed.{Standing, Move, Doing, Verdicts, peer_of, with_peer, is_served, verdict_in, line_bytes, ending}
 
 -- the machine, and the connections
 pub record Running : Type 0 where
@@ -17,22 +20,47 @@ pub record Running : Type 0 where
 abbrev pub standing : Running → Standing
 standing run = record { history = run.machine.history; peers = run.peers }
 
-abbrev pub is_open : Option Peer → Bool
-is_open None = false
-is_open (Some (Open session)) = true
-is_open (Some Ended) = false
-
-abbrev pub is_sized : Option Peer → Bool
-is_sized None = true
-is_sized (Some (Open session)) = has_size session
-is_sized (Some Ended) = true
-
--- The machine has as many connections, those that are open are live there, and each knows a size of fragments within the limits.
+-- The machine has as many connections, and those that are served are live there.
 pub record Ties (peers : List Peer) (s : State) : Type 0 where
   pub count : length s.conns ≡ length peers
   pub bounded : length peers < 2 ^ 32
-  pub lives : (conn : ℕ) → is_open (peer_of conn peers) ≡ true → is_live conn s.conns ≡ true
-  pub sized : (conn : ℕ) → is_sized (peer_of conn peers) ≡ true
+  pub lives : (conn : ℕ) → is_served (peer_of conn peers) ≡ true → is_live conn s.conns ≡ true
+
+-- what a connection that wasn't ended has heard is a stream of at most so many bytes
+abbrev pub HasHeard : ℕ → ℕ → Option Peer → Type 0
+HasHeard most conn None = Unit {0}
+HasHeard most conn (Some (Open hearing)) = (stream : List ℕ) × IsSoFar conn stream hearing (acts conn stream) × (length stream ≤ most)
+HasHeard most conn (Some Ended) = Unit {0}
+
+-- and so it is with every connection
+abbrev pub AllHeard : ℕ → List Peer → Type 0
+AllHeard most peers = (conn : ℕ) → HasHeard most conn (peer_of conn peers)
+
+-- Acts were done, by whatever entries the history goes on: their entries stand, and their lines were added.
+pub record Acts (what : Verdicts → Doing) (before now : List Entry) (old_lines new_lines : List ℕ) : Type 0 where
+  pub doing : Doing
+  pub is : (later : List Entry) → what (verdict_in (now ++ later)) ≡ doing
+  pub history : now ≡ before ++ doing.entries
+  pub prints : new_lines ≡ old_lines ++ flat_map line_bytes doing.prints
+
+-- after want of memory the first of their entries stand
+pub record Began (what : Verdicts → Doing) (before now : List Entry) : Type 0 where
+  pub front : List Entry
+  pub history : now ≡ before ++ front
+  pub others : List Entry → List Entry
+  pub begins : (later : List Entry) → (what (verdict_in (now ++ later))).entries ≡ front ++ others later
+
+-- A piece of a connection's stream was heard.
+pub record Hears (conn : ℕ) (piece : List ℕ) (old : Running) (acts : List Act) (new : Running) : Type 0 where
+  pub hearing : Hearing
+  pub stood : peer_of conn old.peers ≡ Some (Open hearing)
+  pub completed : acts ≡ (on hearing piece).acts
+  pub left : new ≡ record old { peers = with_peer conn (Open (on hearing piece).leaves) old.peers }
+
+-- an act at a place that is a refusal is the last one, and then the connection isn't served any more
+abbrev pub IsClosing : Bool → ℕ → ℕ → Option Act → Type 0
+IsClosing served i count None = Unit {0}
+IsClosing served i count (Some act) = is_refusal act ≡ true → (i + 1 ≡ count) × (served ≡ false)
 
 -- The run goes on by the move that a line makes, by whatever entries the history goes on.
 pub record Does (what : Verdicts → Option Move) (old : Running) (output : List ℕ) (new : Running) : Type 0 where
@@ -48,13 +76,16 @@ pub record Refuses (what : Verdicts → Option Move) (old new : Running) : Type 
   pub none : (verdicts : Verdicts) → what verdicts ≡ None
   pub same : new ≡ old
 
--- the entries of a line stand
+-- the first of the entries of a line stand
 pub record Enters (what : Verdicts → Option Move) (old new : Running) : Type 0 where
-  pub move : Move
-  pub is : (later : List Entry) → what (verdict_in (new.machine.history ++ later)) ≡ Some move
-  pub history : new.machine.history ≡ old.machine.history ++ move.effect.entries
+  pub front : List Entry
+  pub history : new.machine.history ≡ old.machine.history ++ front
+  pub move : List Entry → Move
+  pub is : (later : List Entry) → what (verdict_in (new.machine.history ++ later)) ≡ Some (move later)
+  pub others : List Entry → List Entry
+  pub begins : (later : List Entry) → (move later).effect.entries ≡ front ++ others later
 
--- after want of memory the entries of a line stand, or none does
+-- after want of memory the first of the entries of a line stand, or none does
 abbrev pub MayStop : (Verdicts → Option Move) → Running → Running → Type 0
 MayStop what old new = (new.machine.history ≡ old.machine.history) ⊎ Enters what old new
 

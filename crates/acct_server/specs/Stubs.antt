@@ -10,7 +10,8 @@ use Rattle.ndr_core.specs.Shapes.{u32, given, chain, made, ignored}
 use Rattle.acct_machine.specs.declared.calls.Args.{Args}
 use Rattle.acct_machine.specs.declared.calls.Args.TheVariants as args
 use Rattle.acct_machine.specs.declared.calls.Call.{Call}
-use Rattle.acct_machine.specs.declared.calls.Face.TheVariants.{Samr}
+use Rattle.acct_machine.specs.declared.calls.Face.{Face}
+use Rattle.acct_machine.specs.declared.calls.Face.TheVariants.{Samr, Lsa}
 use Rattle.acct_machine.specs.declared.calls.Handle.{Handle}
 use Rattle.acct_machine.specs.declared.calls.Outs.TheVariants as outs
 use Rattle.acct_machine.specs.declared.calls.Reply.{Reply}
@@ -71,6 +72,11 @@ call_in opnum (Some row) stub = call_read opnum ((arguments row).read (start stu
 -- the call that the stub spells, or why it spells none
 unfoldable pub call_at : ℕ → List ℕ → Result Call WireError
 call_at opnum stub = call_in opnum (operation_of opnum) stub
+
+-- the call of a request; of LSARPC no operation is served yet
+abbrev pub call_on : Face → ℕ → List ℕ → Result Call WireError
+call_on Samr opnum stub = call_at opnum stub
+call_on Lsa opnum stub = Err (NotServed opnum)
 
 -- ---- replies: the handle and the status
 

@@ -3,11 +3,11 @@ use Rattle.std.specs.Prelude.{ℕ, List, [], ◌∷◌, ◌++◌, length, Result
 use Rattle.acct_machine.specs.declared.calls.Call.{Call}
 use Rattle.acct_machine.specs.declared.calls.Reply.{Reply}
 use Rattle.acct_machine.specs.declared.calls.Reply.TheVariants.{Fault, Done}
-use Rattle.acct_server.specs.declared.acts.Act.{Act}
-use Rattle.acct_server.specs.declared.acts.Act.TheVariants as act
+use Rattle.rpc_session.specs.declared.sessions.Act.{Act}
+use Rattle.rpc_session.specs.declared.sessions.Act.TheVariants as act
 use Rattle.acct_server.specs.declared.stubs.WireError.{WireError}
 use Rattle.acct_server.specs.declared.stubs.WireError.TheVariants.{NotServed, BadStub}
-use Rattle.acct_server.specs.Stubs.{call_at, spell_reply}
+use Rattle.acct_server.specs.Stubs.{call_on, spell_reply}
 use Rattle.rpc_session.specs.Replies.{fault_bytes, reply_bytes}
 
 -- the answer to a decoded call, by its reply
@@ -16,13 +16,13 @@ answer_bytes id context size (Fault status) = fault_bytes id context status
 answer_bytes id context size (Done status outs) = reply_bytes id context size (spell_reply (Done status outs))
 
 -- the answer to a request that is no decoded call: operation range (0x1C010002), or bad stub data (0x6F7)
-abbrev pub refusal_bytes : ℕ → ℕ → WireError → List ℕ
-refusal_bytes id context (NotServed opnum) = fault_bytes id context 0x1C010002
-refusal_bytes id context (BadStub place) = fault_bytes id context 0x000006F7
+abbrev pub undecoded_bytes : ℕ → ℕ → WireError → List ℕ
+undecoded_bytes id context (NotServed opnum) = fault_bytes id context 0x1C010002
+undecoded_bytes id context (BadStub place) = fault_bytes id context 0x000006F7
 
 -- a decoded call takes the next reply; where there is none, nothing more is written
 abbrev pub answered : ℕ → ℕ → ℕ → Result Call WireError → List Reply → (List Reply → List ℕ) → List ℕ
-answered id context size (Err e) replies later = refusal_bytes id context e ++ later replies
+answered id context size (Err e) replies later = undecoded_bytes id context e ++ later replies
 answered id context size (Ok call) [] later = []
 answered id context size (Ok call) (reply ∷ replies) later = answer_bytes id context size reply ++ later replies
 
@@ -30,7 +30,8 @@ abbrev pub transcript : List Act → List Reply → List ℕ
 transcript [] replies = []
 transcript (act.Answered bytes ∷ acts) replies = bytes ++ transcript acts replies
 transcript (act.Call id context face opnum size stub ∷ acts) replies =
-    answered id context size (call_at opnum stub) replies (λ others. transcript acts others)
+    answered id context size (call_on face opnum stub) replies (λ others. transcript acts others)
+transcript (act.Closed place cause bytes ∷ acts) replies = bytes ++ transcript acts replies
 
 -- the decoded calls among acts in order, each with the length of its stub
 abbrev pub with_call : Result Call WireError → ℕ → List (Call × ℕ) → List (Call × ℕ)
@@ -40,4 +41,5 @@ with_call (Ok call) size others = (call, size) ∷ others
 abbrev pub decoded_calls : List Act → List (Call × ℕ)
 decoded_calls [] = []
 decoded_calls (act.Answered bytes ∷ acts) = decoded_calls acts
-decoded_calls (act.Call id context face opnum size stub ∷ acts) = with_call (call_at opnum stub) (length stub) (decoded_calls acts)
+decoded_calls (act.Call id context face opnum size stub ∷ acts) = with_call (call_on face opnum stub) (length stub) (decoded_calls acts)
+decoded_calls (act.Closed place cause bytes ∷ acts) = decoded_calls acts

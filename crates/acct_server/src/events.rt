@@ -1,8 +1,8 @@
 // What the lines of an event file say.
-ghost use Rattle.std.specs.Prelude.{◌≡◌, ◌+◌, ◌≤◌, Some, None, Ok, Err, IfOk, MatchOption, length, drop, option_map};
+ghost use Rattle.std.specs.Prelude.{◌≡◌, ◌+◌, ◌≤◌, Some, None, Ok, Err, IfOk, IfSome, ◌<◌, MatchOption, length, drop, option_map};
 ghost use Rattle.std.specs.List.{position_or_len};
 ghost use Rattle.acct_server.specs.declared.events.LineError.TheVariants.{NoMemory, Refused};
-ghost use Rattle.acct_server.specs.Events.{is_space, parted, decimal_from, number_of, brings, of_two, of_command, event_of};
+ghost use Rattle.acct_server.specs.Events.{is_space, parted, decimal_from, number_of, brings, of_two, of_command, event_of, DataFits};
 ghost use Rattle.hex.specs.Hex.{decode_of};
 
 use acct_base::{Seq, is_same, rest_of};
@@ -40,7 +40,8 @@ impl From<AllocError> for LineError {
 
 // What stands before the first space, and what stands behind it.
 fn parted(bytes: &[u8]) -> Option<(&[u8], &[u8])>
-    ensures { option_map (λ parts. (parts.0.now, parts.1.now)) result ≡ parted bytes.now }
+    ensures value { option_map (λ parts. (parts.0.now, parts.1.now)) result ≡ parted bytes.now }
+    ensures shorter { IfSome result (λ parts. length parts.1.now < length bytes.now) }
 {
     for i in 0..bytes.len() {
         if bytes[i] == b' ' {
@@ -84,6 +85,7 @@ fn number_of(word: &[u8]) -> Option<u32>
 // What a data line brings.
 fn data_of(alloc: Global, conn: u32, digits: &[u8]) -> Result<Event, LineError>
     ensures found { IfOk result (λ event. brings (Some conn) (decode_of digits.now) ≡ Some event) }
+    ensures short { IfOk result (DataFits (length digits.now)) }
     ensures refused { result ≡ Err Refused → brings (Some conn) (decode_of digits.now) ≡ None }
 {
     match hex::decode(alloc, digits) {
@@ -99,6 +101,7 @@ fn data_of(alloc: Global, conn: u32, digits: &[u8]) -> Result<Event, LineError>
 // An opening or data, behind the command.
 fn of_two(alloc: Global, command: &[u8], word: &[u8], rest: &[u8]) -> Result<Event, LineError>
     ensures found { IfOk result (λ event. of_two command.now (Some (word.now, rest.now)) ≡ Some event) }
+    ensures short { IfOk result (DataFits (length rest.now)) }
     ensures refused { result ≡ Err Refused → of_two command.now (Some (word.now, rest.now)) ≡ None }
 {
     let Some(conn) = number_of(word) else {
@@ -119,6 +122,7 @@ fn of_two(alloc: Global, command: &[u8], word: &[u8], rest: &[u8]) -> Result<Eve
 // A line with a command.
 fn of_command(alloc: Global, line: &[u8]) -> Result<Event, LineError>
     ensures found { IfOk result (λ event. of_command (parted line.now) ≡ Some event) }
+    ensures short { IfOk result (DataFits (length line.now)) }
     ensures refused { result ≡ Err Refused → of_command (parted line.now) ≡ None }
 {
     let Some((command, rest)) = parted(line) else {
@@ -140,6 +144,7 @@ fn of_command(alloc: Global, line: &[u8]) -> Result<Event, LineError>
 #[tactic(auto, unfolding(crate::specs::Events::event_of))]
 pub fn event_of(alloc: Global, line: &[u8]) -> Result<Event, LineError>
     ensures found { IfOk result (λ event. event_of line.now ≡ Some event) }
+    ensures short { IfOk result (DataFits (length line.now)) }
     ensures refused { result ≡ Err Refused → event_of line.now ≡ None }
 {
     if line.is_empty() || line[0] == b'#' {

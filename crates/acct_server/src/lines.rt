@@ -1,5 +1,5 @@
 // The lines of an event file.
-ghost use Rattle.std.specs.Prelude.{◌≡◌, ◌∷◌, ◌<◌, length};
+ghost use Rattle.std.specs.Prelude.{◌≡◌, ◌∷◌, ◌+◌, ◌≤◌, ◌<◌, length};
 ghost use Rattle.acct_server.specs.Events.{lines_of};
 
 use acct_base::rest_of;
@@ -9,6 +9,7 @@ pub fn next_line(bytes: &[u8]) -> (&[u8], &[u8])
     requires { 0 < length bytes.now }
     ensures lines { lines_of bytes.now ≡ result.0.now ∷ lines_of result.1.now }
     ensures shorter { length result.1.now < length bytes.now }
+    ensures parts { length result.0.now + length result.1.now ≤ length bytes.now }
 {
     let mut at = 0;
     while at < bytes.len() {

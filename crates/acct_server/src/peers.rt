@@ -1,9 +1,11 @@
 // The connections of a replay.
-use crate::acts::Session;
+use rpc_session::Bytes2Acts;
 
 /// How a connection of a replay stands. The first has number 1.
-#[derive(Clone, Copy, Debug, PartialEq, Eq)]
+#[derive(Debug, Drop)]
 pub enum Peer {
-    Open(Session),
+    /// It was opened and not ended. The server may have closed it: then nothing more is heard.
+    Open(Bytes2Acts),
+    /// It was ended.
     Ended,
 }

@@ -2,11 +2,11 @@
 ghost use Rattle.std.specs.Prelude.{◌≡◌, ◌++◌, ◌∷◌, [], codes, IfOk, OnOk};
 ghost use Rattle.std.specs.String.{string_bytes};
 ghost use Rattle.std.specs.Fmt.{decimal};
-ghost use Rattle.acct_server.specs.Replayed.{out_line, gone_line};
+ghost use Rattle.acct_server.specs.Replayed.{out_line, closed_line, gone_line};
 
 use std::alloc::{AllocError, Global};
 
-fn push_number(line: &mut Vec<u8>, alloc: Global, number: u32) -> Result<(), AllocError>
+fn push_number(line: &mut Vec<u8>, alloc: Global, number: u64) -> Result<(), AllocError>
     ensures { OnOk result (line.new.items ≡ line.old.items ++ decimal number) }
 {
     let digits = format!(in alloc; "{number}")?;
@@ -22,9 +22,26 @@ pub fn out_line(alloc: Global, conn: u32, bytes: &[u8]) -> Result<Vec<u8>, Alloc
     let digits = hex::encode(alloc, bytes)?;
     let mut line = Vec::new(alloc);
     line.extend_from_slice(b"out ")?;
-    push_number(&mut line, alloc, conn)?;
+    push_number(&mut line, alloc, conn as u64)?;
     line.push(b' ')?;
     line.extend_from_slice(digits.as_bytes())?;
+    line.push(b'\n')?;
+    Ok(line)
+}
+
+/// The line that says that the server closed a connection, with the place in its stream and the cause of the PDU that
+/// it refused.
+#[tactic(auto, unfolding(crate::specs::Replayed::closed_line))]
+pub fn closed_line(alloc: Global, conn: u32, place: u64, cause: u8) -> Result<Vec<u8>, AllocError>
+    ensures { IfOk result (λ line. line.items ≡ closed_line conn place cause) }
+{
+    let mut line = Vec::new(alloc);
+    line.extend_from_slice(b"closed ")?;
+    push_number(&mut line, alloc, conn as u64)?;
+    line.push(b' ')?;
+    push_number(&mut line, alloc, place)?;
+    line.push(b' ')?;
+    push_number(&mut line, alloc, cause as u64)?;
     line.push(b'\n')?;
     Ok(line)
 }
@@ -36,7 +53,7 @@ pub fn gone_line(alloc: Global, conn: u32) -> Result<Vec<u8>, AllocError>
 {
     let mut line = Vec::new(alloc);
     line.extend_from_slice(b"gone ")?;
-    push_number(&mut line, alloc, conn)?;
+    push_number(&mut line, alloc, conn as u64)?;
     line.push(b'\n')?;
     Ok(line)
 }

@@ -17,7 +17,7 @@ use crate::writing::write_all;
 use crate::{Sink, Source, Status, WholeError, read_whole};
 use acct_base::Seq;
 use acct_machine::Entry;
-use rpc_pdu::front_is_stable;
+use rpc_session::streams_are_cut_anywhere;
 use std::alloc::Global;
 
 /// What a replay leaves: how it ended, and the history of its machine.
@@ -172,7 +172,7 @@ pub fn replay<S: Source, T: Sink>(
         Ok(built) => {
             let mut run = Run::new(alloc, built);
             let status = run_lines(alloc, &mut run, &bytes, out);
-            front_is_stable();
+            streams_are_cut_anywhere();
             Replayed {
                 status,
                 history: Seq::from_vec(run.into_history()),

@@ -1,27 +1,32 @@
 // A machine with the connections of a replay.
-ghost use Rattle.std.specs.Prelude.{◌≡◌, ◌≢◌, ◌⊎◌, ◌+◌, ◌≤◌, ◌<◌, ◌^◌, true, [], ◌++◌, length, Some, None, Ok, Err, OnOk, OnErr, IfOk, IfSome, IsSome, slice_get, slice_set, map};
+ghost use Rattle.std.specs.Prelude.{◌≡◌, ◌≢◌, ◌⊎◌, ◌+◌, ◌≤◌, ◌<◌, ◌^◌, ℕ, true, false, [], ◌++◌, ◌∷◌, if◌then◌else◌, length, take, Some, None, Ok, Err, OnOk, OnErr, IfOk, IfSome, IsSome, slice_get, slice_set, map, All, option_map};
 ghost use Rattle.std.specs.List.{flat_map};
 ghost use Rattle.acct_machine.specs.Calls.{IsSpelled};
 ghost use Rattle.acct_machine.specs.State.{is_live};
 ghost use Rattle.acct_machine.specs.Machine.{state_of, with_entry};
 ghost use Rattle.acct_machine.specs.Legal.{Legal};
 ghost use Rattle.acct_machine.specs.declared.entry.Entry.TheVariants.{Gone};
+ghost use Rattle.rpc_session.specs.declared.hearing.Hearing.{Hearing};
+ghost use Rattle.rpc_session.specs.Hearings.{HasRoom, on, is_going};
+ghost use Rattle.rpc_session.specs.Acts.{IsFit, is_refusal};
 ghost use Rattle.acct_server.specs.declared.events.LineError.TheVariants.{NoMemory, Refused};
 ghost use Rattle.acct_server.specs.declared.peers.Peer.TheVariants as peer;
-ghost use Rattle.acct_server.specs.Acts.{has_size, StubFits, SizeFits};
-ghost use Rattle.acct_server.specs.Stubs.{call_at};
-ghost use Rattle.acct_server.specs.Transcript.{answer_bytes};
-ghost use Rattle.acct_server.specs.Replayed.{peer_of, with_peer, number_of, open_from, ending, line_bytes, IsGone, listener_from, on_open, on_answer, on_call, on_request, on_act, on_data, on_end, on_event, on_line};
-ghost use Rattle.acct_server.specs.Running.{standing, is_open, is_sized, Does, Refuses, MayStop, Closes};
+ghost use Rattle.acct_server.specs.Stubs.{call_on};
+ghost use Rattle.acct_server.specs.Events.{DataFits};
+ghost use Rattle.acct_server.specs.Transcript.{answer_bytes, undecoded_bytes};
+ghost use Rattle.acct_server.specs.Replayed.{Out, IsClosed, IsGone, peer_of, with_peer, nothing_heard, is_served, number_of, served_from, ending, line_bytes, listener_from, on_open, on_request, on_act, on_acts, on_data, on_end, on_event, on_line};
+ghost use Rattle.acct_server.specs.Running.{standing, AllHeard, Acts, Began, Hears, IsClosing, Does, Refuses, MayStop, Closes};
 
-use crate::acts::{Act, Session, heard};
 use crate::events::{Event, LineError, event_of};
 use crate::peers::Peer;
-use crate::printing::{gone_line, out_line};
-use crate::stubs::{read_call, write_reply};
+use crate::printing::{closed_line, gone_line, out_line};
+use crate::stubs::{WireError, read_request, write_reply};
 use acct_base::is_same;
-use acct_machine::{Acted, Call, Config, Entry, Listener, Machine, Opened, Reply};
-use rpc_session::{fault_bytes, reply_bytes};
+use acct_machine::{Acted, Call, Config, Entry, Face, Listener, Machine, Opened, Reply};
+use rpc_session::{
+    Act, Bytes2Acts, calls_fit, fault_bytes, refusals_are_last, reply_bytes, room_by_length,
+    streams_are_cut_anywhere,
+};
 use std::alloc::{AllocError, Global};
 use std::marker::Model;
 
@@ -63,39 +68,90 @@ fn answer_bytes(alloc: Global, asked: Asked, reply: &Reply) -> Result<Vec<u8>, A
     }
 }
 
-// How a connection stands, by its number.
-fn peer_at(peers: &[Peer], conn: u32) -> Option<Peer>
-    ensures { result ≡ peer_of conn peers.now }
+// The answer to a request that is no decoded call.
+fn undecoded_bytes(id: u32, context: u16, error: WireError) -> [u8; 32]
+    ensures { result ≡ undecoded_bytes id context error }
 {
-    if conn == 0 {
-        return None;
+    match error {
+        WireError::NotServed(_) => fault_bytes(id, context, 0x1C010002),
+        WireError::BadStub(_) => fault_bytes(id, context, 0x000006F7),
     }
-    peers.get(conn as usize - 1).copied()
 }
 
-// The line of a connection, if it is open.
-fn push_gone(lines: &mut Vec<u8>, alloc: Global, conn: u32, peer: Peer) -> Result<(), AllocError>
-    ensures { OnOk result (lines.new.items ≡ lines.old.items ++ flat_map line_bytes (map IsGone (number_of conn (Some peer)))) }
+// Adds the line that brings bytes sent on a connection.
+fn push_out(lines: &mut Vec<u8>, alloc: Global, conn: u32, bytes: &[u8]) -> Result<(), AllocError>
+    ensures { OnOk result (lines.new.items ≡ lines.old.items ++ line_bytes (Out conn bytes.now)) }
+{
+    lines.extend_from_slice(&out_line(alloc, conn, bytes)?)?;
+    Ok(())
+}
+
+// Adds the lines of a refusal.
+fn push_closed(
+    lines: &mut Vec<u8>,
+    alloc: Global,
+    conn: u32,
+    place: u64,
+    cause: u8,
+    bytes: &[u8],
+) -> Result<(), AllocError>
+    ensures { OnOk result (lines.new.items ≡ lines.old.items ++ (line_bytes (Out conn bytes.now) ++ line_bytes (IsClosed conn place cause))) }
+{
+    push_out(lines, alloc, conn, bytes)?;
+    lines.extend_from_slice(&closed_line(alloc, conn, place, cause)?)?;
+    Ok(())
+}
+
+// Whether a connection was opened, and neither ended nor closed by the server.
+fn is_served(peer: &Peer) -> bool
+    ensures { result ≡ is_served (Some peer.now) }
 {
     match peer {
-        Peer::Open(_) => {
-            lines.extend_from_slice(&gone_line(alloc, conn)?)?;
-            Ok(())
-        }
-        Peer::Ended => Ok(()),
+        Peer::Open(stream) => stream.is_going(),
+        Peer::Ended => false,
     }
 }
 
-// The lines of the connections that are open.
+// The line of a connection, if it is served.
+fn push_gone(lines: &mut Vec<u8>, alloc: Global, conn: u32, served: bool) -> Result<(), AllocError>
+    ensures { OnOk result (lines.new.items ≡ lines.old.items ++ flat_map line_bytes (map IsGone (if served then conn ∷ [] else []))) }
+{
+    if served {
+        lines.extend_from_slice(&gone_line(alloc, conn)?)?;
+    }
+    Ok(())
+}
+
+// The lines of the connections that are served.
 fn gone_lines(alloc: Global, peers: &[Peer]) -> Result<Vec<u8>, AllocError>
     requires { length peers.now < 2 ^ 32 }
-    ensures { IfOk result (λ lines. lines.items ≡ flat_map line_bytes (map IsGone (open_from 1 peers.now))) }
+    ensures { IfOk result (λ lines. lines.items ≡ flat_map line_bytes (map IsGone (served_from 1 peers.now))) }
 {
     let mut lines = Vec::new(alloc);
     for i in 0..peers.len() {
-        push_gone(&mut lines, alloc, i as u32 + 1, peers[i])?;
+        push_gone(&mut lines, alloc, i as u32 + 1, is_served(&peers[i]))?;
     }
     Ok(lines)
+}
+
+// A connection of which nothing has come.
+#[tactic(auto, unfolding(rpc_session::specs::Hearings::hear, rpc_session::specs::Hearings::hear_in))]
+fn new_peer(alloc: Global, conn: u32) -> Peer
+    ensures { result ≡ peer.Open (nothing_heard conn) }
+{
+    Peer::Open(Bytes2Acts::new(alloc, conn))
+}
+
+// The acts that a piece of a connection's stream completes.
+fn heard(alloc: Global, stream: &mut Bytes2Acts, piece: &[u8]) -> Result<Vec<Act>, AllocError>
+    requires { HasRoom stream.old piece.now }
+    ensures acts { IfOk result (λ acts. acts.items ≡ (on stream.old piece.now).acts) }
+    ensures leaves { OnOk result (stream.new ≡ (on stream.old piece.now).leaves) }
+    ensures err { OnErr result (is_going stream.new ≡ false) }
+{
+    let mut acts = Vec::new(alloc);
+    stream.feed(alloc, piece, &mut acts)?;
+    Ok(acts)
 }
 
 /// A machine, and how each connection of the replay stands.
@@ -139,12 +195,13 @@ impl Run {
     }
 
     // How a connection stands, by its number.
-    fn peer(&self, conn: u32) -> Option<Peer>
-        ensures value { result ≡ peer_of conn self.now.peers }
-        ensures live { is_open result ≡ true → is_live conn (state_of self.now.machine).conns ≡ true }
-        ensures sized { is_sized result ≡ true }
+    fn peer(&self, conn: u32) -> Option<&Peer>
+        ensures value { option_map (λ peer. peer.now) result ≡ peer_of conn self.now.peers }
     {
-        peer_at(&self.peers, conn)
+        if conn == 0 {
+            return None;
+        }
+        self.peers.get(conn as usize - 1)
     }
 
     fn open(&mut self, alloc: Global, conn: u32, name: &[u8]) -> Result<Vec<u8>, LineError>
@@ -152,6 +209,7 @@ impl Run {
         ensures refused { result ≡ Err Refused → Refuses (λ verdicts. on_open self.old.machine.config (standing self.old) conn name.now) self.old self.new }
         ensures config { self.new.machine.config ≡ self.old.machine.config }
         ensures memory { result ≡ Err NoMemory → self.new.machine.history ≡ self.old.machine.history }
+        ensures hears { (most : ℕ) → AllHeard most self.old.peers → OnOk result (AllHeard most self.new.peers) }
     {
         let listeners = self.machine.config().listeners.as_slice();
         let Some(listener) = listener_place(listeners, name) else {
@@ -162,7 +220,7 @@ impl Run {
         }
         self.peers.reserve(1)?;
         match self.machine.open_conn(listener) {
-            Opened::Conn(_) => match self.peers.push(Peer::Open(Session::Unbound)) {
+            Opened::Conn(_) => match self.peers.push(new_peer(alloc, conn)) {
                 Ok(()) => Ok(Vec::new(alloc)),
                 Err(_) => unreachable!(),
             },
@@ -170,96 +228,31 @@ impl Run {
         }
     }
 
-    // Puts a connection that has a number in another standing.
-    fn set_peer(&mut self, conn: u32, peer: Peer)
-        requires known { IsSome (peer_of conn self.old.peers) }
-        requires sized { is_sized (Some peer) ≡ true }
-        requires open { is_open (Some peer) ≡ true → is_live conn (state_of self.old.machine).conns ≡ true }
-        ensures { self.new ≡ record self.old { peers = with_peer conn peer self.old.peers } }
-    {
-        self.peers[conn as usize - 1] = peer;
-    }
-
-    // Bytes that are answered at once.
-    fn answer(
-        &mut self,
-        alloc: Global,
-        conn: u32,
-        bytes: &[u8],
-        answer: &[u8],
-        session: Session,
-    ) -> Result<Vec<u8>, LineError>
-        requires open { is_open (peer_of conn self.old.peers) ≡ true }
-        requires live { is_live conn (state_of self.old.machine).conns ≡ true }
-        requires sized { has_size session ≡ true }
-        ensures does { IfOk result (λ output. Does (λ verdicts. Some (on_answer (standing self.old) conn bytes.now answer.now session)) self.old output.items self.new) }
-        ensures refused { result ≢ Err Refused }
-        ensures config { self.new.machine.config ≡ self.old.machine.config }
-        ensures memory { result ≡ Err NoMemory → self.new.machine.history ≡ self.old.machine.history }
-    {
-        let _ = bytes;
-        let line = out_line(alloc, conn, answer)?;
-        self.set_peer(conn, Peer::Open(session));
-        Ok(line)
-    }
-
-    // Bytes that make a call.
+    // A call. Its line is added to those that were there.
     fn call(
         &mut self,
         alloc: Global,
         conn: u32,
-        bytes: &[u8],
         asked: Asked,
-        stub_size: u32,
-        session: Session,
         call: Call,
-    ) -> Result<Vec<u8>, LineError>
-        requires open { is_open (peer_of conn self.old.peers) ≡ true }
+        stub_size: u32,
+        lines: &mut Vec<u8>,
+    ) -> Result<(), AllocError>
         requires live { is_live conn (state_of self.old.machine).conns ≡ true }
-        requires sized { has_size session ≡ true }
         requires low { 1432 ≤ asked.size }
         requires high { asked.size ≤ 4280 }
         requires spelled { IsSpelled call }
-        ensures does { IfOk result (λ output. Does (λ verdicts. on_request verdicts (standing self.old) conn bytes.now asked.id asked.context asked.size stub_size session (Ok call)) self.old output.items self.new) }
-        ensures refused { result ≢ Err Refused }
+        ensures acts { OnOk result (Acts (λ verdicts. on_request verdicts self.old.machine.history conn asked.id asked.context asked.size stub_size (Ok call)) self.old.machine.history self.new.machine.history lines.old.items lines.new.items) }
+        ensures began { OnErr result (Began (λ verdicts. on_request verdicts self.old.machine.history conn asked.id asked.context asked.size stub_size (Ok call)) self.old.machine.history self.new.machine.history) }
+        ensures live { is_live conn (state_of self.new.machine).conns ≡ true }
+        ensures peers { self.new.peers ≡ self.old.peers }
         ensures config { self.new.machine.config ≡ self.old.machine.config }
-        ensures memory { result ≡ Err NoMemory → MayStop (λ verdicts. on_request verdicts (standing self.old) conn bytes.now asked.id asked.context asked.size stub_size session (Ok call)) self.old self.new }
     {
-        let _ = bytes;
-        match self.machine.act(conn, call, stub_size) {
-            Acted::Reply(reply) => {
-                let answer = answer_bytes(alloc, asked, &reply)?;
-                let line = out_line(alloc, conn, &answer)?;
-                self.set_peer(conn, Peer::Open(session));
-                Ok(line)
-            }
-            Acted::NoMemory => Err(LineError::NoMemory),
-        }
-    }
-
-    // Ends a connection.
-    fn end(&mut self, alloc: Global, conn: u32) -> Result<Vec<u8>, LineError>
-        ensures does { IfOk result (λ output. Does (λ verdicts. on_end (standing self.old) conn (peer_of conn self.old.peers)) self.old output.items self.new) }
-        ensures refused { result ≡ Err Refused → Refuses (λ verdicts. on_end (standing self.old) conn (peer_of conn self.old.peers)) self.old self.new }
-        ensures config { self.new.machine.config ≡ self.old.machine.config }
-        ensures memory { result ≡ Err NoMemory → self.new.machine.history ≡ self.old.machine.history }
-    {
-        let Some(Peer::Open(_)) = self.peer(conn) else {
-            return Err(LineError::Refused);
+        let Acted::Reply(reply) = self.machine.act(conn, call, stub_size) else {
+            return Err(AllocError);
         };
-        let line = gone_line(alloc, conn)?;
-        self.end_peer(conn);
-        Ok(line)
-    }
-
-    // Ends a connection that is open. It takes no memory.
-    fn end_peer(&mut self, conn: u32)
-        requires open { is_open (peer_of conn self.old.peers) ≡ true }
-        ensures machine { self.new.machine ≡ with_entry self.old.machine (Gone conn) }
-        ensures peers { self.new.peers ≡ with_peer conn peer.Ended self.old.peers }
-    {
-        self.machine.gone(conn);
-        self.peers[conn as usize - 1] = Peer::Ended;
+        let answer = answer_bytes(alloc, asked, &reply)?;
+        push_out(lines, alloc, conn, &answer)
     }
 
     // A request, by the call that its stub spells.
@@ -267,87 +260,199 @@ impl Run {
         &mut self,
         alloc: Global,
         conn: u32,
-        bytes: &[u8],
         asked: Asked,
+        face: Face,
         opnum: u16,
         stub: &[u8],
-        session: Session,
-    ) -> Result<Vec<u8>, LineError>
-        requires open { is_open (peer_of conn self.old.peers) ≡ true }
+        lines: &mut Vec<u8>,
+    ) -> Result<(), AllocError>
         requires live { is_live conn (state_of self.old.machine).conns ≡ true }
-        requires sized { has_size session ≡ true }
         requires low { 1432 ≤ asked.size }
         requires high { asked.size ≤ 4280 }
-        requires short { length stub.now ≤ 65535 }
-        ensures does { IfOk result (λ output. Does (λ verdicts. on_request verdicts (standing self.old) conn bytes.now asked.id asked.context asked.size (length stub.now) session (call_at opnum stub.now)) self.old output.items self.new) }
-        ensures refused { result ≡ Err Refused → Refuses (λ verdicts. on_request verdicts (standing self.old) conn bytes.now asked.id asked.context asked.size (length stub.now) session (call_at opnum stub.now)) self.old self.new }
+        requires short { length stub.now ≤ 1048576 }
+        ensures acts { OnOk result (Acts (λ verdicts. on_request verdicts self.old.machine.history conn asked.id asked.context asked.size (length stub.now) (call_on face opnum stub.now)) self.old.machine.history self.new.machine.history lines.old.items lines.new.items) }
+        ensures began { OnErr result (Began (λ verdicts. on_request verdicts self.old.machine.history conn asked.id asked.context asked.size (length stub.now) (call_on face opnum stub.now)) self.old.machine.history self.new.machine.history) }
+        ensures live { is_live conn (state_of self.new.machine).conns ≡ true }
+        ensures peers { self.new.peers ≡ self.old.peers }
         ensures config { self.new.machine.config ≡ self.old.machine.config }
-        ensures memory { result ≡ Err NoMemory → MayStop (λ verdicts. on_request verdicts (standing self.old) conn bytes.now asked.id asked.context asked.size (length stub.now) session (call_at opnum stub.now)) self.old self.new }
     {
-        match read_call(opnum, stub) {
-            Ok(call) => self.call(alloc, conn, bytes, asked, stub.len() as u32, session, call),
-            Err(_) => Err(LineError::Refused),
+        match read_request(face, opnum, stub) {
+            Ok(call) => self.call(alloc, conn, asked, call, stub.len() as u32, lines),
+            Err(error) => {
+                let fault = undecoded_bytes(asked.id, asked.context, error);
+                push_out(lines, alloc, conn, &fault)
+            }
         }
     }
 
-    // What a PDU asks for.
+    // A refusal: the connection is gone.
+    fn close(
+        &mut self,
+        alloc: Global,
+        conn: u32,
+        place: u64,
+        cause: u8,
+        bytes: &[u8],
+        lines: &mut Vec<u8>,
+    ) -> Result<(), AllocError>
+        requires live { is_live conn (state_of self.old.machine).conns ≡ true }
+        requires closed { is_served (peer_of conn self.old.peers) ≡ false }
+        ensures machine { OnOk result (self.new.machine ≡ with_entry self.old.machine (Gone conn)) }
+        ensures lines { OnOk result (lines.new.items ≡ lines.old.items ++ (line_bytes (Out conn bytes.now) ++ line_bytes (IsClosed conn place cause))) }
+        ensures peers { self.new.peers ≡ self.old.peers }
+        ensures err { OnErr result (self.new ≡ self.old) }
+    {
+        push_closed(lines, alloc, conn, place, cause, bytes)?;
+        self.machine.gone(conn);
+        Ok(())
+    }
+
+    // What an act does. Its lines are added to those that were there.
     fn act(
         &mut self,
         alloc: Global,
         conn: u32,
-        bytes: &[u8],
-        act: Act,
-        session: Session,
-    ) -> Result<Vec<u8>, LineError>
-        requires open { is_open (peer_of conn self.old.peers) ≡ true }
+        act: &Act,
+        lines: &mut Vec<u8>,
+    ) -> Result<(), AllocError>
         requires live { is_live conn (state_of self.old.machine).conns ≡ true }
-        requires short { StubFits 65535 (Some (act, session)) }
-        requires sized { SizeFits (Some (act, session)) }
-        ensures does { IfOk result (λ output. Does (λ verdicts. on_act verdicts (standing self.old) conn bytes.now (Some (act, session))) self.old output.items self.new) }
-        ensures refused { result ≡ Err Refused → Refuses (λ verdicts. on_act verdicts (standing self.old) conn bytes.now (Some (act, session))) self.old self.new }
+        requires fits { IsFit act.now }
+        requires closed { is_refusal act.now ≡ true → is_served (peer_of conn self.old.peers) ≡ false }
+        ensures acts { OnOk result (Acts (λ verdicts. on_act verdicts self.old.machine.history conn act.now) self.old.machine.history self.new.machine.history lines.old.items lines.new.items) }
+        ensures began { OnErr result (Began (λ verdicts. on_act verdicts self.old.machine.history conn act.now) self.old.machine.history self.new.machine.history) }
+        ensures live { is_refusal act.now ≡ false → is_live conn (state_of self.new.machine).conns ≡ true }
+        ensures peers { self.new.peers ≡ self.old.peers }
         ensures config { self.new.machine.config ≡ self.old.machine.config }
-        ensures memory { result ≡ Err NoMemory → MayStop (λ verdicts. on_act verdicts (standing self.old) conn bytes.now (Some (act, session))) self.old self.new }
     {
         match act {
-            Act::Answered { bytes: answer } => {
-                self.answer(alloc, conn, bytes, answer.as_slice(), session)
-            }
+            Act::Answered { bytes } => push_out(lines, alloc, conn, bytes.as_slice()),
             Act::Call {
                 id,
                 context,
+                face,
                 opnum,
                 size,
                 stub,
-                ..
             } => {
-                let asked = Asked { id, context, size };
-                self.request(alloc, conn, bytes, asked, opnum, stub.as_slice(), session)
+                let asked = Asked {
+                    id: *id,
+                    context: *context,
+                    size: *size,
+                };
+                self.request(alloc, conn, asked, *face, *opnum, stub.as_slice(), lines)
             }
+            Act::Closed {
+                place,
+                cause,
+                bytes,
+            } => self.close(alloc, conn, *place, *cause, bytes.as_slice(), lines),
+        }
+    }
+
+    // What acts do, one after the other.
+    fn act_all(&mut self, alloc: Global, conn: u32, acts: &[Act]) -> Result<Vec<u8>, AllocError>
+        requires live { 0 < length acts.now → is_live conn (state_of self.old.machine).conns ≡ true }
+        requires fits { All IsFit acts.now }
+        requires closed { (i : ℕ) → IsClosing (is_served (peer_of conn self.old.peers)) i (length acts.now) (slice_get acts.now i) }
+        ensures acts { IfOk result (λ lines. Acts (λ verdicts. on_acts verdicts self.old.machine.history conn acts.now) self.old.machine.history self.new.machine.history [] lines.items) }
+        ensures began { OnErr result (Began (λ verdicts. on_acts verdicts self.old.machine.history conn acts.now) self.old.machine.history self.new.machine.history) }
+        ensures peers { self.new.peers ≡ self.old.peers }
+        ensures config { self.new.machine.config ≡ self.old.machine.config }
+    {
+        let mut lines = Vec::new(alloc);
+        for i in 0..acts.len() {
+            self.act(alloc, conn, &acts[i], &mut lines)?;
+        }
+        Ok(lines)
+    }
+
+    // The acts that bytes complete, or that the connection wasn't opened or was ended.
+    fn hear(&mut self, alloc: Global, conn: u32, bytes: &[u8]) -> Result<Vec<Act>, LineError>
+        requires heard { AllHeard (2 ^ 32) self.old.peers }
+        requires short { length bytes.now ≤ 2 ^ 32 }
+        ensures acts { IfOk result (λ acts. Hears conn bytes.now self.old acts.items self.new) }
+        ensures live { IfOk result (λ acts. 0 < length acts.items → is_live conn (state_of self.new.machine).conns ≡ true) }
+        ensures fits { IfOk result (λ acts. All IsFit acts.items) }
+        ensures closed { IfOk result (λ acts. (i : ℕ) → IsClosing (is_served (peer_of conn self.new.peers)) i (length acts.items) (slice_get acts.items i)) }
+        ensures hears { (most : ℕ) → AllHeard most self.old.peers → OnOk result (AllHeard (most + length bytes.now) self.new.peers) }
+        ensures refused { result ≡ Err Refused → Refuses (λ verdicts. on_data verdicts (standing self.old) conn bytes.now (peer_of conn self.old.peers)) self.old self.new }
+        ensures machine { self.new.machine ≡ self.old.machine }
+    {
+        calls_fit();
+        refusals_are_last();
+        streams_are_cut_anywhere();
+        room_by_length();
+        let Some(Peer::Open(_)) = self.peer(conn) else {
+            return Err(LineError::Refused);
+        };
+        match &mut self.peers[conn as usize - 1] {
+            Peer::Open(stream) => Ok(heard(alloc, stream, bytes)?),
+            Peer::Ended => unreachable!(),
         }
     }
 
     // Bytes that come on a connection.
     fn data(&mut self, alloc: Global, conn: u32, bytes: &[u8]) -> Result<Vec<u8>, LineError>
+        requires heard { AllHeard (2 ^ 32) self.old.peers }
+        requires short { length bytes.now ≤ 2 ^ 32 }
         ensures does { IfOk result (λ output. Does (λ verdicts. on_data verdicts (standing self.old) conn bytes.now (peer_of conn self.old.peers)) self.old output.items self.new) }
         ensures refused { result ≡ Err Refused → Refuses (λ verdicts. on_data verdicts (standing self.old) conn bytes.now (peer_of conn self.old.peers)) self.old self.new }
         ensures config { self.new.machine.config ≡ self.old.machine.config }
         ensures memory { result ≡ Err NoMemory → MayStop (λ verdicts. on_data verdicts (standing self.old) conn bytes.now (peer_of conn self.old.peers)) self.old self.new }
+        ensures hears { (most : ℕ) → AllHeard most self.old.peers → OnOk result (AllHeard (most + length bytes.now) self.new.peers) }
     {
-        let Some(Peer::Open(session)) = self.peer(conn) else {
+        let acts = self.hear(alloc, conn, bytes)?;
+        Ok(self.act_all(alloc, conn, &acts)?)
+    }
+
+    // Ends a connection that is served. It takes no memory.
+    fn end_served(&mut self, conn: u32)
+        requires served { is_served (peer_of conn self.old.peers) ≡ true }
+        ensures machine { self.new.machine ≡ with_entry self.old.machine (Gone conn) }
+        ensures peers { self.new.peers ≡ with_peer conn peer.Ended self.old.peers }
+    {
+        self.machine.gone(conn);
+        self.peers[conn as usize - 1] = Peer::Ended;
+    }
+
+    // Ends a connection, if it is served.
+    fn end_if_served(&mut self, conn: u32)
+        ensures history { self.new.machine.history ≡ self.old.machine.history ++ map Gone (number_of conn (peer_of conn self.old.peers)) }
+        ensures config { self.new.machine.config ≡ self.old.machine.config }
+        ensures peers { (self.new.peers ≡ self.old.peers) ⊎ (self.new.peers ≡ with_peer conn peer.Ended self.old.peers) }
+    {
+        if self.peer(conn).is_some_and(|peer| is_served(peer)) {
+            self.end_served(conn);
+        }
+    }
+
+    // Ends a connection that was opened and not ended.
+    fn end(&mut self, alloc: Global, conn: u32) -> Result<Vec<u8>, LineError>
+        ensures does { IfOk result (λ output. Does (λ verdicts. on_end (standing self.old) conn (peer_of conn self.old.peers)) self.old output.items self.new) }
+        ensures refused { result ≡ Err Refused → Refuses (λ verdicts. on_end (standing self.old) conn (peer_of conn self.old.peers)) self.old self.new }
+        ensures config { self.new.machine.config ≡ self.old.machine.config }
+        ensures memory { result ≡ Err NoMemory → self.new.machine.history ≡ self.old.machine.history }
+        ensures hears { (most : ℕ) → AllHeard most self.old.peers → OnOk result (AllHeard most self.new.peers) }
+    {
+        let Some(Peer::Open(stream)) = self.peer(conn) else {
             return Err(LineError::Refused);
         };
-        match heard(alloc, conn, session, bytes)? {
-            Some((act, session)) => self.act(alloc, conn, bytes, act, session),
-            None => Err(LineError::Refused),
-        }
+        let mut lines = Vec::new(alloc);
+        push_gone(&mut lines, alloc, conn, stream.is_going())?;
+        self.end_if_served(conn);
+        self.peers[conn as usize - 1] = Peer::Ended;
+        Ok(lines)
     }
 
     // What a line says.
     fn event(&mut self, alloc: Global, event: Event) -> Result<Vec<u8>, LineError>
+        requires heard { AllHeard (2 ^ 32) self.old.peers }
+        requires short { DataFits (2 ^ 32) event }
         ensures does { IfOk result (λ output. Does (λ verdicts. on_event self.old.machine.config verdicts (standing self.old) (Some event)) self.old output.items self.new) }
         ensures refused { result ≡ Err Refused → Refuses (λ verdicts. on_event self.old.machine.config verdicts (standing self.old) (Some event)) self.old self.new }
         ensures config { self.new.machine.config ≡ self.old.machine.config }
         ensures memory { result ≡ Err NoMemory → MayStop (λ verdicts. on_event self.old.machine.config verdicts (standing self.old) (Some event)) self.old self.new }
+        ensures hears { (most : ℕ) → (more : ℕ) → AllHeard most self.old.peers → DataFits more event → OnOk result (AllHeard (most + more) self.new.peers) }
     {
         match event {
             Event::Nothing => Ok(Vec::new(alloc)),
@@ -358,40 +463,32 @@ impl Run {
     }
 
     /// Runs a line of the events, and gives what it prints. A line that is refused changes nothing; after NoMemory the
-    /// entries of the line stand or don't.
+    /// first of the entries of the line stand. Each connection has heard at most 2^32 bytes.
     #[tactic(auto, unfolding(crate::specs::Replayed::on_line))]
     pub fn line(&mut self, alloc: Global, line: &[u8]) -> Result<Vec<u8>, LineError>
+        requires heard { AllHeard (2 ^ 32) self.old.peers }
+        requires short { length line.now < 2 ^ 32 }
         ensures does { IfOk result (λ output. Does (λ verdicts. on_line self.old.machine.config verdicts (standing self.old) line.now) self.old output.items self.new) }
         ensures refused { result ≡ Err Refused → Refuses (λ verdicts. on_line self.old.machine.config verdicts (standing self.old) line.now) self.old self.new }
         ensures config { self.new.machine.config ≡ self.old.machine.config }
         ensures memory { result ≡ Err NoMemory → MayStop (λ verdicts. on_line self.old.machine.config verdicts (standing self.old) line.now) self.old self.new }
+        ensures hears { (most : ℕ) → AllHeard most self.old.peers → OnOk result (AllHeard (most + length line.now) self.new.peers) }
     {
         let event = event_of(alloc, line)?;
         self.event(alloc, event)
     }
 
-    // Ends a connection, if it is open.
-    fn end_if_open(&mut self, conn: u32)
-        ensures history { self.new.machine.history ≡ self.old.machine.history ++ map Gone (number_of conn (peer_of conn self.old.peers)) }
-        ensures config { self.new.machine.config ≡ self.old.machine.config }
-        ensures peers { (self.new.peers ≡ self.old.peers) ⊎ (self.new.peers ≡ with_peer conn peer.Ended self.old.peers) }
-    {
-        if let Some(Peer::Open(_)) = self.peer(conn) {
-            self.end_peer(conn);
-        }
-    }
-
-    // Ends the connections that are open, in ascending order.
+    // Ends the connections that are served, in ascending order.
     fn end_all(&mut self)
         ensures history { self.new.machine.history ≡ self.old.machine.history ++ (ending (standing self.old)).entries }
         ensures config { self.new.machine.config ≡ self.old.machine.config }
     {
         for i in 0..self.peers.len() {
-            self.end_if_open(i as u32 + 1);
+            self.end_if_served(i as u32 + 1);
         }
     }
 
-    /// Ends the connections that are still open, in ascending order, and gives the lines that say so. After NoMemory
+    /// Ends the connections that are still served, in ascending order, and gives the lines that say so. After NoMemory
     /// nothing has changed.
     pub fn finish(&mut self, alloc: Global) -> Result<Vec<u8>, AllocError>
         ensures closes { IfOk result (λ output. Closes self.old output.items self.new) }

@@ -6,7 +6,7 @@ ghost use Rattle.ndr_core.specs.Parts.{times};
 ghost use Rattle.acct_machine.specs.declared.calls.Reply.TheVariants.{Done};
 ghost use Rattle.acct_machine.specs.Calls.{IsOperation, IsSpelled};
 ghost use Rattle.acct_server.specs.Layouts.{Passes, handle, server_name, uuid};
-ghost use Rattle.acct_server.specs.Stubs.{AreTheSpelledCalls, HasOneCall, IsReadWhereSpelled, IsReplyReadAgain, arguments, call_at, operation_of, opnum_of, reply_shape, spell_reply};
+ghost use Rattle.acct_server.specs.Stubs.{AreTheSpelledCalls, HasOneCall, IsReadWhereSpelled, IsReplyReadAgain, arguments, call_at, call_on, operation_of, opnum_of, reply_shape, spell_reply};
 
 use acct_machine::{Args, Call, Face, Handle, Outs};
 use ndr_core::{In, NdrError, Out};
@@ -126,6 +126,17 @@ pub fn read_call(opnum: u16, stub: &[u8]) -> Result<Call, WireError>
         Err(NdrError::Short(place)) => Err(WireError::BadStub(place)),
         Err(NdrError::Count(place)) => Err(WireError::BadStub(place)),
         Err(NdrError::Memory) => Err(WireError::BadStub(0)),
+    }
+}
+
+/// The call of a request on an interface. Of LSARPC no operation is served yet.
+pub fn read_request(face: Face, opnum: u16, stub: &[u8]) -> Result<Call, WireError>
+    ensures value { result ≡ call_on face opnum stub.now }
+    ensures spelled { IfOk result (λ call. IsSpelled call) }
+{
+    match face {
+        Face::Samr => read_call(opnum, stub),
+        Face::Lsa => Err(WireError::NotServed(opnum)),
     }
 }
 

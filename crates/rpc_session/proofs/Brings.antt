@@ -1,9 +1,9 @@
 -- The responses bring the stub.
-use Rattle.std.proofs.Common.{◌≡◌, ℕ, zero, suc, ◌+◌, ◌-◌, ◌*◌, ◌/◌, ◌≤◌, ◌<◌, Bool, true, false, leb, List, [], ◌∷◌, ◌++◌, length, take, drop, refl, sym, ap, ◌∙◌, arith, length-drop}
+use Rattle.std.proofs.Common.{◌≡◌, ℕ, zero, suc, ◌≤◌, ◌<◌, Bool, true, false, leb, List, [], ◌∷◌, ◌++◌, length, take, drop, refl, sym, ap, ◌∙◌, arith, length-drop}
 use Rattle.std.specs.List.{concat}
 use Rattle.std.proofs.lemmas.Bool.{leb-true, leb-false}
 use Rattle.std.proofs.lemmas.List.{append-nil, length-take-le, take-append-drop}
-use Rattle.rpc_session.specs.Replies.{first_flag, response, responses, reply_from, most_of, BringsStub, RepliesBringStubs}
+use Rattle.rpc_session.specs.Replies.{first_flag, response, reply_from, most_of, BringsStub, RepliesBringStubs}
 use Rattle.rpc_session.proofs.Parts.{one_last, one_more}
 
 abbrev Brings : ℕ → ℕ → ℕ → Bool → List ℕ → Type 0

@@ -1,5 +1,5 @@
 -- One element after the other, as a loop takes them.
-use Rattle.std.proofs.Common.{◌≡◌, ℕ, suc, ◌+◌, ◌<◌, List, [], ◌∷◌, ◌++◌, length, get_or, drop, sym, ap, ◌∙◌, add-one, drop-cons}
+use Rattle.std.proofs.Common.{◌≡◌, ℕ, suc, ◌+◌, ◌<◌, List, ◌∷◌, length, get_or, drop, sym, ap, ◌∙◌, add-one, drop-cons}
 use Rattle.rpc_pdu.specs.declared.pdus.Element.{Element}
 use Rattle.rpc_session.specs.declared.contexts.Context.{Context}
 use Rattle.rpc_session.specs.Contexts.{with_element, with_elements}

@@ -1,9 +1,8 @@
--- The sizes and the stubs of calls lie within the limits.
-use Rattle.std.proofs.Common.{◌≡◌, ℕ, zero, suc, ◌+◌, ◌≤◌, ◌==◌, List, [], ◌∷◌, ◌++◌, length, drop, Option, Some, None, All, min, max, arith}
+-- The sizes and the stubs of calls lie within the limits, and a refusal is the last act.
+use Rattle.std.proofs.Common.{◌≡◌, ℕ, zero, suc, ◌+◌, ◌≤◌, ◌==◌, List, [], ◌∷◌, ◌++◌, length, drop, Option, Some, None, All, true, false, slice_get, refl, sym, ◌∙◌, arith}
 use Rattle.std.specs.Prelude.{nat_lt, bit_and}
 use Rattle.std.proofs.lemmas.Bool.{cond_both, ltb-false}
 use Rattle.std.proofs.lemmas.List.Elements.{All-append, All-nil, All-cons}
-use Rattle.rpc_pdu.specs.declared.pdus.Element.{Element}
 use Rattle.rpc_pdu.specs.declared.pdus.Side.TheVariants.{Server}
 use Rattle.rpc_pdu.specs.declared.pdus.Pdu.{Pdu}
 use Rattle.rpc_pdu.specs.declared.pdus.Pdu.TheVariants.{Bind, Alter, Request, Cancel, Orphaned, BindAck, AlterResp, BindNak, Response, Fault}
@@ -16,13 +15,14 @@ use Rattle.rpc_session.specs.declared.sessions.Session.{Session}
 use Rattle.rpc_session.specs.declared.sessions.Session.TheVariants.{Unbound, Bound}
 use Rattle.rpc_session.specs.declared.sessions.Step.{Step}
 use Rattle.rpc_session.specs.declared.sessions.Step.TheVariants.{Refuses, Goes}
+use Rattle.rpc_session.specs.declared.hearing.Hearing.TheVariants.{Ended}
 use Rattle.rpc_session.specs.declared.hearing.Next.{Next}
 use Rattle.rpc_session.specs.declared.hearing.Next.TheVariants as next
-use Rattle.rpc_session.specs.Answers.{size_for, sizes_for}
+use Rattle.rpc_session.specs.Answers.{size_for}
 use Rattle.rpc_session.specs.Contexts.{face_at}
-use Rattle.rpc_session.specs.Taking.{binds, asked, gathers, begins, goes_on, requests, taken_first, taken_later, taken}
-use Rattle.rpc_session.specs.Hearings.{Heard, stepped, next_of, heard_next, listed, on_next, hear_in, hear}
-use Rattle.rpc_session.specs.Acts.{IsFit, AllFit}
+use Rattle.rpc_session.specs.Taking.{binds, asked, gathers, begins, goes_on, taken_first, taken_later, taken}
+use Rattle.rpc_session.specs.Hearings.{Heard, stepped, next_of, heard_next, listed, joined, on_next, hear_in, hear}
+use Rattle.rpc_session.specs.Acts.{IsFit, AllFit, is_refusal, IsLastOf, AreRefusalsLast}
 
 abbrev FitSize : ℕ → Type 0
 FitSize size = (1432 ≤ size) × (size ≤ 4280)
@@ -33,7 +33,7 @@ FitSession (Bound b) = FitSize b.sizes.xmit
 
 abbrev FitAct : Option Act → Type 0
 FitAct None = Unit {0}
-FitAct (Some act) = IsFit act
+FitAct (Some act) = IsFit act × (is_refusal act ≡ false)
 
 abbrev FitStep : Step → Type 0
 FitStep (Refuses cause) = Unit {0}
@@ -42,12 +42,12 @@ FitStep (Goes act t) = FitAct act × FitSession t
 size_fits : (n : ℕ) → FitSize (size_for n)
 size_fits n = (omega arith, omega arith)
 
-asked_fits : (g : Gathered) (size : ℕ) (o : Option Context) → FitSize size → length g.stub ≤ 1048576 → IsFit (asked g size o)
-asked_fits g size None h le = tt
-asked_fits g size (Some c) h le = (h.0, h.1, le)
+asked_fits : (g : Gathered) (size : ℕ) (o : Option Context) → FitSize size → length g.stub ≤ 1048576 → FitAct (Some (asked g size o))
+asked_fits g size None h le = (tt, refl)
+asked_fits g size (Some c) h le = ((h.0, h.1, le), refl)
 
 binds_fits : (b : Binding) (answer : List ℕ) → FitSize b.sizes.xmit → FitStep (binds b answer)
-binds_fits b answer h = cond_both (nat_lt 16 (length b.contexts)) _ _ FitStep (λ _. tt) (λ _. (tt, h))
+binds_fits b answer h = cond_both (nat_lt 16 (length b.contexts)) _ _ FitStep (λ _. tt) (λ _. ((tt, refl), h))
 
 gathers_fits : (b : Binding) (flags : ℕ) (g : Gathered) → FitSize b.sizes.xmit → FitStep (gathers b flags g)
 gathers_fits b flags g h =
@@ -114,7 +114,7 @@ next_fits conn place s bytes h = front_fits conn place s (front Server bytes) h
 
 listed_fits : (act : Option Act) → FitAct act → All IsFit (listed act)
 listed_fits None h = All-nil IsFit
-listed_fits (Some act) h = All-cons IsFit act [] h (All-nil IsFit)
+listed_fits (Some act) h = All-cons IsFit act [] h.0 (All-nil IsFit)
 
 on_next_fits : (conn place : ℕ) (bytes : List ℕ) (n : Next) (f : ℕ → Session → List ℕ → Heard) → FitNext n → ((p : ℕ) (t : Session) (rest : List ℕ) → FitSession t → All IsFit (f p t rest).acts) → All IsFit (on_next conn place bytes n f).acts
 on_next_fits conn place bytes (next.Waits t) f h later = All-nil IsFit
@@ -129,3 +129,36 @@ hear_fits (suc turns) conn place s bytes h = on_next_fits conn place bytes (hear
 pub all_fit : AllFit
 unfolding hear
 all_fit conn stream = hear_fits (length stream) conn 0 Unbound stream tt
+
+-- ---- a refusal is the last act
+
+abbrev IsLast : Heard → Type 0
+IsLast h = (i : ℕ) → IsLastOf h i (slice_get h.acts i)
+
+-- one act more in front, which is no refusal
+last_behind : (act : Act) (h : Heard) → is_refusal act ≡ false → IsLast h → IsLast (joined (act ∷ []) h)
+last_behind act h none last zero = λ is. let clash : true ≡ false = sym is ∙ none in absurd cc
+last_behind act h none last (suc i) = later (slice_get h.acts i) (last i)
+  where
+    later : (o : Option Act) → IsLastOf h i o → IsLastOf (joined (act ∷ []) h) (suc i) o
+    later None k = tt
+    later (Some a) k = λ is. let e = k is in let first : i + 1 ≡ length h.acts = e.0 in (omega (arith, first), e.1)
+
+on_next_last : (conn place : ℕ) (bytes : List ℕ) (n : Next) (f : ℕ → Session → List ℕ → Heard) → FitNext n → ((p : ℕ) (t : Session) (rest : List ℕ) → FitSession t → IsLast (f p t rest)) → IsLast (on_next conn place bytes n f)
+on_next_last conn place bytes (next.Waits t) f h later = λ i. tt
+on_next_last conn place bytes (next.Ends act) f h later = ends
+  where
+    ends : IsLast (record { acts = act ∷ []; leaves = Ended })
+    ends zero = λ is. (refl, refl)
+    ends (suc i) = tt
+on_next_last conn place bytes (next.Goes None t size) f h later = later (place + size) t (drop size bytes) h.1
+on_next_last conn place bytes (next.Goes (Some act) t size) f h later = last_behind act (f (place + size) t (drop size bytes)) h.0.1 (later (place + size) t (drop size bytes) h.1)
+
+hear_last : (turns conn place : ℕ) (s : Session) (bytes : List ℕ) → FitSession s → IsLast (hear_in turns conn place s bytes)
+unfolding hear_in
+hear_last zero conn place s bytes h = λ i. tt
+hear_last (suc turns) conn place s bytes h = on_next_last conn place bytes (heard_next conn place s bytes) (λ p t rest. hear_in turns conn p t rest) (next_fits conn place s bytes h) (λ p t rest k. hear_last turns conn p t rest k)
+
+pub refusals_last : AreRefusalsLast
+unfolding hear
+refusals_last conn stream i = hear_last (length stream) conn 0 Unbound stream tt i

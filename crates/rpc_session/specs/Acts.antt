@@ -1,5 +1,5 @@
 -- The acts of a connection's stream.
-use Rattle.std.specs.Prelude.{◌≡◌, ℕ, ◌+◌, ◌≤◌, ◌<◌, ◌^◌, List, [], ◌∷◌, ◌++◌, length, All}
+use Rattle.std.specs.Prelude.{◌≡◌, ℕ, ◌+◌, ◌≤◌, ◌<◌, ◌^◌, Bool, true, false, List, [], ◌∷◌, ◌++◌, length, All, Option, Some, None, slice_get}
 use Rattle.rpc_pdu.specs.declared.pdus.Pdu.{Pdu}
 use Rattle.rpc_pdu.specs.declared.pdus.Side.TheVariants.{Server}
 use Rattle.rpc_pdu.specs.Front.{Front, Whole, Rest, Refused, front}
@@ -12,9 +12,10 @@ use Rattle.rpc_session.specs.declared.sessions.Session.TheVariants.{Unbound}
 use Rattle.rpc_session.specs.declared.sessions.Step.{Step}
 use Rattle.rpc_session.specs.declared.sessions.Step.TheVariants.{Refuses, Goes}
 use Rattle.rpc_session.specs.declared.hearing.Hearing.{Hearing}
+use Rattle.rpc_session.specs.declared.hearing.Hearing.TheVariants.{Ended}
 use Rattle.rpc_session.specs.Answers.{closing}
 use Rattle.rpc_session.specs.Taking.{taken}
-use Rattle.rpc_session.specs.Hearings.{listed, hear, joined, on, HasRoom}
+use Rattle.rpc_session.specs.Hearings.{Heard, listed, hear, joined, on, HasRoom}
 
 -- the acts of the whole stream of the connection with this number
 abbrev pub acts : ℕ → List ℕ → List Act
@@ -41,6 +42,19 @@ IsFit (Closed place cause bytes) = Unit {0}
 
 abbrev pub AllFit : Type 0
 AllFit = (conn : ℕ) (stream : List ℕ) → All IsFit (acts conn stream)
+
+abbrev pub is_refusal : Act → Bool
+is_refusal (Answered bytes) = false
+is_refusal (Call id context face opnum size stub) = false
+is_refusal (Closed place cause bytes) = true
+
+-- an act at a place of what was heard that is a refusal is the last one, and nothing more is heard
+abbrev pub IsLastOf : Heard → ℕ → Option Act → Type 0
+IsLastOf heard i None = Unit {0}
+IsLastOf heard i (Some act) = is_refusal act ≡ true → (i + 1 ≡ length heard.acts) × (heard.leaves ≡ Ended)
+
+abbrev pub AreRefusalsLast : Type 0
+AreRefusalsLast = (conn : ℕ) (stream : List ℕ) (i : ℕ) → IsLastOf (hear conn 0 Unbound stream) i (slice_get (hear conn 0 Unbound stream).acts i)
 
 -- the acts of whole PDUs one after the other, each with its own bytes, and of the end behind them, the first of which begins at a place:
 -- nothing behind a refusal is an act

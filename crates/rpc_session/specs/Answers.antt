@@ -1,5 +1,5 @@
 -- What is answered on a connection without a call (C706, sections 12.6.3.1 and 12.6.4).
-use Rattle.std.specs.Prelude.{ℕ, ◌==◌, Bool, List, map, min, max, if◌then◌else◌}
+use Rattle.std.specs.Prelude.{ℕ, ◌==◌, List, map, min, max, if◌then◌else◌}
 use Rattle.rpc_pdu.specs.declared.pdus.Element.{Element}
 use Rattle.rpc_pdu.specs.declared.pdus.Pdu.TheVariants.{BindAck, AlterResp, BindNak}
 use Rattle.rpc_pdu.specs.Written.{written}

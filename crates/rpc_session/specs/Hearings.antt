@@ -1,5 +1,5 @@
 -- What is heard in a stream: the acts of its whole PDUs one after the other, up to the first that is refused, and what is left.
-use Rattle.std.specs.Prelude.{◌≡◌, ℕ, zero, suc, ◌+◌, ◌<◌, ◌^◌, List, [], ◌∷◌, ◌++◌, length, drop, Option, Some, None}
+use Rattle.std.specs.Prelude.{◌≡◌, ℕ, zero, suc, ◌+◌, ◌<◌, ◌^◌, Bool, true, false, List, [], ◌∷◌, ◌++◌, length, drop, Option, Some, None}
 use Rattle.rpc_pdu.specs.declared.pdus.Pdu.{Pdu}
 use Rattle.rpc_pdu.specs.declared.pdus.Side.TheVariants.{Server}
 use Rattle.rpc_pdu.specs.Front.{Front, Whole, Rest, Refused, front}
@@ -61,6 +61,12 @@ hear_in (suc turns) conn place session bytes =
 -- each PDU takes a byte and more
 unfoldable pub hear : ℕ → ℕ → Session → List ℕ → Heard
 hear conn place session bytes = hear_in (length bytes) conn place session bytes
+
+-- more may be heard
+abbrev pub is_going : Hearing → Bool
+is_going (Going conn place session rest) = true
+is_going Ended = false
+is_going Lost = false
 
 -- what is heard in further bytes
 abbrev pub on : Hearing → List ℕ → Heard

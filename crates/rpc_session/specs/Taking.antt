@@ -1,14 +1,12 @@
 -- What one whole PDU does in a session (C706, sections 12.6.3 and 12.6.4): which act it gives, and how the session stands after it,
 -- or the cause for which it is refused: 7 first fragment twice, 8 no first fragment, 9 stub too long, 10 bind out of order,
 -- 11 too many contexts.
-use Rattle.std.specs.Prelude.{ℕ, ◌==◌, List, [], ◌∷◌, ◌++◌, length, Option, Some, None, if◌then◌else◌, nat_lt, bit_and}
-use Rattle.rpc_pdu.specs.declared.pdus.Element.{Element}
+use Rattle.std.specs.Prelude.{ℕ, ◌==◌, List, [], ◌++◌, length, Option, Some, None, if◌then◌else◌, nat_lt, bit_and}
 use Rattle.rpc_pdu.specs.declared.pdus.Pdu.{Pdu}
 use Rattle.rpc_pdu.specs.declared.pdus.Pdu.TheVariants.{Bind, Alter, Request, Cancel, Orphaned}
 use Rattle.rpc_session.specs.declared.contexts.Context.{Context}
 use Rattle.rpc_session.specs.declared.sessions.Act.{Act}
 use Rattle.rpc_session.specs.declared.sessions.Act.TheVariants.{Answered, Call}
-use Rattle.rpc_session.specs.declared.sessions.Sizes.{Sizes}
 use Rattle.rpc_session.specs.declared.sessions.Gathered.{Gathered}
 use Rattle.rpc_session.specs.declared.sessions.Binding.{Binding}
 use Rattle.rpc_session.specs.declared.sessions.Session.{Session}

@@ -3,7 +3,7 @@ ghost use Rattle.std.specs.Prelude.{◌≡◌, ◌++◌, ◌+◌, ◌^◌, ◌<�
 ghost use Rattle.rpc_session.specs.declared.hearing.Hearing.TheVariants.{Going, Ended, Lost};
 ghost use Rattle.rpc_pdu.specs.Written.{type_of, call_id, HasFewParts};
 ghost use Rattle.rpc_session.specs.Taking.{taken};
-ghost use Rattle.rpc_session.specs.Hearings.{Heard, stepped, heard_next, joined, listed, hear, on, Begins, HasRoom};
+ghost use Rattle.rpc_session.specs.Hearings.{Heard, stepped, heard_next, joined, listed, hear, is_going, on, Begins, HasRoom};
 ghost use Rattle.rpc_session.specs.Acts.{acts, IsSoFar};
 
 use crate::answers::closing;
@@ -224,6 +224,16 @@ impl Bytes2Acts {
                 session: Session::Unbound,
                 rest: Seq::new(alloc),
             },
+        }
+    }
+
+    /// Whether more may be heard: no PDU was refused, and memory never ran out.
+    pub fn is_going(&self) -> bool
+        ensures { result ≡ is_going self.now }
+    {
+        match self.hearing {
+            Hearing::Going { .. } => true,
+            Hearing::Ended | Hearing::Lost => false,
         }
     }
 

@@ -1,5 +1,5 @@
 // The laws of a connection's acts, for the crates above to cite. Each is brought in by a call, which does nothing.
-ghost use Rattle.rpc_session.specs.Acts.{IsCutAnywhere, IsRoomByLength, AllFit, AreOfPdus};
+ghost use Rattle.rpc_session.specs.Acts.{IsCutAnywhere, IsRoomByLength, AllFit, AreRefusalsLast, AreOfPdus};
 ghost use Rattle.rpc_session.specs.Replies.{RepliesBringStubs};
 
 use rpc_pdu::{front_is_stable, whole_is_exactly_a_pdu};
@@ -21,6 +21,11 @@ pub fn room_by_length()
 /// The sizes that replies to calls are cut by are 1,432 to 4,280, and the calls' stubs have at most 1,048,576 bytes.
 pub fn calls_fit()
     ensures { AllFit }
+{}
+
+/// A refusal is the last act of a stream, and nothing behind it is heard.
+pub fn refusals_are_last()
+    ensures { AreRefusalsLast }
 {}
 
 /// The acts of a stream are what its PDUs say one after the other, and the refusal behind them.

@@ -18,7 +18,8 @@ pub use acct_machine::Face;
 pub use contexts::Context;
 pub use hearing::{Bytes2Acts, Hearing};
 pub use laws::{
-    acts_are_of_pdus, calls_fit, replies_bring_stubs, room_by_length, streams_are_cut_anywhere,
+    acts_are_of_pdus, calls_fit, refusals_are_last, replies_bring_stubs, room_by_length,
+    streams_are_cut_anywhere,
 };
 pub use replies::{fault_bytes, reply_bytes};
 pub use sessions::{Act, Binding, Gathered, Session, Sizes};

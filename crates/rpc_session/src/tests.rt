@@ -228,6 +228,107 @@ fn refused_behind_a_bind(rt: HostRuntime) -> Result<(), Fail> {
 }
 
 #[test]
+fn a_second_context_and_dropped_requests(rt: HostRuntime) -> Result<(), Fail> {
+    let alloc = rt.alloc();
+    let answer =
+        "answered 05000f03 10000000 38000000 03000000 b810b810 01000000 00000000 01000000 00000000 045d888a eb1cc911 9fe80800 2b104860 02000000";
+    let calls =
+        "call 4 1 Lsa 44 4280 00000002, call 5 0 Samr 57 4280 00000000 00000002, call 7 0 Samr 57 4280 00000002";
+    let says = format!(in alloc; "{ACK}, {answer}, {calls}")?;
+    gives(
+        &rt,
+        alloc,
+        &[
+            BIND,
+            "05000e03 10000000 48000000 03000000 d016d016 00000000 01000000",
+            "01000100 78573412 3412cdab ef000123 456789ab 00000000 045d888a eb1cc911 9fe80800 2b104860 02000000",
+            "05000003 10000000 1c000000 04000000 04000000 01002c00 00000002",
+            // A cancel of the request that is gathered, and an orphaned of another, change nothing.
+            "05000001 10000000 1c000000 05000000 04000000 00003900 00000000",
+            "05001203 10000000 10000000 05000000",
+            "05001303 10000000 10000000 06000000",
+            "05000002 10000000 1c000000 05000000 04000000 00003900 00000002",
+            // A request is dropped, and comes again.
+            "05000001 10000000 1c000000 07000000 04000000 00003900 00000000",
+            "05001303 10000000 10000000 07000000",
+            "05000003 10000000 1c000000 07000000 04000000 00003900 00000002",
+        ],
+        says.as_str(),
+    )
+}
+
+#[test]
+fn a_bind_without_its_element(rt: HostRuntime) -> Result<(), Fail> {
+    gives(
+        &rt,
+        rt.alloc(),
+        &["05000b03 10000000 1c000000 01000000 b810b810 00000000 01000000"],
+        "closed 16 6 05000d03 10000000 18000000 01000000 00000105 00000000",
+    )
+}
+
+#[test]
+fn seventeen_contexts(rt: HostRuntime) -> Result<(), Fail> {
+    let alloc = rt.alloc();
+    let mut stream = bytes_of(
+        alloc,
+        &["05000b03 10000000 08030000 01000000 b810b810 00000000 11000000"],
+    )?;
+    let element = bytes_of(
+        alloc,
+        &[
+            "000100 78573412 3412cdab ef000123 456789ac 01000000 045d888a eb1cc911 9fe80800 2b104860 02000000",
+        ],
+    )?;
+    for context in 0..17 {
+        stream.push(context)?;
+        stream.extend_from_slice(&element)?;
+    }
+    let acts = heard_by_bytes(alloc, &stream)?;
+    assert_eq!(rt;
+        shown(alloc, &acts)?.as_str(),
+        "closed 0 11 05000d03 10000000 18000000 01000000 00000105 00000000"
+    );
+    Ok(())
+}
+
+#[test]
+fn one_byte_more_than_a_stub_has(rt: HostRuntime) -> Result<(), Fail> {
+    let alloc = rt.alloc();
+    let mut stream = bytes_of(alloc, &[BIND])?;
+    for turn in 0..256 {
+        let flags = if turn == 0 { 1 } else { 0 };
+        stream.extend_from_slice(&[
+            5, 0, 0, flags, 0x10, 0, 0, 0, 0x18, 0x10, 0, 0, 2, 0, 0, 0, 0, 0x10, 0, 0, 0, 0, 57, 0,
+        ])?;
+        stream.extend_from_slice(&[7; 4096])?;
+    }
+    let whole = bytes_of(
+        alloc,
+        &["05000002 10000000 18000000 02000000 00000000 00003900"],
+    )?;
+    let longer = bytes_of(
+        alloc,
+        &["05000002 10000000 19000000 02000000 01000000 00003900 07"],
+    )?;
+    let mut other = stream.as_slice().to_vec(alloc)?;
+    stream.extend_from_slice(&whole)?;
+    match heard_in_two(alloc, &stream, 0)?.as_slice() {
+        [Act::Answered { .. }, Act::Call { stub, .. }] => {
+            assert_eq!(rt; stub.as_slice().len(), 1048576);
+        }
+        _ => panic!(rt; "no call"),
+    }
+    other.extend_from_slice(&longer)?;
+    let says = format!(in alloc;
+        "{ACK}, closed 1054792 9 05000323 10000000 20000000 02000000 00000000 00000000 0b00011c 00000000"
+    )?;
+    let acts = heard_in_two(alloc, &other, 0)?;
+    assert_eq!(rt; shown(alloc, &acts)?.as_str(), says.as_str());
+    Ok(())
+}
+
+#[test]
 fn replies_and_faults(rt: HostRuntime) -> Result<(), Fail> {
     let alloc = rt.alloc();
     let stub = bytes_of(

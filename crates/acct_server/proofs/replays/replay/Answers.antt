@@ -17,5 +17,5 @@ pub returns-clause-transcribes : goal.returns-clause-transcribes
 returns-clause-transcribes g c = λ through.
     let run = c.run_lines-status in
     let configured : c.new-run.result.machine.config ≡ first_config = ap (λ (r : Running). r.machine.config) c.new-run.ensures ∙ c.in-Ok-first_config.ensures in
-    transcribing-run c.front_is_stable.ensures c.new-run.result.machine.config first_config (g.T.Sink.held c.args.out.now) (g.T.Sink.held run.new.out) (g.S.Source.left c.args.events.now) c.in-Ok.bytes.items c.deref.result.now run.new.run.machine.history c.from_vec.result run.result
+    transcribing-run c.streams_are_cut_anywhere.ensures c.new-run.result.machine.config first_config (g.T.Sink.held c.args.out.now) (g.T.Sink.held run.new.out) (g.S.Source.left c.args.events.now) c.in-Ok.bytes.items c.deref.result.now run.new.run.machine.history c.from_vec.result run.result
     (run.ensures.through through) configured c.deref.ensures.value c.in-Ok.ensures.whole.all (c.from_vec.ensures ∙ c.into_history.ensures.all)

@@ -1,11 +1,12 @@
-use Rattle.std.proofs.Common.{Option, List, ℕ, ◌≡◌, [], sym, ap, ◌∙◌, subst, take, arith, Err}
+use Rattle.std.proofs.Common.{Option, List, ℕ, ◌≡◌, ◌+◌, ◌-◌, ◌^◌, length, [], sym, ap, ◌∙◌, subst, take, arith, Err}
 use Rattle.std.specs.Io.KnownBytes.{Appends}
 use Rattle.acct_server.specs.declared.events.LineError.{LineError}
 use Rattle.acct_server.specs.declared.events.LineError.TheVariants.{NoMemory, Refused}
 use Rattle.acct_server.specs.Running.{Running}
 use Rattle.acct_server.specs.Leaves.{Stops}
 use Rattle.acct_server.proofs.Bytes.{from_OnOk, from_OnErr, is_nil}
-use Rattle.acct_server.proofs.Going.{going-on, going-stops, going-may-stop, going-breaks, going-ends, going-end-breaks, going-refused, going-refused-breaks}
+use Rattle.acct_server.proofs.Heard.{all-within, none-heard}
+use Rattle.acct_server.proofs.Going.{going-starts, going-on, going-stops, going-may-stop, going-breaks, going-ends, going-end-breaks, going-refused, going-refused-breaks}
 use Rattle.acct_server.proofs.replays.run_lines.Goals as goal
 
 pub returns-in-Err-Refused-clause-through : goal.returns-in-Err-Refused-clause-through
@@ -52,6 +53,12 @@ loop-rest-preserved g c =
       going = going-on c.args.run.now.machine.config (t.held c.args.out.now) (t.held c.loop-rest.out) (t.held c.write_all.new.out) c.args.bytes.now c.loop-rest.run c.line.new.self c.loop-rest.number c.loop-rest.rest.now c.next_line.result.0.now c.next_line.result.1.now c.in-Ok.output.items
           c.loop-rest.invariant.going c.next_line.ensures.lines c.in-Ok.ensures.does (rw c.deref.ensures.value at (from_OnOk c.write_all.result (sym c.is_err.ensures.value ∙ c.if-is_err.false) c.write_all.ensures.ok));
       within = omega (arith, c.next_line.ensures.shorter);
+      heard = λ n is.
+          let all = length c.args.bytes.now in
+          let before = all - length c.loop-rest.rest.now in
+          let within = c.loop-rest.invariant.within in
+          let parts = c.next_line.ensures.parts in
+          all-within (before + length c.next_line.result.0.now) n c.line.new.self.peers (omega (arith, within, parts, is)) (c.in-Ok.ensures.hears before (c.loop-rest.invariant.heard before (omega (arith, within))));
       later = omega (arith, c.write_all.ensures.cause.later);
     }
 
@@ -73,3 +80,18 @@ returns-clause-stops g c = λ memory.
     let kept = c.finish-2.ensures.memory memory in
     subst (λ (held : Option (List ℕ)). Stops c.args.run.now.machine.config (t.held c.args.out.now) held c.args.bytes.now c.finish-2.new.run.machine.history) (sym kept.1)
     (going-stops c.args.run.now.machine.config (t.held c.args.out.now) (t.held c.loop-rest.out) c.args.bytes.now c.loop-rest.run c.finish-2.new.run c.loop-rest.number c.loop-rest.rest.now c.loop-rest.invariant.going (ap (λ (r : Running). r.machine.history) kept.0))
+
+pub loop-rest-init : goal.loop-rest-init
+loop-rest-init g c = record {
+  going = going-starts (g.T.Sink.held c.args.out.now) c.args.bytes.now c.args.run.now c.requires.history c.requires.peers;
+  within = omega arith;
+  heard = λ n is. none-heard n c.args.run.now.peers c.requires.peers;
+  later = omega arith;
+}
+
+pub line-requires-clause-heard : goal.line-requires-clause-heard
+line-requires-clause-heard g c =
+    let before = length c.args.bytes.now - length c.loop-rest.rest.now in
+    let within = c.loop-rest.invariant.within in
+    let short = c.requires.short in
+    all-within before (2 ^ 32) c.loop-rest.run.peers (omega (arith, short)) (c.loop-rest.invariant.heard before (omega (arith, within)))

@@ -1,4 +1,5 @@
-use Rattle.std.proofs.Common.{◌≤◌, ◌+◌, length}
+use Rattle.std.proofs.Common.{◌≡◌, ◌≤◌, ◌+◌, ℕ, length}
+use Rattle.acct_server.specs.Running.{AllHeard}
 use Rattle.acct_server.proofs.Going.{Going}
 use Rattle.acct_server.proofs.replays.run_lines.Given as goal
 
@@ -8,6 +9,7 @@ invariant-loop-rest g l =
     record {
       going : Going l.initial.run.machine.config (t.held l.initial.out) (t.held l.out) l.bytes l.run l.number l.rest;
       within : l.number + length l.rest ≤ length l.bytes;
+      heard : (n : ℕ) → n + length l.rest ≡ length l.bytes → AllHeard n l.run.peers;
       later : t.faults l.initial.out ≤ t.faults l.out;
     }
 

@@ -1,10 +1,10 @@
-use Rattle.std.proofs.Common.{◌≡◌, ◌∙◌, sym, ap, arith, drop, length, List, ℕ, ◌+◌, ◌++◌, ◌∷◌, []}
+use Rattle.std.proofs.Common.{◌≡◌, ◌∙◌, sym, ap, arith, drop, length, List, ℕ, ◌+◌}
 use Rattle.rpc_session.specs.declared.sessions.Act.{Act}
 use Rattle.rpc_session.specs.declared.hearing.Next.TheVariants as next
 use Rattle.rpc_session.specs.declared.hearing.Hearing.TheVariants.{Going, Ended}
-use Rattle.rpc_session.specs.Hearings.{Begins, heard_next, hear, listed}
+use Rattle.rpc_session.specs.Hearings.{Begins, heard_next, hear}
 use Rattle.rpc_session.proofs.Cutting.{whole_next}
-use Rattle.rpc_session.proofs.Steps.{IsHearing, IsTold, waiting, ended, goes, stopped, on_err, moved}
+use Rattle.rpc_session.proofs.Steps.{IsHearing, waiting, ended, goes, stopped, on_err, moved}
 use Rattle.rpc_session.proofs.hearing.hear.Goals as goal
 
 pub overflow_add-here : goal.overflow_add-here

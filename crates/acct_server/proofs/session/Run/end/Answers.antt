@@ -1,12 +1,51 @@
-use Rattle.std.proofs.Common.{◌≡◌, Some, sym, ap, ◌∙◌}
+use Rattle.std.proofs.Common.{◌≡◌, ◌-◌, ◌++◌, ◌∷◌, Bool, if◌then◌else◌, List, ℕ, [], map, Option, Some, slice_set, sym, ap, ◌∙◌, subst}
+use Rattle.std.specs.List.{flat_map}
+use Rattle.acct_machine.specs.declared.entry.Entry.TheVariants.{Gone}
+use Rattle.acct_machine.specs.Shown.{Shown}
 use Rattle.acct_server.specs.declared.peers.Peer.{Peer}
-use Rattle.acct_server.specs.declared.peers.Peer.TheVariants.{Open}
-use Rattle.acct_server.specs.Replayed.{peer_of}
+use Rattle.acct_server.specs.declared.peers.Peer.TheVariants as peer
+use Rattle.acct_server.specs.Replayed.{IsGone, line_bytes, peer_of, with_peer, number_of}
+use Rattle.acct_server.specs.Running.{Running, Ties, AllHeard}
+use Rattle.acct_server.proofs.Heard.{ended-at, still-there, peer-set, all-heard-ended}
+use Rattle.acct_server.proofs.Placing.{ties-set}
+use Rattle.acct_machine.specs.State.{nothing_open}
+use Rattle.acct_machine.specs.Step.{state_after}
 use Rattle.acct_server.proofs.Moves.{end-does}
 use Rattle.acct_server.proofs.session.Run.end.Goals as goal
 
+stands : (c : goal.Joined-index_mut) → peer_of c.args.conn c.args.self.now.peers ≡ Some (peer.Open c.in-Some-Open.stream)
+stands c = sym c.in-Some-Open.ensures.value ∙ ap (λ (p : Peer). Some p) c.in-Some-Open.field-0-is
+
+left : (c : goal.Joined-index_mut) → slice_set c.self.inside.peers.items (c.args.conn - 1) peer.Ended ≡ with_peer c.args.conn peer.Ended c.args.self.now.peers
+left c =
+    let same : c.self.inside.peers.items ≡ c.end_if_served.new.self.peers = ap (λ (r : Running). r.peers) c.self.view_is in
+    ap (λ (ps : List Peer). slice_set ps (c.args.conn - 1) peer.Ended) same ∙ ended-at c.args.conn c.args.self.now.peers c.end_if_served.new.self.peers (peer.Open c.in-Some-Open.stream) (stands c) c.end_if_served.ensures.peers
+
 pub returns-clause-does : goal.returns-clause-does
 returns-clause-does c =
-    let w = c.in-Some-Open in
-    let stands : peer_of c.args.conn c.args.self.now.peers ≡ Some (Open w.field-0-0) = sym c.peer.ensures.value ∙ w.is ∙ ap (λ (p : Peer). Some p) w.field-0-is in
-    end-does c.args.self.now c.end_peer.new.self c.args.conn w.field-0-0 c.in_ok-line.line.items stands c.end_peer.ensures.machine c.end_peer.ensures.peers c.in_ok-line.ensures
+    let a = c.args in
+    let h = c.in-Some-Open.stream in
+    let new : Running = record { machine = c.self.inside.machine; peers = slice_set c.self.inside.peers.items (a.conn - 1) peer.Ended } in
+    let machine : c.self.inside.machine ≡ c.end_if_served.new.self.machine = ap (λ (r : Running). r.machine) c.self.view_is in
+    end-does a.self.now new a.conn h c.push_gone.new.lines.items (stands c)
+    (ap (λ (m : Shown). m.history) machine ∙ c.end_if_served.ensures.history ∙ ap (λ (o : Option Peer). a.self.now.machine.history ++ map Gone (number_of a.conn o)) (stands c))
+    (ap (λ (m : Shown). m.config) machine ∙ c.end_if_served.ensures.config)
+    (left c)
+    (c.in_ok-push_gone.ensures ∙ ap (λ (bs : List ℕ). bs ++ flat_map line_bytes (map IsGone (gone_if c.is_going.result))) c.new-lines.ensures.items ∙ ap (λ (b : Bool). flat_map line_bytes (map IsGone (gone_if b))) c.is_going.ensures)
+  where
+    gone_if : Bool → List ℕ
+    gone_if served = if served then c.args.conn ∷ [] else []
+
+pub invariant_of-self : goal.invariant_of-self
+invariant_of-self c =
+    let same : c.self.inside.peers.items ≡ c.end_if_served.new.self.peers = ap (λ (r : Running). r.peers) c.self.view_is in
+    let there = still-there c.args.conn c.args.self.now.peers c.end_if_served.new.self.peers (peer.Open c.in-Some-Open.stream) (stands c) c.end_if_served.ensures.peers in
+    let here : peer_of c.args.conn c.self.inside.peers.items ≡ Some there.0 = ap (λ (ps : List Peer). peer_of c.args.conn ps) same ∙ there.1 in (
+      subst (λ (ps : List Peer). Ties ps (state_after nothing_open c.self.inside.machine.history)) (sym (peer-set c.args.conn c.self.inside.peers.items there.0 peer.Ended here))
+          (ties-set c.args.conn c.self.inside.peers.items there.0 (state_after nothing_open c.self.inside.machine.history) here c.self.invariant.0),
+      c.self.invariant.1,
+    )
+
+pub returns-clause-hears : goal.returns-clause-hears
+returns-clause-hears c = λ most all.
+    subst (λ (ps : List Peer). AllHeard most ps) (sym (left c)) (all-heard-ended most c.args.conn c.args.self.now.peers (peer.Open c.in-Some-Open.stream) (stands c) all)

@@ -1,11 +1,11 @@
 use Rattle.std.proofs.Common.{◌≡◌, ◌+◌, ◌++◌, drop, map, length}
 use Rattle.acct_machine.specs.declared.entry.Entry.TheVariants.{Gone}
-use Rattle.acct_server.specs.Replayed.{open_from}
+use Rattle.acct_server.specs.Replayed.{served_from}
 use Rattle.acct_server.proofs.session.Run.end_all.Given as goal
 
 abbrev pub invariant-loop-i : goal.invariant-loop-i
 invariant-loop-i l = record {
-  history : l.self.machine.history ++ map Gone (open_from (l.i + 1) (drop l.i l.self.peers)) ≡ l.initial.self.machine.history ++ map Gone (open_from 1 l.initial.self.peers);
+  history : l.self.machine.history ++ map Gone (served_from (l.i + 1) (drop l.i l.self.peers)) ≡ l.initial.self.machine.history ++ map Gone (served_from 1 l.initial.self.peers);
   config : l.self.machine.config ≡ l.initial.self.machine.config;
   count : length l.self.peers ≡ length l.initial.self.peers;
 }

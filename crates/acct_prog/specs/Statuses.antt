@@ -1,0 +1,24 @@
+-- The exit code of a status, and its word.
+use Rattle.std.specs.Prelude.{ℕ, List, codes}
+use Rattle.acct_server.specs.declared.status.Status.{Status}
+use Rattle.acct_server.specs.declared.status.Status.TheVariants.{Done, NoMemory, Usage, Config, ReadFault, WriteFault, EventLine, InputTooLong}
+
+abbrev pub code_of : Status → ℕ
+code_of Done = 0
+code_of NoMemory = 1
+code_of Usage = 2
+code_of (Config rule) = 3
+code_of ReadFault = 4
+code_of WriteFault = 5
+code_of (EventLine line) = 8
+code_of InputTooLong = 13
+
+abbrev pub word_of : Status → List ℕ
+word_of Done = codes "done"
+word_of NoMemory = codes "memory"
+word_of Usage = codes "usage"
+word_of (Config rule) = codes "config"
+word_of ReadFault = codes "read"
+word_of WriteFault = codes "write"
+word_of (EventLine line) = codes "event"
+word_of InputTooLong = codes "long"

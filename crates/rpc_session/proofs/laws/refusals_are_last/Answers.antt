@@ -1,0 +1,5 @@
+use Rattle.rpc_session.proofs.Fit.{refusals_last}
+use Rattle.rpc_session.proofs.laws.refusals_are_last.Goals as goal
+
+pub returns : goal.returns
+returns c = refusals_last
