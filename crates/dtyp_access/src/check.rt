@@ -23,9 +23,9 @@ pub fn is_granted(token: &Token, d: &Descriptor, bit: u32) -> bool
     granted_rights(token.sids(), d) & bit != 0
 }
 
-/// What an opening of an object of a kind grants a token that asks for the desired rights: none where a right that is asked
-/// for is none of the kind or not granted; else those that are asked for, and with MAXIMUM_ALLOWED all others of the kind
-/// that are granted. It takes no memory.
+/// What an opening of an object of a kind grants a token that asks for the desired rights: none where a right that is
+/// asked for is none of the kind or not granted; else those that are asked for, and with MAXIMUM_ALLOWED all others of
+/// the kind that are granted. It takes no memory.
 #[tactic(auto, unfolding(crate::specs::Granted::shares))]
 pub fn opening(kind: Kind, d: &Descriptor, token: &Token, desired: u32) -> Option<u32>
     ensures { result ≡ opened kind d.now token.now desired }

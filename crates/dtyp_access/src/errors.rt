@@ -8,7 +8,8 @@ pub enum DescError {
     Short(usize),
     /// The revision at the place is another.
     Revision(usize),
-    /// The control bits at the place aren't self-relative, or the offset at the place points into the header or past the end.
+    /// The control bits at the place aren't self-relative, or the offset at the place points into the header or past
+    /// the end.
     Offset(usize),
     /// The type of the entry at the place is neither to allow nor to deny.
     AceType(usize),

@@ -1,19 +1,23 @@
 // Reading a descriptor from its bytes.
 ghost use Rattle.std.specs.Prelude.{◌≡◌, ◌+◌, ◌≤◌, length, IfOk, IfErr, Ok, Err};
 ghost use Rattle.std.specs.Int.{w16, w32, from_le_bytes};
+ghost use Rattle.dtyp_access.specs.Spelled.{SpellDescriptor};
 ghost use Rattle.dtyp_access.specs.Reading.{AnswersOrMemory, descriptor_of_bytes, sid_of_field, group_of, list_of, acl_at, aces_at, ace_at, next_ace, kind_of, or_no_sid, u16_at, u32_at};
 
+use crate::laws::read_bytes_spell;
 use crate::{Ace, AceKind, Acl, DescError, Descriptor};
 use acct_base::rest_of;
 use dtyp_sid::Sid;
 use std::alloc::Global;
 
-/// The descriptor that bytes spell in its self-relative form (MS-DTYP 2.4.6), or the first reason that they spell none. The
-/// auditing list isn't looked at.
+/// The descriptor that bytes spell in its self-relative form (MS-DTYP 2.4.6), or the first reason that they spell none.
+/// The auditing list isn't looked at.
 #[tactic(auto, unfolding(crate::specs::Reading::descriptor_of_bytes, crate::specs::Granted::shares))]
 pub fn read_descriptor(alloc: Global, bytes: &[u8]) -> Result<Descriptor, DescError>
-    ensures { AnswersOrMemory result (descriptor_of_bytes bytes.now) }
+    ensures answer { AnswersOrMemory result (descriptor_of_bytes bytes.now) }
+    ensures spelled { IfOk result (λ d. SpellDescriptor bytes.now d) }
 {
+    read_bytes_spell();
     if bytes.len() < 20 {
         return Err(DescError::Short(0));
     }

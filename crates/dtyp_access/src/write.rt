@@ -13,8 +13,8 @@ use dtyp_sid::Sid;
 use dtyp_sid::laws::written_bytes_have_lengths;
 use std::alloc::{AllocError, Global};
 
-/// The bytes of a descriptor in its self-relative form (MS-DTYP 2.4.6): the header, the owner, the group and the list, without
-/// gaps. The list may have at most 800 entries.
+/// The bytes of a descriptor in its self-relative form (MS-DTYP 2.4.6): the header, the owner, the group and the list,
+/// without gaps. They are read back as the same descriptor. The list may have at most 800 entries.
 #[tactic(auto, unfolding(crate::specs::Written::descriptor_bytes))]
 pub fn write_descriptor(alloc: Global, d: &Descriptor) -> Result<Vec<u8>, AllocError>
     requires { HasFewAces d.now }
