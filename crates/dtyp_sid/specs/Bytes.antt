@@ -47,6 +47,10 @@ BeginWithSid bytes sid = (rest : List ℕ) × (bytes ≡ bytes_of sid ++ rest)
 abbrev pub WrittenBytesAreRead : Type 0
 WrittenBytesAreRead = (sid : SidValue) (rest : List ℕ) → IsSid sid → sid_of_bytes (bytes_of sid ++ rest) ≡ Ok sid
 
+-- a SID has eight written bytes, and four for each sub-authority
+abbrev pub WrittenBytesHaveLengths : Type 0
+WrittenBytesHaveLengths = (sid : SidValue) → length (bytes_of sid) ≡ 8 + 4 * length sid.subs
+
 -- what is read is a SID, and the bytes begin with its written ones
 abbrev pub ReadBytesAreWritten : Type 0
 ReadBytesAreWritten = (bytes : List ℕ) (sid : SidValue) → All (λ byte. byte < 256) bytes → sid_of_bytes bytes ≡ Ok sid → IsSid sid × BeginWithSid bytes sid

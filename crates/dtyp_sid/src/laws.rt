@@ -1,7 +1,7 @@
 //! Laws of SIDs, their texts and bytes, each the contract of a function that does nothing.
 ghost use Rattle.dtyp_sid.specs.Text.{TextsAreOfOne, WrittenTextsAreTexts, WrittenTextsDiffer};
 ghost use Rattle.dtyp_sid.specs.Reading.{ReadTextsAreTexts};
-ghost use Rattle.dtyp_sid.specs.Bytes.{WrittenBytesAreRead, ReadBytesAreWritten};
+ghost use Rattle.dtyp_sid.specs.Bytes.{WrittenBytesAreRead, WrittenBytesHaveLengths, ReadBytesAreWritten};
 ghost use Rattle.dtyp_sid.specs.Order.{EqualSidsAreOne};
 
 /// No text is that of two SIDs.
@@ -27,6 +27,11 @@ pub fn read_texts_are_texts()
 /// What is written is read as the same SID, whatever bytes follow.
 pub fn written_bytes_are_read()
     ensures { WrittenBytesAreRead }
+{}
+
+/// A SID has eight written bytes, and four for each sub-authority.
+pub fn written_bytes_have_lengths()
+    ensures { WrittenBytesHaveLengths }
 {}
 
 /// What is read at the front of bytes is a SID, and the bytes begin with its written ones.

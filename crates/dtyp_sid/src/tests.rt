@@ -185,6 +185,7 @@ fn laws_do_nothing() {
     laws::written_texts_differ();
     laws::read_texts_are_texts();
     laws::written_bytes_are_read();
+    laws::written_bytes_have_lengths();
     laws::read_bytes_are_written();
     laws::equal_sids_are_one();
 }

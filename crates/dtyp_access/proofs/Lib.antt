@@ -1,0 +1,10 @@
+pub mod AccessLaws
+pub mod AcesRead
+pub mod Masks
+pub mod Nameless
+pub mod Opened
+pub mod ReadIsSpelled
+pub mod SpelledIsRead
+pub mod Walk
+pub mod WrittenIsSpelled
+pub mod Writing

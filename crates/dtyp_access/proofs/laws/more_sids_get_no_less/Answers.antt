@@ -1,0 +1,5 @@
+use Rattle.dtyp_access.proofs.AccessLaws.{more_sids}
+use Rattle.dtyp_access.proofs.laws.more_sids_get_no_less.Goals as goal
+
+pub returns : goal.returns
+returns c = more_sids

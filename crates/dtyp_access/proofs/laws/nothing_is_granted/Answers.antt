@@ -1,0 +1,5 @@
+use Rattle.dtyp_access.proofs.AccessLaws.{nothing_granted}
+use Rattle.dtyp_access.proofs.laws.nothing_is_granted.Goals as goal
+
+pub returns : goal.returns
+returns c = nothing_granted

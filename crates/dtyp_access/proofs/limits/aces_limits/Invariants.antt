@@ -1,0 +1,6 @@
+use Rattle.std.proofs.Common.{All, take}
+use Rattle.dtyp_access.specs.Limits.{IsAce}
+use Rattle.dtyp_access.proofs.limits.aces_limits.Given as goal
+
+abbrev pub invariant-loop-ace : goal.invariant-loop-ace
+invariant-loop-ace l = All IsAce (take l.ace-index l.aces)

@@ -1,0 +1,7 @@
+use Rattle.std.proofs.Common.{◌≡◌, ◌≤◌, ◌+◌, ◌*◌, length, take}
+use Rattle.dtyp_access.specs.Written.{aces_bytes}
+use Rattle.dtyp_access.proofs.write.acl_size.Given as goal
+
+abbrev pub invariant-loop-ace : goal.invariant-loop-ace
+invariant-loop-ace l =
+    (l.size ≡ 8 + length (aces_bytes (take l.ace-index l.aces))) × (l.size ≤ 8 + 76 * l.ace-index)

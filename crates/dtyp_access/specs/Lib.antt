@@ -1,0 +1,7 @@
+pub mod Granted
+pub mod Laws
+pub mod Limits
+pub mod Opening
+pub mod Reading
+pub mod Spelled
+pub mod Written

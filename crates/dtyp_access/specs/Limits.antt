@@ -1,0 +1,33 @@
+-- The limits of a descriptor's parts: flags of 8 bits and masks of 32 (MS-DTYP 2.4.4.1 and 2.4.3), and a list no longer than its size
+-- field can say, which counts at most 76 bytes an entry
+use Rattle.std.specs.Prelude.{◌≡◌, ◌^◌, ◌<◌, ◌≤◌, List, length, All}
+use Rattle.std.specs.declared.option.Option.{Option}
+use Rattle.std.specs.declared.option.Option.TheVariants.{Some, None}
+use Rattle.dtyp_sid.specs.Value.{SidValue, IsSid}
+use Rattle.dtyp_access.specs.declared.ace.Ace.{Ace}
+use Rattle.dtyp_access.specs.declared.descriptor.Descriptor.{Descriptor}
+
+-- an entry
+pub record IsAce (ace : Ace) : Type 0 where
+  pub flags_fit : ace.flags < 2 ^ 8
+  pub mask_fits : ace.mask < 2 ^ 32
+  pub is_sid : IsSid ace.sid
+
+-- the parts that may be absent
+abbrev pub IsGroup : Option SidValue → Type 0
+IsGroup None = Unit {0}
+IsGroup (Some group) = IsSid group
+
+abbrev pub IsList : Option (List Ace) → Type 0
+IsList None = Unit {0}
+IsList (Some aces) = All IsAce aces × (length aces ≤ 800)
+
+-- a descriptor
+pub record IsDescriptor (d : Descriptor) : Type 0 where
+  pub owner : IsSid d.owner
+  pub group : IsGroup d.group
+  pub acl : IsList d.acl
+
+-- the list has at most 800 entries
+abbrev pub HasFewAces : Descriptor → Type 0
+HasFewAces d = (aces : List Ace) → d.acl ≡ Some aces → length aces ≤ 800

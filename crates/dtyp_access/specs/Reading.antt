@@ -1,0 +1,101 @@
+-- The descriptor that bytes spell, or the first reason that they spell none (MS-DTYP 2.4.4 to 2.4.6)
+use Rattle.std.specs.Prelude.{◌≡◌, ℕ, zero, suc, ◌+◌, ◌-◌, Bool, not, ◌||◌, List, [], ◌∷◌, length, take, drop, slice_index, nat_lt, ◌==◌, if◌then◌else◌}
+use Rattle.std.specs.Int.{w16, w32, from_le_bytes}
+use Rattle.std.specs.declared.option.Option.{Option}
+use Rattle.std.specs.declared.option.Option.TheVariants.{Some, None}
+use Rattle.std.specs.declared.result.Result.{Result}
+use Rattle.std.specs.declared.result.Result.TheVariants.{Ok, Err}
+use Rattle.dtyp_sid.specs.Value.{SidValue}
+use Rattle.dtyp_sid.specs.Bytes.{sid_of_bytes}
+use Rattle.dtyp_sid.specs.declared.errors.BytesError.{BytesError}
+use Rattle.dtyp_access.specs.declared.ace.Ace.{Ace}
+use Rattle.dtyp_access.specs.declared.ace.AceKind.{AceKind}
+use Rattle.dtyp_access.specs.declared.ace.AceKind.TheVariants.{Allow, Deny}
+use Rattle.dtyp_access.specs.declared.descriptor.Descriptor.{Descriptor}
+use Rattle.dtyp_access.specs.declared.errors.DescError.{DescError}
+use Rattle.dtyp_access.specs.declared.errors.DescError.TheVariants.{Short, Revision, Offset, AceType, Sid as NoSid, Memory}
+use Rattle.dtyp_access.specs.Granted.{shares}
+
+-- the next step of a reading, where the one before was not refused
+abbrev pub then_read : {X Y : Type 0} → Result X DescError → (X → Result Y DescError) → Result Y DescError
+then_read (Ok x) next = next x
+then_read (Err refusal) next = Err refusal
+
+-- numbers at a place
+unfoldable pub u16_at : ℕ → List ℕ → ℕ
+u16_at place bytes = from_le_bytes w16 (drop place bytes)
+
+unfoldable pub u32_at : ℕ → List ℕ → ℕ
+u32_at place bytes = from_le_bytes w32 (drop place bytes)
+
+-- the SID at the front of bytes that begin at a place
+abbrev pub or_no_sid : ℕ → Result SidValue BytesError → Result SidValue DescError
+or_no_sid place (Ok sid) = Ok sid
+or_no_sid place (Err why) = Err (NoSid place)
+
+-- whether an offset points into the header or past the end
+abbrev pub is_outside : ℕ → List ℕ → Bool
+is_outside offset bytes = nat_lt offset 20 || nat_lt (length bytes) offset
+
+-- the SID that the offset in a field of the header points to
+unfoldable pub sid_of_field : ℕ → List ℕ → Result SidValue DescError
+sid_of_field field bytes =
+    if is_outside (u32_at field bytes) bytes then Err (Offset field)
+    else or_no_sid (u32_at field bytes) (sid_of_bytes (drop (u32_at field bytes) bytes))
+
+-- the group, which is absent where its offset is 0
+unfoldable pub group_of : List ℕ → Result (Option SidValue) DescError
+group_of bytes = if u32_at 8 bytes == 0 then Ok None else then_read (sid_of_field 8 bytes) (λ group. Ok (Some group))
+
+-- the kind of entries that a type byte tells
+abbrev pub kind_of : ℕ → ℕ → Result AceKind DescError
+kind_of place type = if type == 0 then Ok Allow else (if type == 1 then Ok Deny else Err (AceType place))
+
+-- where the entry behind the one at a place begins
+unfoldable pub next_ace : ℕ → List ℕ → ℕ
+next_ace place bytes = place + u16_at (place + 2) bytes
+
+-- the entry at a place of a list that ends at another
+unfoldable pub ace_at : ℕ → ℕ → List ℕ → Result Ace DescError
+ace_at place end bytes =
+    if nat_lt end (place + 8) || nat_lt end (next_ace place bytes) || nat_lt (u16_at (place + 2) bytes) 16 then Err (Short place)
+    else then_read (kind_of place (slice_index bytes place)) (λ kind.
+    then_read (or_no_sid (place + 8) (sid_of_bytes (take (u16_at (place + 2) bytes - 8) (drop (place + 8) bytes)))) (λ sid.
+    Ok (record { kind = kind; flags = slice_index bytes (place + 1); mask = u32_at (place + 4) bytes; sid = sid })))
+
+-- so many entries, one behind the other
+unfoldable pub aces_at : ℕ → ℕ → ℕ → List ℕ → Result (List Ace) DescError
+aces_at zero place end bytes = Ok []
+aces_at (suc count) place end bytes =
+    then_read (ace_at place end bytes) (λ ace. then_read (aces_at count (next_ace place bytes) end bytes) (λ aces. Ok (ace ∷ aces)))
+
+-- the list at a place
+unfoldable pub acl_at : ℕ → List ℕ → Result (List Ace) DescError
+acl_at place bytes =
+    if nat_lt (length bytes) (place + 8) || nat_lt (length bytes) (place + u16_at (place + 2) bytes) then Err (Short place)
+    else (if not (slice_index bytes place == 2) then Err (Revision place)
+    else aces_at (u16_at (place + 4) bytes) (place + 8) (place + u16_at (place + 2) bytes) bytes)
+
+-- the list, which is absent where the control bits or its offset say so
+unfoldable pub list_of : List ℕ → Result (Option (List Ace)) DescError
+list_of bytes =
+    if not (shares (u16_at 2 bytes) 0x0004) || u32_at 16 bytes == 0 then Ok None
+    else (if is_outside (u32_at 16 bytes) bytes then Err (Offset 16)
+    else then_read (acl_at (u32_at 16 bytes) bytes) (λ aces. Ok (Some aces)))
+
+-- the descriptor, or the first refusal
+unfoldable pub descriptor_of_bytes : List ℕ → Result Descriptor DescError
+descriptor_of_bytes bytes =
+    if nat_lt (length bytes) 20 then Err (Short 0)
+    else (if not (slice_index bytes 0 == 1) then Err (Revision 0)
+    else (if not (shares (u16_at 2 bytes) 0x8000) then Err (Offset 2)
+    else then_read (sid_of_field 4 bytes) (λ owner.
+    then_read (group_of bytes) (λ group.
+    then_read (list_of bytes) (λ acl.
+    Ok (record { owner = owner; group = group; acl = acl }))))))
+
+-- an answer is the one that is wanted, or memory was
+abbrev pub AnswersOrMemory : {X : Type 0} → Result X DescError → Result X DescError → Type 0
+AnswersOrMemory (Ok x) wanted = wanted ≡ Ok x
+AnswersOrMemory (Err Memory) wanted = Unit {0}
+AnswersOrMemory (Err refusal) wanted = wanted ≡ Err refusal

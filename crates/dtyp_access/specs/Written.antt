@@ -1,0 +1,63 @@
+-- The written bytes of a descriptor: the self-relative form of MS-DTYP 2.4.6, with its parts in order and without gaps
+use Rattle.std.specs.Prelude.{ℕ, ◌+◌, List, [], ◌∷◌, ◌++◌, length}
+use Rattle.std.specs.Int.{w16, w32, to_le_bytes}
+use Rattle.std.specs.List.{flat_map}
+use Rattle.std.specs.declared.option.Option.{Option}
+use Rattle.std.specs.declared.option.Option.TheVariants.{Some, None}
+use Rattle.dtyp_sid.specs.Value.{SidValue}
+use Rattle.dtyp_sid.specs.Bytes.{bytes_of}
+use Rattle.dtyp_access.specs.declared.ace.Ace.{Ace}
+use Rattle.dtyp_access.specs.declared.ace.AceKind.{AceKind}
+use Rattle.dtyp_access.specs.declared.ace.AceKind.TheVariants.{Allow, Deny}
+use Rattle.dtyp_access.specs.declared.descriptor.Descriptor.{Descriptor}
+
+-- the type byte of an entry
+abbrev pub type_of : AceKind → ℕ
+type_of Allow = 0
+type_of Deny = 1
+
+-- an entry: type, flags, its size, mask and SID
+unfoldable pub ace_bytes : Ace → List ℕ
+ace_bytes ace =
+    (type_of ace.kind ∷ ace.flags ∷ []) ++ to_le_bytes w16 (8 + length (bytes_of ace.sid)) ++ to_le_bytes w32 ace.mask ++ bytes_of ace.sid
+
+unfoldable pub aces_bytes : List Ace → List ℕ
+aces_bytes aces = flat_map ace_bytes aces
+
+-- an access control list: revision 2, its size, the count of its entries, and the entries
+unfoldable pub acl_bytes : List Ace → List ℕ
+acl_bytes aces =
+    (2 ∷ 0 ∷ []) ++ to_le_bytes w16 (8 + length (aces_bytes aces)) ++ to_le_bytes w16 (length aces) ++ (0 ∷ 0 ∷ []) ++ aces_bytes aces
+
+-- the parts that may be absent
+unfoldable pub group_bytes : Option SidValue → List ℕ
+group_bytes None = []
+group_bytes (Some group) = bytes_of group
+
+unfoldable pub list_bytes : Option (List Ace) → List ℕ
+list_bytes None = []
+list_bytes (Some aces) = acl_bytes aces
+
+-- the control bits: self-relative, and that there is a list
+abbrev pub control_of : Option (List Ace) → ℕ
+control_of None = 0x8000
+control_of (Some aces) = 0x8004
+
+-- where a part begins, and 0 where it is absent
+abbrev pub offset_of : {X : Type 0} → Option X → ℕ → ℕ
+offset_of None place = 0
+offset_of (Some part) place = place
+
+-- the header: revision 1, the control bits, and the offsets of owner, group, auditing list and list
+unfoldable pub header_bytes : Descriptor → List ℕ
+header_bytes d =
+    (1 ∷ 0 ∷ [])
+    ++ to_le_bytes w16 (control_of d.acl)
+    ++ to_le_bytes w32 20
+    ++ to_le_bytes w32 (offset_of d.group (20 + length (bytes_of d.owner)))
+    ++ to_le_bytes w32 0
+    ++ to_le_bytes w32 (offset_of d.acl (20 + length (bytes_of d.owner) + length (group_bytes d.group)))
+
+-- the written bytes of a descriptor
+unfoldable pub descriptor_bytes : Descriptor → List ℕ
+descriptor_bytes d = header_bytes d ++ bytes_of d.owner ++ group_bytes d.group ++ list_bytes d.acl

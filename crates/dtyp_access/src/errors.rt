@@ -1,0 +1,31 @@
+// Refusals of bytes that spell no descriptor.
+use std::alloc::AllocFailed;
+
+/// Why bytes spell no descriptor, with the place of what is wrong.
+#[derive(Clone, Copy, Debug, PartialEq, Eq)]
+pub enum DescError {
+    /// The header, the list or the entry that begins at the place isn't whole, or an entry is smaller than any.
+    Short(usize),
+    /// The revision at the place is another.
+    Revision(usize),
+    /// The control bits at the place aren't self-relative, or the offset at the place points into the header or past
+    /// the end.
+    Offset(usize),
+    /// The type of the entry at the place is neither to allow nor to deny.
+    AceType(usize),
+    /// No SID stands at the place.
+    Sid(usize),
+    /// Memory was wanted.
+    Memory,
+}
+
+impl<T: Drop> From<AllocFailed<T>> for DescError {
+    ghost use Rattle.std.specs.Prelude.{◌≡◌};
+    ghost use Rattle.dtyp_access.specs.declared.errors.DescError.TheVariants.{Memory};
+
+    ghost from_gives = { λ _ error. error ≡ Memory };
+
+    fn from(_error: AllocFailed<T>) -> Self {
+        DescError::Memory
+    }
+}

@@ -1,0 +1,197 @@
+// Reading a descriptor from its bytes.
+ghost use Rattle.std.specs.Prelude.{◌≡◌, ◌+◌, ◌≤◌, length, IfOk, IfErr, Ok, Err};
+ghost use Rattle.std.specs.Int.{w16, w32, from_le_bytes};
+ghost use Rattle.dtyp_access.specs.Spelled.{SpellDescriptor};
+ghost use Rattle.dtyp_access.specs.Reading.{AnswersOrMemory, descriptor_of_bytes, sid_of_field, group_of, list_of, acl_at, aces_at, ace_at, next_ace, kind_of, or_no_sid, u16_at, u32_at};
+
+use crate::laws::read_bytes_spell;
+use crate::{Ace, AceKind, Acl, DescError, Descriptor};
+use acct_base::rest_of;
+use dtyp_sid::Sid;
+use std::alloc::Global;
+
+/// The descriptor that bytes spell in its self-relative form (MS-DTYP 2.4.6), or the first reason that they spell none.
+/// The auditing list isn't looked at.
+#[tactic(auto, unfolding(crate::specs::Reading::descriptor_of_bytes, crate::specs::Granted::shares))]
+pub fn read_descriptor(alloc: Global, bytes: &[u8]) -> Result<Descriptor, DescError>
+    ensures answer { AnswersOrMemory result (descriptor_of_bytes bytes.now) }
+    ensures spelled { IfOk result (λ d. SpellDescriptor bytes.now d) }
+{
+    read_bytes_spell();
+    if bytes.len() < 20 {
+        return Err(DescError::Short(0));
+    }
+    if bytes[0] != 1 {
+        return Err(DescError::Revision(0));
+    }
+    if u16_at(bytes, 2) & 0x8000 == 0 {
+        return Err(DescError::Offset(2));
+    }
+    let owner = sid_of_field(bytes, 4)?;
+    let group = group_of(bytes)?;
+    let acl = list_of(alloc, bytes)?;
+    Ok(Descriptor { owner, group, acl })
+}
+
+/// The SID that the offset in a field of the header points to.
+#[tactic(auto, unfolding(crate::specs::Reading::sid_of_field))]
+fn sid_of_field(bytes: &[u8], field: usize) -> Result<Sid, DescError>
+    requires { field + 4 ≤ length bytes.now }
+    ensures { result ≡ sid_of_field field bytes.now }
+{
+    let offset = u32_at(bytes, field) as usize;
+    if offset < 20 || bytes.len() < offset {
+        return Err(DescError::Offset(field));
+    }
+    match Sid::from_bytes(rest_of(bytes, offset)) {
+        Ok(sid) => Ok(sid),
+        Err(_) => Err(DescError::Sid(offset)),
+    }
+}
+
+/// The group, which is absent where its offset is 0.
+#[tactic(auto, unfolding(crate::specs::Reading::group_of))]
+fn group_of(bytes: &[u8]) -> Result<Option<Sid>, DescError>
+    requires { 20 ≤ length bytes.now }
+    ensures { result ≡ group_of bytes.now }
+{
+    if u32_at(bytes, 8) == 0 {
+        return Ok(None);
+    }
+    let group = sid_of_field(bytes, 8)?;
+    Ok(Some(group))
+}
+
+/// The list, which is absent where the control bits or its offset say so.
+#[tactic(auto, unfolding(crate::specs::Reading::list_of, crate::specs::Granted::shares))]
+fn list_of(alloc: Global, bytes: &[u8]) -> Result<Option<Acl>, DescError>
+    requires { 20 ≤ length bytes.now }
+    ensures { AnswersOrMemory result (list_of bytes.now) }
+{
+    let offset = u32_at(bytes, 16) as usize;
+    if u16_at(bytes, 2) & 0x0004 == 0 || offset == 0 {
+        return Ok(None);
+    }
+    if offset < 20 || bytes.len() < offset {
+        return Err(DescError::Offset(16));
+    }
+    let acl = acl_at(alloc, bytes, offset)?;
+    Ok(Some(acl))
+}
+
+/// The list at a place.
+#[tactic(auto, unfolding(crate::specs::Reading::acl_at))]
+fn acl_at(alloc: Global, bytes: &[u8], place: usize) -> Result<Acl, DescError>
+    requires { place ≤ length bytes.now }
+    ensures { AnswersOrMemory result (acl_at place bytes.now) }
+{
+    if bytes.len() < place + 8 {
+        return Err(DescError::Short(place));
+    }
+    let end = place + usize::from(u16_at(bytes, place + 2));
+    if bytes.len() < end {
+        return Err(DescError::Short(place));
+    }
+    if bytes[place] != 2 {
+        return Err(DescError::Revision(place));
+    }
+    aces_at(alloc, bytes, u16_at(bytes, place + 4), place + 8, end)
+}
+
+/// So many entries from a place on, one behind the other, of a list that ends at another place.
+fn aces_at(
+    alloc: Global,
+    bytes: &[u8],
+    count: u16,
+    first: usize,
+    end: usize,
+) -> Result<Acl, DescError>
+    requires first { first ≤ length bytes.now }
+    requires end { end ≤ length bytes.now }
+    ensures { AnswersOrMemory result (aces_at count first end bytes.now) }
+{
+    let mut aces = Vec::new(alloc);
+    let mut place = first;
+    for _done in 0..count {
+        match ace_at(bytes, place, end) {
+            Ok((ace, next)) => {
+                aces.push(ace)?;
+                place = next;
+            }
+            Err(refusal) => return Err(refusal),
+        }
+    }
+    Ok(Acl::from_vec(aces))
+}
+
+/// The entry at a place of a list that ends at another, and where the next begins.
+#[tactic(auto, unfolding(crate::specs::Reading::ace_at, crate::specs::Reading::next_ace))]
+fn ace_at(bytes: &[u8], place: usize, end: usize) -> Result<(Ace, usize), DescError>
+    requires place { place ≤ length bytes.now }
+    requires end { end ≤ length bytes.now }
+    ensures ok { IfOk result (λ read. (ace_at place end bytes.now ≡ Ok read.0) × (read.1 ≡ next_ace place bytes.now) × (read.1 ≤ end)) }
+    ensures err { IfErr result (λ refusal. ace_at place end bytes.now ≡ Err refusal) }
+{
+    if end < place + 8 {
+        return Err(DescError::Short(place));
+    }
+    let size = usize::from(u16_at(bytes, place + 2));
+    if end < place + size || size < 16 {
+        return Err(DescError::Short(place));
+    }
+    let kind = kind_of(bytes[place], place)?;
+    let sid = match Sid::from_bytes(&bytes[place + 8..place + size]) {
+        Ok(sid) => sid,
+        Err(_) => return Err(DescError::Sid(place + 8)),
+    };
+    let ace = Ace {
+        kind,
+        flags: bytes[place + 1],
+        mask: u32_at(bytes, place + 4),
+        sid,
+    };
+    Ok((ace, place + size))
+}
+
+/// The kind of entries that a type byte tells.
+fn kind_of(type_byte: u8, place: usize) -> Result<AceKind, DescError>
+    ensures { result ≡ kind_of place type_byte }
+{
+    match type_byte {
+        0 => Ok(AceKind::Allow),
+        1 => Ok(AceKind::Deny),
+        _ => Err(DescError::AceType(place)),
+    }
+}
+
+/// The number of 16 bits at a place.
+#[tactic(auto, unfolding(crate::specs::Reading::u16_at))]
+fn u16_at(bytes: &[u8], place: usize) -> u16
+    requires { place + 2 ≤ length bytes.now }
+    ensures { result ≡ u16_at place bytes.now }
+{
+    front_u16(rest_of(bytes, place))
+}
+
+fn front_u16(bytes: &[u8]) -> u16
+    requires { 2 ≤ length bytes.now }
+    ensures { result ≡ from_le_bytes w16 bytes.now }
+{
+    u16::from_le_bytes([bytes[0], bytes[1]])
+}
+
+/// The number of 32 bits at a place.
+#[tactic(auto, unfolding(crate::specs::Reading::u32_at))]
+fn u32_at(bytes: &[u8], place: usize) -> u32
+    requires { place + 4 ≤ length bytes.now }
+    ensures { result ≡ u32_at place bytes.now }
+{
+    front_u32(rest_of(bytes, place))
+}
+
+fn front_u32(bytes: &[u8]) -> u32
+    requires { 4 ≤ length bytes.now }
+    ensures { result ≡ from_le_bytes w32 bytes.now }
+{
+    u32::from_le_bytes([bytes[0], bytes[1], bytes[2], bytes[3]])
+}
