@@ -1,0 +1,105 @@
+-- A document that breaks no rule spells a configuration that is right.
+use Rattle.std.proofs.Common.{◌≡◌, ℕ, zero, suc, codes, ℤ, pos, negsuc, ◌&&◌, Bool, true, false, List, [], ◌∷◌, map, length, Option, Some, None, refl, ap, ◌∙◌, nat_le, is_some, unwrap_or, option_map}
+use Rattle.std.proofs.lemmas.Bool.{and_parts, and_from}
+use Rattle.std.proofs.lemmas.List.{length-map}
+use Rattle.std.proofs.lemmas.Simd.{map-map}
+use Rattle.std.specs.List.{list_all, slice_get, filter_map, cons_option}
+use Rattle.std.specs.Option.{option_map_or}
+use Rattle.toml.specs.Data.{Data, get}
+use Rattle.acct_codes.specs.declared.kind.Kind.{Kind}
+use Rattle.dtyp_sid.specs.Value.{SidValue}
+use Rattle.acct_config.specs.Document.{elements, elements_of}
+use Rattle.acct_config.specs.Kinds.{kinds}
+use Rattle.acct_config.specs.Right.{IsRight, is_right_listener, is_right_list, is_right_descriptor}
+use Rattle.acct_config.specs.Rules.{first_broken_from, kept, domain_sid, listeners, listener_name, have_names, has_address, sid_of, is_sid, token_texts, has_token, is_number_within, workers, links, has_counts, descriptor_table, is_ace, ace_texts, has_aces, aces_are_entries}
+use Rattle.acct_config.specs.Shape.{found}
+use Rattle.acct_config.specs.Spelled.{count_of, listener_of, ace_at, acl_of, descriptor_of, config_of}
+use Rattle.acct_config.specs.Values.{is_domain_sid, administrators, is_listener_name, are_distinct}
+use Rattle.acct_config.specs.Words.{is_within}
+
+-- where no rule is broken, each is kept
+nth_kept : (number : ℕ) (rules : List Bool) (i : ℕ) (k : Bool) → first_broken_from number rules ≡ None → slice_get rules i ≡ Some k → k ≡ true
+nth_kept number [] i k none at = absurd (cc)
+nth_kept number (true ∷ rules) zero k none at = cc
+nth_kept number (true ∷ rules) (suc i) k none at = nth_kept (suc number) rules i k none at
+nth_kept number (false ∷ rules) i k none at = absurd (cc)
+
+sid-kept : (sid : Option SidValue) → option_map_or is_domain_sid sid false ≡ true → is_domain_sid (unwrap_or sid administrators) ≡ true
+sid-kept None may = absurd (cc)
+sid-kept (Some sid) may = may
+
+-- nothing is left out of a list of which each element gives one
+length-cons_option : {X : Type 0} (x : Option X) (xs : List X) → is_some x ≡ true → length (cons_option x xs) ≡ suc (length xs)
+length-cons_option None xs is = absurd (cc)
+length-cons_option (Some x) xs is = refl
+
+length-filter_map : {X Y : Type 0} (f : X → Option Y) (xs : List X) → list_all (λ x. is_some (f x)) xs ≡ true → length (filter_map f xs) ≡ length xs
+length-filter_map f [] all = refl
+length-filter_map f (x ∷ xs) all =
+    let both = and_parts _ _ all in
+    length-cons_option (f x) (filter_map f xs) both.0 ∙ ap suc (length-filter_map f xs both.1)
+
+within-kept : (low high : ℕ) (number : ℤ) → is_number_within low high number ≡ true → is_within low high (count_of high number) ≡ true
+within-kept low high (pos number) is =
+    let both = and_parts (nat_le low number) (nat_le number high) is in
+    rw both.1 is
+within-kept low high (negsuc number) is = absurd (cc)
+
+token-kept : (listener : Data) → has_token listener ≡ true → is_within 1 64 (length (listener_of listener).token) ≡ true
+token-kept listener has =
+    let both = and_parts (is_within 1 64 (length (token_texts listener))) (list_all is_sid (token_texts listener)) has in
+    rw (length-filter_map sid_of (token_texts listener) both.1) both.0
+
+listener-kept : (listener : Data) → is_listener_name (listener_name listener) ≡ true → has_address listener ≡ true → has_token listener ≡ true → has_counts listener ≡ true
+    → is_right_listener (listener_of listener) ≡ true
+listener-kept listener name address token counts =
+    let both = and_parts (is_number_within 1 64 (workers listener)) (is_number_within 0 4294967295 (links listener)) counts in
+    and_from _ _ (and_from _ _ (and_from _ _ (and_from _ _ name address) (token-kept listener token)) (within-kept 1 64 (workers listener) both.0))
+    (within-kept 0 4294967295 (links listener) both.1)
+
+listeners-kept : (tables : List Data) → list_all (λ listener. is_listener_name (listener_name listener)) tables ≡ true → list_all has_address tables ≡ true
+    → list_all has_token tables ≡ true → list_all has_counts tables ≡ true → list_all is_right_listener (map listener_of tables) ≡ true
+listeners-kept [] names addresses tokens counts = refl
+listeners-kept (given ∷ tables) names addresses tokens counts =
+    let name = and_parts _ _ names in
+    let address = and_parts _ _ addresses in
+    let token = and_parts _ _ tokens in
+    let count = and_parts _ _ counts in
+    and_from _ _ (listener-kept given name.0 address.0 token.0 count.0) (listeners-kept tables name.1 address.1 token.1 count.1)
+
+-- a list of entries, which may be absent
+list-kept : (aces : Option Data) → is_within 0 800 (length (elements_of aces)) ≡ true → list_all is_ace (elements_of aces) ≡ true
+    → is_right_list (option_map acl_of aces) ≡ true
+list-kept None few all = refl
+list-kept (Some aces) few all = rw (length-filter_map ace_at (elements aces) all) few
+
+descriptor-kept : (given : Option Data) → found true has_aces given ≡ true → is_right_descriptor (descriptor_of given) ≡ true
+descriptor-kept None has = refl
+descriptor-kept (Some given) has =
+    let both = and_parts (is_within 0 800 (length (ace_texts given))) (list_all is_ace (ace_texts given)) has in
+    list-kept (get (codes "aces") given) both.0 both.1
+
+descriptors-kept : (d : Data) (ks : List Kind) → list_all (aces_are_entries d) ks ≡ true
+    → list_all is_right_descriptor (map (λ kind. descriptor_of (descriptor_table d kind)) ks) ≡ true
+unfolding aces_are_entries
+descriptors-kept d [] all = refl
+descriptors-kept d (kind ∷ ks) all =
+    let both = and_parts _ _ all in
+    and_from _ _ (descriptor-kept (descriptor_table d kind) both.0) (descriptors-kept d ks both.1)
+
+pub right-read : (d : Data) → first_broken_from 1 (kept d) ≡ None → IsRight (config_of d)
+unfolding kept
+right-read d none =
+    let names : have_names (listeners d) ≡ true = nth_kept 1 (kept d) 3 _ none refl in
+    let parts = and_parts (is_within 1 16 (length (listeners d)) && list_all (λ listener. is_listener_name (listener_name listener)) (listeners d)) (are_distinct (map listener_name (listeners d))) names in
+    let counted = and_parts (is_within 1 16 (length (listeners d))) (list_all (λ listener. is_listener_name (listener_name listener)) (listeners d)) parts.0 in
+    record {
+      name = nth_kept 1 (kept d) 1 _ none refl;
+      sid = sid-kept (domain_sid d) (nth_kept 1 (kept d) 2 _ none refl);
+      listener_count = simp (length-map) counted.0;
+      listeners = listeners-kept (listeners d) counted.1 (nth_kept 1 (kept d) 4 _ none refl) (nth_kept 1 (kept d) 5 _ none refl) (nth_kept 1 (kept d) 6 _ none refl);
+      names_differ = simp (map-map) parts.1;
+      descriptor_count = refl;
+      descriptors = descriptors-kept d kinds (nth_kept 1 (kept d) 8 _ none refl);
+      limits = refl;
+    }

@@ -1,0 +1,9 @@
+pub mod AddressSpelling
+pub mod Broken
+pub mod Decimals
+pub mod Digits
+pub mod Kept
+pub mod Parsed
+pub mod Parts
+pub mod Spelling
+pub mod Views

@@ -1,0 +1,10 @@
+use Rattle.std.proofs.Common.{◌≡◌, ◌<◌, ◌^◌, ◌≤◌, length, drop}
+use Rattle.acct_config.specs.Words.{hexadecimal_from}
+use Rattle.acct_config.proofs.words.hexadecimal_of.Given as goal
+
+abbrev pub invariant-loop-byte : goal.invariant-loop-byte
+invariant-loop-byte l = record {
+  value : hexadecimal_from l.number (drop l.byte-index l.text) ≡ hexadecimal_from 0 l.text;
+  small : l.number < 16 ^ l.byte-index;
+  short : length l.text ≤ 8;
+}

@@ -1,0 +1,13 @@
+pub mod Address
+pub mod Document
+pub mod Entries
+pub mod Errors
+pub mod Grammar
+pub mod Kinds
+pub mod Laws
+pub mod Right
+pub mod Rules
+pub mod Shape
+pub mod Spelled
+pub mod Values
+pub mod Words

@@ -1,0 +1,42 @@
+-- Which configurations are right: what each that is read keeps, and a server may rely on.
+use Rattle.std.specs.Prelude.{◌≡◌, Bool, true, ◌&&◌, List, length, map, Option, Some, None}
+use Rattle.std.specs.List.{list_all}
+use Rattle.dtyp_access.specs.declared.ace.Ace.{Ace}
+use Rattle.dtyp_access.specs.declared.descriptor.Descriptor.{Descriptor}
+use Rattle.acct_config.specs.declared.config.Config.{Config}
+use Rattle.acct_config.specs.declared.config.Listener.{Listener}
+use Rattle.acct_config.specs.declared.limits.Limits.{Limits}
+use Rattle.acct_config.specs.Address.{is_address}
+use Rattle.acct_config.specs.Kinds.{kinds}
+use Rattle.acct_config.specs.Values.{is_domain_name, is_domain_sid, is_listener_name, are_distinct}
+use Rattle.acct_config.specs.Words.{is_within}
+
+-- a listener has a name and an address, a token of 1 to 64 SIDs, 1 to 64 workers, and a number of links of 32 bits
+abbrev pub is_right_listener : Listener → Bool
+is_right_listener listener =
+    is_listener_name listener.name && is_address listener.address && is_within 1 64 (length listener.token)
+    && is_within 1 64 listener.workers && is_within 0 4294967295 listener.links
+
+-- a list has at most 800 entries
+abbrev pub is_right_list : Option (List Ace) → Bool
+is_right_list None = true
+is_right_list (Some aces) = is_within 0 800 (length aces)
+
+abbrev pub is_right_descriptor : Descriptor → Bool
+is_right_descriptor descriptor = is_right_list descriptor.acl
+
+-- the ranges of the limits
+abbrev pub are_right_limits : Limits → Bool
+are_right_limits limits =
+    is_within 1 1000000 limits.max_calls && is_within 1 1073741824 limits.max_bytes && is_within 1 65536 limits.max_conns
+    && is_within 1 1099511627776 limits.max_read && is_within 1 1000000 limits.max_periods
+
+pub record IsRight (config : Config) : Type 0 where
+  pub name : is_domain_name config.name ≡ true
+  pub sid : is_domain_sid config.sid ≡ true
+  pub listener_count : is_within 1 16 (length config.listeners) ≡ true
+  pub listeners : list_all is_right_listener config.listeners ≡ true
+  pub names_differ : are_distinct (map (λ listener. listener.name) config.listeners) ≡ true
+  pub descriptor_count : length config.descriptors ≡ length kinds
+  pub descriptors : list_all is_right_descriptor config.descriptors ≡ true
+  pub limits : are_right_limits config.limits ≡ true

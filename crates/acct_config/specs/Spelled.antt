@@ -1,0 +1,74 @@
+-- The configuration that a parsed document spells. It is total: of a document that breaks no rule nothing is left out.
+use Rattle.std.specs.Prelude.{◌≡◌, ℕ, ℤ, pos, negsuc, codes, List, map, Option, Some, None, unwrap_or, option_map, if◌then◌else◌, nat_le}
+use Rattle.std.specs.List.{filter_map}
+use Rattle.toml.specs.Data.{Data, get}
+use Rattle.dtyp_access.specs.declared.ace.Ace.{Ace}
+use Rattle.dtyp_access.specs.declared.descriptor.Descriptor.{Descriptor}
+use Rattle.acct_config.specs.declared.config.Config.{Config}
+use Rattle.acct_config.specs.declared.config.Listener.{Listener}
+use Rattle.acct_config.specs.declared.limits.Limits.{Limits}
+use Rattle.acct_config.specs.Document.{whole, text_of, elements}
+use Rattle.acct_config.specs.Entries.{ace_of_text}
+use Rattle.acct_config.specs.Kinds.{kinds}
+use Rattle.acct_config.specs.Rules.{kept, first_broken_from, first_broken, domain_name, domain_sid, listeners, listener_name, listener_address, sid_of, token_texts, workers, links, descriptor_table, owner}
+use Rattle.acct_config.specs.Values.{name_of_text, administrators}
+
+-- a number up to the highest, and else 0
+abbrev pub count_of : ℕ → ℤ → ℕ
+count_of high (pos number) = if nat_le number high then number else 0
+count_of high (negsuc number) = 0
+
+abbrev pub listener_of : Data → Listener
+listener_of listener = record {
+  name = listener_name listener;
+  address = listener_address listener;
+  token = filter_map sid_of (token_texts listener);
+  workers = count_of 64 (workers listener);
+  links = count_of 4294967295 (links listener);
+}
+
+-- the entries of a list
+abbrev pub ace_at : Data → Option Ace
+ace_at text = ace_of_text (text_of (Some text))
+
+abbrev pub acl_of : Data → List Ace
+acl_of aces = filter_map ace_at (elements aces)
+
+-- the descriptor of a table: an absent one stands for the administrators as the owner, and no list
+abbrev pub descriptor_of : Option Data → Descriptor
+descriptor_of None = record { owner = administrators; group = None; acl = None }
+descriptor_of (Some descriptor) = record {
+  owner = unwrap_or (owner descriptor) administrators;
+  group = None;
+  acl = option_map acl_of (get (codes "aces") descriptor);
+}
+
+-- the limits that hold where a configuration names none
+abbrev pub default_limits : Limits
+default_limits = record {
+  max_calls = 65536;
+  max_bytes = 67108864;
+  max_conns = 1024;
+  max_read = 4294967296;
+  max_periods = 1;
+}
+
+-- the configuration that a document spells
+abbrev pub config_of : Data → Config
+config_of d = record {
+  name = name_of_text (domain_name d);
+  sid = unwrap_or (domain_sid d) administrators;
+  listeners = map listener_of (listeners d);
+  descriptors = map (λ kind. descriptor_of (descriptor_table d kind)) kinds;
+  limits = default_limits;
+}
+
+-- a document that breaks no rule from 1 on, and its configuration
+pub record IsConfigOf (d : Data) (config : Config) : Type 0 where
+  pub kept_all : first_broken_from 1 (kept d) ≡ None
+  pub value : config ≡ config_of d
+
+-- bytes that break no rule, and their configuration
+pub record IsSpelledBy (bytes : List ℕ) (config : Config) : Type 0 where
+  pub kept_all : first_broken bytes ≡ None
+  pub value : config ≡ config_of (whole bytes)

@@ -1,0 +1,36 @@
+// The addresses of listeners.
+ghost use Rattle.std.specs.Prelude.{◌≡◌};
+ghost use Rattle.acct_config.specs.Address.{is_port, is_host_port, is_address};
+
+use crate::words::{decimal_of, parted};
+
+#[tactic(auto, unfolding(crate::specs::Address::is_port))]
+fn is_port(text: &str) -> bool
+    ensures { result ≡ is_port text.now }
+{
+    match decimal_of(5, text.as_bytes()) {
+        Some(number) => 1 <= number && number <= 65_535,
+        None => false,
+    }
+}
+
+#[tactic(auto, unfolding(crate::specs::Address::is_host_port))]
+fn is_host_port(text: &str) -> bool
+    ensures { result ≡ is_host_port text.now }
+{
+    match parted(text, ':') {
+        Some((host, port)) => !host.is_empty() && is_port(port),
+        None => false,
+    }
+}
+
+/// Whether a listener may have the address.
+#[tactic(auto, unfolding(crate::specs::Address::is_address))]
+pub fn is_address(text: &str) -> bool
+    ensures { result ≡ is_address text.now }
+{
+    if let Some(rest) = text.strip_prefix("tcp:") {
+        return is_host_port(rest);
+    }
+    text.starts_with("unix:") && 5 < text.len()
+}

@@ -1,0 +1,66 @@
+// The texts of access control entries.
+ghost use Rattle.std.specs.Prelude.{◌≡◌};
+ghost use Rattle.dtyp_sid.specs.Reading.{sid_of_text};
+ghost use Rattle.acct_config.specs.Entries.{kind_of_word, mask_of_word, flags_of_word, ace_of_text};
+
+use crate::words::{decimal_of, hexadecimal_of, parted};
+use acct_base::rest_of;
+use dtyp_access::{Ace, AceKind};
+use dtyp_sid::{Sid, parse_text};
+
+/// The SID of a text.
+pub fn sid_of_text(text: &str) -> Option<Sid>
+    ensures { result ≡ sid_of_text text.now }
+{
+    parse_text(text).ok()
+}
+
+#[tactic(auto, unfolding(crate::specs::Entries::kind_of_word))]
+fn kind_of_word(word: &str) -> Option<AceKind>
+    ensures { result ≡ kind_of_word word.now }
+{
+    if word == "allow" {
+        return Some(AceKind::Allow);
+    }
+    if word == "deny" {
+        return Some(AceKind::Deny);
+    }
+    None
+}
+
+#[tactic(auto, unfolding(crate::specs::Entries::mask_of_word))]
+fn mask_of_word(word: &[u8]) -> Option<u32>
+    ensures { result ≡ mask_of_word word.now }
+{
+    if word.len() == 10 && word.starts_with(b"0x") {
+        hexadecimal_of(rest_of(word, 2))
+    } else {
+        None
+    }
+}
+
+#[tactic(auto, unfolding(crate::specs::Entries::flags_of_word))]
+fn flags_of_word(word: &[u8]) -> Option<u8>
+    ensures { result ≡ flags_of_word word.now }
+{
+    match decimal_of(3, word) {
+        Some(number) if number <= 255 => Some(number as u8),
+        _ => None,
+    }
+}
+
+/// The entry that a text spells: `allow MASK FLAGS SID` or `deny MASK FLAGS SID`.
+#[tactic(auto, unfolding(crate::specs::Entries::ace_of_text))]
+pub fn ace_of_text(text: &str) -> Option<Ace>
+    ensures { result ≡ ace_of_text text.now }
+{
+    let (kind, rest) = parted(text, ' ')?;
+    let (mask, rest) = parted(rest, ' ')?;
+    let (flags, sid) = parted(rest, ' ')?;
+    Some(Ace {
+        kind: kind_of_word(kind)?,
+        flags: flags_of_word(flags.as_bytes())?,
+        mask: mask_of_word(mask.as_bytes())?,
+        sid: sid_of_text(sid)?,
+    })
+}

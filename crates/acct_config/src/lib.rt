@@ -1,0 +1,33 @@
+//! The configuration of the account server: its types, and how it is read from a TOML document.
+//!
+//! It stands on the names of `acct_calls`, the SIDs of `dtyp_sid`, the descriptors of `dtyp_access`, the kinds of
+//! `acct_codes`, the list type of `acct_base`, and the kit's reader of TOML. The layers above use that `read_config`
+//! gives exactly the configuration that the document spells where it breaks no rule, and else the number of the first
+//! broken rule; that such a configuration is right, which is what the machine asks of it; and that `copy` gives an
+//! equal one.
+#![tactic(auto)]
+
+mod address;
+mod config;
+mod document;
+mod entries;
+mod errors;
+mod kinds;
+pub mod laws;
+mod limits;
+mod read;
+mod rules;
+mod shape;
+mod spelled;
+mod text;
+mod values;
+mod words;
+
+pub use config::{Config, Listener};
+pub use errors::ConfigError;
+pub use limits::Limits;
+pub use read::read_config;
+pub use text::Text;
+
+#[cfg(test)]
+mod tests;

@@ -1,0 +1,194 @@
+// Which keys a document has, and of which types.
+ghost use Rattle.std.specs.Prelude.{◌≡◌, map, codes};
+ghost use Rattle.std.specs.List.{list_all};
+ghost use Rattle.toml.specs.View.{view, table_view};
+ghost use Rattle.acct_config.specs.Document.{keys};
+ghost use Rattle.acct_config.specs.Kinds.{kind_name};
+ghost use Rattle.acct_config.specs.Shape.{is_among, has_only, required, optional, is_text, is_number, is_array_of, is_domain, is_listener, is_descriptor, are_descriptors, is_document};
+
+use crate::document::elements;
+use crate::kinds::{KIND_NAMES, KINDS, kind_name};
+use acct_codes::Kind;
+use toml::{Table, Value};
+
+fn is_among(names: &[&str], key: &str) -> bool
+    ensures { result ≡ is_among (map (λ name. name.now) names.now) key.now }
+{
+    for name in names {
+        if *name == key {
+            return true;
+        }
+    }
+    false
+}
+
+fn keys_are_among(names: &[&str], table: &Table) -> bool
+    ensures { result ≡ list_all (is_among (map (λ name. name.now) names.now)) (keys (table_view table.now)) }
+{
+    'members: for (key, _member) in table.iter() {
+        if !is_among(names, key.as_str()) {
+            return false;
+        }
+    }
+    true
+}
+
+fn has_only(value: &Value, names: &[&str]) -> bool
+    ensures { result ≡ has_only (map (λ name. name.now) names.now) (view value.now) }
+{
+    match value.as_table() {
+        Some(table) => keys_are_among(names, table),
+        None => false,
+    }
+}
+
+fn requires_text(value: &Value, key: &str) -> bool
+    ensures { result ≡ required is_text key.now (view value.now) }
+{
+    match value.get(key) {
+        Some(found) => found.is_str(),
+        None => false,
+    }
+}
+
+fn allows_number(value: &Value, key: &str) -> bool
+    ensures { result ≡ optional is_number key.now (view value.now) }
+{
+    match value.get(key) {
+        Some(found) => found.is_integer(),
+        None => true,
+    }
+}
+
+fn are_texts(values: &[Value]) -> bool
+    ensures { result ≡ list_all is_text (map view values.now) }
+{
+    for value in values {
+        if !value.is_str() {
+            return false;
+        }
+    }
+    true
+}
+
+fn requires_texts(value: &Value, key: &str) -> bool
+    ensures { result ≡ required (is_array_of is_text) key.now (view value.now) }
+{
+    match value.get(key) {
+        Some(found) => found.is_array() && are_texts(elements(found)),
+        None => false,
+    }
+}
+
+fn allows_texts(value: &Value, key: &str) -> bool
+    ensures { result ≡ optional (is_array_of is_text) key.now (view value.now) }
+{
+    match value.get(key) {
+        Some(found) => found.is_array() && are_texts(elements(found)),
+        None => true,
+    }
+}
+
+#[tactic(auto, unfolding(crate::specs::Shape::is_domain))]
+fn is_domain(value: &Value) -> bool
+    ensures { result ≡ is_domain (view value.now) }
+{
+    has_only(value, &["name", "sid"]) && requires_text(value, "name") && requires_text(value, "sid")
+}
+
+fn requires_domain(value: &Value, key: &str) -> bool
+    ensures { result ≡ required is_domain key.now (view value.now) }
+{
+    match value.get(key) {
+        Some(found) => is_domain(found),
+        None => false,
+    }
+}
+
+#[tactic(auto, unfolding(crate::specs::Shape::is_listener))]
+fn is_listener(value: &Value) -> bool
+    ensures { result ≡ is_listener (view value.now) }
+{
+    has_only(value, &["name", "address", "token", "workers", "links"])
+        && requires_text(value, "name")
+        && requires_text(value, "address")
+        && requires_texts(value, "token")
+        && allows_number(value, "workers")
+        && allows_number(value, "links")
+}
+
+fn are_listeners(values: &[Value]) -> bool
+    ensures { result ≡ list_all is_listener (map view values.now) }
+{
+    for value in values {
+        if !is_listener(value) {
+            return false;
+        }
+    }
+    true
+}
+
+fn requires_listeners(value: &Value, key: &str) -> bool
+    ensures { result ≡ required (is_array_of is_listener) key.now (view value.now) }
+{
+    match value.get(key) {
+        Some(found) => found.is_array() && are_listeners(elements(found)),
+        None => false,
+    }
+}
+
+#[tactic(auto, unfolding(crate::specs::Shape::is_descriptor))]
+fn is_descriptor(value: &Value) -> bool
+    ensures { result ≡ is_descriptor (view value.now) }
+{
+    has_only(value, &["owner", "aces"])
+        && requires_text(value, "owner")
+        && allows_texts(value, "aces")
+}
+
+fn allows_descriptor(value: &Value, key: &str) -> bool
+    ensures { result ≡ optional is_descriptor key.now (view value.now) }
+{
+    match value.get(key) {
+        Some(found) => is_descriptor(found),
+        None => true,
+    }
+}
+
+fn each_allows_descriptor(value: &Value, kinds: &[Kind]) -> bool
+    ensures { result ≡ list_all (λ kind. optional is_descriptor (kind_name kind) (view value.now)) kinds.now }
+{
+    for kind in kinds {
+        if !allows_descriptor(value, kind_name(*kind)) {
+            return false;
+        }
+    }
+    true
+}
+
+#[tactic(auto, unfolding(crate::specs::Shape::are_descriptors))]
+fn are_descriptors(value: &Value) -> bool
+    ensures { result ≡ are_descriptors (view value.now) }
+{
+    has_only(value, &KIND_NAMES) && each_allows_descriptor(value, &KINDS)
+}
+
+fn allows_descriptors(value: &Value, key: &str) -> bool
+    ensures { result ≡ optional are_descriptors key.now (view value.now) }
+{
+    match value.get(key) {
+        Some(found) => are_descriptors(found),
+        None => true,
+    }
+}
+
+/// Whether the document has only the keys that a configuration has, with their types, and those that it needs.
+#[tactic(auto, unfolding(crate::specs::Shape::is_document))]
+pub fn is_document(value: &Value) -> bool
+    ensures { result ≡ is_document (view value.now) }
+{
+    has_only(value, &["domain", "listener", "descriptor"])
+        && requires_domain(value, "domain")
+        && requires_listeners(value, "listener")
+        && allows_descriptors(value, "descriptor")
+}
