@@ -8,3 +8,4 @@ pub mod Privileges
 pub mod Accounts
 pub mod Domains
 pub mod Bounds
+pub mod Laws

@@ -13,6 +13,7 @@ mod accounts;
 mod array;
 mod domains;
 mod handle;
+mod laws;
 mod lists;
 mod number;
 mod part;
@@ -27,6 +28,10 @@ pub use array::{
 };
 pub use domains::{read_referenced, write_referenced};
 pub use handle::{read_handle, write_handle};
+pub use laws::{
+    one_reading, read_where_spelled, spelled_is_writable, values_are_of_a_kind,
+    written_is_read_again,
+};
 pub use lists::{
     read_rid_list, read_sid_list, read_text_list, write_rid_list, write_sid_list, write_text_list,
 };
