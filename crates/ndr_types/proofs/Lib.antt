@@ -6,3 +6,4 @@ pub mod Sids
 pub mod Records
 pub mod Spelled
 pub mod ShapeValues
+pub mod Onward

@@ -1,5 +1,7 @@
 -- Which values a shape has, and a law of a shape beside those of ndr_core.
-use Rattle.std.specs.Prelude.{◌≡◌, ℕ, ◌^◌, ◌<◌, ◌≤◌, ◌↔◌, All, List, length, Ok}
+use Rattle.std.specs.Prelude.{◌≡◌, ℕ, ◌+◌, ◌^◌, ◌<◌, ◌≤◌, ◌↔◌, All, List, length, Result, Ok, Err}
+use Rattle.ndr_core.specs.declared.error.NdrError.{NdrError}
+use Rattle.ndr_core.specs.declared.error.NdrError.TheVariants.{Short, Count, Memory}
 use Rattle.ndr_core.specs.Cursor.{Cursor}
 use Rattle.ndr_core.specs.Written.{IsBytes}
 use Rattle.ndr_core.specs.Codec.{Codec}
@@ -17,6 +19,16 @@ IsWritable {A = A} shape = (value : A) (start end : Cursor) → IsBytes start.st
 -- first field in reading order that has no reading.
 abbrev pub IsReadWhereSpelled : {A : Type 0} → Codec A → Type 0
 IsReadWhereSpelled {A = A} shape = (value : A) (start end : Cursor) → (shape.read start ≡ Ok (value, end)) ↔ shape.Spells value start end
+
+-- A value ends, and a bad place stands, at or behind the place where reading began; and no reading wants memory.
+abbrev pub Onward : {A : Type 0} → ℕ → ℕ → Result (A × Cursor) NdrError → Type 0
+Onward place size (Ok x) = place + size ≤ x.1.place
+Onward place size (Err (Short bad)) = place ≤ bad
+Onward place size (Err (Count bad)) = place ≤ bad
+Onward place size (Err Memory) = ⊥
+
+abbrev pub GoesOnward : {A : Type 0} → Codec A → Type 0
+GoesOnward shape = (start : Cursor) → Onward start.place 0 (shape.read start)
 
 -- The values of a shape, which can be written, are those of a kind.
 abbrev pub HasValues : {A : Type 0} → Codec A → (A → Type 0) → Type 0

@@ -7,7 +7,7 @@ ghost use Rattle.ndr_types.specs.Accounts.{any, rid_names};
 ghost use Rattle.ndr_types.specs.Bounds.{IfThere};
 ghost use Rattle.ndr_types.specs.Domains.{referenced};
 ghost use Rattle.ndr_types.specs.Handles.{handle};
-ghost use Rattle.ndr_types.specs.Laws.{HasValues, IsAccount, IsDomain, IsHandle, IsListOf, IsLong, IsPrivilegeSet, IsReadWhereSpelled, IsText, IsWritable};
+ghost use Rattle.ndr_types.specs.Laws.{GoesOnward, HasValues, IsAccount, IsDomain, IsHandle, IsListOf, IsLong, IsPrivilegeSet, IsReadWhereSpelled, IsText, IsWritable};
 ghost use Rattle.ndr_types.specs.Lists.{rid_list, sid_list, text_list};
 ghost use Rattle.ndr_types.specs.Privileges.{privilege_set};
 ghost use Rattle.ndr_types.specs.Sids.{sid};
@@ -76,4 +76,17 @@ pub fn values_are_of_a_kind()
     ensures privileges { HasValues privilege_set IsPrivilegeSet }
     ensures accounts { HasValues rid_names (IfThere (IsListOf any IsAccount)) }
     ensures domains { HasValues referenced (IfThere (IsListOf any IsDomain)) }
+{}
+
+/// Neither the end of what is read nor a bad place stands before the place where reading began.
+pub fn places_go_onward()
+    ensures handles { GoesOnward handle }
+    ensures texts { GoesOnward (whole text) }
+    ensures sids { GoesOnward sid }
+    ensures sid_lists { (most : ℕ) → GoesOnward (sid_list most) }
+    ensures rid_lists { (most : ℕ) → GoesOnward (rid_list most) }
+    ensures text_lists { (most : ℕ) → GoesOnward (text_list most) }
+    ensures privileges { GoesOnward privilege_set }
+    ensures accounts { GoesOnward rid_names }
+    ensures domains { GoesOnward referenced }
 {}

@@ -29,7 +29,7 @@ pub use array::{
 pub use domains::{read_referenced, write_referenced};
 pub use handle::{read_handle, write_handle};
 pub use laws::{
-    one_reading, read_where_spelled, spelled_is_writable, values_are_of_a_kind,
+    one_reading, places_go_onward, read_where_spelled, spelled_is_writable, values_are_of_a_kind,
     written_is_read_again,
 };
 pub use lists::{
