@@ -1,4 +1,4 @@
--- Which values a shape has, and a law of a shape beside those of ndr_core.
+-- Which values a shape has, and the laws of a shape beside those of ndr_core.
 use Rattle.std.specs.Prelude.{◌≡◌, ℕ, ◌+◌, ◌^◌, ◌<◌, ◌≤◌, ◌↔◌, All, List, length, Result, Ok, Err}
 use Rattle.ndr_core.specs.declared.error.NdrError.{NdrError}
 use Rattle.ndr_core.specs.declared.error.NdrError.TheVariants.{Short, Count, Memory}
@@ -20,7 +20,7 @@ IsWritable {A = A} shape = (value : A) (start end : Cursor) → IsBytes start.st
 abbrev pub IsReadWhereSpelled : {A : Type 0} → Codec A → Type 0
 IsReadWhereSpelled {A = A} shape = (value : A) (start end : Cursor) → (shape.read start ≡ Ok (value, end)) ↔ shape.Spells value start end
 
--- A value ends, and a bad place stands, at or behind the place where reading began; and no reading wants memory.
+-- A value ends so many bytes at least behind the place where reading began, a bad place stands there or behind it, and no reading wants memory.
 abbrev pub Onward : {A : Type 0} → ℕ → ℕ → Result (A × Cursor) NdrError → Type 0
 Onward place size (Ok x) = place + size ≤ x.1.place
 Onward place size (Err (Short bad)) = place ≤ bad
