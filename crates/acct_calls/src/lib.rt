@@ -1,18 +1,24 @@
-//! The names of accounts: lists of UTF-16 units, their simple case folding, equality and validity.
+//! The names of accounts: lists of UTF-16 units, their simple case folding, equality and validity. And the values that
+//! calls and replies are made of, as plain data: handles, and lists of SIDs, numbers, privileges, accounts and domains.
 //!
-//! It stands on the kinds of objects of `acct_codes`, the list type of `acct_base`, and the case folding of
-//! `unicode`, of whose table `ucd_case` and `ucd_table` have the lemmas that the proofs cite. The layers above use that
-//! a contract sees a `Name` as the list of its units and `Names` as the list of those, that `same` is equality of the
-//! folded code points and an equivalence, and that `is_valid` is the rules for names of accounts.
+//! It stands on the kinds of objects of `acct_codes`, the list type of `acct_base`, the SIDs of `dtyp_sid`, and the
+//! case folding of `unicode`, of whose table `ucd_case` and `ucd_table` have the lemmas that the proofs cite. The
+//! layers above use that a contract sees a `Name` as the list of its units, and each other list as the list of its
+//! elements, that `same` is equality of the folded code points and an equivalence, and that `is_valid` is the rules
+//! for names of accounts.
 #![tactic(auto)]
 
 mod code_points;
 mod folding;
+mod handle;
 pub mod laws;
+mod lists;
 mod name;
 mod names;
 mod validity;
 
+pub use handle::Handle;
+pub use lists::{Place, Places, Privilege, PrivilegeSet, RidName, RidNames, Rids, Sids};
 pub use name::Name;
 pub use names::Names;
 

@@ -1,0 +1,41 @@
+// The lists that calls and replies bring, and what stands in them.
+use crate::Name;
+use acct_base::Seq;
+use dtyp_sid::Sid;
+
+/// A list of SIDs.
+pub type Sids = Seq<Sid>;
+
+/// A list of relative identifiers, or of other numbers for each of some names.
+pub type Rids = Seq<u32>;
+
+/// A privilege that an account holds, by the two parts of its LUID (LSAPR_LUID_AND_ATTRIBUTES, MS-LSAD 2.2.5.4).
+#[derive(Clone, Copy, Debug, PartialEq, Eq)]
+pub struct Privilege {
+    pub low: u32,
+    pub high: u32,
+    pub attributes: u32,
+}
+
+/// A list of privileges.
+pub type PrivilegeSet = Seq<Privilege>;
+
+/// An account of a domain, by its relative identifier and its name (SAMPR_RID_ENUMERATION, MS-SAMR 2.2.3.9).
+#[derive(Debug, Drop, PartialEq, Eq)]
+pub struct RidName {
+    pub rid: u32,
+    pub name: Name,
+}
+
+/// A list of accounts.
+pub type RidNames = Seq<RidName>;
+
+/// A domain that a translation refers to, by its name and its SID (LSAPR_TRUST_INFORMATION, MS-LSAD 2.2.7.1).
+#[derive(Debug, Drop, PartialEq, Eq)]
+pub struct Place {
+    pub name: Name,
+    pub sid: Sid,
+}
+
+/// A list of domains, to which entries of a translation refer by their index.
+pub type Places = Seq<Place>;

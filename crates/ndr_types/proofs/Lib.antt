@@ -1,0 +1,9 @@
+pub mod Arrays
+pub mod Digits
+pub mod Parts
+pub mod Texts
+pub mod Sids
+pub mod Records
+pub mod Spelled
+pub mod ShapeValues
+pub mod Onward

@@ -1,0 +1,5 @@
+use Rattle.ndr_core.proofs.Loop.{TimesSoFar}
+use Rattle.ndr_types.proofs.array.read_heads.Given as goal
+
+abbrev pub invariant-loop : goal.invariant-loop
+invariant-loop g l = TimesSoFar l.heads l.count l.counter g.X.Embedded.part.head l.fn.from l.from

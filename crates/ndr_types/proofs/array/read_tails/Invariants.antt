@@ -1,0 +1,5 @@
+use Rattle.ndr_types.proofs.Arrays.{EachSoFar}
+use Rattle.ndr_types.proofs.array.read_tails.Given as goal
+
+abbrev pub invariant-loop-head : goal.invariant-loop-head
+invariant-loop-head g l = EachSoFar l.values g.X.Embedded.part.tail l.heads l.head-index l.fn.from l.from

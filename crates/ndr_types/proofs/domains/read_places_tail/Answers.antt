@@ -1,0 +1,7 @@
+use Rattle.ndr_types.specs.Accounts.{any}
+use Rattle.ndr_types.specs.Domains.{places}
+use Rattle.ndr_types.proofs.domains.read_places_tail.Goals as goal
+
+pub returns : goal.returns
+unfolding places
+returns c = c.read_list_tail.ensures any

@@ -1,0 +1,8 @@
+use Rattle.ndr_core.specs.Parts.{list}
+use Rattle.ndr_types.specs.Accounts.{any}
+use Rattle.ndr_types.specs.Domains.{places}
+use Rattle.ndr_types.proofs.domains.write_places_head.Goals as goal
+
+pub returns : goal.returns
+unfolding list places
+returns c = rw (c.in_ok-write_list_head.ensures any) at c.u32.ensures.ok

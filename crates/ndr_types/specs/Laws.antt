@@ -1,0 +1,62 @@
+-- Which values a shape has, and the laws of a shape beside those of ndr_core.
+use Rattle.std.specs.Prelude.{◌≡◌, ℕ, ◌+◌, ◌^◌, ◌<◌, ◌≤◌, ◌↔◌, All, List, length, Result, Ok, Err}
+use Rattle.ndr_core.specs.declared.error.NdrError.{NdrError}
+use Rattle.ndr_core.specs.declared.error.NdrError.TheVariants.{Short, Count, Memory}
+use Rattle.ndr_core.specs.Cursor.{Cursor}
+use Rattle.ndr_core.specs.Written.{IsBytes}
+use Rattle.ndr_core.specs.Codec.{Codec}
+use Rattle.dtyp_sid.specs.Value.{IsSid}
+use Rattle.acct_calls.specs.declared.handle.Handle.{Handle}
+use Rattle.acct_calls.specs.declared.lists.Privilege.{Privilege}
+use Rattle.acct_calls.specs.declared.lists.RidName.{RidName}
+use Rattle.acct_calls.specs.declared.lists.Place.{Place}
+
+-- What some bytes spell can be written.
+abbrev pub IsWritable : {A : Type 0} → Codec A → Type 0
+IsWritable {A = A} shape = (value : A) (start end : Cursor) → IsBytes start.stub → shape.Spells value start end → shape.Fits value
+
+-- A value is read, and ends there, exactly where it is spelled, whatever the padding and the referents are. Elsewhere reading gives the
+-- first field in reading order that has no reading.
+abbrev pub IsReadWhereSpelled : {A : Type 0} → Codec A → Type 0
+IsReadWhereSpelled {A = A} shape = (value : A) (start end : Cursor) → (shape.read start ≡ Ok (value, end)) ↔ shape.Spells value start end
+
+-- A value ends so many bytes at least behind the place where reading began, a bad place stands there or behind it, and no reading wants memory.
+abbrev pub Onward : {A : Type 0} → ℕ → ℕ → Result (A × Cursor) NdrError → Type 0
+Onward place size (Ok x) = place + size ≤ x.1.place
+Onward place size (Err (Short bad)) = place ≤ bad
+Onward place size (Err (Count bad)) = place ≤ bad
+Onward place size (Err Memory) = ⊥
+
+abbrev pub GoesOnward : {A : Type 0} → Codec A → Type 0
+GoesOnward shape = (start : Cursor) → Onward start.place 0 (shape.read start)
+
+-- The values of a shape, which can be written, are those of a kind.
+abbrev pub HasValues : {A : Type 0} → Codec A → (A → Type 0) → Type 0
+HasValues {A = A} shape P = (value : A) → shape.Fits value ↔ P value
+
+-- ---- the kinds
+
+abbrev pub IsHandle : Handle → Type 0
+IsHandle handle = handle.number < 2 ^ 128
+
+abbrev pub IsLong : ℕ → Type 0
+IsLong n = n < 2 ^ 32
+
+abbrev pub IsText : List ℕ → Type 0
+IsText units = (length units ≤ 32767) × All (λ unit. unit < 2 ^ 16) units
+
+-- a list of at most so many values of a kind
+abbrev pub IsListOf : {A : Type 0} → ℕ → (A → Type 0) → List A → Type 0
+IsListOf most P xs = (length xs ≤ most) × (length xs < 2 ^ 32) × All P xs
+
+abbrev pub IsPrivilege : Privilege → Type 0
+IsPrivilege privilege = (privilege.low < 2 ^ 32) × (privilege.high < 2 ^ 32) × (privilege.attributes < 2 ^ 32)
+
+abbrev pub IsPrivilegeSet : List Privilege → Type 0
+IsPrivilegeSet privileges = (length privileges ≤ 1000) × All IsPrivilege privileges
+
+abbrev pub IsAccount : RidName → Type 0
+IsAccount account = (account.rid < 2 ^ 32) × IsText account.name
+
+abbrev pub IsDomain : Place → Type 0
+IsDomain place = IsText place.name × IsSid place.sid

@@ -1,0 +1,11 @@
+pub mod Outcomes
+pub mod Digits
+pub mod Handles
+pub mod Texts
+pub mod Sids
+pub mod Lists
+pub mod Privileges
+pub mod Accounts
+pub mod Domains
+pub mod Bounds
+pub mod Laws

@@ -1,0 +1,123 @@
+// Lists of the domains that a translation refers to.
+ghost use Rattle.std.specs.Prelude.{◌≡◌, OnOk};
+ghost use Rattle.std.specs.Option.{option_copied};
+ghost use Rattle.ndr_core.specs.Cursor.{Gives, making};
+ghost use Rattle.ndr_core.specs.Parts.{whole};
+ghost use Rattle.ndr_types.specs.Bounds.{IfThere, IsListed, IsShortPlace};
+ghost use Rattle.ndr_types.specs.Domains.{or_empty, place, places, referenced};
+ghost use Rattle.ndr_types.specs.Outcomes.{Yields};
+
+use crate::array::{read_list_head, read_list_tail, write_list_head, write_list_tail};
+use crate::{Embedded, NoMemory};
+use acct_base::Seq;
+use acct_calls::{Name, Place, Places};
+use dtyp_sid::Sid;
+use ndr_core::{In, NdrError, Out};
+use std::alloc::Global;
+
+impl Embedded for Place {
+    type Head = ((u16, bool), bool);
+
+    ghost part = { place };
+
+    ghost Bounded = { IsShortPlace };
+
+    #[tactic(auto, unfolding(crate::specs::Domains::place))]
+    fn read_head(from: &mut In<'_>) -> Result<((u16, bool), bool), NdrError> {
+        let name = Name::read_head(from)?;
+        let sid = Sid::read_head(from)?;
+        Ok((name, sid))
+    }
+
+    #[tactic(auto, unfolding(crate::specs::Domains::place))]
+    fn read_tail(
+        alloc: Global,
+        from: &mut In<'_>,
+        head: &((u16, bool), bool),
+    ) -> Result<Place, NdrError> {
+        let name = Name::read_tail(alloc, from, &head.0)?;
+        let sid = Sid::read_tail(alloc, from, &head.1)?;
+        Ok(Place { name, sid })
+    }
+
+    #[tactic(auto, unfolding(crate::specs::Domains::place))]
+    fn write_head(&self, to: &mut Out) -> Result<(), NoMemory> {
+        self.name.write_head(to)?;
+        self.sid.write_head(to)
+    }
+
+    #[tactic(auto, unfolding(crate::specs::Domains::place))]
+    fn write_tail(&self, to: &mut Out) -> Result<(), NoMemory> {
+        self.name.write_tail(to)?;
+        self.sid.write_tail(to)
+    }
+}
+
+#[tactic(auto, unfolding(crate::specs::Domains::places))]
+fn read_places_head(from: &mut In<'_>) -> Result<(u32, bool), NdrError>
+    ensures { Gives result from.new (places.head.read from.old) }
+{
+    let head = read_list_head::<Place>(from, u32::MAX)?;
+    from.u32()?;
+    Ok(head)
+}
+
+#[tactic(auto, unfolding(crate::specs::Domains::places))]
+fn read_places_tail(
+    alloc: Global,
+    from: &mut In<'_>,
+    head: &(u32, bool),
+) -> Result<Places, NdrError>
+    ensures { Yields result from.new ((places.tail head.now).read from.old) }
+{
+    read_list_tail(alloc, from, head)
+}
+
+fn read_places(alloc: Global, from: &mut In<'_>) -> Result<Places, NdrError>
+    ensures { Yields result from.new ((whole places).read from.old) }
+{
+    let head = read_places_head(from)?;
+    read_places_tail(alloc, from, &head)
+}
+
+/// A list of domains. Where the pointer is null it is empty.
+#[tactic(auto, unfolding(crate::specs::Domains::referenced))]
+pub fn read_referenced(alloc: Global, from: &mut In<'_>) -> Result<Places, NdrError>
+    ensures { Yields result from.new (making or_empty referenced.read from.old) }
+{
+    if !from.pointer()? {
+        return Ok(Seq::new(alloc));
+    }
+    read_places(alloc, from)
+}
+
+#[tactic(auto, unfolding(crate::specs::Domains::places))]
+fn write_places_head(to: &mut Out, list: &[Place]) -> Result<(), NoMemory>
+    requires { IsListed IsShortPlace list.now }
+    ensures { OnOk result (to.new ≡ places.head.write (places.head_of list.now) to.old) }
+{
+    write_list_head(to, list)?;
+    to.u32(list.len() as u32)
+}
+
+#[tactic(auto, unfolding(crate::specs::Domains::places))]
+fn write_places_tail(to: &mut Out, list: &[Place]) -> Result<(), NoMemory>
+    requires { IsListed IsShortPlace list.now }
+    ensures { OnOk result (to.new ≡ (places.tail (places.head_of list.now)).write list.now to.old) }
+{
+    write_list_tail(to, list)
+}
+
+/// A list of domains, or a null pointer.
+#[tactic(auto, unfolding(crate::specs::Domains::referenced))]
+pub fn write_referenced(to: &mut Out, value: Option<&Places>) -> Result<(), NoMemory>
+    requires { IfThere (IsListed IsShortPlace) (option_copied value) }
+    ensures { OnOk result (to.new ≡ referenced.write (option_copied value.entry) to.old) }
+{
+    let Some(list) = value else {
+        return to.pointer(false);
+    };
+    to.pointer(true)?;
+    write_places_head(to, list.as_slice())?;
+    write_places_tail(to, list.as_slice())
+}

@@ -1,0 +1,47 @@
+//! The shapes of stubs that calls and replies share (C706, chapter 14): handles, texts, SIDs, lists of these and of
+//! numbers, sets of privileges, lists of accounts, and lists of the domains that a translation refers to.
+//!
+//! It stands on `ndr_core` for primitives and for what a shape is, on `acct_calls` and `dtyp_sid` for the values. Each
+//! shape is a definition in specs/, by its fields as they stand in the standard's IDL. The layers above use that each
+//! `read_` call gives the value at the cursor and the place behind it, or the first field in reading order that has no
+//! reading (`Short` or `Count` with its place) exactly where there is none; that each `write_` call appends the
+//! value's spelling and wants nothing but memory; and that, by the laws, what is written is read again whatever stands
+//! behind it, no stub has two readings, and what some stub spells can be written.
+#![tactic(auto)]
+
+mod accounts;
+mod array;
+mod domains;
+mod handle;
+mod laws;
+mod lists;
+mod number;
+mod part;
+mod privileges;
+mod sid;
+mod text;
+
+pub use accounts::{read_rid_names, write_rid_names};
+pub use array::{
+    read_heads, read_list, read_list_head, read_list_tail, read_tails, write_heads, write_list,
+    write_list_head, write_list_tail, write_tails,
+};
+pub use domains::{read_referenced, write_referenced};
+pub use handle::{read_handle, write_handle};
+pub use laws::{
+    one_reading, places_go_onward, read_where_spelled, spelled_is_writable, values_are_of_a_kind,
+    written_is_read_again,
+};
+pub use lists::{
+    read_rid_list, read_sid_list, read_text_list, write_rid_list, write_sid_list, write_text_list,
+};
+pub use part::Embedded;
+pub use privileges::{read_privilege_set, write_privilege_set};
+pub use sid::{read_sid, write_sid};
+pub use text::{read_text, write_text};
+
+/// Want of memory, which is the only fault of the writers here.
+pub type NoMemory = std::alloc::AllocError;
+
+#[cfg(test)]
+mod tests;

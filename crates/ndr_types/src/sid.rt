@@ -1,0 +1,111 @@
+// SIDs.
+ghost use Rattle.std.specs.Prelude.{◌≡◌, ◌<◌, ◌^◌, IfOk, OnOk};
+ghost use Rattle.ndr_core.specs.Cursor.{Gives};
+ghost use Rattle.ndr_types.specs.Bounds.{AnyValue};
+ghost use Rattle.ndr_types.specs.Sids.{authority, sid, sid_pointer};
+
+use crate::number::{read_numbers, write_numbers};
+use crate::{Embedded, NoMemory};
+use dtyp_sid::Sid;
+use ndr_core::{In, NdrError, Out};
+use std::alloc::Global;
+
+#[tactic(auto, unfolding(crate::specs::Sids::authority))]
+fn read_authority(from: &mut In<'_>) -> Result<u64, NdrError>
+    ensures gives { Gives result from.new (authority.read from.old) }
+    ensures below { IfOk result (λ n. n < 2 ^ 48) }
+{
+    let n = from.u8()? as u64;
+    let n = n * 0x100 + from.u8()? as u64;
+    let n = n * 0x100 + from.u8()? as u64;
+    let n = n * 0x100 + from.u8()? as u64;
+    let n = n * 0x100 + from.u8()? as u64;
+    let n = n * 0x100 + from.u8()? as u64;
+    Ok(n)
+}
+
+/// A SID.
+#[tactic(auto, unfolding(crate::specs::Sids::sid))]
+pub fn read_sid(from: &mut In<'_>) -> Result<Sid, NdrError>
+    ensures { Gives result from.new (sid.read from.old) }
+{
+    let count = from.conformant()?;
+    if from.u8()? != 1 {
+        return Err(from.broken(1));
+    }
+    let same = from.u8()?;
+    if same as u32 != count || same > 15 {
+        return Err(from.broken(1));
+    }
+    let authority = read_authority(from)?;
+    let mut slots = [0; 15];
+    let subs = &mut slots[..count as usize];
+    read_numbers(from, subs)?;
+    let Ok(sid) = Sid::new(authority, subs) else {
+        unreachable!()
+    };
+    Ok(sid)
+}
+
+#[tactic(auto, unfolding(crate::specs::Sids::authority))]
+fn write_authority(to: &mut Out, number: u64) -> Result<(), NoMemory>
+    requires { number < 2 ^ 48 }
+    ensures { OnOk result (to.new ≡ authority.write number to.old) }
+{
+    let n4 = number / 0x100;
+    let n3 = n4 / 0x100;
+    let n2 = n3 / 0x100;
+    let n1 = n2 / 0x100;
+    let n0 = n1 / 0x100;
+    to.u8(n0 as u8)?;
+    to.u8((n1 % 0x100) as u8)?;
+    to.u8((n2 % 0x100) as u8)?;
+    to.u8((n3 % 0x100) as u8)?;
+    to.u8((n4 % 0x100) as u8)?;
+    to.u8((number % 0x100) as u8)
+}
+
+/// A SID, with its count of sub-authorities before it and in it.
+#[tactic(auto, unfolding(crate::specs::Sids::sid))]
+pub fn write_sid(to: &mut Out, value: &Sid) -> Result<(), NoMemory>
+    ensures { OnOk result (to.new ≡ sid.write value.now to.old) }
+{
+    let count = value.subs().len();
+    to.conformant(count as u32)?;
+    to.u8(1)?;
+    to.u8(count as u8)?;
+    write_authority(to, value.authority())?;
+    write_numbers(to, value.subs())
+}
+
+impl Embedded for Sid {
+    type Head = bool;
+
+    ghost part = { sid_pointer };
+
+    ghost Bounded = { AnyValue };
+
+    #[tactic(auto, unfolding(crate::specs::Sids::sid_pointer))]
+    fn read_head(from: &mut In<'_>) -> Result<bool, NdrError> {
+        let there = from.pointer()?;
+        if !there {
+            return Err(from.broken(4));
+        }
+        Ok(there)
+    }
+
+    #[tactic(auto, unfolding(crate::specs::Sids::sid_pointer))]
+    fn read_tail(_alloc: Global, from: &mut In<'_>, _head: &bool) -> Result<Sid, NdrError> {
+        read_sid(from)
+    }
+
+    #[tactic(auto, unfolding(crate::specs::Sids::sid_pointer))]
+    fn write_head(&self, to: &mut Out) -> Result<(), NoMemory> {
+        to.pointer(true)
+    }
+
+    #[tactic(auto, unfolding(crate::specs::Sids::sid_pointer))]
+    fn write_tail(&self, to: &mut Out) -> Result<(), NoMemory> {
+        write_sid(to, self)
+    }
+}
