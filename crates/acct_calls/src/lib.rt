@@ -1,5 +1,6 @@
-//! The names of accounts: lists of UTF-16 units, their simple case folding, equality and validity. And the values that
-//! calls and replies are made of, as plain data: handles, and lists of SIDs, numbers, privileges, accounts and domains.
+//! The names of accounts: lists of UTF-16 units, their simple case folding, equality and validity. And calls and
+//! replies as plain data, with the values that they are made of: handles, what a class of information shows, and lists
+//! of SIDs, numbers, privileges, accounts, members, domains and translated entries.
 //!
 //! It stands on the kinds of objects of `acct_codes`, the list type of `acct_base`, the SIDs of `dtyp_sid`, and the
 //! case folding of `unicode`, of whose table `ucd_case` and `ucd_table` have the lemmas that the proofs cite. The
@@ -8,19 +9,28 @@
 //! for names of accounts.
 #![tactic(auto)]
 
+mod calls;
 mod code_points;
 mod folding;
 mod handle;
+mod info;
 pub mod laws;
 mod lists;
 mod name;
 mod names;
+mod replies;
 mod validity;
 
+pub use calls::{Args, Call, Face};
 pub use handle::Handle;
-pub use lists::{Place, Places, Privilege, PrivilegeSet, RidName, RidNames, Rids, Sids};
+pub use info::Info;
+pub use lists::{
+    NamedList, Place, Places, Privilege, PrivilegeSet, RidBits, RidBitsList, RidName, RidNames,
+    Rids, Sids, Translated, TranslatedName, TranslatedSid,
+};
 pub use name::Name;
 pub use names::Names;
+pub use replies::{Outs, Reply};
 
 /// Want of memory, which is the only fault of the calls here.
 pub type NoMemory = std::alloc::AllocError;

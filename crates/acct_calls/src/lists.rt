@@ -39,3 +39,37 @@ pub struct Place {
 
 /// A list of domains, to which entries of a translation refer by their index.
 pub type Places = Seq<Place>;
+
+/// A member or a group, by its relative identifier, and its attributes (GROUP_MEMBERSHIP, MS-SAMR 2.2.3.12).
+#[derive(Clone, Copy, Debug, PartialEq, Eq)]
+pub struct RidBits {
+    pub rid: u32,
+    pub bits: u32,
+}
+
+/// A list of members or groups.
+pub type RidBitsList = Seq<RidBits>;
+
+/// A translated name: what it is used for, its relative identifier, and the place of its domain in the list that it
+/// comes with, or -1 (LSA_TRANSLATED_SID, MS-LSAT 2.2.14).
+#[derive(Clone, Copy, Debug, PartialEq, Eq)]
+pub struct TranslatedSid {
+    pub usage: u16,
+    pub rid: u32,
+    pub index: i32,
+}
+
+/// A list of translated names.
+pub type Translated = Seq<TranslatedSid>;
+
+/// A translated SID: what it is used for, its name, and the place of its domain in the list that it comes with, or -1
+/// (LSAPR_TRANSLATED_NAME, MS-LSAT 2.2.19).
+#[derive(Debug, Drop, PartialEq, Eq)]
+pub struct TranslatedName {
+    pub usage: u16,
+    pub name: Name,
+    pub index: i32,
+}
+
+/// A list of translated SIDs.
+pub type NamedList = Seq<TranslatedName>;

@@ -27,13 +27,13 @@ numbered : (w : Width) (c : Cursor) (b : Bool) → c.place ≤ number_start w c 
 numbered w c true up = up
 numbered w c false up = omega (arith, up)
 
-takes_u8 : Takes 1 u8
+pub takes_u8 : Takes 1 u8
 takes_u8 = record { onward = λ c. numbered w8 c _ (omega arith) }
 
-takes_u16 : Takes 2 u16
+pub takes_u16 : Takes 2 u16
 takes_u16 = record { onward = λ c. numbered w16 c _ (omega arith) }
 
-takes_u32 : Takes 4 u32
+pub takes_u32 : Takes 4 u32
 takes_u32 = record { onward = λ c. numbered w32 c _ (omega arith) }
 
 -- ---- combinations
@@ -60,20 +60,20 @@ then_onward start size (Err Memory) f h g = h
 done_onward : {A : Type 0} (a : A) (c : Cursor) → Onward c.place 0 (done a c)
 done_onward a c = omega arith
 
-takes_chain : {A B : Type 0} (size : ℕ) {a : Codec A} {b : A → Codec B} → Takes size a → ((x : A) → Takes 0 (b x)) → Takes size (chain a b)
+pub takes_chain : {A B : Type 0} (size : ℕ) {a : Codec A} {b : A → Codec B} → Takes size a → ((x : A) → Takes 0 (b x)) → Takes size (chain a b)
 takes_chain {A = A} {B = B} size {a = a} {b = b} p q = record {
   onward = λ c.
       then_onward c.place size (a.read c) (λ x. (b x.0).read x.1 >>= λ y. done {A = A × B} (x.0, y.0) y.1) (p.onward c)
       (λ x. then_onward x.1.place 0 ((b x.0).read x.1) (λ y. done {A = A × B} (x.0, y.0) y.1) ((q x.0).onward x.1) (λ y. done_onward {A = A × B} (x.0, y.0) y.1));
 }
 
-takes_made : {A B : Type 0} (size : ℕ) (make : A → B) (parts : B → A) {a : Codec A} → Takes size a → Takes size (made make parts a)
+pub takes_made : {A B : Type 0} (size : ℕ) (make : A → B) (parts : B → A) {a : Codec A} → Takes size a → Takes size (made make parts a)
 takes_made size make parts {a = a} p = record { onward = λ c. then_onward c.place size (a.read c) (λ x. done (make x.0) x.1) (p.onward c) (λ x. done_onward (make x.0) x.1) }
 
-takes_led_by : {A B : Type 0} (size : ℕ) (parts : B → A) {a : Codec A} {f : A → Codec B} → Takes size a → ((x : A) → Takes 0 (f x)) → Takes size (led_by parts a f)
+pub takes_led_by : {A B : Type 0} (size : ℕ) (parts : B → A) {a : Codec A} {f : A → Codec B} → Takes size a → ((x : A) → Takes 0 (f x)) → Takes size (led_by parts a f)
 takes_led_by {A = A} {B = B} size parts p q = takes_made size second (λ b. (parts b, b)) (takes_chain size p q)
 
-takes_ignored : {A B : Type 0} (size : ℕ) (w : A) {a : Codec A} {b : Codec B} → Takes size a → Takes 0 b → Takes size (ignored w a b)
+pub takes_ignored : {A B : Type 0} (size : ℕ) (w : A) {a : Codec A} {b : Codec B} → Takes size a → Takes 0 b → Takes size (ignored w a b)
 takes_ignored size w p q = takes_led_by size (λ _. w) p (λ x. q)
 
 tested : {A : Type 0} (start size : ℕ) (b : Bool) (x : A × Cursor) → start + size ≤ x.1.place → Onward start size (cond b (Ok x) (Err (broken size x.1)))
@@ -86,25 +86,25 @@ testing_onward start size test (Err (Short p)) h = h
 testing_onward start size test (Err (Count p)) h = h
 testing_onward start size test (Err Memory) h = h
 
-takes_such : {A : Type 0} (size : ℕ) (test : A → Bool) {a : Codec A} → Takes size a → Takes size (such size test a)
+pub takes_such : {A : Type 0} (size : ℕ) (test : A → Bool) {a : Codec A} → Takes size a → Takes size (such size test a)
 takes_such size test {a = a} p = record { onward = λ c. testing_onward c.place size test (a.read c) (p.onward c) }
 
-takes_pointer : Takes 4 pointer
+pub takes_pointer : Takes 4 pointer
 takes_pointer = record { onward = λ c. then_onward c.place 4 (u32.read c) (λ x. done (is_there x.0) x.1) (takes_u32.onward c) (λ x. done_onward (is_there x.0) x.1) }
 
-any_size : {A : Type 0} (size : ℕ) {a : Codec A} → Takes size a → Takes 0 a
+pub any_size : {A : Type 0} (size : ℕ) {a : Codec A} → Takes size a → Takes 0 a
 any_size size {a = a} p = record { onward = λ c. weaker c.place size 0 (a.read c) (omega arith) (p.onward c) }
 
-takes_varying : (most : ℕ) → Takes 4 (varying most)
+pub takes_varying : (most : ℕ) → Takes 4 (varying most)
 takes_varying most = takes_ignored 4 0 (takes_such 4 is_zero takes_u32) (any_size 4 (takes_such 4 _ takes_u32))
 
-takes_given : {A : Type 0} (a : A) → Takes 0 (given a)
+pub takes_given : {A : Type 0} (a : A) → Takes 0 (given a)
 takes_given a = record { onward = done_onward a }
 
 takes_cons : {A : Type 0} {a : Codec A} {b : Codec (List A)} → Takes 0 a → Takes 0 b → Takes 0 (cons a b)
 takes_cons {a = a} {b = b} p q = record { onward = λ c. then_onward c.place 0 ((chain a (λ _. b)).read c) (λ x. done (front_of x.0) x.1) ((takes_chain 0 {a = a} {b = λ _. b} p (λ x. q)).onward c) (λ x. done_onward (front_of x.0) x.1) }
 
-takes_times : {A : Type 0} (n : ℕ) {a : Codec A} → Takes 0 a → Takes 0 (times n a)
+pub takes_times : {A : Type 0} (n : ℕ) {a : Codec A} → Takes 0 a → Takes 0 (times n a)
 unfolding times
 takes_times zero p = takes_given []
 takes_times (suc n) p = takes_cons p (takes_times n p)
@@ -120,26 +120,26 @@ pub record TakesPart {S A : Type 0} (p : Part S A) : Type 0 where
   pub head : Takes 0 p.head
   pub tail : (s : S) → Takes 0 (p.tail s)
 
-takes_whole : {S A : Type 0} (p : Part S A) → TakesPart p → Takes 0 (whole p)
+pub takes_whole : {S A : Type 0} (p : Part S A) → TakesPart p → Takes 0 (whole p)
 takes_whole p q = takes_led_by 0 p.head_of q.head q.tail
 
-takes_array : {S A : Type 0} (n : ℕ) (p : Part S A) → TakesPart p → TakesPart (array n p)
+pub takes_array : {S A : Type 0} (n : ℕ) (p : Part S A) → TakesPart p → TakesPart (array n p)
 takes_array n p q = record { head = takes_times n q.head; tail = λ ss. takes_each p.tail ss q.tail }
 
-takes_join : {S T A B : Type 0} (p : Part S A) (q : Part T B) → TakesPart p → TakesPart q → TakesPart (join p q)
+pub takes_join : {S T A B : Type 0} (p : Part S A) (q : Part T B) → TakesPart p → TakesPart q → TakesPart (join p q)
 takes_join p q f g = record { head = takes_chain 0 f.head (λ x. g.head); tail = λ s. takes_chain 0 (f.tail s.0) (λ x. g.tail s.1) }
 
-takes_flat : {A : Type 0} (a : Codec A) → Takes 0 a → TakesPart (flat a)
+pub takes_flat : {A : Type 0} (a : Codec A) → Takes 0 a → TakesPart (flat a)
 takes_flat a p = record { head = p; tail = takes_given }
 
-takes_part_of : {S A B : Type 0} (make : A → B) (parts : B → A) (p : Part S A) → TakesPart p → TakesPart (part_of make parts p)
+pub takes_part_of : {S A B : Type 0} (make : A → B) (parts : B → A) (p : Part S A) → TakesPart p → TakesPart (part_of make parts p)
 takes_part_of make parts p q = record { head = q.head; tail = λ s. takes_made 0 make parts (q.tail s) }
 
-takes_some : {A : Type 0} {a : Codec A} → Takes 0 a → (b : Bool) → Takes 0 (when_there b a)
+pub takes_some : {A : Type 0} {a : Codec A} → Takes 0 a → (b : Bool) → Takes 0 (when_there b a)
 takes_some {a = a} p true = record { onward = λ c. then_onward c.place 0 (a.read c) (λ x. done (some_of x.0) x.1) (p.onward c) (λ x. done_onward (some_of x.0) x.1) }
 takes_some p false = takes_given None
 
-takes_pointer_to : {A : Type 0} (a : Codec A) → Takes 0 a → TakesPart (pointer_to a)
+pub takes_pointer_to : {A : Type 0} (a : Codec A) → Takes 0 a → TakesPart (pointer_to a)
 takes_pointer_to a p = record { head = any_size 4 takes_pointer; tail = λ b. takes_some p b }
 
 takes_there : {A : Type 0} (a : Codec A) → Takes 0 a → TakesPart (there a)
@@ -156,7 +156,7 @@ takes_list most p q = record {
   tail = takes_list_tail p q;
 }
 
-list_onward : {S A : Type 0} (most : ℕ) (p : Part S A) → TakesPart p → Takes 0 (list_of most p)
+pub list_onward : {S A : Type 0} (most : ℕ) (p : Part S A) → TakesPart p → Takes 0 (list_of most p)
 unfolding list_of
 list_onward most p q = takes_whole (list most p) (takes_list most p q)
 
@@ -184,7 +184,7 @@ text_tail_onward : (s : ℕ × Bool) → Takes 0 (text_tail s)
 text_tail_onward (n, true) = units_onward (n / 2)
 text_tail_onward (n, false) = takes_given []
 
-takes_text : TakesPart text
+pub takes_text : TakesPart text
 unfolding text
 takes_text = record {
   head = takes_chain 0 (any_size 2 (takes_such 2 _ takes_u16)) (λ n. takes_ignored 0 n (any_size 2 takes_u16) (any_size 4 (takes_such 4 _ takes_pointer)));
@@ -203,7 +203,7 @@ unfolding sid
 sid_onward = takes_led_by 0 (λ s. length s.subs) (any_size 4 takes_u32) (λ n. takes_ignored 0 1 (any_size 1 (takes_such 1 _ takes_u8)) (takes_ignored 0 n (any_size 1 (takes_such 1 _ takes_u8))
     (takes_made 0 sid_of parts_of_sid (takes_chain 0 authority_onward (λ a. takes_times n (any_size 4 takes_u32))))))
 
-takes_sid_pointer : TakesPart sid_pointer
+pub takes_sid_pointer : TakesPart sid_pointer
 unfolding sid_pointer
 takes_sid_pointer = takes_there sid sid_onward
 

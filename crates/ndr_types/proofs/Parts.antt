@@ -35,7 +35,7 @@ times_all (suc n) a (x ∷ xs) h = All-cons a.Fits x xs h.0 (times_all n a xs h.
 
 -- ---- arrays
 
-array_fits : {S A : Type 0} (p : Part S A) (xs : List A) → All (PartFits p) xs → (times (length xs) p.head).Fits (map p.head_of xs) × (each p.tail (map p.head_of xs)).Fits xs
+pub array_fits : {S A : Type 0} (p : Part S A) (xs : List A) → All (PartFits p) xs → (times (length xs) p.head).Fits (map p.head_of xs) × (each p.tail (map p.head_of xs)).Fits xs
 unfolding times each
 array_fits p [] h = (refl, refl)
 array_fits p (x ∷ xs) h =
@@ -43,7 +43,7 @@ array_fits p (x ∷ xs) h =
     let r = array_fits p xs (All-tail (PartFits p) x xs h) in
     ((f.0, r.0), (f.1, r.1))
 
-array_all : {S A : Type 0} (p : Part S A) (n : ℕ) (xs : List A) → (times n p.head).Fits (map p.head_of xs) → (each p.tail (map p.head_of xs)).Fits xs → (length xs ≡ n) × All (PartFits p) xs
+pub array_all : {S A : Type 0} (p : Part S A) (n : ℕ) (xs : List A) → (times n p.head).Fits (map p.head_of xs) → (each p.tail (map p.head_of xs)).Fits xs → (length xs ≡ n) × All (PartFits p) xs
 unfolding times each
 array_all p zero [] h t = (refl, All-nil (PartFits p))
 array_all p zero (x ∷ xs) h t = absurd cc
@@ -70,7 +70,7 @@ array_keeps p q (suc n) (s ∷ ss) (x ∷ xs) h k =
     let b = array_keeps p q n ss xs h.1 k.1 in
     ((a.0, b.0), (a.1, b.1))
 
-array_complete : {S A : Type 0} {P : A → Type 0} (p : Part S A) → Has p P → (n : ℕ) → IsComplete (whole (array n p))
+pub array_complete : {S A : Type 0} {P : A → Type 0} (p : Part S A) → Has p P → (n : ℕ) → IsComplete (whole (array n p))
 array_complete p q n = led_by_complete (map p.head_of) (times_complete n q.head) (tails_complete p q n) (array_keeps p q n)
 
 -- ---- lists

@@ -8,14 +8,16 @@ use Rattle.ndr_core.specs.Parts.{PartFits, times, whole, join, flat, pointer_to,
 use Rattle.ndr_core.proofs.Complete.{IsComplete, u32_complete, pointer_complete, given_complete, such_complete, chain_complete, made_complete, led_by_complete, ignored_complete, ignored_same, times_complete, times_length}
 use Rattle.acct_calls.specs.declared.lists.Privilege.{Privilege}
 use Rattle.acct_calls.specs.declared.lists.Place.{Place}
+use Rattle.acct_calls.specs.declared.lists.RidBits.{RidBits}
 use Rattle.ndr_types.specs.Privileges.{privilege, privilege_of, parts_of_privilege, privilege_set}
 use Rattle.ndr_types.specs.Accounts.{any, rid_name, rid_name_of, parts_of_rid_name}
 use Rattle.ndr_types.specs.Domains.{place, place_of, parts_of_place, first, with_entries, places}
+use Rattle.ndr_types.specs.Members.{membership, rid_bits, rid_bits_of, parts_of_rid_bits}
 use Rattle.ndr_types.specs.Texts.{text}
 use Rattle.ndr_types.specs.Sids.{sid_pointer}
 use Rattle.ndr_types.specs.Bounds.{IfThere}
-use Rattle.ndr_types.specs.Laws.{IsPrivilege, IsPrivilegeSet, IsListOf, IsAccount, IsDomain}
-use Rattle.ndr_types.proofs.Parts.{Has, all_as, join_has, part_of_has, list_has, times_fit, times_all, whole_fits, whole_kind, whole_complete}
+use Rattle.ndr_types.specs.Laws.{IsPrivilege, IsPrivilegeSet, IsListOf, IsAccount, IsDomain, IsMember}
+use Rattle.ndr_types.proofs.Parts.{Has, all_as, flat_has, join_has, part_of_has, list_has, times_fit, times_all, whole_fits, whole_kind, whole_complete}
 use Rattle.ndr_types.proofs.Texts.{text_has}
 use Rattle.ndr_types.proofs.Sids.{and_left, and_right, and_both, long_has, sid_pointer_has}
 
@@ -81,7 +83,7 @@ pointer_kind : {A : Type 0} {P : A → Type 0} (a : Codec A) → ((x : A) → a.
 pointer_kind a kind None h = tt
 pointer_kind a kind (Some x) h = kind x h.1
 
-pointer_has : {A : Type 0} {P : A → Type 0} (a : Codec A) → ((x : A) → P x → a.Fits x) → ((x : A) → a.Fits x → P x) → IsComplete a → Has (pointer_to a) (IfThere P)
+pub pointer_has : {A : Type 0} {P : A → Type 0} (a : Codec A) → ((x : A) → P x → a.Fits x) → ((x : A) → a.Fits x → P x) → IsComplete a → Has (pointer_to a) (IfThere P)
 pointer_has a fits kind complete = record {
   fits = pointer_fits a fits;
   kind = pointer_kind a kind;
@@ -127,3 +129,21 @@ places_has =
 
 pub referenced_has : Has (pointer_to (whole places)) (IfThere (IsListOf any IsDomain))
 referenced_has = pointer_has (whole places) (whole_fits places places_has) (whole_kind places places_has) (whole_complete places places_has)
+
+-- ---- members
+
+membership_complete : IsComplete membership
+unfolding membership
+membership_complete = made_complete rid_bits_of parts_of_rid_bits (chain_complete u32_complete (λ x h. u32_complete)) (λ x h. (h, refl))
+
+membership_fits : (r : RidBits) → IsMember r → membership.Fits r
+unfolding membership
+membership_fits r h = ((h.0, h.1), refl)
+
+membership_kind : (r : RidBits) → membership.Fits r → IsMember r
+unfolding membership
+membership_kind r h = (h.0.0, h.0.1)
+
+pub rid_bits_has : Has rid_bits IsMember
+unfolding rid_bits
+rid_bits_has = flat_has membership membership_fits membership_kind membership_complete

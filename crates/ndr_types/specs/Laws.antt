@@ -10,6 +10,7 @@ use Rattle.acct_calls.specs.declared.handle.Handle.{Handle}
 use Rattle.acct_calls.specs.declared.lists.Privilege.{Privilege}
 use Rattle.acct_calls.specs.declared.lists.RidName.{RidName}
 use Rattle.acct_calls.specs.declared.lists.Place.{Place}
+use Rattle.acct_calls.specs.declared.lists.RidBits.{RidBits}
 
 -- What some bytes spell can be written.
 abbrev pub IsWritable : {A : Type 0} → Codec A → Type 0
@@ -60,3 +61,6 @@ IsAccount account = (account.rid < 2 ^ 32) × IsText account.name
 
 abbrev pub IsDomain : Place → Type 0
 IsDomain place = IsText place.name × IsSid place.sid
+
+abbrev pub IsMember : RidBits → Type 0
+IsMember member = (member.rid < 2 ^ 32) × (member.bits < 2 ^ 32)

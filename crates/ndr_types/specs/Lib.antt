@@ -7,5 +7,6 @@ pub mod Lists
 pub mod Privileges
 pub mod Accounts
 pub mod Domains
+pub mod Members
 pub mod Bounds
 pub mod Laws

@@ -15,6 +15,7 @@ mod domains;
 mod handle;
 mod laws;
 mod lists;
+mod members;
 mod number;
 mod part;
 mod privileges;
