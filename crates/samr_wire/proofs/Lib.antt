@@ -1,0 +1,10 @@
+pub mod MemberLists
+pub mod Asked
+pub mod Complete
+pub mod CompleteReplies
+pub mod InfoValues
+pub mod CallValues
+pub mod ReplyValues
+pub mod CallLaws
+pub mod ReplyLaws
+pub mod Onward

@@ -1,0 +1,11 @@
+use Rattle.samr_wire.proofs.CallLaws.{one_call, read_where_spelled, the_spelled_calls}
+use Rattle.samr_wire.proofs.laws.calls_are_spelled.Goals as goal
+
+pub returns-clause-read : goal.returns-clause-read
+returns-clause-read c = read_where_spelled
+
+pub returns-clause-one : goal.returns-clause-one
+returns-clause-one c = one_call
+
+pub returns-clause-all : goal.returns-clause-all
+returns-clause-all c = the_spelled_calls

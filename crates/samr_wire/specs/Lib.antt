@@ -1,0 +1,11 @@
+pub mod Openings
+pub mod Infos
+pub mod Members
+pub mod Arguments
+pub mod Outputs
+pub mod Table
+pub mod InfoShapes
+pub mod CallShapes
+pub mod ReplyShapes
+pub mod Calls
+pub mod Replies
