@@ -5,8 +5,8 @@ use Rattle.rpc_pdu.specs.declared.pdus.Element.{Element}
 use Rattle.rpc_pdu.specs.declared.pdus.Outcome.{Outcome}
 use Rattle.rpc_pdu.specs.declared.syntaxes.Syntax.{Syntax}
 use Rattle.rpc_pdu.specs.Syntaxes.{same_syntax, samr, lsarpc, ndr}
-use Rattle.acct_machine.specs.declared.calls.Face.{Face}
-use Rattle.acct_machine.specs.declared.calls.Face.TheVariants.{Samr, Lsa}
+use Rattle.acct_calls.specs.declared.calls.Face.{Face}
+use Rattle.acct_calls.specs.declared.calls.Face.TheVariants.{Samr, Lsa}
 use Rattle.rpc_session.specs.declared.contexts.Context.{Context}
 
 -- the interface with this abstract syntax, where it is served

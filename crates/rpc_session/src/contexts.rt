@@ -4,7 +4,7 @@ ghost use Rattle.std.specs.List.{filter};
 ghost use Rattle.rpc_session.specs.Contexts.{no_syntax, face_of, offers_ndr, judged, accepted, answered, outcome, replaced, with_element, with_elements, face_at};
 
 use acct_base::Seq;
-use acct_machine::Face;
+use acct_calls::Face;
 use rpc_pdu::{Element, NoMemory, Outcome, Syntax, is_same_syntax, lsarpc, ndr, samr};
 use std::alloc::Global;
 use uuid::Uuid;

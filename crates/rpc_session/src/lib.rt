@@ -1,10 +1,10 @@
 //! Sessions of connection-oriented DCE/RPC (C706, chapter 12): the acts of a connection's stream, and the bytes of
 //! replies.
 //!
-//! It stands on `rpc_pdu` for the grammar and on `acct_machine` for the interfaces. The layer above uses that,
-//! however the stream is cut into pieces, the acts that [`Bytes2Acts::feed`] appends in all are `acts` of the joined
-//! pieces, and that [`reply_bytes`] and [`fault_bytes`] are the bytes of the responses that bring a stub and of a
-//! fault.
+//! It stands on `rpc_pdu` for the grammar and on `acct_calls` for the interfaces, which it hands on. The layer above
+//! uses that, however the stream is cut into pieces, the acts that [`Bytes2Acts::feed`] appends in all are `acts` of
+//! the joined pieces, and that [`reply_bytes`] and [`fault_bytes`] are the bytes of the responses that bring a stub and
+//! of a fault.
 #![tactic(auto)]
 
 mod answers;
@@ -14,7 +14,7 @@ mod laws;
 mod replies;
 mod sessions;
 
-pub use acct_machine::Face;
+pub use acct_calls::Face;
 pub use contexts::Context;
 pub use hearing::{Bytes2Acts, Hearing};
 pub use laws::{

@@ -7,7 +7,7 @@ use crate::answers::{alter_answer, bind_answer, sizes_for};
 use crate::contexts::{Context, face_at, with_elements};
 use crate::replies::fault_bytes;
 use acct_base::Seq;
-use acct_machine::Face;
+use acct_calls::Face;
 use rpc_pdu::{NoMemory, Pdu};
 use std::alloc::Global;
 
