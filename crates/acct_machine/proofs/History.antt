@@ -1,7 +1,7 @@
 -- One more event at the end of a history.
 use Rattle.std.proofs.Common.{◌≡◌, ℕ, ◌==◌, Bool, true, false, cond, List, [], ◌∷◌, ◌++◌, refl, sym, ap, subst, append_assoc, length, arith}
 use Rattle.std.proofs.lemmas.List.{append-nil}
-use Rattle.acct_machine.specs.declared.config.Config.{Config}
+use Rattle.acct_config.specs.declared.config.Config.{Config}
 use Rattle.acct_machine.specs.declared.entry.Entry.{Entry}
 use Rattle.acct_machine.specs.declared.entry.Entry.TheVariants.{Opened, Called, Gone}
 use Rattle.acct_machine.specs.State.{State}

@@ -3,8 +3,8 @@ use Rattle.std.proofs.Common.{◌≡◌, inl, inr, ℕ, ◌+◌, ◌≤◌, ◌<
 use Rattle.std.specs.List.{AllByRecursion}
 use Rattle.std.proofs.lemmas.Bool.{cases_eq}
 use Rattle.std.proofs.lemmas.List.{append-nil}
-use Rattle.acct_machine.specs.declared.calls.Call.{Call}
-use Rattle.acct_machine.specs.declared.config.Config.{Config}
+use Rattle.acct_config.specs.declared.config.Config.{Config}
+use Rattle.acct_calls.specs.declared.calls.Call.{Call}
 use Rattle.acct_machine.specs.declared.entry.Verdict.{Verdict}
 use Rattle.acct_machine.specs.declared.entry.Entry.{Entry}
 use Rattle.acct_machine.specs.declared.entry.Entry.TheVariants.{Opened, Called, Gone}
@@ -13,13 +13,12 @@ use Rattle.acct_machine.specs.declared.state.Held.{Held}
 use Rattle.acct_machine.specs.State.{State, nothing_open, last_serial}
 use Rattle.acct_machine.specs.Step.{new_conn, serial_set, live_ended, acted, step, state_after}
 use Rattle.acct_machine.specs.Legal.{May, Legal, calls_of, replies}
-use Rattle.acct_machine.specs.Sound.{IsSound}
+use Rattle.acct_machine.specs.Sound.{IsSound, KeepsSound}
 use Rattle.acct_machine.specs.Shown.{IsKept, live_count}
 use Rattle.acct_machine.specs.Machine.{SameLive, OneMoreLive, OneLessLive, SameCalls, OneMoreCall}
 use Rattle.acct_machine.proofs.Conns.{set-here, set-past, ended-here, ended-past, serial-here, serial-past, live-set, length-set, count-set, live-ended-same, live-ended-other, length-ended, live-push, length-push, live-above, live-new}
 use Rattle.acct_machine.proofs.Cases.{acted-cases}
 use Rattle.acct_machine.proofs.History.{state_after-push, LegalAfter-push, calls_of-append, replies-append}
-use Rattle.acct_machine.proofs.Sounds.{sound-after, sound-first}
 
 -- the serials of the connections, which no event raises by more than one
 abbrev pub Serials : ℕ → List Conn → Type 0
@@ -63,15 +62,17 @@ Serials-step s (Called conn call verdict bytes) n h =
 Serials-step s (Gone conn) n h = Serials-ended conn n s.conns h
 
 -- the parts after one more event, with a counter and a capacity that are enough
-pub IsKept-push : (config : Config) (history : List Entry) (conns : List Conn) (handles : List Held) (live capacity : ℕ) (e : Entry) (s : State) (live' capacity' : ℕ)
-    → IsKept config history conns handles live capacity → May config history e → step (record { conns = conns; handles = handles }) e ≡ s
-    → live_count s.conns ≤ live' → live' ≤ length s.conns → length history + 1 + live' ≤ capacity' → IsKept config (history ++ e ∷ []) s.conns s.handles live' capacity'
-IsKept-push config history conns handles live capacity e s live' capacity' kept may is counted bounded room =
-    let old : State = record { conns = conns; handles = handles } in
-    let after : state_after nothing_open (history ++ e ∷ []) ≡ s = state_after-push nothing_open history e ∙ ap (λ (x : State). step x e) kept.state ∙ is in
-    let serials : Serials (length history + 1) s.conns = subst (λ (x : State). Serials (length history + 1) x.conns) is (Serials-step old e (length history) kept.serials) in
+pub IsKept-push : (config : Config) (history : List Entry) (conns : List Conn) (handles : List Held) (live capacity : ℕ) (e : Entry) (conns' : List Conn) (handles' : List Held) (live' capacity' : ℕ)
+    → IsKept config history conns handles live capacity → May config history e → step (record { config = config; conns = conns; handles = handles }) e ≡ record { config = config; conns = conns'; handles = handles' }
+    → live_count conns' ≤ live' → live' ≤ length conns' → length history + 1 + live' ≤ capacity' → IsKept config (history ++ e ∷ []) conns' handles' live' capacity'
+IsKept-push config history conns handles live capacity e conns' handles' live' capacity' kept may is counted bounded room =
+    let s : State = record { config = config; conns = conns'; handles = handles' } in
+    let old : State = record { config = config; conns = conns; handles = handles } in
+    let after : state_after (nothing_open config) (history ++ e ∷ []) ≡ s = state_after-push (nothing_open config) history e ∙ ap (λ (x : State). step x e) kept.state ∙ is in
+    let serials : Serials (length history + 1) conns' = subst (λ (x : State). Serials (length history + 1) x.conns) is (Serials-step old e (length history) kept.serials) in
     let longer : length (history ++ e ∷ []) ≡ length history + 1 = omega (arith, length-append history (e ∷ [])) in
     record {
+      right = kept.right;
       legal = LegalAfter-push config [] history e kept.legal may;
       state = after;
       serials = rw longer serials;
@@ -95,26 +96,26 @@ live_count-acted s conn call verdict =
     acted-cases (λ (x : State). live_count x.conns ≡ live_count s.conns) s conn call verdict refl (λ granted ran opens is. count-set conn (last_serial conn s.conns + 1) s.conns) refl
 
 -- the live connections after one more event of a history
-pub same_live-push : (history : List Entry) (conn : ℕ) (call : Call) (verdict : Verdict) (bytes : ℕ)
-    → SameLive (state_after nothing_open history) (state_after nothing_open (history ++ Called conn call verdict bytes ∷ []))
-same_live-push history conn call verdict bytes =
-    rw (state_after-push nothing_open history (Called conn call verdict bytes)) (same_live-acted (state_after nothing_open history) conn call verdict)
+pub same_live-push : (config : Config) (history : List Entry) (conn : ℕ) (call : Call) (verdict : Verdict) (bytes : ℕ)
+    → SameLive (state_after (nothing_open config) history) (state_after (nothing_open config) (history ++ Called conn call verdict bytes ∷ []))
+same_live-push config history conn call verdict bytes =
+    rw (state_after-push (nothing_open config) history (Called conn call verdict bytes)) (same_live-acted (state_after (nothing_open config) history) conn call verdict)
 
-pub one_less-push : (history : List Entry) (conn : ℕ) → OneLessLive (state_after nothing_open history) (state_after nothing_open (history ++ Gone conn ∷ [])) conn
-one_less-push history conn =
-    let s : State = state_after nothing_open history in
-    rw (state_after-push nothing_open history (Gone conn)) (record {
+pub one_less-push : (config : Config) (history : List Entry) (conn : ℕ) → OneLessLive (state_after (nothing_open config) history) (state_after (nothing_open config) (history ++ Gone conn ∷ [])) conn
+one_less-push config history conn =
+    let s : State = state_after (nothing_open config) history in
+    rw (state_after-push (nothing_open config) history (Gone conn)) (record {
       ended = live-ended-same conn s.conns;
       others = λ k ne. live-ended-other k conn s.conns ne;
       count = length-ended conn s.conns;
     })
 
-pub one_more-push : (config : Config) (history : List Entry) (conn listener : ℕ) → Legal config history → conn ≡ length (state_after nothing_open history).conns + 1
-    → OneMoreLive (state_after nothing_open history) (state_after nothing_open (history ++ Opened conn listener ∷ [])) conn
-one_more-push config history conn listener legal is =
-    let s : State = state_after nothing_open history in
-    let sound : IsSound config s = sound-after config [] history legal nothing_open refl (sound-first config) in
-    rw (state_after-push nothing_open history (Opened conn listener)) (record {
+pub one_more-push : KeepsSound → (config : Config) (history : List Entry) (conn listener : ℕ) → Legal config history → conn ≡ length (state_after (nothing_open config) history).conns + 1
+    → OneMoreLive (state_after (nothing_open config) history) (state_after (nothing_open config) (history ++ Opened conn listener ∷ [])) conn
+one_more-push sounds config history conn listener legal is =
+    let s : State = state_after (nothing_open config) history in
+    let sound : IsSound config s = sounds config history legal in
+    rw (state_after-push (nothing_open config) history (Opened conn listener)) (record {
       live = live-new 1 conn listener s.conns sound.numbered (omega (arith, is));
       fresh = live-above 1 conn s.conns sound.numbered (omega (arith, is));
       others = λ k ne. live-push k (new_conn conn listener) s.conns (λ e. ne (sym e));
@@ -126,26 +127,26 @@ pub same_calls-opened : (config : Config) (history : List Entry) (conn listener 
     → SameCalls (record { config = config; history = history }) (record { config = config; history = history ++ Opened conn listener ∷ [] })
 same_calls-opened config history conn listener = record {
   calls = λ k. calls_of-append k history (Opened conn listener ∷ []) ∙ append-nil (calls_of k history);
-  replies = λ k. replies-append nothing_open k history (Opened conn listener ∷ []) ∙ append-nil (replies k history);
+  replies = λ k. replies-append (nothing_open config) k history (Opened conn listener ∷ []) ∙ append-nil (replies config k history);
 }
 
 pub same_calls-gone : (config : Config) (history : List Entry) (conn : ℕ)
     → SameCalls (record { config = config; history = history }) (record { config = config; history = history ++ Gone conn ∷ [] })
 same_calls-gone config history conn = record {
   calls = λ k. calls_of-append k history (Gone conn ∷ []) ∙ append-nil (calls_of k history);
-  replies = λ k. replies-append nothing_open k history (Gone conn ∷ []) ∙ append-nil (replies k history);
+  replies = λ k. replies-append (nothing_open config) k history (Gone conn ∷ []) ∙ append-nil (replies config k history);
 }
 
 pub one_more_call : (config : Config) (history : List Entry) (conn : ℕ) (call : Call) (verdict : Verdict) (bytes : ℕ)
     → OneMoreCall (record { config = config; history = history }) (record { config = config; history = history ++ Called conn call verdict bytes ∷ [] }) conn call bytes
-    (acted (state_after nothing_open history) conn call verdict).1
+    (acted (state_after (nothing_open config) history) conn call verdict).1
 one_more_call config history conn call verdict bytes = record {
   calls = λ k. calls_of-append k history (Called conn call verdict bytes ∷ []);
-  replies = λ k. replies-append nothing_open k history (Called conn call verdict bytes ∷ []);
+  replies = λ k. replies-append (nothing_open config) k history (Called conn call verdict bytes ∷ []);
 }
 
 -- the condition of an opening, on the parts
 pub may-opened : (config : Config) (history : List Entry) (conns : List Conn) (handles : List Held) (conn listener : ℕ)
-    → state_after nothing_open history ≡ record { conns = conns; handles = handles } → conn ≡ length conns + 1 → conn < 2 ^ 32 → listener < length config.listeners
+    → state_after (nothing_open config) history ≡ record { config = config; conns = conns; handles = handles } → conn ≡ length conns + 1 → conn < 2 ^ 32 → listener < length config.listeners
     → May config history (Opened conn listener)
 may-opened config history conns handles conn listener is count small fits = (omega (arith, count, ap (λ (s : State). length s.conns) is), small, fits)

@@ -4,3 +4,4 @@ pub mod History
 pub mod Sounds
 pub mod Kept
 pub mod Granting
+pub mod Shapes

@@ -1,21 +1,26 @@
 -- Each event of a legal history keeps the state sound.
-use Rattle.std.proofs.Common.{◌≡◌, ◌≢◌, inl, inr, ℕ, ◌+◌, ◌≤◌, ◌<◌, Bool, true, false, not, cond, ◌==◌, List, [], ◌∷◌, ◌++◌, length, map, get_or, Some, None, refl, sym, ◌∙◌, ap, subst, arith}
+use Rattle.std.proofs.Common.{◌≡◌, ◌≢◌, inl, inr, ℕ, ◌+◌, ◌≤◌, ◌<◌, Bool, true, false, not, cond, ◌==◌, List, [], ◌∷◌, ◌++◌, length, map, get_or, bit_and, Option, Some, None, refl, sym, ◌∙◌, ap, subst, arith}
 use Rattle.std.proofs.lemmas.Bool.{cases_eq}
 use Rattle.std.proofs.lemmas.Bool.Decides.{nat_tests}
 use Rattle.std.proofs.lemmas.List.Elements.{All-map, All-push, All-filter, filter_passes}
 use Rattle.std.proofs.lemmas.List.Kept.{AllPairs-filter}
 use Rattle.std.proofs.lemmas.List.Quantifiers.{all_pairs_push}
-use Rattle.acct_machine.specs.declared.calls.Call.{Call}
-use Rattle.acct_machine.specs.declared.config.Config.{Config}
+use Rattle.acct_codes.specs.declared.kind.Kind.{Kind}
+use Rattle.acct_codes.specs.Mappings.{valid_rights}
+use Rattle.dtyp_access.specs.declared.descriptor.Descriptor.{Descriptor}
+use Rattle.dtyp_access.specs.Laws.{GrantsAreValid}
+use Rattle.acct_config.specs.declared.config.Config.{Config}
+use Rattle.acct_config.specs.declared.config.Listener.{Listener}
+use Rattle.acct_calls.specs.declared.calls.Call.{Call}
 use Rattle.acct_machine.specs.declared.entry.Verdict.{Verdict}
 use Rattle.acct_machine.specs.declared.entry.Entry.{Entry}
 use Rattle.acct_machine.specs.declared.entry.Entry.TheVariants.{Opened, Called, Gone}
 use Rattle.acct_machine.specs.declared.state.Conn.{Conn}
 use Rattle.acct_machine.specs.declared.state.Held.{Held}
+use Rattle.acct_machine.specs.declared.state.Object.{Object}
 use Rattle.acct_machine.specs.declared.state.Object.TheVariants.{Server}
-use Rattle.acct_machine.specs.Codes.{sam_server_all_access, maximum_allowed}
-use Rattle.acct_machine.specs.Opening.{has_bits, asked_bits, server_grant}
-use Rattle.acct_machine.specs.State.{State, nothing_open, is_live, last_serial, is_handle, without_conn}
+use Rattle.acct_machine.specs.State.{State, nothing_open, find_conn, is_live, last_serial, is_handle, without_conn}
+use Rattle.acct_machine.specs.Opening.{kind_of, descriptor_of, listener_of, checked, grant_of}
 use Rattle.acct_machine.specs.Step.{new_conn, serial_set, live_ended, connected, closed, acted, step, state_after}
 use Rattle.acct_machine.specs.Legal.{May, LegalAfter}
 use Rattle.acct_machine.specs.Sound.{IsHeldSoundly, AreApart, IsSound}
@@ -23,17 +28,17 @@ use Rattle.acct_machine.proofs.Conns.{live-set, serial-set-same, serial-set-othe
 use Rattle.acct_machine.proofs.Cases.{acted-cases}
 use Rattle.acct_machine.proofs.History.{state_after-push}
 
--- a grant lies within the valid bits
-granted-valid : (asked granted : ℕ) (valid every : Bool) → has_bits sam_server_all_access asked ≡ valid
-    → cond valid (Some (cond every sam_server_all_access asked)) None ≡ Some granted → has_bits sam_server_all_access granted ≡ true
-granted-valid asked granted true true within is = let same : sam_server_all_access ≡ granted = cc in rw (← same) refl
-granted-valid asked granted true false within is = let same : asked ≡ granted = cc in rw (← same) within
-granted-valid asked granted false every within is = cc
+-- a grant lies within the valid rights
+checked-valid : GrantsAreValid → (k : Kind) (descriptor : Option Descriptor) (listener : Option Listener) (desired granted : ℕ)
+    → checked k descriptor listener desired ≡ Some granted → bit_and granted (valid_rights k) ≡ granted
+checked-valid within k None listener desired granted is = cc
+checked-valid within k (Some descriptor) None desired granted is = cc
+checked-valid within k (Some descriptor) (Some listener) desired granted is = within k descriptor listener.token desired granted is
 
-grant-valid : (desired granted : ℕ) → server_grant desired ≡ Some granted → has_bits sam_server_all_access granted ≡ true
-unfolding server_grant
-grant-valid desired granted is =
-    granted-valid (asked_bits desired) granted (has_bits sam_server_all_access (asked_bits desired)) (has_bits desired maximum_allowed) refl is
+grant-valid : GrantsAreValid → (s : State) (conn : ℕ) (object : Object) (desired granted : ℕ) → grant_of s conn object desired ≡ Some granted
+    → bit_and granted (valid_rights (kind_of object)) ≡ granted
+grant-valid within s conn object desired granted is =
+    checked-valid within (kind_of object) (descriptor_of s.config (kind_of object)) (listener_of s.config (find_conn conn s.conns)) desired granted is
 
 -- a handle stays sound where its connection stays live and its last serial doesn't fall
 held-kept : (old new : List Conn) (h : Held) → IsHeldSoundly old h → is_live h.conn new ≡ is_live h.conn old → last_serial h.conn old ≤ last_serial h.conn new
@@ -56,6 +61,7 @@ sound-opened config s conn listener sound is fits =
       | inr other ↦ held-kept s.conns (s.conns ++ c ∷ []) h was (live-push h.conn c s.conns other) (rw (serial-push h.conn c s.conns other) (omega arith))
     ] in
     record {
+      configuration = sound.configuration;
       numbered = numbered-push 1 c s.conns sound.numbered (omega (arith, is));
       configured = All-push (λ (d : Conn). d.listener < length config.listeners) s.conns c sound.configured fits;
       held = λ k d lt. held (get_or s.handles k d) (sound.held k d lt);
@@ -73,7 +79,7 @@ serial-set-le k conn conns live =
 
 -- a handle was opened
 sound-connected : (config : Config) (s : State) (conn : ℕ) (call : Call) (granted : ℕ) → IsSound config s → is_live conn s.conns ≡ true
-    → has_bits sam_server_all_access granted ≡ true → IsSound config (connected s conn call (Some granted)).0
+    → bit_and granted (valid_rights (kind_of Server)) ≡ granted → IsSound config (connected s conn call (Some granted)).0
 sound-connected config s conn call granted sound live valid =
     let serial = last_serial conn s.conns + 1 in
     let new : List Conn = map (serial_set conn serial) s.conns in
@@ -89,6 +95,7 @@ sound-connected config s conn call granted sound live valid =
     let listeners : (c : Conn) → (serial_set conn serial c).listener ≡ c.listener = λ c. elim (c.number == conn) as (λ b. (cond b (record c { serial = serial }) c).listener ≡ c.listener) [ true ↦ refl | false ↦ refl ] in
     let apart : (g : Held) → IsHeldSoundly s.conns g → g.conn ≡ conn → g.serial ≢ serial = λ g was same e. omega (arith, was.given, e, ap (λ k. last_serial k s.conns) same) in
     record {
+      configuration = sound.configuration;
       numbered = numbered-set 1 conn serial s.conns sound.numbered;
       configured = All-map (λ (d : Conn). d.listener < length config.listeners) (serial_set conn serial) s.conns (λ k d lt. omega (arith, listeners (get_or s.conns k d), sound.configured k d lt));
       held = All-push (IsHeldSoundly new) s.handles h (λ k d lt. held-old (get_or s.handles k d) (sound.held k d lt)) held-new;
@@ -98,17 +105,18 @@ sound-connected config s conn call granted sound live valid =
 -- a handle was closed
 sound-closed : (config : Config) (s : State) (conn number : ℕ) → IsSound config s → IsSound config (closed s conn number).0
 sound-closed config s conn number sound = record {
+  configuration = sound.configuration;
   numbered = sound.numbered;
   configured = sound.configured;
   held = All-filter (λ h. not (is_handle conn number h)) (IsHeldSoundly s.conns) s.handles sound.held;
   distinct = AllPairs-filter AreApart (λ h. not (is_handle conn number h)) s.handles sound.distinct;
 }
 
-sound-called : (config : Config) (s : State) (conn : ℕ) (call : Call) (verdict : Verdict) → IsSound config s → is_live conn s.conns ≡ true
+sound-called : GrantsAreValid → (config : Config) (s : State) (conn : ℕ) (call : Call) (verdict : Verdict) → IsSound config s → is_live conn s.conns ≡ true
     → IsSound config (acted s conn call verdict).0
-sound-called config s conn call verdict sound live =
+sound-called within config s conn call verdict sound live =
     acted-cases (IsSound config) s conn call verdict sound
-    (λ granted ran opens is. sound-connected config s conn call granted sound live (grant-valid _ granted is))
+    (λ granted ran opens is. sound-connected config s conn call granted sound live (grant-valid within s conn Server _ granted is))
     (sound-closed config s conn call.handle.number sound)
 
 -- a connection is gone
@@ -120,28 +128,30 @@ sound-gone config s conn sound =
     held-kept s.conns new h was (live-ended-other h.conn conn s.conns other) (rw (serial-ended h.conn conn s.conns) (omega arith)) in
     let listeners : (c : Conn) → (live_ended conn c).listener ≡ c.listener = λ c. elim (c.number == conn) as (λ b. (cond b (record c { live = false }) c).listener ≡ c.listener) [ true ↦ refl | false ↦ refl ] in
     record {
+      configuration = sound.configuration;
       numbered = numbered-ended 1 conn s.conns sound.numbered;
       configured = All-map (λ (d : Conn). d.listener < length config.listeners) (live_ended conn) s.conns (λ k d lt. omega (arith, listeners (get_or s.conns k d), sound.configured k d lt));
       held = λ k d lt. left (get_or (without_conn conn s.handles) k d) (All-filter (λ h. not (h.conn == conn)) (IsHeldSoundly s.conns) s.handles sound.held k d lt) (filter_passes (λ (h : Held). not (h.conn == conn)) s.handles k d lt);
       distinct = AllPairs-filter AreApart (λ h. not (h.conn == conn)) s.handles sound.distinct;
     }
 
-sound-step : (config : Config) (before : List Entry) (e : Entry) → IsSound config (state_after nothing_open before) → May config before e
-    → IsSound config (step (state_after nothing_open before) e)
-sound-step config before (Opened conn listener) sound may = sound-opened config (state_after nothing_open before) conn listener sound may.0 may.2
-sound-step config before (Called conn call verdict bytes) sound may = sound-called config (state_after nothing_open before) conn call verdict sound may.0
-sound-step config before (Gone conn) sound may = sound-gone config (state_after nothing_open before) conn sound
+sound-step : GrantsAreValid → (config : Config) (before : List Entry) (e : Entry) → IsSound config (state_after (nothing_open config) before) → May config before e
+    → IsSound config (step (state_after (nothing_open config) before) e)
+sound-step within config before (Opened conn listener) sound may = sound-opened config (state_after (nothing_open config) before) conn listener sound may.0 may.2
+sound-step within config before (Called conn call verdict bytes) sound may = sound-called within config (state_after (nothing_open config) before) conn call verdict sound may.0
+sound-step within config before (Gone conn) sound may = sound-gone config (state_after (nothing_open config) before) conn sound
 
-pub sound-after : (config : Config) (before es : List Entry) → LegalAfter config before es → (s : State) → state_after nothing_open before ≡ s → IsSound config s
+pub sound-after : GrantsAreValid → (config : Config) (before es : List Entry) → LegalAfter config before es → (s : State) → state_after (nothing_open config) before ≡ s → IsSound config s
     → IsSound config (state_after s es)
-sound-after config before [] legal s is sound = sound
-sound-after config before (e ∷ es) legal s is sound =
-    let now : IsSound config (state_after nothing_open before) = subst (λ (x : State). IsSound config x) (sym is) sound in
-    let stepped : IsSound config (step s e) = subst (λ (x : State). IsSound config (step x e)) is (sound-step config before e now legal.0) in
-    sound-after config (before ++ e ∷ []) es legal.1 (step s e) (state_after-push nothing_open before e ∙ ap (λ (x : State). step x e) is) stepped
+sound-after within config before [] legal s is sound = sound
+sound-after within config before (e ∷ es) legal s is sound =
+    let now : IsSound config (state_after (nothing_open config) before) = subst (λ (x : State). IsSound config x) (sym is) sound in
+    let stepped : IsSound config (step s e) = subst (λ (x : State). IsSound config (step x e)) is (sound-step within config before e now legal.0) in
+    sound-after within config (before ++ e ∷ []) es legal.1 (step s e) (state_after-push (nothing_open config) before e ∙ ap (λ (x : State). step x e) is) stepped
 
-pub sound-first : (config : Config) → IsSound config nothing_open
+pub sound-first : (config : Config) → IsSound config (nothing_open config)
 sound-first config = record {
+  configuration = refl;
   numbered = tt;
   configured = λ k d lt. absurd (omega (arith, lt));
   held = λ k d lt. absurd (omega (arith, lt));

@@ -1,20 +1,19 @@
--- Which calls there are: those that the stub of a served operation spells.
-use Rattle.std.specs.Prelude.{◌≡◌, ℕ, ◌^◌, ◌<◌}
-use Rattle.acct_machine.specs.declared.calls.Args.{Args}
-use Rattle.acct_machine.specs.declared.calls.Args.TheVariants as args
-use Rattle.acct_machine.specs.declared.calls.Face.TheVariants.{Samr}
-use Rattle.acct_machine.specs.declared.calls.Call.{Call}
+-- Which calls there are: those of the operations that are built, each spelled by some stub that is served.
+use Rattle.std.specs.Prelude.{◌≡◌, ℕ, ◌==◌, Bool, true, ◌||◌}
+use Rattle.acct_calls.specs.declared.calls.Args.{Args}
+use Rattle.acct_calls.specs.declared.calls.Args.TheVariants as args
+use Rattle.acct_calls.specs.declared.calls.Call.{Call}
+use Rattle.samr_wire.specs.Calls.{IsSpelled}
 use Rattle.acct_machine.specs.Codes.{samr_close_handle, samr_connect2}
 
--- by the arguments: SamrConnect2 brings the zero handle and the desired access, SamrCloseHandle a handle alone
-abbrev pub IsOperation : ℕ → ℕ → Args → Type 0
-IsOperation opnum number (args.Access desired) = (opnum ≡ samr_connect2) × (number ≡ 0) × (desired < 2 ^ 32)
-IsOperation opnum number args.Nothing = (opnum ≡ samr_close_handle) × (number < 2 ^ 128)
+-- the operations that are built, by opnum
+abbrev pub is_built : ℕ → Bool
+is_built opnum = (opnum == samr_close_handle) || (opnum == samr_connect2)
 
-abbrev pub IsSpelled : Call → Type 0
-IsSpelled call = (call.face ≡ Samr) × IsOperation call.opnum call.handle.number call.args
+abbrev pub IsCall : Call → Type 0
+IsCall call = (is_built call.opnum ≡ true) × IsSpelled call
 
 -- the access that an opening asks for
 abbrev pub desired_access : Args → ℕ
 desired_access (args.Access desired) = desired
-desired_access args.Nothing = 0
+desired_access _ = 0

@@ -1,31 +1,31 @@
 -- Which histories the machine may have, and what they say of one connection.
 use Rattle.std.specs.Prelude.{◌≡◌, ℕ, ◌+◌, ◌^◌, ◌<◌, ◌==◌, true, false, List, [], ◌∷◌, ◌++◌, length, ⊤, if◌then◌else◌}
-use Rattle.acct_machine.specs.declared.calls.Call.{Call}
-use Rattle.acct_machine.specs.declared.calls.Reply.{Reply}
+use Rattle.acct_config.specs.declared.config.Config.{Config}
+use Rattle.acct_calls.specs.declared.calls.Call.{Call}
+use Rattle.acct_calls.specs.declared.replies.Reply.{Reply}
 use Rattle.acct_machine.specs.declared.checks.Access.TheVariants.{Passed}
-use Rattle.acct_machine.specs.declared.config.Config.{Config}
 use Rattle.acct_machine.specs.declared.entry.Verdict.{Verdict}
 use Rattle.acct_machine.specs.declared.entry.Verdict.TheVariants.{Ran, NoMemory}
 use Rattle.acct_machine.specs.declared.entry.Entry.{Entry}
 use Rattle.acct_machine.specs.declared.entry.Entry.TheVariants.{Opened, Called, Gone}
 use Rattle.acct_machine.specs.Codes.{samr_connect2}
 use Rattle.acct_machine.specs.State.{State, nothing_open, is_live}
-use Rattle.acct_machine.specs.Calls.{IsSpelled}
+use Rattle.acct_machine.specs.Calls.{IsCall}
 use Rattle.acct_machine.specs.Checks.{access, is_opening_refused}
 use Rattle.acct_machine.specs.Step.{acted, step, state_after}
 
 -- Memory may want only where a call would have opened a handle: no check is left that could refuse it.
 abbrev pub MayHave : State → ℕ → Call → Verdict → Type 0
 MayHave s conn call Ran = ⊤
-MayHave s conn call NoMemory = (call.opnum ≡ samr_connect2) × (access s conn call ≡ Passed) × (is_opening_refused call ≡ false)
+MayHave s conn call NoMemory = (call.opnum ≡ samr_connect2) × (access s conn call ≡ Passed) × (is_opening_refused s conn call ≡ false)
 
 -- What may come after some events: the connections are numbered from 1 in the order of their opening, each at a listener of the
--- configuration; calls and ends are of live connections, and some stub spells each call.
+-- configuration; calls and ends are of live connections, and some served stub spells each call.
 abbrev pub May : Config → List Entry → Entry → Type 0
-May config before (Opened conn listener) = (conn ≡ length (state_after nothing_open before).conns + 1) × (conn < 2 ^ 32) × (listener < length config.listeners)
+May config before (Opened conn listener) = (conn ≡ length (state_after (nothing_open config) before).conns + 1) × (conn < 2 ^ 32) × (listener < length config.listeners)
 May config before (Called conn call verdict bytes) =
-    (is_live conn (state_after nothing_open before).conns ≡ true) × IsSpelled call × (bytes < 2 ^ 32) × MayHave (state_after nothing_open before) conn call verdict
-May config before (Gone conn) = is_live conn (state_after nothing_open before).conns ≡ true
+    (is_live conn (state_after (nothing_open config) before).conns ≡ true) × IsCall call × (bytes < 2 ^ 32) × MayHave (state_after (nothing_open config) before) conn call verdict
+May config before (Gone conn) = is_live conn (state_after (nothing_open config) before).conns ≡ true
 
 -- each event may come after those before it
 abbrev pub LegalAfter : Config → List Entry → List Entry → Type 0
@@ -44,8 +44,8 @@ replies_from s k (Called conn call verdict bytes ∷ es) =
 replies_from s k (Opened conn listener ∷ es) = replies_from (step s (Opened conn listener)) k es
 replies_from s k (Gone conn ∷ es) = replies_from (step s (Gone conn)) k es
 
-abbrev pub replies : ℕ → List Entry → List Reply
-replies k history = replies_from nothing_open k history
+abbrev pub replies : Config → ℕ → List Entry → List Reply
+replies config k history = replies_from (nothing_open config) k history
 
 -- the calls of a connection in order, each with the bytes of its stub
 abbrev pub calls_of : ℕ → List Entry → List (Call × ℕ)
@@ -56,4 +56,4 @@ calls_of k (Gone conn ∷ es) = calls_of k es
 
 -- each call has a reply
 abbrev pub RepliesToEach : Type 0
-RepliesToEach = (k : ℕ) (history : List Entry) → length (replies k history) ≡ length (calls_of k history)
+RepliesToEach = (config : Config) (k : ℕ) (history : List Entry) → length (replies config k history) ≡ length (calls_of k history)

@@ -1,6 +1,6 @@
 pub mod Codes
-pub mod Opening
 pub mod State
+pub mod Opening
 pub mod Calls
 pub mod Checks
 pub mod Step
@@ -10,3 +10,4 @@ pub mod Denial
 pub mod Grants
 pub mod Shown
 pub mod Machine
+pub mod Decided

@@ -1,7 +1,9 @@
 -- What each call of a machine leaves and answers.
-use Rattle.std.specs.Prelude.{◌≡◌, ◌≢◌, ℕ, ◌+◌, ◌==◌, true, false, [], ◌∷◌, ◌++◌, length, if◌then◌else◌}
-use Rattle.acct_machine.specs.declared.calls.Call.{Call}
-use Rattle.acct_machine.specs.declared.calls.Reply.{Reply}
+use Rattle.std.specs.Prelude.{◌≡◌, ◌≢◌, ℕ, ◌+◌, ◌==◌, true, false, [], ◌∷◌, ◌++◌, length, ⊤, if◌then◌else◌}
+use Rattle.acct_calls.specs.declared.calls.Call.{Call}
+use Rattle.acct_calls.specs.declared.replies.Reply.{Reply}
+use Rattle.acct_calls.specs.declared.replies.Reply.TheVariants.{Fault, Done}
+use Rattle.samr_wire.specs.ReplyShapes.{HasShape}
 use Rattle.acct_machine.specs.declared.entry.Verdict.{Verdict}
 use Rattle.acct_machine.specs.declared.entry.Entry.{Entry}
 use Rattle.acct_machine.specs.declared.entry.Entry.TheVariants.{Opened, Called, Gone}
@@ -20,7 +22,7 @@ with_entry m e = record m { history = m.history ++ e ∷ [] }
 
 -- the state after a machine's history
 abbrev pub state_of : Shown → State
-state_of m = state_after nothing_open m.history
+state_of m = state_after (nothing_open m.config) m.history
 
 -- an opening of a connection
 abbrev pub Opens : Shown → ℕ → answer.Opened → Shown → Type 0
@@ -32,6 +34,15 @@ abbrev pub Acts : Shown → ℕ → Call → ℕ → Acted → Shown → Type 0
 Acts old conn call bytes (acts.Reply reply) new =
     (verdict : Verdict) × (new ≡ with_entry old (Called conn call verdict bytes)) × (reply ≡ (acted (state_of old) conn call verdict).1)
 Acts old conn call bytes acts.NoMemory new = new ≡ old
+
+-- a reply that is no fault has the shape of its operation
+abbrev pub IsAnswer : ℕ → Reply → Type 0
+IsAnswer opnum (Fault status) = ⊤
+IsAnswer opnum (Done status outs) = HasShape opnum (Done status outs)
+
+abbrev pub Shaped : ℕ → Acted → Type 0
+Shaped opnum (acts.Reply reply) = IsAnswer opnum reply
+Shaped opnum acts.NoMemory = ⊤
 
 -- the end of a connection
 abbrev pub Ends : Shown → ℕ → Shown → Type 0
@@ -63,12 +74,12 @@ OpensLive old opens.NoMemory new = SameLive (state_of old) (state_of new)
 -- Each connection has the calls and the replies that it had.
 pub record SameCalls (old new : Shown) : Type 0 where
   pub calls : (k : ℕ) → calls_of k new.history ≡ calls_of k old.history
-  pub replies : (k : ℕ) → replies k new.history ≡ replies k old.history
+  pub replies : (k : ℕ) → replies new.config k new.history ≡ replies old.config k old.history
 
 -- One connection has one call and its reply more, and every other has those that it had.
 pub record OneMoreCall (old new : Shown) (conn : ℕ) (call : Call) (bytes : ℕ) (reply : Reply) : Type 0 where
   pub calls : (k : ℕ) → calls_of k new.history ≡ calls_of k old.history ++ (if conn == k then (call, bytes) ∷ [] else [])
-  pub replies : (k : ℕ) → replies k new.history ≡ replies k old.history ++ (if conn == k then reply ∷ [] else [])
+  pub replies : (k : ℕ) → replies new.config k new.history ≡ replies old.config k old.history ++ (if conn == k then reply ∷ [] else [])
 
 -- what a call does to the calls of the connections
 abbrev pub ActsCalls : Shown → ℕ → Call → ℕ → Acted → Shown → Type 0

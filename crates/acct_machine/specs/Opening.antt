@@ -1,27 +1,37 @@
--- What an opening of the server object asks for, and what it grants.
-use Rattle.std.specs.Prelude.{ℕ, ◌==◌, Bool, Option, Some, None, bit_and, bit_or, if◌then◌else◌}
-use Rattle.acct_machine.specs.Codes.{maximum_allowed, generic_all, generic_execute, generic_write, generic_read, specific_bits, sam_server_all_access, sam_server_read, sam_server_write, sam_server_execute}
+-- What an opening of an object grants: what the access check of MS-DTYP 2.5.3 gives over the descriptor that is configured for
+-- the object and the token of whoever connected.
+use Rattle.std.specs.Prelude.{ℕ, Option, Some, None, slice_get}
+use Rattle.acct_codes.specs.declared.kind.Kind.{Kind}
+use Rattle.acct_codes.specs.declared.kind.Kind.TheVariants as kind
+use Rattle.dtyp_access.specs.declared.descriptor.Descriptor.{Descriptor}
+use Rattle.dtyp_access.specs.Opening.{opened}
+use Rattle.acct_config.specs.declared.config.Config.{Config}
+use Rattle.acct_config.specs.declared.config.Listener.{Listener}
+use Rattle.acct_config.specs.Kinds.{kind_place}
+use Rattle.acct_machine.specs.declared.state.Conn.{Conn}
+use Rattle.acct_machine.specs.declared.state.Object.{Object}
+use Rattle.acct_machine.specs.declared.state.Object.TheVariants.{Server}
+use Rattle.acct_machine.specs.State.{State, find_conn}
 
--- the mask has each of the bits
-abbrev pub has_bits : ℕ → ℕ → Bool
-has_bits mask bits = bit_and mask bits == bits
+abbrev pub kind_of : Object → Kind
+kind_of Server = kind.Server
 
--- what a generic bit stands for, where the desired access has it
-abbrev pub mapped : ℕ → ℕ → ℕ → ℕ
-mapped desired generic mapping = if has_bits desired generic then mapping else 0
+-- the descriptor of the objects of a kind
+abbrev pub descriptor_of : Config → Kind → Option Descriptor
+descriptor_of config k = slice_get config.descriptors (kind_place k)
 
--- The asked bits: those of the desired access that stand for themselves, and for each generic bit its mapping (MS-SAMR 3.1.2.1).
-unfoldable pub asked_bits : ℕ → ℕ
-asked_bits desired =
-    bit_or (bit_and desired specific_bits)
-    (bit_or (mapped desired generic_read sam_server_read)
-    (bit_or (mapped desired generic_write sam_server_write)
-    (bit_or (mapped desired generic_execute sam_server_execute) (mapped desired generic_all sam_server_all_access))))
+-- the listener at which a connection was opened, whose token stands for whoever connected
+abbrev pub listener_of : Config → Option Conn → Option Listener
+listener_of config None = None
+listener_of config (Some c) = slice_get config.listeners c.listener
 
--- The grant of an opening, if it isn't refused. It is refused where an asked bit isn't a valid one. The server has no list of
--- access control entries, so each valid bit may be had: the grant is the asked bits, and with MAXIMUM_ALLOWED every valid bit.
-unfoldable pub server_grant : ℕ → Option ℕ
-server_grant desired =
-    if has_bits sam_server_all_access (asked_bits desired)
-    then Some (if has_bits desired maximum_allowed then sam_server_all_access else asked_bits desired)
-    else None
+-- what the check gives; without a descriptor or a listener nothing is granted
+abbrev pub checked : Kind → Option Descriptor → Option Listener → ℕ → Option ℕ
+checked k None listener desired = None
+checked k (Some descriptor) None desired = None
+checked k (Some descriptor) (Some listener) desired = opened k descriptor listener.token desired
+
+-- what an opening of an object grants a connection that asks for the desired access, if it isn't refused
+abbrev pub grant_of : State → ℕ → Object → ℕ → Option ℕ
+grant_of s conn object desired =
+    checked (kind_of object) (descriptor_of s.config (kind_of object)) (listener_of s.config (find_conn conn s.conns)) desired

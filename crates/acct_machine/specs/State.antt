@@ -1,17 +1,19 @@
--- The state of the machine: connections and handles.
+-- The state of the machine: its configuration, connections and handles.
 use Rattle.std.specs.Prelude.{ℕ, ◌+◌, ◌*◌, ◌^◌, ◌==◌, Bool, false, ◌&&◌, not, List, [], Option, Some, None}
 use Rattle.std.specs.List.{filter, find}
-use Rattle.acct_machine.specs.declared.calls.Handle.{Handle}
+use Rattle.acct_config.specs.declared.config.Config.{Config}
+use Rattle.acct_calls.specs.declared.handle.Handle.{Handle}
 use Rattle.acct_machine.specs.declared.state.Conn.{Conn}
 use Rattle.acct_machine.specs.declared.state.Held.{Held}
 
--- connections and handles, in the order in which they came
+-- the configuration, and connections and handles in the order in which they came
 pub record State : Type 0 where
+  pub config : Config
   pub conns : List Conn
   pub handles : List Held
 
-abbrev pub nothing_open : State
-nothing_open = record { conns = []; handles = [] }
+abbrev pub nothing_open : Config → State
+nothing_open config = record { config = config; conns = []; handles = [] }
 
 -- the connection of a number
 abbrev pub find_conn : ℕ → List Conn → Option Conn

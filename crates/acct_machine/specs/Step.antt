@@ -1,10 +1,10 @@
 -- What an event does: the state before and after it, and for a call its reply.
 use Rattle.std.specs.Prelude.{ℕ, ◌+◌, ◌==◌, true, false, List, [], ◌∷◌, ◌++◌, map, Option, Some, None, if◌then◌else◌}
-use Rattle.acct_machine.specs.declared.calls.Call.{Call}
-use Rattle.acct_machine.specs.declared.calls.Handle.{Handle}
-use Rattle.acct_machine.specs.declared.calls.Outs.TheVariants as outs
-use Rattle.acct_machine.specs.declared.calls.Reply.{Reply}
-use Rattle.acct_machine.specs.declared.calls.Reply.TheVariants.{Fault, Done}
+use Rattle.acct_calls.specs.declared.calls.Call.{Call}
+use Rattle.acct_calls.specs.declared.handle.Handle.{Handle}
+use Rattle.acct_calls.specs.declared.replies.Outs.TheVariants as outs
+use Rattle.acct_calls.specs.declared.replies.Reply.{Reply}
+use Rattle.acct_calls.specs.declared.replies.Reply.TheVariants.{Fault, Done}
 use Rattle.acct_machine.specs.declared.checks.Access.{Access}
 use Rattle.acct_machine.specs.declared.checks.Access.TheVariants.{Passed, Unknown, WrongKind, Denied}
 use Rattle.acct_machine.specs.declared.entry.Verdict.{Verdict}
@@ -14,8 +14,8 @@ use Rattle.acct_machine.specs.declared.entry.Entry.TheVariants.{Opened, Called, 
 use Rattle.acct_machine.specs.declared.state.Conn.{Conn}
 use Rattle.acct_machine.specs.declared.state.Object.TheVariants.{Server}
 use Rattle.acct_machine.specs.Codes.{samr_close_handle, samr_connect2, status_success, status_no_memory, status_access_denied, status_object_type_mismatch, fault_context_mismatch}
-use Rattle.acct_machine.specs.Opening.{server_grant}
 use Rattle.acct_machine.specs.State.{State, last_serial, number_of, zero_handle, without_handle, without_conn}
+use Rattle.acct_machine.specs.Opening.{grant_of}
 use Rattle.acct_machine.specs.Calls.{desired_access}
 use Rattle.acct_machine.specs.Checks.{access}
 
@@ -39,7 +39,7 @@ abbrev pub connected : State → ℕ → Call → Option ℕ → State × Reply
 connected s conn call None = refused s call status_access_denied
 connected s conn call (Some granted) =
     let serial = last_serial conn s.conns + 1 in (
-      record {
+      record s {
         conns = map (serial_set conn serial) s.conns;
         handles = s.handles ++ record { conn = conn; serial = serial; object = Server; granted = granted } ∷ [];
       },
@@ -54,7 +54,7 @@ closed s conn number = (record s { handles = without_handle conn number s.handle
 abbrev pub outcome : State → ℕ → Call → State × Reply
 outcome s conn call =
     if call.opnum == samr_connect2
-    then connected s conn call (server_grant (desired_access call.args))
+    then connected s conn call (grant_of s conn Server (desired_access call.args))
     else closed s conn call.handle.number
 
 -- what a call does by the check of its handle
@@ -80,7 +80,7 @@ live_ended conn c = if c.number == conn then record c { live = false } else c
 abbrev pub step : State → Entry → State
 step s (Opened conn listener) = record s { conns = s.conns ++ new_conn conn listener ∷ [] }
 step s (Called conn call verdict bytes) = (acted s conn call verdict).0
-step s (Gone conn) = record { conns = map (live_ended conn) s.conns; handles = without_conn conn s.handles }
+step s (Gone conn) = record s { conns = map (live_ended conn) s.conns; handles = without_conn conn s.handles }
 
 -- the state after some events
 abbrev pub state_after : State → List Entry → State

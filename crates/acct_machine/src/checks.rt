@@ -1,11 +1,10 @@
 // The check of a call's handle.
 ghost use Rattle.std.specs.Prelude.{◌≡◌};
-ghost use Rattle.acct_machine.specs.Checks.{takes, needed_bits, access_by, access_among};
+ghost use Rattle.acct_machine.specs.Checks.{takes, needed_bits, has_bits, access_by, access_among};
 ghost use Rattle.acct_machine.specs.Calls.{desired_access};
 
 use crate::codes::SAMR_CONNECT2;
 use crate::lists::find_handle;
-use crate::opening::has_bits;
 use crate::{Args, Call, Held, Object};
 
 /// What the check of a call's handle answers.
@@ -32,6 +31,13 @@ fn needed_bits(_call: &Call) -> u32
     ensures { result ≡ needed_bits _call.now }
 {
     0
+}
+
+/// Whether a mask has each of the bits.
+fn has_bits(mask: u32, bits: u32) -> bool
+    ensures { result ≡ has_bits mask bits }
+{
+    mask & bits == bits
 }
 
 fn access_by(call: &Call, found: Option<Held>) -> Access
@@ -67,6 +73,6 @@ pub fn desired_access(args: &Args) -> u32
 {
     match args {
         Args::Access(desired) => *desired,
-        Args::Nothing => 0,
+        _ => 0,
     }
 }

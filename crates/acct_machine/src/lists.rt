@@ -5,7 +5,8 @@ ghost use Rattle.acct_machine.specs.Step.{serial_set, live_ended};
 
 use crate::{Conn, Held};
 
-fn find_conn(conns: &[Conn], conn: u32) -> Option<Conn>
+/// The connection of a number.
+pub fn find_conn(conns: &[Conn], conn: u32) -> Option<Conn>
     ensures { result ≡ find_conn conn conns.now }
 {
     for c in conns {

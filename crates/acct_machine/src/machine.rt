@@ -1,10 +1,12 @@
 // The machine: one history, and the state after it.
 ghost use Rattle.std.specs.Prelude.{◌≡◌, ◌<◌, true, [], length};
+ghost use Rattle.acct_config.specs.Right.{IsRight};
 ghost use Rattle.acct_machine.specs.State.{is_live};
-ghost use Rattle.acct_machine.specs.Calls.{IsSpelled};
+ghost use Rattle.acct_machine.specs.Calls.{IsCall};
 ghost use Rattle.acct_machine.specs.Legal.{Legal};
-ghost use Rattle.acct_machine.specs.Machine.{state_of, Opens, OpensLive, Acts, ActsCalls, SameLive, SameCalls, Ends, OneLessLive};
+ghost use Rattle.acct_machine.specs.Machine.{state_of, Opens, OpensLive, Acts, ActsCalls, SameLive, SameCalls, Ends, OneLessLive, Shaped};
 
+use crate::laws::kept_states_are_sound;
 use crate::lists::{drop_conn, end_live};
 use crate::running::run;
 use crate::{Call, Config, Conn, Entry, Held, Reply};
@@ -19,14 +21,14 @@ pub enum Opened {
 }
 
 /// What a call answers: its reply, or that memory wanted before it could be entered.
-#[derive(Clone, Copy, Debug, PartialEq, Eq)]
+#[derive(Debug, Drop)]
 pub enum Acted {
     Reply(Reply),
     NoMemory,
 }
 
-/// The machine. It shows its configuration and its history, and keeps the connections and handles that are the state
-/// after the history, and room in the history for the end of each live connection.
+/// The machine. It shows its configuration, which is right, and its history, and keeps the connections and handles that
+/// are the state after the history, and room in the history for the end of each live connection.
 #[derive(Drop)]
 pub struct Machine {
     config: Config,
@@ -50,6 +52,7 @@ impl Model for Machine {
 impl Machine {
     /// A machine to which nothing has happened. It takes no memory.
     pub fn new(alloc: Global, config: Config) -> Self
+        requires { IsRight config }
         ensures { result ≡ record { config = config; history = [] } }
     {
         Machine {
@@ -63,7 +66,8 @@ impl Machine {
 
     /// The configuration.
     pub fn config(&self) -> &Config
-        ensures { result.now ≡ self.now.config }
+        ensures all { result.now ≡ self.now.config }
+        ensures right { IsRight result.now }
     {
         &self.config
     }
@@ -93,6 +97,7 @@ impl Machine {
         ensures calls { SameCalls self.old self.new }
         ensures legal { Legal self.new.config self.new.history }
     {
+        kept_states_are_sound();
         let count = self.conns.len();
         if count >= u32::MAX as usize {
             return Opened::NoMemory;
@@ -123,16 +128,23 @@ impl Machine {
     /// no room to enter the call. A call that is entered may still be answered that memory wanted for its handle.
     pub fn act(&mut self, conn: u32, call: Call, bytes: u32) -> Acted
         requires live { is_live conn (state_of self.old).conns ≡ true }
-        requires spelled { IsSpelled call }
+        requires spelled { IsCall call }
         ensures acts { Acts self.old conn call bytes result self.new }
         ensures live { SameLive (state_of self.old) (state_of self.new) }
         ensures calls { ActsCalls self.old conn call bytes result self.new }
+        ensures shaped { Shaped call.opnum result }
         ensures legal { Legal self.new.config self.new.history }
     {
         if self.history.reserve(self.live as usize + 1).is_err() {
             return Acted::NoMemory;
         }
-        let (verdict, reply) = run(&mut self.conns, &mut self.handles, conn, &call);
+        let (verdict, reply) = run(
+            &self.config,
+            &mut self.conns,
+            &mut self.handles,
+            conn,
+            &call,
+        );
         match self.history.push(Entry::Called {
             conn,
             call,

@@ -1,23 +1,29 @@
 // A call on the lists of connections and handles.
-ghost use Rattle.std.specs.Prelude.{◌≡◌, ◌^◌, ◌<◌, ◌-◌};
+ghost use Rattle.std.specs.Prelude.{◌≡◌, ◌^◌, ◌<◌, ◌-◌, ℕ, true};
+ghost use Rattle.acct_config.specs.Right.{IsRight};
 ghost use Rattle.acct_machine.specs.State.{last_serial, without_handle, zero_handle};
 ghost use Rattle.acct_machine.specs.Codes.{samr_connect2, status_success};
 ghost use Rattle.acct_machine.specs.Step.{acted, done_with, refused_handle};
+ghost use Rattle.acct_machine.specs.Calls.{is_built};
 ghost use Rattle.acct_machine.specs.Legal.{MayHave};
+ghost use Rattle.acct_machine.specs.Machine.{IsAnswer};
 
 use crate::checks::{Access, access_of, desired_access};
-use crate::codes::{
-    NCA_S_FAULT_CONTEXT_MISMATCH, SAMR_CLOSE_HANDLE, SAMR_CONNECT2, STATUS_ACCESS_DENIED,
-    STATUS_NO_MEMORY, STATUS_OBJECT_TYPE_MISMATCH, STATUS_SUCCESS,
-};
+use crate::codes::{SAMR_CLOSE_HANDLE, SAMR_CONNECT2};
 use crate::lists::{drop_handle, last_serial, number_of, set_serial};
-use crate::opening::server_grant;
-use crate::{Call, Conn, Handle, Held, Object, Outs, Reply, Verdict};
+use crate::opening::grant_of;
+use crate::{Call, Config, Conn, Handle, Held, Object, Outs, Reply, Verdict};
+use acct_codes::fault::NCA_S_FAULT_CONTEXT_MISMATCH;
+use acct_codes::status::{
+    STATUS_ACCESS_DENIED, STATUS_NO_MEMORY, STATUS_OBJECT_TYPE_MISMATCH, STATUS_SUCCESS,
+};
 
 const ZERO_HANDLE: Handle = Handle { number: 0 };
 
+#[tactic(auto, using(crate::proofs::Shapes::handle_shaped))]
 fn done_with(status: u32, handle: Handle) -> Reply
-    ensures { result ≡ done_with status handle }
+    ensures reply { result ≡ done_with status handle }
+    ensures shaped { (opnum : ℕ) → is_built opnum ≡ true → IsAnswer opnum result }
 {
     Reply::Done {
         status,
@@ -27,7 +33,8 @@ fn done_with(status: u32, handle: Handle) -> Reply
 
 /// The reply of a refusal: a handle that came in goes out as it was given.
 fn refusal(call: &Call, status: u32) -> Reply
-    ensures { result ≡ done_with status (refused_handle call.now) }
+    ensures reply { result ≡ done_with status (refused_handle call.now) }
+    ensures shaped { (opnum : ℕ) → is_built opnum ≡ true → IsAnswer opnum result }
 {
     if call.opnum == SAMR_CLOSE_HANDLE {
         done_with(status, call.handle)
@@ -37,18 +44,22 @@ fn refusal(call: &Call, status: u32) -> Reply
 }
 
 fn connect(
+    config: &Config,
     conns: &mut Vec<Conn>,
     handles: &mut Vec<Held>,
     conn: u32,
     call: &Call,
 ) -> (Verdict, Reply)
+    requires right { IsRight config.now }
     requires opens { call.now.opnum ≡ samr_connect2 }
     requires fits { last_serial conn conns.old.items < 2 ^ 64 - 1 }
-    ensures state { record { conns = conns.new.items; handles = handles.new.items } ≡ (acted (record { conns = conns.old.items; handles = handles.old.items }) conn call.now result.0).0 }
-    ensures reply { result.1 ≡ (acted (record { conns = conns.old.items; handles = handles.old.items }) conn call.now result.0).1 }
-    ensures verdict { MayHave (record { conns = conns.old.items; handles = handles.old.items }) conn call.now result.0 }
+    ensures state { record { config = config.now; conns = conns.new.items; handles = handles.new.items } ≡ (acted (record { config = config.now; conns = conns.old.items; handles = handles.old.items }) conn call.now result.0).0 }
+    ensures reply { result.1 ≡ (acted (record { config = config.now; conns = conns.old.items; handles = handles.old.items }) conn call.now result.0).1 }
+    ensures verdict { MayHave (record { config = config.now; conns = conns.old.items; handles = handles.old.items }) conn call.now result.0 }
+    ensures shaped { (opnum : ℕ) → is_built opnum ≡ true → IsAnswer opnum result.1 }
 {
-    let Some(granted) = server_grant(desired_access(&call.args)) else {
+    let desired = desired_access(&call.args);
+    let Some(granted) = grant_of(config, conns, conn, Object::Server, desired) else {
         return (Verdict::Ran, refusal(call, STATUS_ACCESS_DENIED));
     };
     let serial = last_serial(conns, conn) + 1;
@@ -71,6 +82,7 @@ fn connect(
 fn close(handles: &mut Vec<Held>, conn: u32, call: &Call) -> Reply
     ensures handles { handles.new.items ≡ without_handle conn call.now.handle.number handles.old.items }
     ensures reply { result ≡ done_with status_success zero_handle }
+    ensures shaped { (opnum : ℕ) → is_built opnum ≡ true → IsAnswer opnum result }
 {
     drop_handle(handles, conn, call.handle.number);
     done_with(STATUS_SUCCESS, ZERO_HANDLE)
@@ -78,15 +90,18 @@ fn close(handles: &mut Vec<Held>, conn: u32, call: &Call) -> Reply
 
 /// Makes a call: its verdict and its reply.
 pub fn run(
+    config: &Config,
     conns: &mut Vec<Conn>,
     handles: &mut Vec<Held>,
     conn: u32,
     call: &Call,
 ) -> (Verdict, Reply)
+    requires right { IsRight config.now }
     requires fits { last_serial conn conns.old.items < 2 ^ 64 - 1 }
-    ensures state { record { conns = conns.new.items; handles = handles.new.items } ≡ (acted (record { conns = conns.old.items; handles = handles.old.items }) conn call.now result.0).0 }
-    ensures reply { result.1 ≡ (acted (record { conns = conns.old.items; handles = handles.old.items }) conn call.now result.0).1 }
-    ensures verdict { MayHave (record { conns = conns.old.items; handles = handles.old.items }) conn call.now result.0 }
+    ensures state { record { config = config.now; conns = conns.new.items; handles = handles.new.items } ≡ (acted (record { config = config.now; conns = conns.old.items; handles = handles.old.items }) conn call.now result.0).0 }
+    ensures reply { result.1 ≡ (acted (record { config = config.now; conns = conns.old.items; handles = handles.old.items }) conn call.now result.0).1 }
+    ensures verdict { MayHave (record { config = config.now; conns = conns.old.items; handles = handles.old.items }) conn call.now result.0 }
+    ensures shaped { (opnum : ℕ) → is_built opnum ≡ true → IsAnswer opnum result.1 }
 {
     match access_of(handles, conn, call) {
         Access::Unknown => (Verdict::Ran, Reply::Fault(NCA_S_FAULT_CONTEXT_MISMATCH)),
@@ -94,7 +109,7 @@ pub fn run(
         Access::Denied => (Verdict::Ran, refusal(call, STATUS_ACCESS_DENIED)),
         Access::Passed => {
             if call.opnum == SAMR_CONNECT2 {
-                connect(conns, handles, conn, call)
+                connect(config, conns, handles, conn, call)
             } else {
                 (Verdict::Ran, close(handles, conn, call))
             }

@@ -3,4 +3,4 @@ use Rattle.acct_machine.proofs.History.{length-replies}
 use Rattle.acct_machine.proofs.laws.each_call_has_a_reply.Goals as goal
 
 pub returns : goal.returns
-returns c = λ k history. length-replies nothing_open k history
+returns c = λ config k history. length-replies (nothing_open config) k history
