@@ -96,12 +96,51 @@ fn world_of(
     ))
 }
 
+/// What is looked at of an entry.
+#[derive(Clone, Copy, Debug, PartialEq, Eq)]
+enum Seen {
+    Opened {
+        conn: u32,
+        listener: u32,
+    },
+    Called {
+        conn: u32,
+        opnum: u16,
+        verdict: Verdict,
+        bytes: u32,
+    },
+    Gone {
+        conn: u32,
+    },
+}
+
+fn shown(entry: &Entry) -> Seen {
+    match entry {
+        Entry::Opened { conn, listener } => Seen::Opened {
+            conn: *conn,
+            listener: *listener,
+        },
+        Entry::Called {
+            conn,
+            call,
+            verdict,
+            bytes,
+        } => Seen::Called {
+            conn: *conn,
+            opnum: call.opnum,
+            verdict: *verdict,
+            bytes: *bytes,
+        },
+        Entry::Gone { conn } => Seen::Gone { conn: *conn },
+    }
+}
+
 /// What a run left: its status, the bytes written, and the history of its one period.
 #[derive(Drop)]
 struct Left {
     status: Status,
     written: Vec<u8>,
-    history: Vec<Entry>,
+    history: Vec<Seen>,
     periods: usize,
 }
 
@@ -116,7 +155,9 @@ fn run_made(
     let status = account(alloc, &words(alloc, command)?, &mut world);
     let mut history = Vec::new(alloc);
     for period in world.periods() {
-        history.extend_from_slice(period.history.as_slice())?;
+        for entry in period.history.as_slice() {
+            history.push(shown(entry))?;
+        }
     }
     let written = match world.sink() {
         Some(sink) => sink.as_slice().to_vec(alloc)?,
@@ -154,7 +195,7 @@ fn first_run(rt: HostRuntime) -> Result<(), Fail> {
     assert_eq!(rt; left.history.len(), 4);
     assert_eq!(rt;
         left.history[0],
-        Entry::Opened {
+        Seen::Opened {
             conn: 1,
             listener: 0
         }
@@ -162,26 +203,26 @@ fn first_run(rt: HostRuntime) -> Result<(), Fail> {
     assert!(rt;
         matches!(
             left.history[1],
-            Entry::Called {
+            Seen::Called {
                 conn: 1,
+                opnum: 57,
                 verdict: Verdict::Ran,
                 bytes: 8,
-                ..
             }
         )
     );
     assert!(rt;
         matches!(
             left.history[2],
-            Entry::Called {
+            Seen::Called {
                 conn: 1,
+                opnum: 1,
                 verdict: Verdict::Ran,
                 bytes: 20,
-                ..
             }
         )
     );
-    assert_eq!(rt; left.history[3], Entry::Gone { conn: 1 });
+    assert_eq!(rt; left.history[3], Seen::Gone { conn: 1 });
     Ok(())
 }
 
@@ -338,7 +379,7 @@ fn fragments_and_a_second_first(rt: HostRuntime) -> Result<(), Fail> {
     assert_eq!(rt; left.written.as_slice(), wanted.as_bytes());
     // What comes behind the refusal is ignored, and the connection is gone once.
     assert_eq!(rt; left.history.len(), 3);
-    assert_eq!(rt; left.history[2], Entry::Gone { conn: 1 });
+    assert_eq!(rt; left.history[2], Seen::Gone { conn: 1 });
     // An ended connection takes nothing more, though the server had closed it.
     let after = run(alloc, &[OPEN, BIND, other_first, other_first, END, CLOSE])?;
     assert_eq!(rt; after.status, Status::EventLine(6));
@@ -440,13 +481,100 @@ fn an_opening_with_an_invalid_bit_is_denied(rt: HostRuntime) -> Result<(), Fail>
 }
 
 #[test]
-fn a_configuration_without_its_last_byte(rt: HostRuntime) -> Result<(), Fail> {
+fn a_configuration_without_its_last_line_end(rt: HostRuntime) -> Result<(), Fail> {
     let alloc = rt.alloc();
     let (cut, _) = CONFIG.split_at(158);
-    let left = run_made(alloc, &["replay", "first.toml"], cut, &[OPEN], &PLAIN)?;
-    assert_eq!(rt; left.status, Status::Config(100));
-    assert!(rt; left.history.is_empty());
-    assert!(rt; left.written.is_empty());
+    let events = [OPEN, BIND, CONNECT, CLOSE, END];
+    let left = run_made(alloc, &["replay", "first.toml"], cut, &events, &PLAIN)?;
+    assert_eq!(rt; left.status, Status::Done);
+    let wanted = joined(alloc, &[ACK_LINE, CONNECT_LINE, CLOSE_LINE, GONE_LINE])?;
+    assert_eq!(rt; left.written.as_slice(), wanted.as_bytes());
+    Ok(())
+}
+
+/// In each line a part of the configuration, what stands in its place, and the first rule that is broken then.
+const BROKEN: &str = r#"[domain]|[domain|0
+sid = "S-1-5-21-1-2-3"||1
+S-1-5-21-1-2-3"|S-1-5-32"|3
+name = "a"|name = "A"|4
+4045|65536|5"#;
+
+/// The configuration with another text in the place of a part.
+fn changed(alloc: Global, part: &str, text: &str) -> Result<String, Fail> {
+    let plain = std::str::from_utf8(CONFIG).ok().unwrap_or("");
+    let (before, behind) = plain.split_once(part).ok_or("no such part")?;
+    Ok(format!(in alloc; "{before}{text}{behind}")?)
+}
+
+#[test]
+fn broken_configurations_are_refused(rt: HostRuntime) -> Result<(), Fail> {
+    let alloc = rt.alloc();
+    let command = ["replay", "first.toml"];
+    for line in BROKEN.lines() {
+        let (part, rest) = line.split_once('|').ok_or("no part")?;
+        let (text, rule) = rest.split_once('|').ok_or("no rule")?;
+        let document = changed(alloc, part, text)?;
+        let left = run_made(alloc, &command, document.as_bytes(), &[OPEN], &PLAIN)?;
+        let number = rule.parse::<u32>().ok().ok_or("no number")?;
+        assert_eq!(rt; left.status, Status::Config(number), "{line}");
+        assert!(rt; left.history.is_empty());
+        assert!(rt; left.written.is_empty());
+    }
+    Ok(())
+}
+
+/// The configuration with a second listener, whose clients are users, and a descriptor of the server with two entries.
+fn restricted(alloc: Global, first: &str, second: &str) -> Result<String, Fail> {
+    let plain = std::str::from_utf8(CONFIG).ok().unwrap_or("");
+    Ok(format!(in alloc;
+        "{plain}[[listener]]\nname = \"b\"\naddress = \"unix:b\"\ntoken = [\"S-1-1-0\", \"S-1-5-32-545\"]\n[descriptor.server]\nowner = \"S-1-5-18\"\naces = [\"{first}\", \"{second}\"]\n"
+    )?)
+}
+
+const DENY: &str = "deny 0x00000010 0 S-1-5-32-545";
+
+const ALLOW: &str = "allow 0x000F003F 0 S-1-1-0";
+
+/// Openings of the server with the desired accesses 0x10, 0x20 and 0x02000000.
+const CONNECT_10: &str =
+    "data 1 0500000310000000200000000200000008000000000039000000000010000000\n";
+
+const CONNECT_20: &str =
+    "data 1 0500000310000000200000000200000008000000000039000000000020000000\n";
+
+const DENIED_LINE: &str =
+    "out 1 0500020310000000300000000200000018000000000000000000000000000000000000000000000000000000220000c0\n";
+
+/// The second handle of the connection.
+const CONNECTED_AGAIN_LINE: &str =
+    "out 1 050002031000000030000000020000001800000000000000000000000000000000000100000000000000000200000000\n";
+
+#[test]
+fn deny_before_allow(rt: HostRuntime) -> Result<(), Fail> {
+    let alloc = rt.alloc();
+    let command = ["replay", "first.toml"];
+    let config = restricted(alloc, DENY, ALLOW)?;
+    let events = ["open 1 b\n", BIND, CONNECT_10, CONNECT_20, CONNECT];
+    let left = run_made(alloc, &command, config.as_bytes(), &events, &PLAIN)?;
+    assert_eq!(rt; left.status, Status::Done);
+    let lines = [
+        ACK_LINE,
+        DENIED_LINE,
+        CONNECT_LINE,
+        CONNECTED_AGAIN_LINE,
+        GONE_LINE,
+    ];
+    assert_eq!(rt; left.written.as_slice(), joined(alloc, &lines)?.as_bytes());
+    // Whoever connects at the first listener is no user.
+    let events = [OPEN, BIND, CONNECT_10];
+    let granted = joined(alloc, &[ACK_LINE, CONNECT_LINE, GONE_LINE])?;
+    let left = run_made(alloc, &command, config.as_bytes(), &events, &PLAIN)?;
+    assert_eq!(rt; left.written.as_slice(), granted.as_bytes());
+    // With the entries exchanged the first that speaks of the right allows it.
+    let config = restricted(alloc, ALLOW, DENY)?;
+    let events = ["open 1 b\n", BIND, CONNECT_10];
+    let left = run_made(alloc, &command, config.as_bytes(), &events, &PLAIN)?;
+    assert_eq!(rt; left.written.as_slice(), granted.as_bytes());
     Ok(())
 }
 
@@ -562,7 +690,7 @@ fn a_first_write_that_fails(rt: HostRuntime) -> Result<(), Fail> {
     // The bind made no entry, and the connect isn't in the history.
     assert_eq!(rt;
         left.history.as_slice(),
-        [Entry::Opened {
+        [Seen::Opened {
             conn: 1,
             listener: 0
         }]

@@ -4,7 +4,7 @@ use Rattle.std.specs.Io.KnownBytes.{Appends}
 use Rattle.std.specs.List.{flat_map}
 use Rattle.std.proofs.lemmas.List.{append-nil, take-append-le, take_all}
 use Rattle.std.proofs.lemmas.List.Concat.{flat_map-append}
-use Rattle.acct_machine.specs.declared.config.Config.{Config}
+use Rattle.acct_config.specs.declared.config.Config.{Config}
 use Rattle.acct_machine.specs.declared.entry.Entry.{Entry}
 use Rattle.acct_server.specs.declared.status.Status.{Status}
 use Rattle.acct_server.specs.declared.status.Status.TheVariants.{Done, EventLine}
@@ -33,8 +33,8 @@ pub record Going (config : Config) (held now : Option (List ℕ)) (events : List
   pub configured : run.machine.config ≡ config
   pub entries : run.machine.history ≡ entries_of done
   pub lines : Appends held now (output_of done)
-  pub rest : (later : List Entry) → trace_from config (verdict_in (run.machine.history ++ later)) at_start 1 (lines_of events)
-      ≡ behind done (trace_from config (verdict_in (run.machine.history ++ later)) (standing run) (number + 1) (lines_of ahead))
+  pub rest : (later : List Entry) → trace_from (verdict_in (run.machine.history ++ later)) (at_start config) 1 (lines_of events)
+      ≡ behind done (trace_from (verdict_in (run.machine.history ++ later)) (standing run) (number + 1) (lines_of ahead))
 
 pub going-starts : (held : Option (List ℕ)) (events : List ℕ) (run : Running) → run.machine.history ≡ [] → run.peers ≡ [] → Going run.machine.config held held events run 0 events
 going-starts held events run none fresh = record {
@@ -43,41 +43,41 @@ going-starts held events run none fresh = record {
   entries = none;
   lines = Appends-none held;
   rest = λ later.
-      let same : at_start ≡ standing run = λ i. record { history = sym none i; peers = sym fresh i } in
-      ap (λ (s : Standing). trace_from run.machine.config (verdict_in (run.machine.history ++ later)) s 1 (lines_of events)) same;
+      let same : at_start run.machine.config ≡ standing run = λ i. record { config = run.machine.config; history = sym none i; peers = sym fresh i } in
+      ap (λ (s : Standing). trace_from (verdict_in (run.machine.history ++ later)) s 1 (lines_of events)) same;
 }
 
 -- what the replay does from a line on, once its move is known
-at_move : (config : Config) (verdicts : Verdicts) (s : Standing) (n : ℕ) (line : List ℕ) (ls : List (List ℕ)) (move : Move) → on_line config verdicts s line ≡ Some move
-    → trace_from config verdicts s n (line ∷ ls) ≡ behind (move.effect ∷ []) (trace_from config verdicts (moved s move) (n + 1) ls)
+at_move : (verdicts : Verdicts) (s : Standing) (n : ℕ) (line : List ℕ) (ls : List (List ℕ)) (move : Move) → on_line verdicts s line ≡ Some move
+    → trace_from verdicts s n (line ∷ ls) ≡ behind (move.effect ∷ []) (trace_from verdicts (moved s move) (n + 1) ls)
 unfolding trace_from
-at_move config verdicts s n line ls move is = ap (λ (m : Option Move). follow s n m (λ after. trace_from config verdicts after (n + 1) ls)) is
+at_move verdicts s n line ls move is = ap (λ (m : Option Move). follow s n m (λ after. trace_from verdicts after (n + 1) ls)) is
 
 -- the entries of a line stand: what the whole replay is then
 met : (config : Config) (held now : Option (List ℕ)) (events : List ℕ) (old new : Running) (number : ℕ) (ahead line after : List ℕ) (going : Going config held now events old number ahead) (move : Move)
-    → lines_of ahead ≡ line ∷ lines_of after → ((later : List Entry) → on_line old.machine.config (verdict_in (new.machine.history ++ later)) (standing old) line ≡ Some move) → new.machine.history ≡ old.machine.history ++ move.effect.entries
-    → (later : List Entry) → trace_from config (verdict_in (new.machine.history ++ later)) at_start 1 (lines_of events)
-    ≡ behind (going.done ++ move.effect ∷ []) (trace_from config (verdict_in (new.machine.history ++ later)) (moved (standing old) move) (number + 1 + 1) (lines_of after))
+    → lines_of ahead ≡ line ∷ lines_of after → ((later : List Entry) → on_line (verdict_in (new.machine.history ++ later)) (standing old) line ≡ Some move) → new.machine.history ≡ old.machine.history ++ move.effect.entries
+    → (later : List Entry) → trace_from (verdict_in (new.machine.history ++ later)) (at_start config) 1 (lines_of events)
+    ≡ behind (going.done ++ move.effect ∷ []) (trace_from (verdict_in (new.machine.history ++ later)) (moved (standing old) move) (number + 1 + 1) (lines_of after))
 met config held now events old new number ahead line after going move lines is history later =
     let h = new.machine.history ++ later in
     let longer : h ≡ old.machine.history ++ (move.effect.entries ++ later) = ap (λ (xs : List Entry). xs ++ later) history ∙ append_assoc old.machine.history move.effect.entries later in
-    let from_here : trace_from config (verdict_in h) at_start 1 (lines_of events) ≡ behind going.done (trace_from config (verdict_in h) (standing old) (number + 1) (lines_of ahead)) =
-    subst (λ (x : List Entry). trace_from config (verdict_in x) at_start 1 (lines_of events) ≡ behind going.done (trace_from config (verdict_in x) (standing old) (number + 1) (lines_of ahead))) (sym longer) (going.rest (move.effect.entries ++ later)) in
-    let known : on_line config (verdict_in h) (standing old) line ≡ Some move = subst (λ (c : Config). on_line c (verdict_in h) (standing old) line ≡ Some move) going.configured (is later) in
+    let from_here : trace_from (verdict_in h) (at_start config) 1 (lines_of events) ≡ behind going.done (trace_from (verdict_in h) (standing old) (number + 1) (lines_of ahead)) =
+    subst (λ (x : List Entry). trace_from (verdict_in x) (at_start config) 1 (lines_of events) ≡ behind going.done (trace_from (verdict_in x) (standing old) (number + 1) (lines_of ahead))) (sym longer) (going.rest (move.effect.entries ++ later)) in
+    let known : on_line (verdict_in h) (standing old) line ≡ Some move = is later in
     from_here
-    ∙ ap (λ (ls : List (List ℕ)). behind going.done (trace_from config (verdict_in h) (standing old) (number + 1) ls)) lines
-    ∙ ap (λ (t : Trace). behind going.done t) (at_move config (verdict_in h) (standing old) (number + 1) line (lines_of after) move known)
-    ∙ behind-behind going.done (move.effect ∷ []) (trace_from config (verdict_in h) (moved (standing old) move) (number + 1 + 1) (lines_of after))
+    ∙ ap (λ (ls : List (List ℕ)). behind going.done (trace_from (verdict_in h) (standing old) (number + 1) ls)) lines
+    ∙ ap (λ (t : Trace). behind going.done t) (at_move (verdict_in h) (standing old) (number + 1) line (lines_of after) move known)
+    ∙ behind-behind going.done (move.effect ∷ []) (trace_from (verdict_in h) (moved (standing old) move) (number + 1 + 1) (lines_of after))
 
 abbrev OfLine : Running → List ℕ → Verdicts → Option Move
-OfLine run line verdicts = on_line run.machine.config verdicts (standing run) line
+OfLine run line verdicts = on_line verdicts (standing run) line
 
 pub going-on : (config : Config) (held now then : Option (List ℕ)) (events : List ℕ) (old new : Running) (number : ℕ) (ahead line after output : List ℕ)
-    → Going config held now events old number ahead → lines_of ahead ≡ line ∷ lines_of after → Does (λ verdicts. on_line old.machine.config verdicts (standing old) line) old output new → Appends now then output
+    → Going config held now events old number ahead → lines_of ahead ≡ line ∷ lines_of after → Does (λ verdicts. on_line verdicts (standing old) line) old output new → Appends now then output
     → Going config held then events new (number + 1) after
 going-on config held now then events old new number ahead line after output going lines does appends =
     let e = does.move.effect in
-    let same : moved (standing old) does.move ≡ standing new = λ i. record { history = sym does.history i; peers = sym does.peers i } in
+    let same : moved (standing old) does.move ≡ standing new = λ i. record { config = sym does.config i; history = sym does.history i; peers = sym does.peers i } in
     record {
       done = going.done ++ e ∷ [];
       configured = does.config ∙ going.configured;
@@ -85,20 +85,20 @@ going-on config held now then events old new number ahead line after output goin
       lines = rw (output-push going.done e) (Appends-then held now then (output_of going.done) (lines_in e) going.lines (subst (λ (bytes : List ℕ). Appends now then bytes) does.prints appends));
       rest = λ later.
           met config held now events old new number ahead line after going does.move lines does.is does.history later
-          ∙ ap (λ (s : Standing). behind (going.done ++ e ∷ []) (trace_from config (verdict_in (new.machine.history ++ later)) s (number + 1 + 1) (lines_of after))) same;
+          ∙ ap (λ (s : Standing). behind (going.done ++ e ∷ []) (trace_from (verdict_in (new.machine.history ++ later)) s (number + 1 + 1) (lines_of after))) same;
     }
 
 -- the whole replay, with the verdicts of a history that nothing follows
-whole : (config : Config) (events : List ℕ) (history : List Entry) → replayed config events history ≡ trace_from config (verdict_in (history ++ [])) at_start 1 (lines_of events)
-whole config events history = ap (λ (h : List Entry). trace_from config (verdict_in h) at_start 1 (lines_of events)) (sym (append-nil history))
+whole : (config : Config) (events : List ℕ) (history : List Entry) → replayed config events history ≡ trace_from (verdict_in (history ++ [])) (at_start config) 1 (lines_of events)
+whole config events history = ap (λ (h : List Entry). trace_from (verdict_in h) (at_start config) 1 (lines_of events)) (sym (append-nil history))
 
 -- the sink fails at the lines of a line
 pub going-breaks : (config : Config) (held now then : Option (List ℕ)) (events : List ℕ) (old new : Running) (number : ℕ) (ahead line after output : List ℕ) (written : ℕ)
-    → Going config held now events old number ahead → lines_of ahead ≡ line ∷ lines_of after → Does (λ verdicts. on_line old.machine.config verdicts (standing old) line) old output new → Appends now then (take written output)
+    → Going config held now events old number ahead → lines_of ahead ≡ line ∷ lines_of after → Does (λ verdicts. on_line verdicts (standing old) line) old output new → Appends now then (take written output)
     → Breaks config held then events new.machine.history
 going-breaks config held now then events old new number ahead line after output written going lines does appends =
     let e = does.move.effect in
-    let later = trace_from config (verdict_in (new.machine.history ++ [])) (moved (standing old) does.move) (number + 1 + 1) (lines_of after) in
+    let later = trace_from (verdict_in (new.machine.history ++ [])) (moved (standing old) does.move) (number + 1 + 1) (lines_of after) in
     let is : replayed config events new.machine.history ≡ behind (going.done ++ e ∷ []) later =
     whole config events new.machine.history ∙ met config held now events old new number ahead line after going does.move lines does.is does.history [] in
     record {
@@ -113,14 +113,14 @@ going-breaks config held now then events old new number ahead line after output 
 
 -- the whole replay, at the end of the lines or at a refused one
 closes : (config : Config) (held now : Option (List ℕ)) (events : List ℕ) (old new : Running) (number : ℕ) (ahead : List ℕ) (status : Status) (going : Going config held now events old number ahead)
-    → ((verdicts : Verdicts) → trace_from config verdicts (standing old) (number + 1) (lines_of ahead) ≡ ends (standing old) status)
+    → ((verdicts : Verdicts) → trace_from verdicts (standing old) (number + 1) (lines_of ahead) ≡ ends (standing old) status)
     → new.machine.history ≡ old.machine.history ++ (ending (standing old)).entries → replayed config events new.machine.history ≡ behind going.done (ends (standing old) status)
 closes config held now events old new number ahead status going at history =
     let entries = (ending (standing old)).entries in
     ap (λ (h : List Entry). replayed config events h) history ∙ going.rest entries ∙ ap (λ (t : Trace). behind going.done t) (at (verdict_in (old.machine.history ++ entries)))
 
 going-closes : (config : Config) (held now then : Option (List ℕ)) (events : List ℕ) (old new : Running) (number : ℕ) (ahead : List ℕ) (status answer : Status) (going : Going config held now events old number ahead)
-    → ((verdicts : Verdicts) → trace_from config verdicts (standing old) (number + 1) (lines_of ahead) ≡ ends (standing old) status)
+    → ((verdicts : Verdicts) → trace_from verdicts (standing old) (number + 1) (lines_of ahead) ≡ ends (standing old) status)
     → Finishes now then old new status answer → Leaves config held then events new.machine.history answer
 going-closes config held now then events old new number ahead status answer going at finishes =
     let is = closes config held now events old new number ahead status going at finishes.entries in
@@ -132,7 +132,7 @@ going-closes config held now then events old new number ahead status answer goin
     }
 
 going-close-breaks : (config : Config) (held now then : Option (List ℕ)) (events : List ℕ) (old new : Running) (number : ℕ) (ahead : List ℕ) (status : Status) (going : Going config held now events old number ahead)
-    → ((verdicts : Verdicts) → trace_from config verdicts (standing old) (number + 1) (lines_of ahead) ≡ ends (standing old) status)
+    → ((verdicts : Verdicts) → trace_from verdicts (standing old) (number + 1) (lines_of ahead) ≡ ends (standing old) status)
     → FinishBreaks now then old new → Breaks config held then events new.machine.history
 going-close-breaks config held now then events old new number ahead status going at broken =
     let is = closes config held now events old new number ahead status going at broken.entries in
@@ -147,44 +147,39 @@ going-close-breaks config held now then events old new number ahead status going
       lines = Appends-then held now then (output_of going.done) (take broken.written (lines_in end)) going.lines broken.lines;
     }
 
-at_end : (config : Config) (old : Running) (number : ℕ) (ahead : List ℕ) → ahead ≡ [] → (verdicts : Verdicts) → trace_from config verdicts (standing old) (number + 1) (lines_of ahead) ≡ ends (standing old) Done
+at_end : (old : Running) (number : ℕ) (ahead : List ℕ) → ahead ≡ [] → (verdicts : Verdicts) → trace_from verdicts (standing old) (number + 1) (lines_of ahead) ≡ ends (standing old) Done
 unfolding trace_from
-at_end config old number ahead none verdicts = ap (λ (bytes : List ℕ). trace_from config verdicts (standing old) (number + 1) (lines_of bytes)) none
+at_end old number ahead none verdicts = ap (λ (bytes : List ℕ). trace_from verdicts (standing old) (number + 1) (lines_of bytes)) none
 
-at_refused : (config : Config) (old : Running) (number : ℕ) (ahead line after : List ℕ) → lines_of ahead ≡ line ∷ lines_of after → ((verdicts : Verdicts) → on_line config verdicts (standing old) line ≡ None)
-    → (verdicts : Verdicts) → trace_from config verdicts (standing old) (number + 1) (lines_of ahead) ≡ ends (standing old) (EventLine (number + 1))
+at_refused : (old : Running) (number : ℕ) (ahead line after : List ℕ) → lines_of ahead ≡ line ∷ lines_of after → ((verdicts : Verdicts) → on_line verdicts (standing old) line ≡ None)
+    → (verdicts : Verdicts) → trace_from verdicts (standing old) (number + 1) (lines_of ahead) ≡ ends (standing old) (EventLine (number + 1))
 unfolding trace_from
-at_refused config old number ahead line after lines none verdicts =
-    ap (λ (ls : List (List ℕ)). trace_from config verdicts (standing old) (number + 1) ls) lines
-    ∙ ap (λ (m : Option Move). follow (standing old) (number + 1) m (λ s. trace_from config verdicts s (number + 1 + 1) (lines_of after))) (none verdicts)
+at_refused old number ahead line after lines none verdicts =
+    ap (λ (ls : List (List ℕ)). trace_from verdicts (standing old) (number + 1) ls) lines
+    ∙ ap (λ (m : Option Move). follow (standing old) (number + 1) m (λ s. trace_from verdicts s (number + 1 + 1) (lines_of after))) (none verdicts)
 
 pub going-ends : (config : Config) (held now then : Option (List ℕ)) (events : List ℕ) (old new : Running) (number : ℕ) (ahead : List ℕ) (answer : Status)
     → Going config held now events old number ahead → ahead ≡ [] → Finishes now then old new Done answer → Leaves config held then events new.machine.history answer
 going-ends config held now then events old new number ahead answer going none finishes =
-    going-closes config held now then events old new number ahead Done answer going (at_end config old number ahead none) finishes
+    going-closes config held now then events old new number ahead Done answer going (at_end old number ahead none) finishes
 
 pub going-end-breaks : (config : Config) (held now then : Option (List ℕ)) (events : List ℕ) (old new : Running) (number : ℕ) (ahead : List ℕ)
     → Going config held now events old number ahead → ahead ≡ [] → FinishBreaks now then old new → Breaks config held then events new.machine.history
 going-end-breaks config held now then events old new number ahead going none broken =
-    going-close-breaks config held now then events old new number ahead Done going (at_end config old number ahead none) broken
-
--- what a run refuses, the replay's configuration refuses
-refused_by : (config : Config) (held now : Option (List ℕ)) (events : List ℕ) (old new : Running) (number : ℕ) (ahead line : List ℕ) → Going config held now events old number ahead
-    → Refuses (λ verdicts. on_line old.machine.config verdicts (standing old) line) old new → (verdicts : Verdicts) → on_line config verdicts (standing old) line ≡ None
-refused_by config held now events old new number ahead line going refuses verdicts = subst (λ (c : Config). on_line c verdicts (standing old) line ≡ None) going.configured (refuses.none verdicts)
+    going-close-breaks config held now then events old new number ahead Done going (at_end old number ahead none) broken
 
 pub going-refused : (config : Config) (held now then : Option (List ℕ)) (events : List ℕ) (old same new : Running) (number : ℕ) (ahead line after : List ℕ) (answer : Status)
-    → Going config held now events old number ahead → lines_of ahead ≡ line ∷ lines_of after → Refuses (λ verdicts. on_line old.machine.config verdicts (standing old) line) old same
+    → Going config held now events old number ahead → lines_of ahead ≡ line ∷ lines_of after → Refuses (λ verdicts. on_line verdicts (standing old) line) old same
     → Finishes now then same new (EventLine (number + 1)) answer → Leaves config held then events new.machine.history answer
 going-refused config held now then events old same new number ahead line after answer going lines refuses finishes =
-    going-closes config held now then events old new number ahead (EventLine (number + 1)) answer going (at_refused config old number ahead line after lines (refused_by config held now events old same number ahead line going refuses))
+    going-closes config held now then events old new number ahead (EventLine (number + 1)) answer going (at_refused old number ahead line after lines refuses.none)
     (subst (λ (r : Running). Finishes now then r new (EventLine (number + 1)) answer) refuses.same finishes)
 
 pub going-refused-breaks : (config : Config) (held now then : Option (List ℕ)) (events : List ℕ) (old same new : Running) (number : ℕ) (ahead line after : List ℕ)
-    → Going config held now events old number ahead → lines_of ahead ≡ line ∷ lines_of after → Refuses (λ verdicts. on_line old.machine.config verdicts (standing old) line) old same
+    → Going config held now events old number ahead → lines_of ahead ≡ line ∷ lines_of after → Refuses (λ verdicts. on_line verdicts (standing old) line) old same
     → FinishBreaks now then same new → Breaks config held then events new.machine.history
 going-refused-breaks config held now then events old same new number ahead line after going lines refuses broken =
-    going-close-breaks config held now then events old new number ahead (EventLine (number + 1)) going (at_refused config old number ahead line after lines (refused_by config held now events old same number ahead line going refuses))
+    going-close-breaks config held now then events old new number ahead (EventLine (number + 1)) going (at_refused old number ahead line after lines refuses.none)
     (subst (λ (r : Running). FinishBreaks now then r new) refuses.same broken)
 
 -- all the lines of the effects done, and those of others
@@ -198,7 +193,7 @@ front_lines held now done others appends =
 pub going-stops : (config : Config) (held now : Option (List ℕ)) (events : List ℕ) (old new : Running) (number : ℕ) (ahead : List ℕ) → Going config held now events old number ahead → new.machine.history ≡ old.machine.history
     → Stops config held now events new.machine.history
 going-stops config held now events old new number ahead going same =
-    let others = trace_from config (verdict_in (old.machine.history ++ [])) (standing old) (number + 1) (lines_of ahead) in
+    let others = trace_from (verdict_in (old.machine.history ++ [])) (standing old) (number + 1) (lines_of ahead) in
     let is : replayed config events new.machine.history ≡ behind going.done others = ap (λ (h : List Entry). replayed config events h) same ∙ whole config events old.machine.history ∙ going.rest [] in
     record {
       later = entries_of others.effects;
@@ -209,22 +204,22 @@ going-stops config held now events old new number ahead going same =
 
 -- memory is wanted at a line
 pub going-may-stop : (config : Config) (held now : Option (List ℕ)) (events : List ℕ) (old new : Running) (number : ℕ) (ahead line after : List ℕ)
-    → Going config held now events old number ahead → lines_of ahead ≡ line ∷ lines_of after → MayStop (λ verdicts. on_line old.machine.config verdicts (standing old) line) old new → Stops config held now events new.machine.history
+    → Going config held now events old number ahead → lines_of ahead ≡ line ∷ lines_of after → MayStop (λ verdicts. on_line verdicts (standing old) line) old new → Stops config held now events new.machine.history
 going-may-stop config held now events old new number ahead line after going lines (inl same) = going-stops config held now events old new number ahead going same
 going-may-stop config held now events old new number ahead line after going lines (inr enters) =
     let h = new.machine.history ++ [] in
     let move = enters.move [] in
     let e = move.effect in
     let longer : h ≡ old.machine.history ++ enters.front = append-nil new.machine.history ∙ enters.history in
-    let from_here : trace_from config (verdict_in h) at_start 1 (lines_of events) ≡ behind going.done (trace_from config (verdict_in h) (standing old) (number + 1) (lines_of ahead)) =
-    subst (λ (x : List Entry). trace_from config (verdict_in x) at_start 1 (lines_of events) ≡ behind going.done (trace_from config (verdict_in x) (standing old) (number + 1) (lines_of ahead))) (sym longer) (going.rest enters.front) in
-    let known : on_line config (verdict_in h) (standing old) line ≡ Some move = subst (λ (c : Config). on_line c (verdict_in h) (standing old) line ≡ Some move) going.configured (enters.is []) in
-    let others = trace_from config (verdict_in h) (moved (standing old) move) (number + 1 + 1) (lines_of after) in
+    let from_here : trace_from (verdict_in h) (at_start config) 1 (lines_of events) ≡ behind going.done (trace_from (verdict_in h) (standing old) (number + 1) (lines_of ahead)) =
+    subst (λ (x : List Entry). trace_from (verdict_in x) (at_start config) 1 (lines_of events) ≡ behind going.done (trace_from (verdict_in x) (standing old) (number + 1) (lines_of ahead))) (sym longer) (going.rest enters.front) in
+    let known : on_line (verdict_in h) (standing old) line ≡ Some move = enters.is [] in
+    let others = trace_from (verdict_in h) (moved (standing old) move) (number + 1 + 1) (lines_of after) in
     let is : replayed config events new.machine.history ≡ behind (going.done ++ e ∷ []) others =
     whole config events new.machine.history
     ∙ from_here
-    ∙ ap (λ (ls : List (List ℕ)). behind going.done (trace_from config (verdict_in h) (standing old) (number + 1) ls)) lines
-    ∙ ap (λ (t : Trace). behind going.done t) (at_move config (verdict_in h) (standing old) (number + 1) line (lines_of after) move known)
+    ∙ ap (λ (ls : List (List ℕ)). behind going.done (trace_from (verdict_in h) (standing old) (number + 1) ls)) lines
+    ∙ ap (λ (t : Trace). behind going.done t) (at_move (verdict_in h) (standing old) (number + 1) line (lines_of after) move known)
     ∙ behind-behind going.done (e ∷ []) others in
     let all : (replayed config events new.machine.history).effects ≡ going.done ++ e ∷ others.effects = ap (λ (t : Trace). t.effects) is ∙ append_assoc going.done (e ∷ []) others.effects in
     let left = enters.others [] ++ entries_of others.effects in

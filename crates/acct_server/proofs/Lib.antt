@@ -1,12 +1,9 @@
 pub mod Bytes
 pub mod FirstLine
-pub mod Lengths
-pub mod Spelled
-pub mod Served
-pub mod ReplyStubs
 pub mod Moves
 pub mod Closing
 pub mod Going
+pub mod Configuring
 pub mod Placing
 pub mod Heard
 pub mod Transcribing

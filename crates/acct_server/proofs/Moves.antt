@@ -4,8 +4,9 @@ use Rattle.std.proofs.lemmas.Bool.Decides.{nat_tests}
 use Rattle.std.proofs.lemmas.List.{append-nil}
 use Rattle.std.proofs.lemmas.List.Concat.{flat_map-append}
 use Rattle.std.specs.List.{flat_map}
-use Rattle.acct_machine.specs.declared.calls.Call.{Call}
-use Rattle.acct_machine.specs.declared.calls.Reply.{Reply}
+use Rattle.acct_config.specs.declared.config.Config.{Config}
+use Rattle.acct_calls.specs.declared.calls.Call.{Call}
+use Rattle.acct_calls.specs.declared.replies.Reply.{Reply}
 use Rattle.acct_machine.specs.declared.entry.Entry.{Entry}
 use Rattle.acct_machine.specs.declared.entry.Entry.TheVariants.{Opened, Called, Gone}
 use Rattle.acct_machine.specs.declared.entry.Verdict.{Verdict}
@@ -20,7 +21,7 @@ use Rattle.acct_server.specs.declared.events.Event.{Event}
 use Rattle.acct_server.specs.declared.events.Event.TheVariants as event
 use Rattle.acct_server.specs.declared.peers.Peer.{Peer}
 use Rattle.acct_server.specs.declared.peers.Peer.TheVariants.{Open, Ended}
-use Rattle.acct_server.specs.declared.stubs.WireError.{WireError}
+use Rattle.samr_wire.specs.declared.errors.WireError.{WireError}
 use Rattle.acct_server.specs.Transcript.{answer_bytes, undecoded_bytes}
 use Rattle.acct_server.specs.Replayed.{Standing, Move, Doing, Verdicts, Printed, Out, IsClosed, IsGone, on_listener, on_open, listener_from, nothing_heard, gone, number_of, peer_of, with_peer, line_bytes, on_end, on_event, quiet, on_heard, on_data, on_act, on_acts, on_request, on_call, prints_only, both, verdict_in, verdict_of}
 use Rattle.acct_server.specs.Running.{Running, standing, Acts, Began, Hears, Does, Refuses, MayStop}
@@ -35,7 +36,7 @@ opens s conn listener found is none first =
     rw (is, passes) refl
 
 pub open-does : (old new : Running) (conn given listener : ℕ) (name output : List ℕ) → listener_from 0 name old.machine.config.listeners ≡ Some listener → length old.peers ≡ 0 → conn ≡ 1 → given ≡ conn
-    → new.machine ≡ with_entry old.machine (Opened given listener) → new.peers ≡ old.peers ++ Open (nothing_heard conn) ∷ [] → output ≡ [] → Does (λ verdicts. on_open old.machine.config (standing old) conn name) old output new
+    → new.machine ≡ with_entry old.machine (Opened given listener) → new.peers ≡ old.peers ++ Open (nothing_heard conn) ∷ [] → output ≡ [] → Does (λ verdicts. on_open (standing old) conn name) old output new
 open-does old new conn given listener name output found none first same machine peers printed = record {
   move = opening (standing old) conn listener;
   is = λ later. opens (standing old) conn listener (listener_from 0 name old.machine.config.listeners) found none first;
@@ -58,20 +59,20 @@ prints-act what before now lines old_lines new_lines is same printed = record {
 }
 
 -- a request that is no decoded call was answered
-pub undecoded-acts : (before : List Entry) (conn id context size stub_size : ℕ) (r : Result Call WireError) (e : WireError) (old_lines new_lines : List ℕ) → r ≡ Err e → new_lines ≡ old_lines ++ line_bytes (Out conn (undecoded_bytes id context e))
-    → Acts (λ verdicts. on_request verdicts before conn id context size stub_size r) before before old_lines new_lines
-undecoded-acts before conn id context size stub_size r e old_lines new_lines is printed =
-    prints-act (λ verdicts. on_request verdicts before conn id context size stub_size r) before before (Out conn (undecoded_bytes id context e) ∷ []) old_lines new_lines
-    (λ verdicts. ap (λ (x : Result Call WireError). on_request verdicts before conn id context size stub_size x) is) refl (printed ∙ ap (λ (bs : List ℕ). old_lines ++ bs) (sym (append-nil _)))
+pub undecoded-acts : (config : Config) (before : List Entry) (conn id context size stub_size : ℕ) (r : Result Call WireError) (e : WireError) (old_lines new_lines : List ℕ) → r ≡ Err e → new_lines ≡ old_lines ++ line_bytes (Out conn (undecoded_bytes id context e))
+    → Acts (λ verdicts. on_request config verdicts before conn id context size stub_size r) before before old_lines new_lines
+undecoded-acts config before conn id context size stub_size r e old_lines new_lines is printed =
+    prints-act (λ verdicts. on_request config verdicts before conn id context size stub_size r) before before (Out conn (undecoded_bytes id context e) ∷ []) old_lines new_lines
+    (λ verdicts. ap (λ (x : Result Call WireError). on_request config verdicts before conn id context size stub_size x) is) refl (printed ∙ ap (λ (bs : List ℕ). old_lines ++ bs) (sym (append-nil _)))
 
 -- bytes were answered without a call
-pub answered-acts : (before : List Entry) (conn : ℕ) (bytes old_lines new_lines : List ℕ) → new_lines ≡ old_lines ++ line_bytes (Out conn bytes) → Acts (λ verdicts. on_act verdicts before conn (act.Answered bytes)) before before old_lines new_lines
-answered-acts before conn bytes old_lines new_lines printed =
-    prints-act (λ verdicts. on_act verdicts before conn (act.Answered bytes)) before before (Out conn bytes ∷ []) old_lines new_lines (λ verdicts. refl) refl (printed ∙ ap (λ (bs : List ℕ). old_lines ++ bs) (sym (append-nil _)))
+pub answered-acts : (config : Config) (before : List Entry) (conn : ℕ) (bytes old_lines new_lines : List ℕ) → new_lines ≡ old_lines ++ line_bytes (Out conn bytes) → Acts (λ verdicts. on_act config verdicts before conn (act.Answered bytes)) before before old_lines new_lines
+answered-acts config before conn bytes old_lines new_lines printed =
+    prints-act (λ verdicts. on_act config verdicts before conn (act.Answered bytes)) before before (Out conn bytes ∷ []) old_lines new_lines (λ verdicts. refl) refl (printed ∙ ap (λ (bs : List ℕ). old_lines ++ bs) (sym (append-nil _)))
 
 -- no act was done yet
-pub none-done : (conn : ℕ) (before : List Entry) (lines : List ℕ) → lines ≡ [] → Acts (λ verdicts. on_acts verdicts before conn []) before before [] lines
-none-done conn before lines none = record { doing = prints_only []; is = λ later. refl; history = sym (append-nil before); prints = none }
+pub none-done : (config : Config) (conn : ℕ) (before : List Entry) (lines : List ℕ) → lines ≡ [] → Acts (λ verdicts. on_acts config verdicts before conn []) before before [] lines
+none-done config conn before lines none = record { doing = prints_only []; is = λ later. refl; history = sym (append-nil before); prints = none }
 
 -- memory was wanted before any entry
 pub begins-none : (what : Verdicts → Doing) (before now : List Entry) → now ≡ before → Began what before now
@@ -88,39 +89,39 @@ slice_get-here [] later e = refl
 slice_get-here (a ∷ history) later e = slice_get-here history later e
 
 -- what a call does that was entered
-call-is : (before now later : List Entry) (conn id context size stub_size : ℕ) (call : Call) (verdict : Verdict) → now ≡ before ++ Called conn call verdict stub_size ∷ []
-    → on_request (verdict_in (now ++ later)) before conn id context size stub_size (Ok call) ≡ on_call before conn id context size stub_size call verdict
-call-is before now later conn id context size stub_size call verdict is =
+call-is : (config : Config) (before now later : List Entry) (conn id context size stub_size : ℕ) (call : Call) (verdict : Verdict) → now ≡ before ++ Called conn call verdict stub_size ∷ []
+    → on_request config (verdict_in (now ++ later)) before conn id context size stub_size (Ok call) ≡ on_call config before conn id context size stub_size call verdict
+call-is config before now later conn id context size stub_size call verdict is =
     let at : verdict_in (now ++ later) (length before) ≡ verdict =
     ap (λ (h : List Entry). verdict_in (h ++ later) (length before)) is ∙ ap (λ (o : Option Entry). verdict_of o) (slice_get-here before later (Called conn call verdict stub_size)) in
-    ap (λ (v : Verdict). on_call before conn id context size stub_size call v) at
+    ap (λ (v : Verdict). on_call config before conn id context size stub_size call v) at
 
 -- the entry of a call stands
 pub call-began : (old now : Shown) (conn id context size stub_size : ℕ) (call : Call) (verdict : Verdict) → now ≡ with_entry old (Called conn call verdict stub_size)
-    → Began (λ verdicts. on_request verdicts old.history conn id context size stub_size (Ok call)) old.history now.history
+    → Began (λ verdicts. on_request old.config verdicts old.history conn id context size stub_size (Ok call)) old.history now.history
 call-began old now conn id context size stub_size call verdict is =
     let history : now.history ≡ old.history ++ Called conn call verdict stub_size ∷ [] = ap (λ (m : Shown). m.history) is in record {
       front = Called conn call verdict stub_size ∷ [];
       history = history;
       others = λ later. [];
-      begins = λ later. ap (λ (d : Doing). d.entries) (call-is old.history now.history later conn id context size stub_size call verdict history);
+      begins = λ later. ap (λ (d : Doing). d.entries) (call-is old.config old.history now.history later conn id context size stub_size call verdict history);
     }
 
 -- a call was answered
 pub call-acts : (old now : Shown) (conn id context size stub_size : ℕ) (call : Call) (verdict : Verdict) (reply : Reply) (answer old_lines new_lines : List ℕ) → now ≡ with_entry old (Called conn call verdict stub_size)
-    → reply ≡ (acted (state_of old) conn call verdict).1 → answer ≡ answer_bytes id context size reply → new_lines ≡ old_lines ++ line_bytes (Out conn answer)
-    → Acts (λ verdicts. on_request verdicts old.history conn id context size stub_size (Ok call)) old.history now.history old_lines new_lines
+    → reply ≡ (acted (state_of old) conn call verdict).1 → answer ≡ answer_bytes id context size call.opnum reply → new_lines ≡ old_lines ++ line_bytes (Out conn answer)
+    → Acts (λ verdicts. on_request old.config verdicts old.history conn id context size stub_size (Ok call)) old.history now.history old_lines new_lines
 call-acts old now conn id context size stub_size call verdict reply answer old_lines new_lines is replied answered printed =
     let history : now.history ≡ old.history ++ Called conn call verdict stub_size ∷ [] = ap (λ (m : Shown). m.history) is in record {
-      doing = on_call old.history conn id context size stub_size call verdict;
-      is = λ later. call-is old.history now.history later conn id context size stub_size call verdict history;
+      doing = on_call old.config old.history conn id context size stub_size call verdict;
+      is = λ later. call-is old.config old.history now.history later conn id context size stub_size call verdict history;
       history = history;
-      prints = printed ∙ ap (λ (bs : List ℕ). old_lines ++ line_bytes (Out conn bs)) (answered ∙ ap (λ (r : Reply). answer_bytes id context size r) replied) ∙ ap (λ (bs : List ℕ). old_lines ++ bs) (sym (append-nil _));
+      prints = printed ∙ ap (λ (bs : List ℕ). old_lines ++ line_bytes (Out conn bs)) (answered ∙ ap (λ (r : Reply). answer_bytes id context size call.opnum r) replied) ∙ ap (λ (bs : List ℕ). old_lines ++ bs) (sym (append-nil _));
     }
 
 -- a refusal was answered
 pub close-acts : (old now : Shown) (conn place cause : ℕ) (bytes old_lines new_lines : List ℕ) → now ≡ with_entry old (Gone conn) → new_lines ≡ old_lines ++ (line_bytes (Out conn bytes) ++ line_bytes (IsClosed conn place cause))
-    → Acts (λ verdicts. on_act verdicts old.history conn (act.Closed place cause bytes)) old.history now.history old_lines new_lines
+    → Acts (λ verdicts. on_act old.config verdicts old.history conn (act.Closed place cause bytes)) old.history now.history old_lines new_lines
 close-acts old now conn place cause bytes old_lines new_lines is printed = record {
   doing = record { entries = Gone conn ∷ []; prints = Out conn bytes ∷ IsClosed conn place cause ∷ [] };
   is = λ later. refl;
@@ -129,43 +130,43 @@ close-acts old now conn place cause bytes old_lines new_lines is printed = recor
 }
 
 -- what acts do one after the other, and then one more
-acts-both : (verdicts : Verdicts) (conn : ℕ) (first : List Act) (history : List Entry) (second : List Act)
-    → on_acts verdicts history conn (first ++ second) ≡ both (on_acts verdicts history conn first) (on_acts verdicts (history ++ (on_acts verdicts history conn first).entries) conn second)
-acts-both verdicts conn [] history second = ap (λ (h : List Entry). on_acts verdicts h conn second) (sym (append-nil history))
-acts-both verdicts conn (a ∷ first) history second =
-    let one = on_act verdicts history conn a in
+acts-both : (config : Config) (verdicts : Verdicts) (conn : ℕ) (first : List Act) (history : List Entry) (second : List Act)
+    → on_acts config verdicts history conn (first ++ second) ≡ both (on_acts config verdicts history conn first) (on_acts config verdicts (history ++ (on_acts config verdicts history conn first).entries) conn second)
+acts-both config verdicts conn [] history second = ap (λ (h : List Entry). on_acts config verdicts h conn second) (sym (append-nil history))
+acts-both config verdicts conn (a ∷ first) history second =
+    let one = on_act config verdicts history conn a in
     let now = history ++ one.entries in
-    let others = on_acts verdicts now conn first in
-    let last = λ (h : List Entry). on_acts verdicts h conn second in
-    ap (λ (d : Doing). both one d) (acts-both verdicts conn first now second)
+    let others = on_acts config verdicts now conn first in
+    let last = λ (h : List Entry). on_acts config verdicts h conn second in
+    ap (λ (d : Doing). both one d) (acts-both config verdicts conn first now second)
     ∙ ap (λ (h : List Entry). both one (both others (last h))) (append_assoc history one.entries others.entries)
     ∙ both-assoc one others (last (history ++ (one.entries ++ others.entries)))
   where
     both-assoc : (x y z : Doing) → both x (both y z) ≡ both (both x y) z
     both-assoc x y z = λ i. record { entries = sym (append_assoc x.entries y.entries z.entries) i; prints = sym (append_assoc x.prints y.prints z.prints) i }
 
-one-act : (verdicts : Verdicts) (history : List Entry) (conn : ℕ) (a : Act) → on_acts verdicts history conn (a ∷ []) ≡ on_act verdicts history conn a
-one-act verdicts history conn a =
-    let d = on_act verdicts history conn a in λ i. record { entries = append-nil d.entries i; prints = append-nil d.prints i }
+one-act : (config : Config) (verdicts : Verdicts) (history : List Entry) (conn : ℕ) (a : Act) → on_acts config verdicts history conn (a ∷ []) ≡ on_act config verdicts history conn a
+one-act config verdicts history conn a =
+    let d = on_act config verdicts history conn a in λ i. record { entries = append-nil d.entries i; prints = append-nil d.prints i }
 
 -- what the acts before do, by whatever entries the history goes on, and one act more
-next-is : (conn : ℕ) (first : List Act) (a : Act) (before mid now : List Entry) (d e : Doing) → ((later : List Entry) → on_acts (verdict_in (mid ++ later)) before conn first ≡ d) → mid ≡ before ++ d.entries → (more : List Entry) → now ≡ mid ++ more
-    → (later : List Entry) → on_act (verdict_in (now ++ later)) mid conn a ≡ e → on_acts (verdict_in (now ++ later)) before conn (first ++ a ∷ []) ≡ both d e
-next-is conn first a before mid now d e is stands more longer later last =
+next-is : (config : Config) (conn : ℕ) (first : List Act) (a : Act) (before mid now : List Entry) (d e : Doing) → ((later : List Entry) → on_acts config (verdict_in (mid ++ later)) before conn first ≡ d) → mid ≡ before ++ d.entries → (more : List Entry) → now ≡ mid ++ more
+    → (later : List Entry) → on_act config (verdict_in (now ++ later)) mid conn a ≡ e → on_acts config (verdict_in (now ++ later)) before conn (first ++ a ∷ []) ≡ both d e
+next-is config conn first a before mid now d e is stands more longer later last =
     let v = verdict_in (now ++ later) in
-    let earlier : on_acts v before conn first ≡ d =
-    subst (λ (h : List Entry). on_acts (verdict_in h) before conn first ≡ d) (sym (ap (λ (h : List Entry). h ++ later) longer ∙ append_assoc mid more later)) (is (more ++ later)) in
-    let from_mid : before ++ (on_acts v before conn first).entries ≡ mid = ap (λ (x : Doing). before ++ x.entries) earlier ∙ sym stands in
-    acts-both v conn first before (a ∷ [])
-    ∙ ap (λ (h : List Entry). both (on_acts v before conn first) (on_acts v h conn (a ∷ []))) from_mid
-    ∙ ap (λ (x : Doing). both x (on_acts v mid conn (a ∷ []))) earlier
-    ∙ ap (λ (x : Doing). both d x) (one-act v mid conn a ∙ last)
+    let earlier : on_acts config v before conn first ≡ d =
+    subst (λ (h : List Entry). on_acts config (verdict_in h) before conn first ≡ d) (sym (ap (λ (h : List Entry). h ++ later) longer ∙ append_assoc mid more later)) (is (more ++ later)) in
+    let from_mid : before ++ (on_acts config v before conn first).entries ≡ mid = ap (λ (x : Doing). before ++ x.entries) earlier ∙ sym stands in
+    acts-both config v conn first before (a ∷ [])
+    ∙ ap (λ (h : List Entry). both (on_acts config v before conn first) (on_acts config v h conn (a ∷ []))) from_mid
+    ∙ ap (λ (x : Doing). both x (on_acts config v mid conn (a ∷ []))) earlier
+    ∙ ap (λ (x : Doing). both d x) (one-act config v mid conn a ∙ last)
 
-pub acts-go-on : (conn : ℕ) (first : List Act) (a : Act) (before mid now : List Entry) (old_lines mid_lines new_lines : List ℕ) → Acts (λ verdicts. on_acts verdicts before conn first) before mid old_lines mid_lines
-    → Acts (λ verdicts. on_act verdicts mid conn a) mid now mid_lines new_lines → Acts (λ verdicts. on_acts verdicts before conn (first ++ a ∷ [])) before now old_lines new_lines
-acts-go-on conn first a before mid now old_lines mid_lines new_lines done next = record {
+pub acts-go-on : (config : Config) (conn : ℕ) (first : List Act) (a : Act) (before mid now : List Entry) (old_lines mid_lines new_lines : List ℕ) → Acts (λ verdicts. on_acts config verdicts before conn first) before mid old_lines mid_lines
+    → Acts (λ verdicts. on_act config verdicts mid conn a) mid now mid_lines new_lines → Acts (λ verdicts. on_acts config verdicts before conn (first ++ a ∷ [])) before now old_lines new_lines
+acts-go-on config conn first a before mid now old_lines mid_lines new_lines done next = record {
   doing = both done.doing next.doing;
-  is = λ later. next-is conn first a before mid now done.doing next.doing done.is done.history next.doing.entries next.history later (next.is later);
+  is = λ later. next-is config conn first a before mid now done.doing next.doing done.is done.history next.doing.entries next.history later (next.is later);
   history = next.history ∙ ap (λ (h : List Entry). h ++ next.doing.entries) done.history ∙ append_assoc before done.doing.entries next.doing.entries;
   prints =
       next.prints
@@ -175,18 +176,18 @@ acts-go-on conn first a before mid now old_lines mid_lines new_lines done next =
 }
 
 -- memory was wanted at an act behind others, and more acts come behind it
-pub acts-stop : (conn : ℕ) (first : List Act) (a : Act) (rest : List Act) (before mid now : List Entry) (old_lines mid_lines : List ℕ) → Acts (λ verdicts. on_acts verdicts before conn first) before mid old_lines mid_lines
-    → Began (λ verdicts. on_act verdicts mid conn a) mid now → Began (λ verdicts. on_acts verdicts before conn (first ++ a ∷ rest)) before now
-acts-stop conn first a rest before mid now old_lines mid_lines done began =
+pub acts-stop : (config : Config) (conn : ℕ) (first : List Act) (a : Act) (rest : List Act) (before mid now : List Entry) (old_lines mid_lines : List ℕ) → Acts (λ verdicts. on_acts config verdicts before conn first) before mid old_lines mid_lines
+    → Began (λ verdicts. on_act config verdicts mid conn a) mid now → Began (λ verdicts. on_acts config verdicts before conn (first ++ a ∷ rest)) before now
+acts-stop config conn first a rest before mid now old_lines mid_lines done began =
     let v = λ (later : List Entry). verdict_in (now ++ later) in
-    let last = λ (later : List Entry). on_act (v later) mid conn a in
+    let last = λ (later : List Entry). on_act config (v later) mid conn a in
     let so_far = λ (later : List Entry). both done.doing (last later) in
-    let behind = λ (later : List Entry). (on_acts (v later) (before ++ (on_acts (v later) before conn (first ++ a ∷ [])).entries) conn rest).entries in
-    let all : (later : List Entry) → (on_acts (v later) before conn (first ++ a ∷ rest)).entries ≡ (done.doing.entries ++ (last later).entries) ++ behind later =
+    let behind = λ (later : List Entry). (on_acts config (v later) (before ++ (on_acts config (v later) before conn (first ++ a ∷ [])).entries) conn rest).entries in
+    let all : (later : List Entry) → (on_acts config (v later) before conn (first ++ a ∷ rest)).entries ≡ (done.doing.entries ++ (last later).entries) ++ behind later =
     λ later.
-    ap (λ (as' : List Act). (on_acts (v later) before conn as').entries) (sym (append_assoc first (a ∷ []) rest))
-    ∙ ap (λ (d : Doing). d.entries) (acts-both (v later) conn (first ++ a ∷ []) before rest)
-    ∙ ap (λ (d : Doing). d.entries ++ behind later) (next-is conn first a before mid now done.doing (last later) done.is done.history began.front began.history later refl) in
+    ap (λ (as' : List Act). (on_acts config (v later) before conn as').entries) (sym (append_assoc first (a ∷ []) rest))
+    ∙ ap (λ (d : Doing). d.entries) (acts-both config (v later) conn (first ++ a ∷ []) before rest)
+    ∙ ap (λ (d : Doing). d.entries ++ behind later) (next-is config conn first a before mid now done.doing (last later) done.is done.history began.front began.history later refl) in
     record {
       front = done.doing.entries ++ began.front;
       history = began.history ∙ ap (λ (h : List Entry). h ++ began.front) done.history ∙ append_assoc before done.doing.entries began.front;
@@ -202,14 +203,15 @@ acts-stop conn first a rest before mid now old_lines mid_lines done began =
 -- ---- lines
 
 -- the move of bytes that were heard, once their acts were done
-pub data-does : (old mid new : Running) (conn : ℕ) (bytes output : List ℕ) (as' : List Act) → Hears conn bytes old as' mid → Acts (λ verdicts. on_acts verdicts mid.machine.history conn as') mid.machine.history new.machine.history [] output
+pub data-does : (old mid new : Running) (conn : ℕ) (bytes output : List ℕ) (as' : List Act) → Hears conn bytes old as' mid → Acts (λ verdicts. on_acts mid.machine.config verdicts mid.machine.history conn as') mid.machine.history new.machine.history [] output
     → new.peers ≡ mid.peers → new.machine.config ≡ mid.machine.config → Does (λ verdicts. on_data verdicts (standing old) conn bytes (peer_of conn old.peers)) old output new
 data-does old mid new conn bytes output as' hears done peers config =
     let heard = on hears.hearing bytes in
-    let same : mid.machine.history ≡ old.machine.history = ap (λ (r : Running). r.machine.history) hears.left in
+    let machine : mid.machine ≡ old.machine = ap (λ (r : Running). r.machine) hears.left in
+    let same : mid.machine.history ≡ old.machine.history = ap (λ (m : Shown). m.history) machine in
     let d = done.doing in
-    let is : (later : List Entry) → on_acts (verdict_in (new.machine.history ++ later)) old.machine.history conn heard.acts ≡ d =
-    λ later. ap (λ (h : List Entry). on_acts (verdict_in (new.machine.history ++ later)) h conn heard.acts) (sym same) ∙ ap (λ (x : List Act). on_acts (verdict_in (new.machine.history ++ later)) mid.machine.history conn x) (sym hears.completed) ∙ done.is later in
+    let is : (later : List Entry) → on_acts old.machine.config (verdict_in (new.machine.history ++ later)) old.machine.history conn heard.acts ≡ d =
+    λ later. ap (λ (m : Shown). on_acts m.config (verdict_in (new.machine.history ++ later)) m.history conn heard.acts) (sym machine) ∙ ap (λ (x : List Act). on_acts mid.machine.config (verdict_in (new.machine.history ++ later)) mid.machine.history conn x) (sym hears.completed) ∙ done.is later in
     record {
       move = record { effect = record { entries = d.entries; brings = (conn, bytes) ∷ []; prints = d.prints }; peers = with_peer conn (Open heard.leaves) old.peers };
       is = λ later.
@@ -221,11 +223,12 @@ data-does old mid new conn bytes output as' hears done peers config =
       prints = done.prints;
     }
 
-pub data-stops : (old mid new : Running) (conn : ℕ) (bytes : List ℕ) (as' : List Act) → Hears conn bytes old as' mid → Began (λ verdicts. on_acts verdicts mid.machine.history conn as') mid.machine.history new.machine.history
+pub data-stops : (old mid new : Running) (conn : ℕ) (bytes : List ℕ) (as' : List Act) → Hears conn bytes old as' mid → Began (λ verdicts. on_acts mid.machine.config verdicts mid.machine.history conn as') mid.machine.history new.machine.history
     → MayStop (λ verdicts. on_data verdicts (standing old) conn bytes (peer_of conn old.peers)) old new
 data-stops old mid new conn bytes as' hears began =
     let heard = on hears.hearing bytes in
-    let same : mid.machine.history ≡ old.machine.history = ap (λ (r : Running). r.machine.history) hears.left in
+    let machine : mid.machine ≡ old.machine = ap (λ (r : Running). r.machine) hears.left in
+    let same : mid.machine.history ≡ old.machine.history = ap (λ (m : Shown). m.history) machine in
     inr (record {
       front = began.front;
       history = began.history ∙ ap (λ (h : List Entry). h ++ began.front) same;
@@ -233,8 +236,8 @@ data-stops old mid new conn bytes as' hears began =
       is = λ later. ap (λ (p : Option Peer). on_data (verdict_in (new.machine.history ++ later)) (standing old) conn bytes p) hears.stood;
       others = began.others;
       begins = λ later.
-          ap (λ (h : List Entry). (on_acts (verdict_in (new.machine.history ++ later)) h conn heard.acts).entries) (sym same)
-          ∙ ap (λ (x : List Act). (on_acts (verdict_in (new.machine.history ++ later)) mid.machine.history conn x).entries) (sym hears.completed)
+          ap (λ (m : Shown). (on_acts m.config (verdict_in (new.machine.history ++ later)) m.history conn heard.acts).entries) (sym machine)
+          ∙ ap (λ (x : List Act). (on_acts mid.machine.config (verdict_in (new.machine.history ++ later)) mid.machine.history conn x).entries) (sym hears.completed)
           ∙ began.begins later;
     })
 
@@ -251,10 +254,10 @@ end-does old new conn h output stands history config peers printed = record {
 }
 
 -- the move of a line that says nothing
-pub nothing-does : (run : Running) (e : Event) (output : List ℕ) → e ≡ event.Nothing → output ≡ [] → Does (λ verdicts. on_event run.machine.config verdicts (standing run) (Some e)) run output run
+pub nothing-does : (run : Running) (e : Event) (output : List ℕ) → e ≡ event.Nothing → output ≡ [] → Does (λ verdicts. on_event verdicts (standing run) (Some e)) run output run
 nothing-does run e output is printed = record {
   move = quiet run.peers;
-  is = λ later. ap (λ (x : Event). on_event run.machine.config (verdict_in (run.machine.history ++ later)) (standing run) (Some x)) is;
+  is = λ later. ap (λ (x : Event). on_event (verdict_in (run.machine.history ++ later)) (standing run) (Some x)) is;
   history = sym (append-nil run.machine.history);
   peers = refl;
   config = refl;
@@ -262,14 +265,14 @@ nothing-does run e output is printed = record {
 }
 
 -- the clauses of an event, by what the event is
-pub event-does : {O E : Type 0} (items : O → List ℕ) (old new : Running) (e known : Event) (r : Result O E) → e ≡ known → IfOk r (λ (o : O). Does (λ verdicts. on_event old.machine.config verdicts (standing old) (Some known)) old (items o) new)
-    → IfOk r (λ (o : O). Does (λ verdicts. on_event old.machine.config verdicts (standing old) (Some e)) old (items o) new)
-event-does items old new e known r is does = subst (λ (x : Event). IfOk r (λ o. Does (λ verdicts. on_event old.machine.config verdicts (standing old) (Some x)) old (items o) new)) (sym is) does
+pub event-does : {O E : Type 0} (items : O → List ℕ) (old new : Running) (e known : Event) (r : Result O E) → e ≡ known → IfOk r (λ (o : O). Does (λ verdicts. on_event verdicts (standing old) (Some known)) old (items o) new)
+    → IfOk r (λ (o : O). Does (λ verdicts. on_event verdicts (standing old) (Some e)) old (items o) new)
+event-does items old new e known r is does = subst (λ (x : Event). IfOk r (λ o. Does (λ verdicts. on_event verdicts (standing old) (Some x)) old (items o) new)) (sym is) does
 
-pub event-refuses : (old new : Running) (e known : Event) (P : Type 0) → e ≡ known → (P → Refuses (λ verdicts. on_event old.machine.config verdicts (standing old) (Some known)) old new)
-    → P → Refuses (λ verdicts. on_event old.machine.config verdicts (standing old) (Some e)) old new
-event-refuses old new e known P is refuses p = subst (λ (x : Event). Refuses (λ verdicts. on_event old.machine.config verdicts (standing old) (Some x)) old new) (sym is) (refuses p)
+pub event-refuses : (old new : Running) (e known : Event) (P : Type 0) → e ≡ known → (P → Refuses (λ verdicts. on_event verdicts (standing old) (Some known)) old new)
+    → P → Refuses (λ verdicts. on_event verdicts (standing old) (Some e)) old new
+event-refuses old new e known P is refuses p = subst (λ (x : Event). Refuses (λ verdicts. on_event verdicts (standing old) (Some x)) old new) (sym is) (refuses p)
 
-pub event-stops : (old new : Running) (e known : Event) (P : Type 0) → e ≡ known → (P → MayStop (λ verdicts. on_event old.machine.config verdicts (standing old) (Some known)) old new)
-    → P → MayStop (λ verdicts. on_event old.machine.config verdicts (standing old) (Some e)) old new
-event-stops old new e known P is stops p = subst (λ (x : Event). MayStop (λ verdicts. on_event old.machine.config verdicts (standing old) (Some x)) old new) (sym is) (stops p)
+pub event-stops : (old new : Running) (e known : Event) (P : Type 0) → e ≡ known → (P → MayStop (λ verdicts. on_event verdicts (standing old) (Some known)) old new)
+    → P → MayStop (λ verdicts. on_event verdicts (standing old) (Some e)) old new
+event-stops old new e known P is stops p = subst (λ (x : Event). MayStop (λ verdicts. on_event verdicts (standing old) (Some x)) old new) (sym is) (stops p)

@@ -1,8 +1,8 @@
 -- What a replay leaves, by its status.
-use Rattle.std.specs.Prelude.{◌≡◌, ◌≢◌, ℕ, ◌<◌, ◌≤◌, List, ◌∷◌, ◌++◌, ◌⊎◌, take, length, Option, IfSome, if◌then◌else◌, nat_lt, not}
-use Rattle.std.specs.Str.{bytes_eq}
+use Rattle.std.specs.Prelude.{◌≡◌, ℕ, ◌<◌, ◌≤◌, List, ◌∷◌, ◌++◌, ◌⊎◌, take, length, Option, Some, None, IfSome, if◌then◌else◌, nat_lt}
 use Rattle.std.specs.Io.KnownBytes.{Appends}
-use Rattle.acct_machine.specs.declared.config.Config.{Config}
+use Rattle.acct_config.specs.declared.config.Config.{Config}
+use Rattle.acct_config.specs.Rules.{first_broken}
 use Rattle.acct_machine.specs.declared.entry.Entry.{Entry}
 use Rattle.acct_server.specs.declared.status.Status.{Status}
 use Rattle.acct_server.specs.declared.status.Status.TheVariants.{Done, NoMemory, Usage, Config as ConfigBroken, ReadFault, WriteFault, EventLine, InputTooLong}
@@ -10,7 +10,7 @@ use Rattle.acct_server.specs.declared.whole.WholeError.{WholeError}
 use Rattle.acct_server.specs.declared.whole.WholeError.TheVariants.{Fault, TooLong, Memory}
 use Rattle.acct_server.specs.Causes.{Rose}
 use Rattle.acct_server.specs.Whole.{most_bytes}
-use Rattle.acct_server.specs.First.{first_document, first_config}
+use Rattle.acct_server.specs.Configured.{BreaksNone, spelled}
 use Rattle.acct_server.specs.Replayed.{Effect, replayed, ending, entries_of, output_of, line_bytes}
 use Rattle.acct_server.specs.Running.{Running, standing}
 use Rattle.std.specs.List.{flat_map}
@@ -89,25 +89,26 @@ pub record FinishBreaks (held now : Option (List ℕ)) (old new : Running) : Typ
 abbrev pub IsLong : Option (List ℕ) → Type 0
 IsLong left = IfSome left (λ bytes. most_bytes < length bytes)
 
--- the configuration is the one that is built
-abbrev pub IsRight : Option (List ℕ) → Type 0
-IsRight left = IfSome left (λ document. document ≡ first_document)
-
 -- Why the lines aren't run, by what the sources had left and by their counts before and after. The configuration comes first.
 abbrev pub Unread : Option (List ℕ) → Option (List ℕ) → ℕ → ℕ → ℕ → ℕ → Status → Type 0
-Unread config events before now earlier later (ConfigBroken n) = (n ≡ 100) × IfSome config (λ document. (document ≢ first_document) × (length document ≤ most_bytes))
-Unread config events before now earlier later ReadFault = Rose before now ⊎ (IsRight config × Rose earlier later)
-Unread config events before now earlier later InputTooLong = IsLong config ⊎ (IsRight config × IsLong events)
+Unread config events before now earlier later (ConfigBroken n) = IfSome config (λ document. (first_broken document ≡ Some n) × (length document ≤ most_bytes))
+Unread config events before now earlier later ReadFault = Rose before now ⊎ (BreaksNone config × Rose earlier later)
+Unread config events before now earlier later InputTooLong = IsLong config ⊎ (BreaksNone config × IsLong events)
 Unread config events before now earlier later NoMemory = Unit {0}
 Unread config events before now earlier later _ = ⊥
+
+-- a status, or that of a rule that is broken
+abbrev pub unless_broken : Option ℕ → Status → Status
+unless_broken None status = status
+unless_broken (Some n) status = ConfigBroken n
 
 -- The status that a configuration and events ask for, with the verdicts of a history.
 abbrev pub asked_status : List ℕ → List ℕ → List Entry → Status
 asked_status document events history =
     if nat_lt most_bytes (length document) then InputTooLong
-    else (if not (bytes_eq document first_document) then ConfigBroken 100
-    else (if nat_lt most_bytes (length events) then InputTooLong
-    else (replayed first_config events history).status))
+    else unless_broken (first_broken document) (
+    if nat_lt most_bytes (length events) then InputTooLong
+    else (replayed (spelled document) events history).status)
 
 -- it is that one, or memory was wanted
 abbrev pub IsAsked : List ℕ → List ℕ → List Entry → Status → Type 0

@@ -3,12 +3,11 @@ pub mod Ends
 pub mod Memory
 pub mod Whole
 pub mod Events
-pub mod Layouts
-pub mod Stubs
+pub mod Requests
 pub mod Transcript
 pub mod Replayed
 pub mod Running
-pub mod First
+pub mod Configured
 pub mod Leaves
 pub mod Connections
 pub mod Replaying

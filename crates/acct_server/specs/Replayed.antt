@@ -4,9 +4,9 @@ use Rattle.std.specs.Fmt.{decimal}
 use Rattle.std.specs.List.{flat_map}
 use Rattle.std.specs.Str.{bytes_eq}
 use Rattle.hex.specs.Hex.{encode_lower}
-use Rattle.acct_machine.specs.declared.calls.Call.{Call}
-use Rattle.acct_machine.specs.declared.config.Listener.{Listener}
-use Rattle.acct_machine.specs.declared.config.Config.{Config}
+use Rattle.acct_calls.specs.declared.calls.Call.{Call}
+use Rattle.acct_config.specs.declared.config.Listener.{Listener}
+use Rattle.acct_config.specs.declared.config.Config.{Config}
 use Rattle.acct_machine.specs.declared.entry.Verdict.{Verdict}
 use Rattle.acct_machine.specs.declared.entry.Verdict.TheVariants.{Ran}
 use Rattle.acct_machine.specs.declared.entry.Entry.{Entry}
@@ -19,15 +19,15 @@ use Rattle.rpc_session.specs.declared.sessions.Session.TheVariants.{Unbound}
 use Rattle.rpc_session.specs.declared.hearing.Hearing.{Hearing}
 use Rattle.rpc_session.specs.declared.hearing.Hearing.TheVariants.{Going}
 use Rattle.rpc_session.specs.Hearings.{Heard, on, is_going}
+use Rattle.samr_wire.specs.declared.errors.WireError.{WireError}
 use Rattle.acct_server.specs.declared.events.Event.{Event}
 use Rattle.acct_server.specs.declared.events.Event.TheVariants as event
 use Rattle.acct_server.specs.declared.peers.Peer.{Peer}
 use Rattle.acct_server.specs.declared.peers.Peer.TheVariants.{Open, Ended}
-use Rattle.acct_server.specs.declared.stubs.WireError.{WireError}
 use Rattle.acct_server.specs.declared.status.Status.{Status}
 use Rattle.acct_server.specs.declared.status.Status.TheVariants.{Done, EventLine}
 use Rattle.acct_server.specs.Events.{event_of, lines_of}
-use Rattle.acct_server.specs.Stubs.{call_on}
+use Rattle.acct_server.specs.Requests.{call_on}
 use Rattle.acct_server.specs.Transcript.{answer_bytes, undecoded_bytes}
 
 -- ---- lines that are printed
@@ -61,8 +61,9 @@ pub record Effect : Type 0 where
   pub brings : List (ℕ × List ℕ)
   pub prints : List Printed
 
--- the history so far, and the connections, of which the first has number 1
+-- the configuration, the history so far, and the connections, of which the first has number 1
 pub record Standing : Type 0 where
+  pub config : Config
   pub history : List Entry
   pub peers : List Peer
 
@@ -72,7 +73,7 @@ pub record Move : Type 0 where
   pub peers : List Peer
 
 abbrev pub moved : Standing → Move → Standing
-moved s m = record { history = s.history ++ m.effect.entries; peers = m.peers }
+moved s m = record s { history = s.history ++ m.effect.entries; peers = m.peers }
 
 -- the verdict of the call that has a place in the history
 abbrev pub Verdicts : Type 0
@@ -106,8 +107,8 @@ on_listener s conn (Some listener) =
     then Some (record { effect = record { entries = Opened conn listener ∷ []; brings = []; prints = [] }; peers = s.peers ++ Open (nothing_heard conn) ∷ [] })
     else None
 
-abbrev pub on_open : Config → Standing → ℕ → List ℕ → Option Move
-on_open config s conn name = on_listener s conn (listener_from 0 name config.listeners)
+abbrev pub on_open : Standing → ℕ → List ℕ → Option Move
+on_open s conn name = on_listener s conn (listener_from 0 name s.config.listeners)
 
 -- ---- what the bytes on a connection do
 
@@ -123,32 +124,32 @@ abbrev pub both : Doing → Doing → Doing
 both first second = record { entries = first.entries ++ second.entries; prints = first.prints ++ second.prints }
 
 -- a call, with its verdict
-abbrev pub on_call : List Entry → ℕ → ℕ → ℕ → ℕ → ℕ → Call → Verdict → Doing
-on_call history conn id context size stub_size call verdict =
-    let reply = (acted (state_after nothing_open history) conn call verdict).1 in
-    record { entries = Called conn call verdict stub_size ∷ []; prints = Out conn (answer_bytes id context size reply) ∷ [] }
+abbrev pub on_call : Config → List Entry → ℕ → ℕ → ℕ → ℕ → ℕ → Call → Verdict → Doing
+on_call config history conn id context size stub_size call verdict =
+    let reply = (acted (state_after (nothing_open config) history) conn call verdict).1 in
+    record { entries = Called conn call verdict stub_size ∷ []; prints = Out conn (answer_bytes id context size call.opnum reply) ∷ [] }
 
 -- a request that is no decoded call is answered outside the history
-abbrev pub on_request : Verdicts → List Entry → ℕ → ℕ → ℕ → ℕ → ℕ → Result Call WireError → Doing
-on_request verdicts history conn id context size stub_size (Err e) = prints_only (Out conn (undecoded_bytes id context e) ∷ [])
-on_request verdicts history conn id context size stub_size (Ok call) = on_call history conn id context size stub_size call (verdicts (length history))
+abbrev pub on_request : Config → Verdicts → List Entry → ℕ → ℕ → ℕ → ℕ → ℕ → Result Call WireError → Doing
+on_request config verdicts history conn id context size stub_size (Err e) = prints_only (Out conn (undecoded_bytes id context e) ∷ [])
+on_request config verdicts history conn id context size stub_size (Ok call) = on_call config history conn id context size stub_size call (verdicts (length history))
 
 -- after a refusal the connection is gone
-abbrev pub on_act : Verdicts → List Entry → ℕ → Act → Doing
-on_act verdicts history conn (act.Answered bytes) = prints_only (Out conn bytes ∷ [])
-on_act verdicts history conn (act.Call id context face opnum size stub) = on_request verdicts history conn id context size (length stub) (call_on face opnum stub)
-on_act verdicts history conn (act.Closed place cause bytes) = record { entries = Gone conn ∷ []; prints = Out conn bytes ∷ IsClosed conn place cause ∷ [] }
+abbrev pub on_act : Config → Verdicts → List Entry → ℕ → Act → Doing
+on_act config verdicts history conn (act.Answered bytes) = prints_only (Out conn bytes ∷ [])
+on_act config verdicts history conn (act.Call id context face opnum size stub) = on_request config verdicts history conn id context size (length stub) (call_on face opnum stub)
+on_act config verdicts history conn (act.Closed place cause bytes) = record { entries = Gone conn ∷ []; prints = Out conn bytes ∷ IsClosed conn place cause ∷ [] }
 
 -- one act after the other, each with the history that those before it left
-abbrev pub on_acts : Verdicts → List Entry → ℕ → List Act → Doing
-on_acts verdicts history conn [] = prints_only []
-on_acts verdicts history conn (a ∷ acts) =
-    let first = on_act verdicts history conn a in both first (on_acts verdicts (history ++ first.entries) conn acts)
+abbrev pub on_acts : Config → Verdicts → List Entry → ℕ → List Act → Doing
+on_acts config verdicts history conn [] = prints_only []
+on_acts config verdicts history conn (a ∷ acts) =
+    let first = on_act config verdicts history conn a in both first (on_acts config verdicts (history ++ first.entries) conn acts)
 
 -- the acts that the bytes complete; a connection that the server closed hears nothing more
 abbrev pub on_heard : Verdicts → Standing → ℕ → List ℕ → Heard → Move
 on_heard verdicts s conn bytes heard =
-    let doing = on_acts verdicts s.history conn heard.acts in record {
+    let doing = on_acts s.config verdicts s.history conn heard.acts in record {
       effect = record { entries = doing.entries; brings = (conn, bytes) ∷ []; prints = doing.prints };
       peers = with_peer conn (Open heard.leaves) s.peers;
     }
@@ -181,15 +182,15 @@ on_end s conn (Some (Open hearing)) = Some (record { effect = gone (number_of co
 -- ---- each line
 
 -- what an event does, if its condition holds
-abbrev pub on_event : Config → Verdicts → Standing → Option Event → Option Move
-on_event config verdicts s None = None
-on_event config verdicts s (Some event.Nothing) = Some (quiet s.peers)
-on_event config verdicts s (Some (event.Open conn name)) = on_open config s conn name
-on_event config verdicts s (Some (event.Data conn bytes)) = on_data verdicts s conn bytes (peer_of conn s.peers)
-on_event config verdicts s (Some (event.End conn)) = on_end s conn (peer_of conn s.peers)
+abbrev pub on_event : Verdicts → Standing → Option Event → Option Move
+on_event verdicts s None = None
+on_event verdicts s (Some event.Nothing) = Some (quiet s.peers)
+on_event verdicts s (Some (event.Open conn name)) = on_open s conn name
+on_event verdicts s (Some (event.Data conn bytes)) = on_data verdicts s conn bytes (peer_of conn s.peers)
+on_event verdicts s (Some (event.End conn)) = on_end s conn (peer_of conn s.peers)
 
-unfoldable pub on_line : Config → Verdicts → Standing → List ℕ → Option Move
-on_line config verdicts s line = on_event config verdicts s (event_of line)
+unfoldable pub on_line : Verdicts → Standing → List ℕ → Option Move
+on_line verdicts s line = on_event verdicts s (event_of line)
 
 -- ---- the end
 
@@ -221,13 +222,13 @@ follow s n None later = ends s (EventLine n)
 follow s n (Some move) later = behind (move.effect ∷ []) (later (moved s move))
 
 -- what the lines do from there on, of which the first has this number
-unfoldable pub trace_from : Config → Verdicts → Standing → ℕ → List (List ℕ) → Trace
-trace_from config verdicts s n [] = ends s Done
-trace_from config verdicts s n (line ∷ lines) =
-    follow s n (on_line config verdicts s line) (λ after. trace_from config verdicts after (n + 1) lines)
+unfoldable pub trace_from : Verdicts → Standing → ℕ → List (List ℕ) → Trace
+trace_from verdicts s n [] = ends s Done
+trace_from verdicts s n (line ∷ lines) =
+    follow s n (on_line verdicts s line) (λ after. trace_from verdicts after (n + 1) lines)
 
-abbrev pub at_start : Standing
-at_start = record { history = []; peers = [] }
+abbrev pub at_start : Config → Standing
+at_start config = record { config = config; history = []; peers = [] }
 
 -- the verdict of a call, and Ran where there is none
 abbrev pub verdict_of : Option Entry → Verdict
@@ -241,7 +242,7 @@ verdict_in history place = verdict_of (slice_get history place)
 
 -- what a replay of events does, where the calls have the verdicts of a history
 abbrev pub replayed : Config → List ℕ → List Entry → Trace
-replayed config events history = trace_from config (verdict_in history) at_start 1 (lines_of events)
+replayed config events history = trace_from (verdict_in history) (at_start config) 1 (lines_of events)
 
 abbrev pub entries_of : List Effect → List Entry
 entries_of effects = flat_map (λ e. e.entries) effects

@@ -18,7 +18,7 @@ pub record Running : Type 0 where
   pub peers : List Peer
 
 abbrev pub standing : Running → Standing
-standing run = record { history = run.machine.history; peers = run.peers }
+standing run = record { config = run.machine.config; history = run.machine.history; peers = run.peers }
 
 -- The machine has as many connections, and those that are served are live there.
 pub record Ties (peers : List Peer) (s : State) : Type 0 where

@@ -1,30 +1,29 @@
 -- What is written on a connection: the answers to its acts in order, with the replies of its calls.
 use Rattle.std.specs.Prelude.{ℕ, List, [], ◌∷◌, ◌++◌, length, Result, Ok, Err}
-use Rattle.acct_machine.specs.declared.calls.Call.{Call}
-use Rattle.acct_machine.specs.declared.calls.Reply.{Reply}
-use Rattle.acct_machine.specs.declared.calls.Reply.TheVariants.{Fault, Done}
+use Rattle.acct_calls.specs.declared.calls.Call.{Call}
+use Rattle.acct_calls.specs.declared.replies.Reply.{Reply}
+use Rattle.acct_calls.specs.declared.replies.Reply.TheVariants.{Fault, Done}
 use Rattle.rpc_session.specs.declared.sessions.Act.{Act}
 use Rattle.rpc_session.specs.declared.sessions.Act.TheVariants as act
-use Rattle.acct_server.specs.declared.stubs.WireError.{WireError}
-use Rattle.acct_server.specs.declared.stubs.WireError.TheVariants.{NotServed, BadStub}
-use Rattle.acct_server.specs.Stubs.{call_on, spell_reply}
 use Rattle.rpc_session.specs.Replies.{fault_bytes, reply_bytes}
+use Rattle.samr_wire.specs.declared.errors.WireError.{WireError}
+use Rattle.samr_wire.specs.Replies.{spell_reply}
+use Rattle.acct_server.specs.Requests.{call_on, undecoded_status}
 
--- the answer to a decoded call, by its reply
-unfoldable pub answer_bytes : ℕ → ℕ → ℕ → Reply → List ℕ
-answer_bytes id context size (Fault status) = fault_bytes id context status
-answer_bytes id context size (Done status outs) = reply_bytes id context size (spell_reply (Done status outs))
+-- the answer to a decoded call of an operation, by its reply
+unfoldable pub answer_bytes : ℕ → ℕ → ℕ → ℕ → Reply → List ℕ
+answer_bytes id context size opnum (Fault status) = fault_bytes id context status
+answer_bytes id context size opnum (Done status outs) = reply_bytes id context size (spell_reply opnum (Done status outs))
 
--- the answer to a request that is no decoded call: operation range (0x1C010002), or bad stub data (0x6F7)
+-- the answer to a request that is no decoded call
 abbrev pub undecoded_bytes : ℕ → ℕ → WireError → List ℕ
-undecoded_bytes id context (NotServed opnum) = fault_bytes id context 0x1C010002
-undecoded_bytes id context (BadStub place) = fault_bytes id context 0x000006F7
+undecoded_bytes id context error = fault_bytes id context (undecoded_status error)
 
 -- a decoded call takes the next reply; where there is none, nothing more is written
 abbrev pub answered : ℕ → ℕ → ℕ → Result Call WireError → List Reply → (List Reply → List ℕ) → List ℕ
 answered id context size (Err e) replies later = undecoded_bytes id context e ++ later replies
 answered id context size (Ok call) [] later = []
-answered id context size (Ok call) (reply ∷ replies) later = answer_bytes id context size reply ++ later replies
+answered id context size (Ok call) (reply ∷ replies) later = answer_bytes id context size call.opnum reply ++ later replies
 
 abbrev pub transcript : List Act → List Reply → List ℕ
 transcript [] replies = []

@@ -1,22 +1,21 @@
 // A replay of event lines.
-ghost use Rattle.std.specs.Prelude.{ℕ, ◌≡◌, ◌≢◌, ◌<◌, ◌≤◌, ◌^◌, ◌⊎◌, [], length, IfSome, IfOk, IfErr, OnOk, OnErr};
+ghost use Rattle.std.specs.Prelude.{ℕ, List, Option, ◌≡◌, ◌<◌, ◌≤◌, ◌^◌, ◌⊎◌, [], length, IfSome, IfOk, IfErr, OnOk, OnErr};
 ghost use Rattle.std.specs.Io.KnownBytes.{Keeps};
 ghost use Rattle.acct_machine.specs.Legal.{Legal};
 ghost use Rattle.acct_server.specs.declared.status.Status.TheVariants.{NoMemory, ReadFault, WriteFault, InputTooLong};
 ghost use Rattle.acct_server.specs.Causes.{Rose, NotRisen};
 ghost use Rattle.acct_server.specs.Whole.{most_bytes, IsWhole};
-ghost use Rattle.acct_server.specs.First.{first_config};
+ghost use Rattle.acct_server.specs.Configured.{BreaksNone, IsConfigured, Under, refused_status};
 ghost use Rattle.acct_server.specs.Connections.{Transcribes};
-ghost use Rattle.acct_server.specs.Leaves.{Leaves, IsRight, IsRun, IsBefore, IsOfReplay, IsAsked, Unread, unread_status, Breaks, Stops, Finishes, FinishBreaks, IsRunThrough, IsOfRun};
+ghost use Rattle.acct_server.specs.Leaves.{Leaves, IsRun, IsBefore, IsOfReplay, IsAsked, Unread, unread_status, Breaks, Stops, Finishes, FinishBreaks, IsRunThrough, IsOfRun};
 
 use crate::events::LineError;
-use crate::first::{first_config, is_first_document};
 use crate::lines::next_line;
 use crate::session::Run;
 use crate::writing::write_all;
 use crate::{Sink, Source, Status, WholeError, read_whole};
 use acct_base::Seq;
-use acct_machine::Entry;
+use acct_machine::{Config, ConfigError, Entry, read_config};
 use rpc_session::streams_are_cut_anywhere;
 use std::alloc::Global;
 
@@ -37,26 +36,29 @@ fn unread(e: WholeError) -> Status
     }
 }
 
-// The bytes of the events, once the configuration is the one that is built.
-fn read_inputs<S: Source>(alloc: Global, config: &mut S, events: &mut S) -> Result<Vec<u8>, Status>
-    ensures right { OnOk result (IsRight (S.left config.old)) }
-    ensures short { OnOk result (IfSome (S.left config.old) (λ document. length document ≤ most_bytes)) }
-    ensures whole { IfOk result (λ bytes. IsWhole (S.left events.old) bytes.items) }
-    ensures unread { IfErr result (Unread (S.left config.old) (S.left events.old) (S.faults config.old) (S.faults config.new) (S.faults events.old) (S.faults events.new)) }
-    ensures config_later { S.faults config.old ≤ S.faults config.new }
-    ensures events_later { S.faults events.old ≤ S.faults events.new }
+fn refused(error: ConfigError) -> Status
+    ensures { result ≡ refused_status error }
 {
-    match read_whole(alloc, config) {
-        Err(e) => return Err(unread(e)),
-        Ok(document) => {
-            if !is_first_document(&document) {
-                return Err(Status::Config(100));
-            }
-        }
+    match error {
+        ConfigError::Rule(number) => Status::Config(number),
+        ConfigError::Memory => Status::NoMemory,
     }
-    match read_whole(alloc, events) {
+}
+
+// The configuration that a source's document spells.
+fn read_configuration<S: Source>(alloc: Global, source: &mut S) -> Result<Config, Status>
+    ensures configured { IfOk result (IsConfigured (S.left source.old)) }
+    ensures short { OnOk result (IfSome (S.left source.old) (λ document. length document ≤ most_bytes)) }
+    ensures unread { (left : Option (List ℕ)) → (earlier : ℕ) → (later : ℕ) →
+        IfErr result (Unread (S.left source.old) left (S.faults source.old) (S.faults source.new) earlier later) }
+    ensures later { S.faults source.old ≤ S.faults source.new }
+{
+    match read_whole(alloc, source) {
         Err(e) => Err(unread(e)),
-        Ok(bytes) => Ok(bytes),
+        Ok(document) => match read_config(alloc, &document) {
+            Err(error) => Err(refused(error)),
+            Ok(config) => Ok(config),
+        },
     }
 }
 
@@ -134,21 +136,22 @@ pub fn replay<S: Source, T: Sink>(
     out: &mut T,
 ) -> Replayed
     // Where the lines were run to their end or to a refused one, the history, the lines written and the status are
-    // those of the events, with the verdicts of the history.
-    ensures through { IsRunThrough result.status → IfSome (S.left events.old) (λ bytes.
-        Leaves first_config (T.held out.old) (T.held out.new) bytes result.history result.status) }
+    // those of the events, with the verdicts of the history, under the configuration that the document spells.
+    ensures through { IsRunThrough result.status → Under (S.left config.old) (λ config. IfSome (S.left events.old) (λ bytes.
+        Leaves config (T.held out.old) (T.held out.new) bytes result.history result.status)) }
     // On every connection what was sent is the transcript of the acts of its whole stream with the replies of its
     // calls, and its calls in the history are the decoded calls of these acts, in order.
-    ensures transcribes { IsRunThrough result.status → IfSome (S.left events.old) (λ bytes.
-        (k : ℕ) → Transcribes first_config bytes result.history k) }
+    ensures transcribes { IsRunThrough result.status → Under (S.left config.old) (λ config. IfSome (S.left events.old) (λ bytes.
+        (k : ℕ) → Transcribes config bytes result.history k)) }
     // After a fault of the sink: the entries up to the event whose lines met it, and a front of its lines.
-    ensures breaks { result.status ≡ WriteFault → IfSome (S.left events.old) (λ bytes.
-        Breaks first_config (T.held out.old) (T.held out.new) bytes result.history) }
-    // After want of memory: a front of the entries, and a front of the lines.
-    ensures stops { result.status ≡ NoMemory → IfSome (S.left events.old) (λ bytes.
-        Stops first_config (T.held out.old) (T.held out.new) bytes result.history) }
-    // The lines are run only where the configuration is the one that is built.
-    ensures right { IsRun result.status → IsRight (S.left config.old) }
+    ensures breaks { result.status ≡ WriteFault → Under (S.left config.old) (λ config. IfSome (S.left events.old) (λ bytes.
+        Breaks config (T.held out.old) (T.held out.new) bytes result.history)) }
+    // After want of memory: nothing, or a front of the entries, and a front of the lines.
+    ensures stops { result.status ≡ NoMemory → ((result.history ≡ []) × Keeps (T.held out.old) (T.held out.new))
+        ⊎ Under (S.left config.old) (λ config. IfSome (S.left events.old) (λ bytes.
+        Stops config (T.held out.old) (T.held out.new) bytes result.history)) }
+    // The lines are run only under a configuration that breaks no rule.
+    ensures right { IsRun result.status → BreaksNone (S.left config.old) }
     // Where they aren't, the status has its cause, and nothing has happened.
     ensures unread { IsBefore result.status →
         Unread (S.left config.old) (S.left events.old) (S.faults config.old) (S.faults config.new) (S.faults events.old) (S.faults events.new) result.status }
@@ -158,25 +161,24 @@ pub fn replay<S: Source, T: Sink>(
     // Where no count rose, the status is the one that the configuration and the events ask for, or memory was wanted.
     ensures complete { NotRisen (S.faults config.old) (S.faults config.new) → NotRisen (S.faults events.old) (S.faults events.new) → NotRisen (T.faults out.old) (T.faults out.new) →
         IfSome (S.left config.old) (λ document. IfSome (S.left events.old) (λ bytes. IsAsked document bytes result.history result.status)) }
-    ensures legal { Legal first_config result.history }
+    ensures legal { (result.history ≡ []) ⊎ Under (S.left config.old) (λ config. Legal config result.history) }
     ensures config_later { S.faults config.old ≤ S.faults config.new }
     ensures events_later { S.faults events.old ≤ S.faults events.new }
     ensures out_later { T.faults out.old ≤ T.faults out.new }
 {
-    let bytes = match read_inputs(alloc, config, events) {
-        Ok(bytes) => bytes,
+    let configuration = match read_configuration(alloc, config) {
+        Ok(configuration) => configuration,
         Err(status) => return not_run(alloc, status),
     };
-    match first_config(alloc) {
-        Err(_) => not_run(alloc, Status::NoMemory),
-        Ok(built) => {
-            let mut run = Run::new(alloc, built);
-            let status = run_lines(alloc, &mut run, &bytes, out);
-            streams_are_cut_anywhere();
-            Replayed {
-                status,
-                history: Seq::from_vec(run.into_history()),
-            }
-        }
+    let bytes = match read_whole(alloc, events) {
+        Ok(bytes) => bytes,
+        Err(e) => return not_run(alloc, unread(e)),
+    };
+    let mut run = Run::new(alloc, configuration);
+    let status = run_lines(alloc, &mut run, &bytes, out);
+    streams_are_cut_anywhere();
+    Replayed {
+        status,
+        history: Seq::from_vec(run.into_history()),
     }
 }

@@ -1,9 +1,10 @@
 // A machine with the connections of a replay.
 ghost use Rattle.std.specs.Prelude.{◌≡◌, ◌≢◌, ◌⊎◌, ◌+◌, ◌≤◌, ◌<◌, ◌^◌, ℕ, true, false, [], ◌++◌, ◌∷◌, if◌then◌else◌, length, take, Some, None, Ok, Err, OnOk, OnErr, IfOk, IfSome, IsSome, slice_get, slice_set, map, All, option_map};
 ghost use Rattle.std.specs.List.{flat_map};
-ghost use Rattle.acct_machine.specs.Calls.{IsSpelled};
+ghost use Rattle.acct_config.specs.Right.{IsRight};
+ghost use Rattle.acct_machine.specs.Calls.{IsCall};
 ghost use Rattle.acct_machine.specs.State.{is_live};
-ghost use Rattle.acct_machine.specs.Machine.{state_of, with_entry};
+ghost use Rattle.acct_machine.specs.Machine.{IsAnswer, state_of, with_entry};
 ghost use Rattle.acct_machine.specs.Legal.{Legal};
 ghost use Rattle.acct_machine.specs.declared.entry.Entry.TheVariants.{Gone};
 ghost use Rattle.rpc_session.specs.declared.hearing.Hearing.{Hearing};
@@ -11,22 +12,23 @@ ghost use Rattle.rpc_session.specs.Hearings.{HasRoom, on, is_going};
 ghost use Rattle.rpc_session.specs.Acts.{IsFit, is_refusal};
 ghost use Rattle.acct_server.specs.declared.events.LineError.TheVariants.{NoMemory, Refused};
 ghost use Rattle.acct_server.specs.declared.peers.Peer.TheVariants as peer;
-ghost use Rattle.acct_server.specs.Stubs.{call_on};
+ghost use Rattle.acct_server.specs.Requests.{call_on};
 ghost use Rattle.acct_server.specs.Events.{DataFits};
-ghost use Rattle.acct_server.specs.Transcript.{answer_bytes, undecoded_bytes};
+ghost use Rattle.acct_server.specs.Transcript.{answer_bytes};
 ghost use Rattle.acct_server.specs.Replayed.{Out, IsClosed, IsGone, peer_of, with_peer, nothing_heard, is_served, number_of, served_from, ending, line_bytes, listener_from, on_open, on_request, on_act, on_acts, on_data, on_end, on_event, on_line};
 ghost use Rattle.acct_server.specs.Running.{standing, AllHeard, Acts, Began, Hears, IsClosing, Does, Refuses, MayStop, Closes};
 
 use crate::events::{Event, LineError, event_of};
 use crate::peers::Peer;
 use crate::printing::{closed_line, gone_line, out_line};
-use crate::stubs::{WireError, read_request, write_reply};
+use crate::requests::{read_request, undecoded_status};
 use acct_base::is_same;
 use acct_machine::{Acted, Call, Config, Entry, Face, Listener, Machine, Opened, Reply};
 use rpc_session::{
     Act, Bytes2Acts, calls_fit, fault_bytes, refusals_are_last, reply_bytes, room_by_length,
     streams_are_cut_anywhere,
 };
+use samr_wire::write_reply;
 use std::alloc::{AllocError, Global};
 use std::marker::Model;
 
@@ -45,36 +47,32 @@ fn listener_place(listeners: &[Listener], name: &[u8]) -> Option<u32>
     ensures within { IfSome result (λ place. place < length listeners.now) }
 {
     for i in 0..listeners.len() {
-        if is_same(listeners[i].name.as_slice(), name) {
+        if is_same(listeners[i].name.as_str().as_bytes(), name) {
             return Some(i as u32);
         }
     }
     None
 }
 
-// The answer to a call, by its reply.
+// The answer to a call of an operation, by its reply.
 #[tactic(auto, unfolding(crate::specs::Transcript::answer_bytes))]
-fn answer_bytes(alloc: Global, asked: Asked, reply: &Reply) -> Result<Vec<u8>, AllocError>
+fn answer_bytes(
+    alloc: Global,
+    asked: Asked,
+    opnum: u16,
+    reply: &Reply,
+) -> Result<Vec<u8>, AllocError>
     requires low { 1432 ≤ asked.size }
     requires high { asked.size ≤ 4280 }
-    ensures { IfOk result (λ bytes. bytes.items ≡ answer_bytes asked.id asked.context asked.size reply.now) }
+    requires shaped { IsAnswer opnum reply.now }
+    ensures { IfOk result (λ bytes. bytes.items ≡ answer_bytes asked.id asked.context asked.size opnum reply.now) }
 {
     match reply {
         Reply::Fault(status) => fault_bytes(asked.id, asked.context, *status).to_vec(alloc),
-        Reply::Done { status, outs } => {
-            let stub = write_reply(alloc, *status, outs)?;
+        Reply::Done { .. } => {
+            let stub = write_reply(alloc, opnum, reply)?;
             reply_bytes(alloc, asked.id, asked.context, asked.size, &stub)
         }
-    }
-}
-
-// The answer to a request that is no decoded call.
-fn undecoded_bytes(id: u32, context: u16, error: WireError) -> [u8; 32]
-    ensures { result ≡ undecoded_bytes id context error }
-{
-    match error {
-        WireError::NotServed(_) => fault_bytes(id, context, 0x1C010002),
-        WireError::BadStub(_) => fault_bytes(id, context, 0x000006F7),
     }
 }
 
@@ -162,7 +160,6 @@ pub struct Run {
 }
 
 impl Model for Run {
-    ghost use Rattle.std.specs.Prelude.{◌≤◌, length};
     ghost use Rattle.acct_machine.specs.State.{nothing_open};
     ghost use Rattle.acct_machine.specs.Step.{state_after};
     ghost use Rattle.acct_server.specs.Running.{Running, Ties};
@@ -171,13 +168,13 @@ impl Model for Run {
 
     ghost view = { λ r. record { machine = r.machine; peers = r.peers.items } };
 
-    ghost invariant = { λ r. Ties r.peers.items (state_after nothing_open r.machine.history) × (length r.machine.config.listeners ≤ 16) };
+    ghost invariant = { λ r. Ties r.peers.items (state_after (nothing_open r.machine.config) r.machine.history) };
 }
 
 impl Run {
     /// A run to which nothing has happened.
     pub fn new(alloc: Global, config: Config) -> Self
-        requires { length config.listeners ≤ 16 }
+        requires { IsRight config }
         ensures { result ≡ record { machine = record { config = config; history = [] }; peers = [] } }
     {
         Run {
@@ -205,8 +202,8 @@ impl Run {
     }
 
     fn open(&mut self, alloc: Global, conn: u32, name: &[u8]) -> Result<Vec<u8>, LineError>
-        ensures does { IfOk result (λ output. Does (λ verdicts. on_open self.old.machine.config (standing self.old) conn name.now) self.old output.items self.new) }
-        ensures refused { result ≡ Err Refused → Refuses (λ verdicts. on_open self.old.machine.config (standing self.old) conn name.now) self.old self.new }
+        ensures does { IfOk result (λ output. Does (λ verdicts. on_open (standing self.old) conn name.now) self.old output.items self.new) }
+        ensures refused { result ≡ Err Refused → Refuses (λ verdicts. on_open (standing self.old) conn name.now) self.old self.new }
         ensures config { self.new.machine.config ≡ self.old.machine.config }
         ensures memory { result ≡ Err NoMemory → self.new.machine.history ≡ self.old.machine.history }
         ensures hears { (most : ℕ) → AllHeard most self.old.peers → OnOk result (AllHeard most self.new.peers) }
@@ -241,17 +238,18 @@ impl Run {
         requires live { is_live conn (state_of self.old.machine).conns ≡ true }
         requires low { 1432 ≤ asked.size }
         requires high { asked.size ≤ 4280 }
-        requires spelled { IsSpelled call }
-        ensures acts { OnOk result (Acts (λ verdicts. on_request verdicts self.old.machine.history conn asked.id asked.context asked.size stub_size (Ok call)) self.old.machine.history self.new.machine.history lines.old.items lines.new.items) }
-        ensures began { OnErr result (Began (λ verdicts. on_request verdicts self.old.machine.history conn asked.id asked.context asked.size stub_size (Ok call)) self.old.machine.history self.new.machine.history) }
+        requires spelled { IsCall call }
+        ensures acts { OnOk result (Acts (λ verdicts. on_request self.old.machine.config verdicts self.old.machine.history conn asked.id asked.context asked.size stub_size (Ok call)) self.old.machine.history self.new.machine.history lines.old.items lines.new.items) }
+        ensures began { OnErr result (Began (λ verdicts. on_request self.old.machine.config verdicts self.old.machine.history conn asked.id asked.context asked.size stub_size (Ok call)) self.old.machine.history self.new.machine.history) }
         ensures live { is_live conn (state_of self.new.machine).conns ≡ true }
         ensures peers { self.new.peers ≡ self.old.peers }
         ensures config { self.new.machine.config ≡ self.old.machine.config }
     {
+        let opnum = call.opnum;
         let Acted::Reply(reply) = self.machine.act(conn, call, stub_size) else {
             return Err(AllocError);
         };
-        let answer = answer_bytes(alloc, asked, &reply)?;
+        let answer = answer_bytes(alloc, asked, opnum, &reply)?;
         push_out(lines, alloc, conn, &answer)
     }
 
@@ -270,16 +268,17 @@ impl Run {
         requires low { 1432 ≤ asked.size }
         requires high { asked.size ≤ 4280 }
         requires short { length stub.now ≤ 1048576 }
-        ensures acts { OnOk result (Acts (λ verdicts. on_request verdicts self.old.machine.history conn asked.id asked.context asked.size (length stub.now) (call_on face opnum stub.now)) self.old.machine.history self.new.machine.history lines.old.items lines.new.items) }
-        ensures began { OnErr result (Began (λ verdicts. on_request verdicts self.old.machine.history conn asked.id asked.context asked.size (length stub.now) (call_on face opnum stub.now)) self.old.machine.history self.new.machine.history) }
+        ensures acts { OnOk result (Acts (λ verdicts. on_request self.old.machine.config verdicts self.old.machine.history conn asked.id asked.context asked.size (length stub.now) (call_on face opnum stub.now)) self.old.machine.history self.new.machine.history lines.old.items lines.new.items) }
+        ensures began { OnErr result (Began (λ verdicts. on_request self.old.machine.config verdicts self.old.machine.history conn asked.id asked.context asked.size (length stub.now) (call_on face opnum stub.now)) self.old.machine.history self.new.machine.history) }
         ensures live { is_live conn (state_of self.new.machine).conns ≡ true }
         ensures peers { self.new.peers ≡ self.old.peers }
         ensures config { self.new.machine.config ≡ self.old.machine.config }
     {
-        match read_request(face, opnum, stub) {
+        match read_request(alloc, face, opnum, stub) {
             Ok(call) => self.call(alloc, conn, asked, call, stub.len() as u32, lines),
             Err(error) => {
-                let fault = undecoded_bytes(asked.id, asked.context, error);
+                let status = undecoded_status(error)?;
+                let fault = fault_bytes(asked.id, asked.context, status);
                 push_out(lines, alloc, conn, &fault)
             }
         }
@@ -318,8 +317,8 @@ impl Run {
         requires live { is_live conn (state_of self.old.machine).conns ≡ true }
         requires fits { IsFit act.now }
         requires closed { is_refusal act.now ≡ true → is_served (peer_of conn self.old.peers) ≡ false }
-        ensures acts { OnOk result (Acts (λ verdicts. on_act verdicts self.old.machine.history conn act.now) self.old.machine.history self.new.machine.history lines.old.items lines.new.items) }
-        ensures began { OnErr result (Began (λ verdicts. on_act verdicts self.old.machine.history conn act.now) self.old.machine.history self.new.machine.history) }
+        ensures acts { OnOk result (Acts (λ verdicts. on_act self.old.machine.config verdicts self.old.machine.history conn act.now) self.old.machine.history self.new.machine.history lines.old.items lines.new.items) }
+        ensures began { OnErr result (Began (λ verdicts. on_act self.old.machine.config verdicts self.old.machine.history conn act.now) self.old.machine.history self.new.machine.history) }
         ensures live { is_refusal act.now ≡ false → is_live conn (state_of self.new.machine).conns ≡ true }
         ensures peers { self.new.peers ≡ self.old.peers }
         ensures config { self.new.machine.config ≡ self.old.machine.config }
@@ -354,8 +353,8 @@ impl Run {
         requires live { 0 < length acts.now → is_live conn (state_of self.old.machine).conns ≡ true }
         requires fits { All IsFit acts.now }
         requires closed { (i : ℕ) → IsClosing (is_served (peer_of conn self.old.peers)) i (length acts.now) (slice_get acts.now i) }
-        ensures acts { IfOk result (λ lines. Acts (λ verdicts. on_acts verdicts self.old.machine.history conn acts.now) self.old.machine.history self.new.machine.history [] lines.items) }
-        ensures began { OnErr result (Began (λ verdicts. on_acts verdicts self.old.machine.history conn acts.now) self.old.machine.history self.new.machine.history) }
+        ensures acts { IfOk result (λ lines. Acts (λ verdicts. on_acts self.old.machine.config verdicts self.old.machine.history conn acts.now) self.old.machine.history self.new.machine.history [] lines.items) }
+        ensures began { OnErr result (Began (λ verdicts. on_acts self.old.machine.config verdicts self.old.machine.history conn acts.now) self.old.machine.history self.new.machine.history) }
         ensures peers { self.new.peers ≡ self.old.peers }
         ensures config { self.new.machine.config ≡ self.old.machine.config }
     {
@@ -448,10 +447,10 @@ impl Run {
     fn event(&mut self, alloc: Global, event: Event) -> Result<Vec<u8>, LineError>
         requires heard { AllHeard (2 ^ 32) self.old.peers }
         requires short { DataFits (2 ^ 32) event }
-        ensures does { IfOk result (λ output. Does (λ verdicts. on_event self.old.machine.config verdicts (standing self.old) (Some event)) self.old output.items self.new) }
-        ensures refused { result ≡ Err Refused → Refuses (λ verdicts. on_event self.old.machine.config verdicts (standing self.old) (Some event)) self.old self.new }
+        ensures does { IfOk result (λ output. Does (λ verdicts. on_event verdicts (standing self.old) (Some event)) self.old output.items self.new) }
+        ensures refused { result ≡ Err Refused → Refuses (λ verdicts. on_event verdicts (standing self.old) (Some event)) self.old self.new }
         ensures config { self.new.machine.config ≡ self.old.machine.config }
-        ensures memory { result ≡ Err NoMemory → MayStop (λ verdicts. on_event self.old.machine.config verdicts (standing self.old) (Some event)) self.old self.new }
+        ensures memory { result ≡ Err NoMemory → MayStop (λ verdicts. on_event verdicts (standing self.old) (Some event)) self.old self.new }
         ensures hears { (most : ℕ) → (more : ℕ) → AllHeard most self.old.peers → DataFits more event → OnOk result (AllHeard (most + more) self.new.peers) }
     {
         match event {
@@ -468,10 +467,10 @@ impl Run {
     pub fn line(&mut self, alloc: Global, line: &[u8]) -> Result<Vec<u8>, LineError>
         requires heard { AllHeard (2 ^ 32) self.old.peers }
         requires short { length line.now < 2 ^ 32 }
-        ensures does { IfOk result (λ output. Does (λ verdicts. on_line self.old.machine.config verdicts (standing self.old) line.now) self.old output.items self.new) }
-        ensures refused { result ≡ Err Refused → Refuses (λ verdicts. on_line self.old.machine.config verdicts (standing self.old) line.now) self.old self.new }
+        ensures does { IfOk result (λ output. Does (λ verdicts. on_line verdicts (standing self.old) line.now) self.old output.items self.new) }
+        ensures refused { result ≡ Err Refused → Refuses (λ verdicts. on_line verdicts (standing self.old) line.now) self.old self.new }
         ensures config { self.new.machine.config ≡ self.old.machine.config }
-        ensures memory { result ≡ Err NoMemory → MayStop (λ verdicts. on_line self.old.machine.config verdicts (standing self.old) line.now) self.old self.new }
+        ensures memory { result ≡ Err NoMemory → MayStop (λ verdicts. on_line verdicts (standing self.old) line.now) self.old self.new }
         ensures hears { (most : ℕ) → AllHeard most self.old.peers → OnOk result (AllHeard (most + length line.now) self.new.peers) }
     {
         let event = event_of(alloc, line)?;

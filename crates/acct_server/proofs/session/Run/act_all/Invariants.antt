@@ -7,7 +7,7 @@ use Rattle.acct_server.proofs.session.Run.act_all.Given as goal
 
 abbrev pub invariant-loop-i : goal.invariant-loop-i
 invariant-loop-i l = record {
-  done : Acts (λ verdicts. on_acts verdicts l.initial.self.machine.history l.conn (take l.i l.acts)) l.initial.self.machine.history l.self.machine.history [] l.lines.items;
+  done : Acts (λ verdicts. on_acts l.initial.self.machine.config verdicts l.initial.self.machine.history l.conn (take l.i l.acts)) l.initial.self.machine.history l.self.machine.history [] l.lines.items;
   live : l.i < length l.acts → is_live l.conn (state_of l.self.machine).conns ≡ true;
   peers : l.self.peers ≡ l.initial.self.peers;
   config : l.self.machine.config ≡ l.initial.self.machine.config;

@@ -40,11 +40,9 @@ pub invariant_of-self : goal.invariant_of-self
 invariant_of-self c =
     let same : c.self.inside.peers.items ≡ c.end_if_served.new.self.peers = ap (λ (r : Running). r.peers) c.self.view_is in
     let there = still-there c.args.conn c.args.self.now.peers c.end_if_served.new.self.peers (peer.Open c.in-Some-Open.stream) (stands c) c.end_if_served.ensures.peers in
-    let here : peer_of c.args.conn c.self.inside.peers.items ≡ Some there.0 = ap (λ (ps : List Peer). peer_of c.args.conn ps) same ∙ there.1 in (
-      subst (λ (ps : List Peer). Ties ps (state_after nothing_open c.self.inside.machine.history)) (sym (peer-set c.args.conn c.self.inside.peers.items there.0 peer.Ended here))
-          (ties-set c.args.conn c.self.inside.peers.items there.0 (state_after nothing_open c.self.inside.machine.history) here c.self.invariant.0),
-      c.self.invariant.1,
-    )
+    let here : peer_of c.args.conn c.self.inside.peers.items ≡ Some there.0 = ap (λ (ps : List Peer). peer_of c.args.conn ps) same ∙ there.1 in
+    subst (λ (ps : List Peer). Ties ps (state_after (nothing_open c.self.inside.machine.config) c.self.inside.machine.history)) (sym (peer-set c.args.conn c.self.inside.peers.items there.0 peer.Ended here))
+    (ties-set c.args.conn c.self.inside.peers.items there.0 (state_after (nothing_open c.self.inside.machine.config) c.self.inside.machine.history) here c.self.invariant)
 
 pub returns-clause-hears : goal.returns-clause-hears
 returns-clause-hears c = λ most all.

@@ -1,5 +1,4 @@
-use Rattle.std.proofs.Common.{◌≡◌, ◌≤◌, true, List, length, sym, subst}
-use Rattle.acct_machine.specs.Shown.{Shown}
+use Rattle.std.proofs.Common.{◌≡◌, true, List, sym, subst}
 use Rattle.acct_server.specs.declared.peers.Peer.{Peer}
 use Rattle.acct_server.specs.declared.peers.Peer.TheVariants.{Ended}
 use Rattle.acct_server.specs.Replayed.{peer_of, is_served}
@@ -15,8 +14,6 @@ invariant_of-self c =
     let conn = c.args.conn in
     let peers = c.self.inside.peers.items in
     let served = subst (λ (r : Running). is_served (peer_of conn r.peers) ≡ true) (sym c.self.view_is) c.requires.served in
-    let there = served-there (peer_of conn peers) served in (
-      subst (λ (ps : List Peer). Ties ps (state_after nothing_open c.gone.new.self.history)) (sym (peer-set conn peers there.0 Ended there.1))
-          (ties-ended conn peers there.0 (state_after nothing_open c.self.inside.machine.history) (state_after nothing_open c.gone.new.self.history) there.1 c.self.invariant.0 c.gone.ensures.live),
-      subst (λ (m : Shown). length m.config.listeners ≤ 16) (sym c.gone.ensures.ends) c.self.invariant.1,
-    )
+    let there = served-there (peer_of conn peers) served in
+    subst (λ (ps : List Peer). Ties ps (state_after (nothing_open c.gone.new.self.config) c.gone.new.self.history)) (sym (peer-set conn peers there.0 Ended there.1))
+    (ties-ended conn peers there.0 (state_after (nothing_open c.self.inside.machine.config) c.self.inside.machine.history) (state_after (nothing_open c.gone.new.self.config) c.gone.new.self.history) there.1 c.self.invariant c.gone.ensures.live)

@@ -1,0 +1,5 @@
+use Rattle.acct_server.proofs.Transcribing.{cuts-change-nothing}
+use Rattle.acct_server.proofs.laws.cuts_change_nothing.Goals as goal
+
+pub returns : goal.returns
+returns c = cuts-change-nothing c.streams_are_cut_anywhere.ensures
