@@ -23,6 +23,9 @@ const BROKEN: &str = r#"0|[domain]|[domain
 0|[[listener]]|[domain];[[listener]]
 0|"CORP"|CORP
 0|name = "a"|name = "a" workers = 1
+0|name = "a"|name = "a";name = "a"
+0|name = "a"|name = "a";links = 9223372036854775808
+0|"S-1-1-0",|"S-1-1-0"
 1|sid = "S-1-5-21-1-2-3";|
 1|name = "CORP";|
 1|[[listener]]|[listener]
@@ -40,6 +43,11 @@ const BROKEN: &str = r#"0|[domain]|[domain
 1|name = "a"|name = "a";workers = "1"
 1|name = "a"|name = "a";workers = 1.0
 1|name = "a"|name = "a";links = true
+1|name = "a"|name = "a";links = 2026-11-27
+1|[[listener]]|[descriptor];server = 1;[[listener]]
+1|[[listener]]|[descriptor.user];owner = 1;[[listener]]
+1|[[listener]]|[[descriptor.user]];owner = "S-1-1-0";[[listener]]
+1|[[listener]]|[descriptor.user];owner = "S-1-1-0";aces = "";[[listener]]
 1|[[listener]]|[descriptor.server];aces = [];[[listener]]
 1|[[listener]]|[descriptor.users];owner = "S-1-1-0";[[listener]]
 1|[[listener]]|[descriptor.user];owner = "S-1-1-0";group = "S-1-1-0";[[listener]]
@@ -74,9 +82,12 @@ const BROKEN: &str = r#"0|[domain]|[domain
 5|tcp:127.0.0.1:4045|unix:
 5|tcp:|udp:
 6|"S-1-1-0"|"S-1-1-"
+6|"S-1-1-0"|""
+6|"S-1-1-0"|"Everyone"
 6|"S-1-5-21-1-2-3-500", "S-1-1-0", "S-1-5-32-544"|
 7|name = "a"|name = "a";workers = 0
 7|name = "a"|name = "a";workers = 65
+7|name = "a"|name = "a";workers = -1
 7|name = "a"|name = "a";links = -1
 7|name = "a"|name = "a";links = 4294967296
 8|[[listener]]|[descriptor.server];owner = "";[[listener]]
@@ -88,11 +99,16 @@ const BROKEN: &str = r#"0|[domain]|[domain
 9|[[listener]]|[descriptor.user];owner = "S-1-5-18";aces = ["allow 0x00000010 256 S-1-1-0"];[[listener]]
 9|[[listener]]|[descriptor.user];owner = "S-1-5-18";aces = ["allow 0x00000010 08 S-1-1-0"];[[listener]]
 9|[[listener]]|[descriptor.user];owner = "S-1-5-18";aces = ["allow 0x00000010  0 S-1-1-0"];[[listener]]
+9|[[listener]]|[descriptor.user];owner = "S-1-5-18";aces = ["allow 0 0x00000010 S-1-1-0"];[[listener]]
+9|[[listener]]|[descriptor.user];owner = "S-1-5-18";aces = ["allow 0X00000010 0 S-1-1-0"];[[listener]]
+9|[[listener]]|[descriptor.user];owner = "S-1-5-18";aces = ["Allow 0x00000010 0 S-1-1-0"];[[listener]]
 9|[[listener]]|[descriptor.user];owner = "S-1-5-18";aces = ["allow 0x00000010 0 S-1-1-0 "];[[listener]]
 9|[[listener]]|[descriptor.user];owner = "S-1-5-18";aces = ["allow 0x00000010 0"];[[listener]]"#;
 
 /// In each line a part of the plain document, and what stands in its place in a document that breaks no rule.
 const KEPT: &str = r#"[domain]|# a comment;[domain]
+[domain];name = "CORP";sid = "S-1-5-21-1-2-3"|domain = { name = "CORP", sid = "S-1-5-21-1-2-3" }
+[domain];name = "CORP";sid|domain.name = "\u0043ORP";domain.sid
 CORP|ABCDEFGHIJKLMNO
 CORP|Ä. b
 "S-1-5-21-1-2-3"|"S-1-5-1-2-3-4-5-6-7-8-9-10-11-12-13-14"
@@ -168,6 +184,10 @@ fn these_documents_break_no_rule(rt: HostRuntime) -> Result<(), Fail> {
     assert_eq!(rt; broken(rt.alloc(), PLAIN.as_bytes())?, None);
     let unended = PLAIN.strip_suffix("\n").ok_or("no line end")?;
     assert_eq!(rt; broken(rt.alloc(), unended.as_bytes())?, None);
+    let returned = PLAIN.replace(rt.alloc(), "\n", "\r\n")?;
+    assert_eq!(rt; broken(rt.alloc(), returned.as_bytes())?, None);
+    let without_lines = PLAIN.replace(rt.alloc(), "\n", "\r")?;
+    assert_eq!(rt; broken(rt.alloc(), without_lines.as_bytes())?, Some(0));
     Ok(())
 }
 
