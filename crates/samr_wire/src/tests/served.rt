@@ -1,0 +1,147 @@
+// Which calls aren't served, and which values of a class aren't looked at.
+use super::calls::table_is_right;
+use super::{HANDLE_WRITTEN, bad_call, bytes_of};
+use crate::{WireError, read_call, read_reply};
+use std::alloc::Global;
+use std::process::Abort;
+use std::test::Fail;
+
+/// The opnums of the operations that the account server takes.
+const OPERATIONS: [u16; 42] = [
+    1, 5, 6, 7, 8, 9, 10, 11, 12, 13, 14, 15, 16, 17, 18, 19, 20, 21, 22, 23, 24, 25, 27, 28, 29,
+    30, 31, 32, 33, 34, 35, 36, 37, 39, 46, 47, 50, 57, 58, 62, 64, 65,
+];
+
+fn is_not_served(alloc: Global, opnum: u16, stub: &[u8]) -> bool {
+    matches!(read_call(alloc, opnum, stub), Err(WireError::NotServed(of)) if of == opnum)
+}
+
+#[test]
+fn other_opnums_are_not_served(rt: HostRuntime) {
+    let alloc = rt.alloc();
+    for opnum in 0..=u16::MAX {
+        if !OPERATIONS.contains(&opnum) {
+            assert!(rt; is_not_served(alloc, opnum, &[]), "{opnum}");
+            let reply = read_reply(alloc, opnum, &[]);
+            assert!(rt;
+                matches!(reply, Err(WireError::NotServed(of)) if of == opnum),
+                "{opnum}"
+            );
+        }
+    }
+}
+
+/// A class that carries a password isn't served, whatever stands behind it; without its two bytes the stub is bad.
+fn is_withheld(rt: &impl Abort, alloc: Global, opnum: u16, class: u8) -> Result<(), Fail> {
+    let mut stub = bytes_of(alloc, HANDLE_WRITTEN)?;
+    assert_eq!(rt; bad_call(alloc, opnum, &stub), Some(20));
+    stub.push(class)?;
+    assert_eq!(rt; bad_call(alloc, opnum, &stub), Some(20));
+    for byte in [0, class, 0, 0xFF] {
+        stub.push(byte)?;
+        assert!(rt;
+            is_not_served(alloc, opnum, &stub),
+            "class {class} of {opnum}"
+        );
+    }
+    Ok(())
+}
+
+// DOMAIN_INFORMATION_CLASS and USER_INFORMATION_CLASS of MS-SAMR.
+#[test]
+fn passwords_are_not_served(rt: HostRuntime) -> Result<(), Fail> {
+    for opnum in [8, 9, 46] {
+        for class in [1, 12] {
+            is_withheld(&rt, rt.alloc(), opnum, class)?;
+        }
+    }
+    for opnum in [36, 37, 47, 58] {
+        for class in [18, 21, 23, 24, 25, 26] {
+            is_withheld(&rt, rt.alloc(), opnum, class)?;
+        }
+    }
+    Ok(())
+}
+
+/// Values of classes that can't be set, in the form of the table of calls: of them the class alone is kept, and written.
+const UNSERVED: &str = "
+37 SamrSetInformationUser, a user's names
+Put 6 Unserved
+4422111111112
+HAND 0600
+SAMBA 06000600 06000600 00000200 0a000a00 04000200 03000000 00000000 03000000 62006f00 62000000 05000000 00000000 05000000 42006f00 62002000 4200
+HAND 060010
+HAND 06001000
+
+58 SamrSetInformationUser2
+Put 6 Unserved
+4422111111112
+HAND 0600
+HAND 06000700 ff
+
+58 SamrSetInformationUser2
+Put 1 Unserved
+4422111111112
+HAND 0100
+HAND 01000100 ff
+
+37 SamrSetInformationUser
+Put 0 Unserved
+4422111111112
+HAND 0000
+HAND 00000000
+
+37 SamrSetInformationUser
+Put 20 Unserved
+4422111111112
+HAND 1400
+HAND 1400ffff
+
+58 SamrSetInformationUser2
+Put 65535 Unserved
+4422111111112
+HAND ffff
+HAND ffffffff
+
+9 SamrSetInformationDomain, the domain's name, which only shows
+Put 5 Unserved
+4422111111112
+HAND 0500
+HAND 05000400
+
+9 SamrSetInformationDomain
+Put 3 Unserved
+4422111111112
+HAND 0300
+HAND 030004
+
+21 SamrSetInformationGroup, all of a group
+Put 1 Unserved
+4422111111112
+HAND 0100
+IMPACKET 01000100 0a000a00 be970000 07000000 03000000 02000200 dd4d0000 05000000 00000000 05000000 73007400 61006600 6600abab 01000000 00000000 01000000 7800
+
+21 SamrSetInformationGroup
+Put 5 Unserved
+4422111111112
+HAND 0500
+HAND 05000500
+
+29 SamrSetInformationAlias
+Put 1 Unserved
+4422111111112
+HAND 0100
+HAND 01000100 07
+
+29 SamrSetInformationAlias
+Put 4 Unserved
+4422111111112
+HAND 0400
+HAND 040003
+";
+
+#[test]
+fn a_class_that_cannot_be_set_is_taken(rt: HostRuntime) -> Result<(), Fail> {
+    assert_eq!(rt; table_is_right(&rt, rt.alloc(), UNSERVED)?, (12, 26));
+    Ok(())
+}
