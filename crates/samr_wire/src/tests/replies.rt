@@ -1,11 +1,35 @@
 // Replies as Samba and impacket write them: what they bring, and how they are written here.
+ghost use Rattle.samr_wire.specs.ReplyShapes.{HasShape};
+
 use super::places::reply_beginnings;
 use super::told::told_reply;
 use super::{bytes_of, numbered};
 use crate::{read_reply, write_reply};
+use acct_calls::Reply;
 use std::alloc::Global;
 use std::process::Abort;
 use std::test::Fail;
+
+/// The reply brings this, and is written as a stub.
+fn is_right(
+    rt: &impl Abort,
+    alloc: Global,
+    opnum: u16,
+    reply: &Reply,
+    brought: &str,
+    written: &[u8],
+) -> Result<(), Fail>
+    requires { HasShape opnum reply.now }
+{
+    let told = told_reply(alloc, reply)?;
+    assert_eq!(rt; told.as_str(), brought);
+    let again = write_reply(alloc, opnum, reply)?;
+    assert!(rt;
+        again.as_slice() == written,
+        "another stub of {opnum}: {brought}"
+    );
+    Ok(())
+}
 
 /// The stub is read as a reply that brings this, and that is written as another stub.
 fn is_written(
@@ -16,18 +40,10 @@ fn is_written(
     brought: &str,
     written: &[u8],
 ) -> Result<(), Fail> {
-    let reply = match read_reply(alloc, opnum, stub) {
-        Ok(reply) => reply,
+    match read_reply(alloc, opnum, stub) {
+        Ok(reply) => is_right(rt, alloc, opnum, &reply, brought, written),
         Err(_) => panic!(rt; "no reply of {opnum}: {brought}"),
-    };
-    let told = told_reply(alloc, &reply)?;
-    assert_eq!(rt; told.as_str(), brought);
-    let again = write_reply(alloc, opnum, &reply)?;
-    assert!(rt;
-        again.as_slice() == written,
-        "another stub of {opnum}: {brought}"
-    );
-    Ok(())
+    }
 }
 
 /// A row of the table: each of its stubs is read as the reply, which is written as the first of them, and each beginning
