@@ -1,4 +1,5 @@
--- What the generic bits of an access mask stand for at each kind of objects (MS-SAMR 2.2.1.3 to 2.2.1.7, MS-LSAD 2.2.1.1.2, 2.2.1.1.3)
+-- What the generic bits of an access mask stand for at each kind of objects (MS-SAMR 2.2.1.3 to 2.2.1.7,
+-- MS-LSAD 2.2.1.1.2 and 2.2.1.1.3).
 use Rattle.std.specs.Prelude.{ℕ}
 use Rattle.acct_codes.specs.declared.kind.Kind.{Kind}
 use Rattle.acct_codes.specs.declared.kind.Kind.TheVariants.{Server, Domain, Group, Alias, User, Policy, Account}

@@ -1,4 +1,7 @@
 //! Rights to an account object of the policy (MS-LSAD 2.2.1.1.3).
+ghost use Rattle.std.specs.Prelude.{◌≡◌};
+ghost use Rattle.acct_codes.specs.Rights.{account_view, account_adjust_privileges, account_adjust_quotas};
+ghost use Rattle.acct_codes.specs.Rights.{account_adjust_system_access};
 
 use crate::standard_rights::STANDARD_RIGHTS_REQUIRED;
 
@@ -33,3 +36,11 @@ const _: () = prove!(
 const _: () = prove!(
     ACCOUNT_ALL_ACCESS == ACCOUNT_ALL_ACCESS | ACCOUNT_READ | ACCOUNT_WRITE | ACCOUNT_EXECUTE
 );
+
+/// Each own right to an account object of the policy (MS-LSAD 2.2.1.1.3) is the one of the standard.
+pub fn account_rights_are_the_standards()
+    ensures account_view { ACCOUNT_VIEW ≡ account_view }
+    ensures account_adjust_privileges { ACCOUNT_ADJUST_PRIVILEGES ≡ account_adjust_privileges }
+    ensures account_adjust_quotas { ACCOUNT_ADJUST_QUOTAS ≡ account_adjust_quotas }
+    ensures account_adjust_system_access { ACCOUNT_ADJUST_SYSTEM_ACCESS ≡ account_adjust_system_access }
+{}

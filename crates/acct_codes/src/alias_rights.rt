@@ -1,4 +1,7 @@
 //! Rights to an alias object (MS-SAMR 2.2.1.6).
+ghost use Rattle.std.specs.Prelude.{◌≡◌};
+ghost use Rattle.acct_codes.specs.Rights.{alias_add_member, alias_remove_member, alias_list_members};
+ghost use Rattle.acct_codes.specs.Rights.{alias_read_information, alias_write_account};
 
 use crate::standard_rights::STANDARD_RIGHTS_REQUIRED;
 
@@ -36,3 +39,12 @@ const _: () = prove!(
 const _: () = prove!(
     ALIAS_ALL_ACCESS == ALIAS_ALL_ACCESS | ALIAS_READ | ALIAS_WRITE | ALIAS_EXECUTE
 );
+
+/// Each own right to an alias object (MS-SAMR 2.2.1.6) is the one of the standard.
+pub fn alias_rights_are_the_standards()
+    ensures alias_add_member { ALIAS_ADD_MEMBER ≡ alias_add_member }
+    ensures alias_remove_member { ALIAS_REMOVE_MEMBER ≡ alias_remove_member }
+    ensures alias_list_members { ALIAS_LIST_MEMBERS ≡ alias_list_members }
+    ensures alias_read_information { ALIAS_READ_INFORMATION ≡ alias_read_information }
+    ensures alias_write_account { ALIAS_WRITE_ACCOUNT ≡ alias_write_account }
+{}

@@ -1,4 +1,10 @@
 //! Rights to a domain object (MS-SAMR 2.2.1.4).
+ghost use Rattle.std.specs.Prelude.{◌≡◌};
+ghost use Rattle.acct_codes.specs.Rights.{domain_read_password_parameters, domain_write_password_params};
+ghost use Rattle.acct_codes.specs.Rights.{domain_read_other_parameters, domain_write_other_parameters};
+ghost use Rattle.acct_codes.specs.Rights.{domain_create_user, domain_create_group, domain_create_alias};
+ghost use Rattle.acct_codes.specs.Rights.{domain_get_alias_membership, domain_list_accounts, domain_lookup};
+ghost use Rattle.acct_codes.specs.Rights.{domain_administer_server};
 
 use crate::standard_rights::STANDARD_RIGHTS_REQUIRED;
 
@@ -54,3 +60,18 @@ const _: () = prove!(
 const _: () = prove!(
     DOMAIN_ALL_ACCESS == DOMAIN_ALL_ACCESS | DOMAIN_READ | DOMAIN_WRITE | DOMAIN_EXECUTE
 );
+
+/// Each own right to a domain object (MS-SAMR 2.2.1.4) is the one of the standard.
+pub fn domain_rights_are_the_standards()
+    ensures domain_read_password_parameters { DOMAIN_READ_PASSWORD_PARAMETERS ≡ domain_read_password_parameters }
+    ensures domain_write_password_params { DOMAIN_WRITE_PASSWORD_PARAMS ≡ domain_write_password_params }
+    ensures domain_read_other_parameters { DOMAIN_READ_OTHER_PARAMETERS ≡ domain_read_other_parameters }
+    ensures domain_write_other_parameters { DOMAIN_WRITE_OTHER_PARAMETERS ≡ domain_write_other_parameters }
+    ensures domain_create_user { DOMAIN_CREATE_USER ≡ domain_create_user }
+    ensures domain_create_group { DOMAIN_CREATE_GROUP ≡ domain_create_group }
+    ensures domain_create_alias { DOMAIN_CREATE_ALIAS ≡ domain_create_alias }
+    ensures domain_get_alias_membership { DOMAIN_GET_ALIAS_MEMBERSHIP ≡ domain_get_alias_membership }
+    ensures domain_list_accounts { DOMAIN_LIST_ACCOUNTS ≡ domain_list_accounts }
+    ensures domain_lookup { DOMAIN_LOOKUP ≡ domain_lookup }
+    ensures domain_administer_server { DOMAIN_ADMINISTER_SERVER ≡ domain_administer_server }
+{}

@@ -1,4 +1,7 @@
 //! Rights to a group object (MS-SAMR 2.2.1.5).
+ghost use Rattle.std.specs.Prelude.{◌≡◌};
+ghost use Rattle.acct_codes.specs.Rights.{group_read_information, group_write_account, group_add_member};
+ghost use Rattle.acct_codes.specs.Rights.{group_remove_member, group_list_members};
 
 use crate::standard_rights::STANDARD_RIGHTS_REQUIRED;
 
@@ -36,3 +39,12 @@ const _: () = prove!(
 const _: () = prove!(
     GROUP_ALL_ACCESS == GROUP_ALL_ACCESS | GROUP_READ | GROUP_WRITE | GROUP_EXECUTE
 );
+
+/// Each own right to a group object (MS-SAMR 2.2.1.5) is the one of the standard.
+pub fn group_rights_are_the_standards()
+    ensures group_read_information { GROUP_READ_INFORMATION ≡ group_read_information }
+    ensures group_write_account { GROUP_WRITE_ACCOUNT ≡ group_write_account }
+    ensures group_add_member { GROUP_ADD_MEMBER ≡ group_add_member }
+    ensures group_remove_member { GROUP_REMOVE_MEMBER ≡ group_remove_member }
+    ensures group_list_members { GROUP_LIST_MEMBERS ≡ group_list_members }
+{}

@@ -1,17 +1,24 @@
-//! The numbers of the account server: access rights of each kind of object, statuses, faults and a user's control bits.
+//! The numbers of the account server: access rights of each kind of object, statuses, faults, a user's control bits,
+//! operation numbers, the causes of a refused PDU and the limits of connections.
 //!
-//! It stands on nothing of ours. The layers above use that `mapping_of` is the table of generic mappings and that
-//! `valid_bits` is its column of all rights. Each constant has the standard's spelling and stands in the module of its
-//! subject.
+//! It stands on nothing of ours. In specs/ each number stands once, in the table of its subject, by its name in the
+//! standards; every other definition cites it there. Each constant of the code has the standard's spelling and stands
+//! in the module of its subject. The layers above use that each constant is the number of the table (by a law in each
+//! module, which is the contract of a function that does nothing), that `mapping_of` is the table of generic mappings
+//! and that `valid_bits` is its column of all rights.
 #![tactic(auto)]
 
 pub mod account_rights;
 pub mod alias_rights;
+pub mod cause;
 pub mod domain_rights;
 pub mod fault;
 pub mod group_rights;
 mod kind;
+pub mod limit;
+pub mod lsa_opnum;
 pub mod policy_rights;
+pub mod samr_opnum;
 pub mod server_rights;
 pub mod standard_rights;
 pub mod status;

@@ -1,4 +1,10 @@
 //! Rights to a policy object (MS-LSAD 2.2.1.1.2).
+ghost use Rattle.std.specs.Prelude.{◌≡◌};
+ghost use Rattle.acct_codes.specs.Rights.{policy_view_local_information, policy_view_audit_information};
+ghost use Rattle.acct_codes.specs.Rights.{policy_get_private_information, policy_trust_admin, policy_create_account};
+ghost use Rattle.acct_codes.specs.Rights.{policy_create_secret, policy_create_privilege};
+ghost use Rattle.acct_codes.specs.Rights.{policy_set_default_quota_limits, policy_set_audit_requirements};
+ghost use Rattle.acct_codes.specs.Rights.{policy_audit_log_admin, policy_server_admin, policy_lookup_names};
 
 use crate::standard_rights::STANDARD_RIGHTS_REQUIRED;
 
@@ -57,3 +63,19 @@ const _: () = prove!(
 const _: () = prove!(
     POLICY_ALL_ACCESS == POLICY_ALL_ACCESS | POLICY_READ | POLICY_WRITE | POLICY_EXECUTE
 );
+
+/// Each own right to a policy object (MS-LSAD 2.2.1.1.2) is the one of the standard.
+pub fn policy_rights_are_the_standards()
+    ensures policy_view_local_information { POLICY_VIEW_LOCAL_INFORMATION ≡ policy_view_local_information }
+    ensures policy_view_audit_information { POLICY_VIEW_AUDIT_INFORMATION ≡ policy_view_audit_information }
+    ensures policy_get_private_information { POLICY_GET_PRIVATE_INFORMATION ≡ policy_get_private_information }
+    ensures policy_trust_admin { POLICY_TRUST_ADMIN ≡ policy_trust_admin }
+    ensures policy_create_account { POLICY_CREATE_ACCOUNT ≡ policy_create_account }
+    ensures policy_create_secret { POLICY_CREATE_SECRET ≡ policy_create_secret }
+    ensures policy_create_privilege { POLICY_CREATE_PRIVILEGE ≡ policy_create_privilege }
+    ensures policy_set_default_quota_limits { POLICY_SET_DEFAULT_QUOTA_LIMITS ≡ policy_set_default_quota_limits }
+    ensures policy_set_audit_requirements { POLICY_SET_AUDIT_REQUIREMENTS ≡ policy_set_audit_requirements }
+    ensures policy_audit_log_admin { POLICY_AUDIT_LOG_ADMIN ≡ policy_audit_log_admin }
+    ensures policy_server_admin { POLICY_SERVER_ADMIN ≡ policy_server_admin }
+    ensures policy_lookup_names { POLICY_LOOKUP_NAMES ≡ policy_lookup_names }
+{}

@@ -1,4 +1,8 @@
 //! Rights to a SAM server object (MS-SAMR 2.2.1.3).
+ghost use Rattle.std.specs.Prelude.{◌≡◌};
+ghost use Rattle.acct_codes.specs.Rights.{sam_server_connect, sam_server_shutdown, sam_server_initialize};
+ghost use Rattle.acct_codes.specs.Rights.{sam_server_create_domain, sam_server_enumerate_domains};
+ghost use Rattle.acct_codes.specs.Rights.{sam_server_lookup_domain};
 
 use crate::standard_rights::STANDARD_RIGHTS_REQUIRED;
 
@@ -40,3 +44,13 @@ const _: () = prove!(
     SAM_SERVER_ALL_ACCESS
         == SAM_SERVER_ALL_ACCESS | SAM_SERVER_READ | SAM_SERVER_WRITE | SAM_SERVER_EXECUTE
 );
+
+/// Each own right to a SAM server object (MS-SAMR 2.2.1.3) is the one of the standard.
+pub fn server_rights_are_the_standards()
+    ensures sam_server_connect { SAM_SERVER_CONNECT ≡ sam_server_connect }
+    ensures sam_server_shutdown { SAM_SERVER_SHUTDOWN ≡ sam_server_shutdown }
+    ensures sam_server_initialize { SAM_SERVER_INITIALIZE ≡ sam_server_initialize }
+    ensures sam_server_create_domain { SAM_SERVER_CREATE_DOMAIN ≡ sam_server_create_domain }
+    ensures sam_server_enumerate_domains { SAM_SERVER_ENUMERATE_DOMAINS ≡ sam_server_enumerate_domains }
+    ensures sam_server_lookup_domain { SAM_SERVER_LOOKUP_DOMAIN ≡ sam_server_lookup_domain }
+{}

@@ -1,4 +1,7 @@
 //! Rights that mean the same for every kind of object, and the generic bits (MS-DTYP 2.4.3; MS-SAMR 2.2.1.1, 2.2.1.2).
+ghost use Rattle.std.specs.Prelude.{◌≡◌};
+ghost use Rattle.acct_codes.specs.Rights.{delete, read_control, write_dac, write_owner, access_system_security};
+ghost use Rattle.acct_codes.specs.Rights.{maximum_allowed, generic_all, generic_execute, generic_write, generic_read};
 
 /// To delete the object.
 pub const DELETE: u32 = 0x0001_0000;
@@ -25,3 +28,17 @@ pub const GENERIC_READ: u32 = 0x8000_0000;
 pub const STANDARD_RIGHTS_REQUIRED: u32 = 0x000F_0000;
 
 const _: () = prove!(STANDARD_RIGHTS_REQUIRED == DELETE | READ_CONTROL | WRITE_DAC | WRITE_OWNER);
+
+/// Each right that every kind of object has is the one of the standard (MS-DTYP 2.4.3).
+pub fn standard_rights_are_the_standards()
+    ensures delete { DELETE ≡ delete }
+    ensures read_control { READ_CONTROL ≡ read_control }
+    ensures write_dac { WRITE_DAC ≡ write_dac }
+    ensures write_owner { WRITE_OWNER ≡ write_owner }
+    ensures access_system_security { ACCESS_SYSTEM_SECURITY ≡ access_system_security }
+    ensures maximum_allowed { MAXIMUM_ALLOWED ≡ maximum_allowed }
+    ensures generic_all { GENERIC_ALL ≡ generic_all }
+    ensures generic_execute { GENERIC_EXECUTE ≡ generic_execute }
+    ensures generic_write { GENERIC_WRITE ≡ generic_write }
+    ensures generic_read { GENERIC_READ ≡ generic_read }
+{}

@@ -1,4 +1,9 @@
 //! Rights to a user object (MS-SAMR 2.2.1.7).
+ghost use Rattle.std.specs.Prelude.{◌≡◌};
+ghost use Rattle.acct_codes.specs.Rights.{user_read_general, user_read_preferences, user_write_preferences};
+ghost use Rattle.acct_codes.specs.Rights.{user_read_logon, user_read_account, user_write_account};
+ghost use Rattle.acct_codes.specs.Rights.{user_change_password, user_force_password_change, user_list_groups};
+ghost use Rattle.acct_codes.specs.Rights.{user_read_group_information, user_write_group_information};
 
 use crate::standard_rights::STANDARD_RIGHTS_REQUIRED;
 
@@ -52,3 +57,18 @@ const _: () = prove!(
 );
 
 const _: () = prove!(USER_ALL_ACCESS == USER_ALL_ACCESS | USER_READ | USER_WRITE | USER_EXECUTE);
+
+/// Each own right to a user object (MS-SAMR 2.2.1.7) is the one of the standard.
+pub fn user_rights_are_the_standards()
+    ensures user_read_general { USER_READ_GENERAL ≡ user_read_general }
+    ensures user_read_preferences { USER_READ_PREFERENCES ≡ user_read_preferences }
+    ensures user_write_preferences { USER_WRITE_PREFERENCES ≡ user_write_preferences }
+    ensures user_read_logon { USER_READ_LOGON ≡ user_read_logon }
+    ensures user_read_account { USER_READ_ACCOUNT ≡ user_read_account }
+    ensures user_write_account { USER_WRITE_ACCOUNT ≡ user_write_account }
+    ensures user_change_password { USER_CHANGE_PASSWORD ≡ user_change_password }
+    ensures user_force_password_change { USER_FORCE_PASSWORD_CHANGE ≡ user_force_password_change }
+    ensures user_list_groups { USER_LIST_GROUPS ≡ user_list_groups }
+    ensures user_read_group_information { USER_READ_GROUP_INFORMATION ≡ user_read_group_information }
+    ensures user_write_group_information { USER_WRITE_GROUP_INFORMATION ≡ user_write_group_information }
+{}
