@@ -5,7 +5,7 @@ use Rattle.std.specs.List.{list_all}
 use Rattle.std.specs.Option.{option_map_or}
 use Rattle.std.proofs.lemmas.Nat.{and_le_l}
 use Rattle.acct_codes.specs.declared.kind.Kind.{Kind}
-use Rattle.acct_codes.specs.declared.standard_rights.TheConstants.{READ_CONTROL, WRITE_DAC, ACCESS_SYSTEM_SECURITY, MAXIMUM_ALLOWED, GENERIC_ALL, GENERIC_READ, GENERIC_WRITE, GENERIC_EXECUTE}
+use Rattle.acct_codes.specs.Rights.{read_control, write_dac, access_system_security, maximum_allowed, generic_all, generic_read, generic_write, generic_execute}
 use Rattle.acct_codes.specs.Mappings.{valid_rights}
 use Rattle.dtyp_sid.specs.Value.{SidValue}
 use Rattle.dtyp_access.specs.declared.ace.Ace.{Ace}
@@ -75,17 +75,17 @@ grants_more token more right (ace ∷ aces) has none is =
 pub more_sids : (token more : List SidValue) (d : Descriptor) (right : ℕ) → DeniesNothing d.acl → HasAll token more → granted token d right ≡ true → granted more d right ≡ true
 unfolding granted is_owners acl_grants
 more_sids token more d right none has is =
-    let first = and_left (not (right == ACCESS_SYSTEM_SECURITY)) (grants token d.owner right d.acl) is in
-    let second = and_right (not (right == ACCESS_SYSTEM_SECURITY)) (grants token d.owner right d.acl) is in
-    and_both (not (right == ACCESS_SYSTEM_SECURITY)) (grants more d.owner right d.acl) first (listed d.acl none second)
+    let first = and_left (not (right == access_system_security)) (grants token d.owner right d.acl) is in
+    let second = and_right (not (right == access_system_security)) (grants token d.owner right d.acl) is in
+    and_both (not (right == access_system_security)) (grants more d.owner right d.acl) first (listed d.acl none second)
   where
     listed : (acl : Option (List Ace)) → DeniesNothing acl → grants token d.owner right acl ≡ true → grants more d.owner right acl ≡ true
     listed None none is = refl
     listed (Some aces) none is =
         or_more (is_owners token d.owner right) (acl_grants token right aces) (is_owners more d.owner right) (acl_grants more right aces)
-        (λ owns. and_both (has_sid more d.owner) (right == READ_CONTROL || right == WRITE_DAC)
-        (has d.owner (and_left (has_sid token d.owner) (right == READ_CONTROL || right == WRITE_DAC) owns))
-        (and_right (has_sid token d.owner) (right == READ_CONTROL || right == WRITE_DAC) owns))
+        (λ owns. and_both (has_sid more d.owner) (right == read_control || right == write_dac)
+        (has d.owner (and_left (has_sid token d.owner) (right == read_control || right == write_dac) owns))
+        (and_right (has_sid token d.owner) (right == read_control || right == write_dac) owns))
         (grants_more token more right aces has none) is
 
 -- an opening that succeeds: its grant, and that each right that is asked for may be had
@@ -116,7 +116,7 @@ given_may : (kind : Kind) (d : Descriptor) (token : List SidValue) (desired gran
     → (bit : ℕ) → bit < 32 → shares grant (2 ^ bit) ≡ true → may_have kind d token (2 ^ bit) ≡ true
 unfolding gives
 given_may kind d token desired grant is bit within has =
-    either (asks kind desired (2 ^ bit)) (shares desired MAXIMUM_ALLOWED) (may_have kind d token (2 ^ bit)) (is.asked_may bit within)
+    either (asks kind desired (2 ^ bit)) (shares desired maximum_allowed) (may_have kind d token (2 ^ bit)) (is.asked_may bit within)
     (sym (shares-mask_of 32 (gives kind d token desired) bit within) ∙ ap (λ mask. shares mask (2 ^ bit)) (sym is.grant_is) ∙ has)
   where
     either : (a m g : Bool) → (a ≡ true → g ≡ true) → (a || (m && g)) ≡ true → g ≡ true
@@ -142,7 +142,7 @@ grant_valid kind d token desired grant is =
     within_mask grant (valid_rights kind) (grant_fits kind d token desired grant open')
     (λ bit within has. and_left (shares (valid_rights kind) (2 ^ bit)) (granted token d (2 ^ bit)) (given_may kind d token desired grant open' bit within has))
 
-pub maximum_all : (kind : Kind) (d : Descriptor) (token : List SidValue) (desired grant other plain : ℕ) → shares desired MAXIMUM_ALLOWED ≡ true
+pub maximum_all : (kind : Kind) (d : Descriptor) (token : List SidValue) (desired grant other plain : ℕ) → shares desired maximum_allowed ≡ true
     → opened kind d token desired ≡ Some grant → opened kind d token other ≡ Some plain → bit_and plain grant ≡ plain
 unfolding gives
 maximum_all kind d token desired grant other plain maximum is is_plain =
@@ -153,7 +153,7 @@ maximum_all kind d token desired grant other plain maximum is is_plain =
     let may = given_may kind d token other plain open_plain bit within has in
     ap (λ mask. shares mask (2 ^ bit)) open'.grant_is
     ∙ shares-mask_of 32 (gives kind d token desired) bit within
-    ∙ or_right (asks kind desired (2 ^ bit)) (shares desired MAXIMUM_ALLOWED && may_have kind d token (2 ^ bit)) (and_both (shares desired MAXIMUM_ALLOWED) (may_have kind d token (2 ^ bit)) maximum may))
+    ∙ or_right (asks kind desired (2 ^ bit)) (shares desired maximum_allowed && may_have kind d token (2 ^ bit)) (and_both (shares desired maximum_allowed) (may_have kind d token (2 ^ bit)) maximum may))
 
 -- nothing is asked for
 none_shared : (other : ℕ) → shares 0 other ≡ false
@@ -162,7 +162,7 @@ none_shared other = shares_no 0 other (omega (arith, and_le_l 0 other))
 asks_nothing : (kind : Kind) (right : ℕ) → asks kind 0 right ≡ false
 unfolding asks
 asks_nothing kind right =
-    rw (none_shared right, none_shared GENERIC_ALL, none_shared GENERIC_READ, none_shared GENERIC_WRITE, none_shared GENERIC_EXECUTE) refl
+    rw (none_shared right, none_shared generic_all, none_shared generic_read, none_shared generic_write, none_shared generic_execute) refl
 
 pub nothing_granted : (kind : Kind) (d : Descriptor) (token : List SidValue) → opened kind d token 0 ≡ Some 0
 nothing_granted kind d token =
@@ -173,4 +173,4 @@ nothing_granted kind d token =
       asked_is = λ bit within. none_shared (2 ^ bit) ∙ sym (asks_nothing kind (2 ^ bit));
       may_is = λ bit within. shares-mask_of 32 (may_have kind d token) bit within;
     } in
-    opened_asked kind d token 0 0 may are (omega (arith, and_le_l 0 (bit_not w32 may))) (none_shared MAXIMUM_ALLOWED)
+    opened_asked kind d token 0 0 may are (omega (arith, and_le_l 0 (bit_not w32 may))) (none_shared maximum_allowed)

@@ -3,7 +3,7 @@ use Rattle.std.proofs.Common.{◌≡◌, ℕ, ◌^◌, ◌<◌, List, refl, sym,
 use Rattle.std.specs.Prelude.{not, ◌&&◌, ◌||◌, if◌then◌else◌}
 use Rattle.std.specs.Int.{bit_not}
 use Rattle.acct_codes.specs.declared.kind.Kind.{Kind}
-use Rattle.acct_codes.specs.declared.standard_rights.TheConstants.{MAXIMUM_ALLOWED}
+use Rattle.acct_codes.specs.Rights.{maximum_allowed}
 use Rattle.dtyp_sid.specs.Value.{SidValue}
 use Rattle.dtyp_access.specs.declared.descriptor.Descriptor.{Descriptor}
 use Rattle.dtyp_access.specs.Granted.{shares, granted}
@@ -64,7 +64,7 @@ not_fine kind descriptor token desired asked may are fits some =
 
 -- the mask of what is given
 pub given_asked : (kind : Kind) (descriptor : Descriptor) (token : List SidValue) (desired asked may : ℕ) → AreMasks kind descriptor token desired asked may
-    → shares desired MAXIMUM_ALLOWED ≡ false → mask_of 32 (gives kind descriptor token desired) ≡ asked
+    → shares desired maximum_allowed ≡ false → mask_of 32 (gives kind descriptor token desired) ≡ asked
 unfolding gives
 given_asked kind descriptor token desired asked may are plain =
     same_masks (mask_of 32 (gives kind descriptor token desired)) asked (mask_of-fits 32 _) are.asked_fits (λ bit within.
@@ -74,7 +74,7 @@ given_asked kind descriptor token desired asked may are plain =
     ∙ sym (are.asked_is bit within))
 
 pub given_all : (kind : Kind) (descriptor : Descriptor) (token : List SidValue) (desired asked may : ℕ) → AreMasks kind descriptor token desired asked may
-    → bit_or asked may < 2 ^ 32 → shares desired MAXIMUM_ALLOWED ≡ true → mask_of 32 (gives kind descriptor token desired) ≡ bit_or asked may
+    → bit_or asked may < 2 ^ 32 → shares desired maximum_allowed ≡ true → mask_of 32 (gives kind descriptor token desired) ≡ bit_or asked may
 unfolding gives
 given_all kind descriptor token desired asked may are fits maximum =
     same_masks (mask_of 32 (gives kind descriptor token desired)) (bit_or asked may) (mask_of-fits 32 _) fits (λ bit within.
@@ -108,14 +108,14 @@ opened_none kind descriptor token desired asked may are some =
     ap (λ b. if b then Some (mask_of 32 (gives kind descriptor token desired)) else None) (not_fine kind descriptor token desired asked may are fits some)
 
 pub opened_asked : (kind : Kind) (descriptor : Descriptor) (token : List SidValue) (desired asked may : ℕ) → AreMasks kind descriptor token desired asked may
-    → bit_and asked (bit_not w32 may) ≡ 0 → shares desired MAXIMUM_ALLOWED ≡ false → opened kind descriptor token desired ≡ Some asked
+    → bit_and asked (bit_not w32 may) ≡ 0 → shares desired maximum_allowed ≡ false → opened kind descriptor token desired ≡ Some asked
 unfolding opened
 opened_asked kind descriptor token desired asked may are none plain =
     ap (λ b. if b then Some (mask_of 32 (gives kind descriptor token desired)) else None) (all_fine kind descriptor token desired asked may are none)
     ∙ ap (λ (mask : ℕ). Some mask) (given_asked kind descriptor token desired asked may are plain)
 
 pub opened_all : (kind : Kind) (descriptor : Descriptor) (token : List SidValue) (desired asked may : ℕ) → AreMasks kind descriptor token desired asked may
-    → bit_and asked (bit_not w32 may) ≡ 0 → bit_or asked may < 2 ^ 32 → shares desired MAXIMUM_ALLOWED ≡ true → opened kind descriptor token desired ≡ Some (bit_or asked may)
+    → bit_and asked (bit_not w32 may) ≡ 0 → bit_or asked may < 2 ^ 32 → shares desired maximum_allowed ≡ true → opened kind descriptor token desired ≡ Some (bit_or asked may)
 unfolding opened
 opened_all kind descriptor token desired asked may are none fits maximum =
     ap (λ b. if b then Some (mask_of 32 (gives kind descriptor token desired)) else None) (all_fine kind descriptor token desired asked may are none)

@@ -4,13 +4,13 @@ use Rattle.std.specs.Prelude.{not, ◌&&◌, ◌||◌, ◌==◌, is_none, if◌t
 use Rattle.std.specs.Option.{option_or, option_map_or}
 use Rattle.std.proofs.lemmas.List.Folds.{find-append}
 use Rattle.dtyp_sid.specs.Value.{SidValue}
-use Rattle.acct_codes.specs.declared.standard_rights.TheConstants.{MAXIMUM_ALLOWED}
+use Rattle.acct_codes.specs.Rights.{maximum_allowed}
 use Rattle.dtyp_access.specs.declared.ace.Ace.{Ace}
 use Rattle.dtyp_access.specs.Granted.{shares, is_generic, names, applies, is_allow, is_inherit_only, has_sid, acl_grants, is_owners}
 
 -- whether entries may name the right
 abbrev pub is_named : ℕ → Bool
-is_named right = not (is_generic right || right == MAXIMUM_ALLOWED)
+is_named right = not (is_generic right || right == maximum_allowed)
 
 -- after some entries: whether the right is granted so far, and whether it is still undecided
 pub record IsWalked (token : List SidValue) (owner : SidValue) (right : ℕ) (aces : List Ace) (granted undecided : Bool) : Type 0 where

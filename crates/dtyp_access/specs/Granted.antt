@@ -4,7 +4,7 @@ use Rattle.std.specs.List.{list_any}
 use Rattle.std.specs.Option.{option_map_or}
 use Rattle.std.specs.declared.option.Option.{Option}
 use Rattle.std.specs.declared.option.Option.TheVariants.{Some, None}
-use Rattle.acct_codes.specs.declared.standard_rights.TheConstants.{READ_CONTROL, WRITE_DAC, ACCESS_SYSTEM_SECURITY, MAXIMUM_ALLOWED, GENERIC_ALL, GENERIC_EXECUTE, GENERIC_WRITE, GENERIC_READ}
+use Rattle.acct_codes.specs.Rights.{read_control, write_dac, access_system_security, maximum_allowed, generic_all, generic_execute, generic_write, generic_read}
 use Rattle.dtyp_sid.specs.Value.{SidValue}
 use Rattle.dtyp_sid.specs.Order.{sid_eq}
 use Rattle.dtyp_access.specs.declared.ace.Ace.{Ace}
@@ -22,11 +22,11 @@ shares mask other = not (bit_and mask other == 0)
 
 -- whether a right is one of the generic ones
 abbrev pub is_generic : ℕ → Bool
-is_generic right = right == GENERIC_ALL || right == GENERIC_EXECUTE || right == GENERIC_WRITE || right == GENERIC_READ
+is_generic right = right == generic_all || right == generic_execute || right == generic_write || right == generic_read
 
 -- whether an entry names the right, which its generic bits and MAXIMUM_ALLOWED never do
 unfoldable pub names : Ace → ℕ → Bool
-names ace right = shares ace.mask right && not (is_generic right || right == MAXIMUM_ALLOWED)
+names ace right = shares ace.mask right && not (is_generic right || right == maximum_allowed)
 
 -- whether an entry is for what inherits the list alone (flag 0x08), and not for the object itself
 unfoldable pub is_inherit_only : Ace → Bool
@@ -54,7 +54,7 @@ acl_grants token right aces = option_map_or is_allow (find (applies token right)
 
 -- whether the owner has the right whatever the list says
 unfoldable pub is_owners : List SidValue → SidValue → ℕ → Bool
-is_owners token owner right = has_sid token owner && (right == READ_CONTROL || right == WRITE_DAC)
+is_owners token owner right = has_sid token owner && (right == read_control || right == write_dac)
 
 -- whether a right is granted where there is an access control list, or none, which grants every right
 abbrev pub grants : List SidValue → SidValue → ℕ → Option (List Ace) → Bool
@@ -63,4 +63,4 @@ grants token owner right (Some aces) = is_owners token owner right || acl_grants
 
 -- whether the descriptor grants the right to the token
 unfoldable pub granted : List SidValue → Descriptor → ℕ → Bool
-granted token descriptor right = not (right == ACCESS_SYSTEM_SECURITY) && grants token descriptor.owner right descriptor.acl
+granted token descriptor right = not (right == access_system_security) && grants token descriptor.owner right descriptor.acl

@@ -4,7 +4,7 @@ use Rattle.std.specs.List.{list_all}
 use Rattle.std.specs.declared.option.Option.{Option}
 use Rattle.std.specs.declared.option.Option.TheVariants.{Some, None}
 use Rattle.acct_codes.specs.declared.kind.Kind.{Kind}
-use Rattle.acct_codes.specs.declared.standard_rights.TheConstants.{MAXIMUM_ALLOWED}
+use Rattle.acct_codes.specs.Rights.{maximum_allowed}
 use Rattle.acct_codes.specs.Mappings.{valid_rights}
 use Rattle.dtyp_sid.specs.Value.{SidValue}
 use Rattle.dtyp_access.specs.declared.ace.Ace.{Ace}
@@ -28,7 +28,7 @@ GrantsAreValid = (kind : Kind) (d : Descriptor) (token : List SidValue) (desired
 
 -- an opening that asks for the maximum grants all that any other opening would
 abbrev pub MaximumGrantsAll : Type 0
-MaximumGrantsAll = (kind : Kind) (d : Descriptor) (token : List SidValue) (desired grant other plain : ℕ) → shares desired MAXIMUM_ALLOWED ≡ true
+MaximumGrantsAll = (kind : Kind) (d : Descriptor) (token : List SidValue) (desired grant other plain : ℕ) → shares desired maximum_allowed ≡ true
     → opened kind d token desired ≡ Some grant → opened kind d token other ≡ Some plain → bit_and plain grant ≡ plain
 
 -- an opening that asks for nothing grants nothing, and is never refused

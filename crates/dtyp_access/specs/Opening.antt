@@ -3,7 +3,7 @@ use Rattle.std.specs.Prelude.{ℕ, zero, suc, ◌+◌, ◌^◌, Bool, true, not,
 use Rattle.std.specs.declared.option.Option.{Option}
 use Rattle.std.specs.declared.option.Option.TheVariants.{Some, None}
 use Rattle.acct_codes.specs.declared.kind.Kind.{Kind}
-use Rattle.acct_codes.specs.declared.standard_rights.TheConstants.{MAXIMUM_ALLOWED, GENERIC_ALL, GENERIC_EXECUTE, GENERIC_WRITE, GENERIC_READ}
+use Rattle.acct_codes.specs.Rights.{maximum_allowed, generic_all, generic_execute, generic_write, generic_read}
 use Rattle.acct_codes.specs.Mappings.{generic_mapping, valid_rights}
 use Rattle.dtyp_sid.specs.Value.{SidValue}
 use Rattle.dtyp_access.specs.declared.descriptor.Descriptor.{Descriptor}
@@ -12,11 +12,11 @@ use Rattle.dtyp_access.specs.Granted.{shares, is_generic, granted}
 -- whether a desired access mask asks for the right: by its own bit, or by a generic bit that stands for it
 unfoldable pub asks : Kind → ℕ → ℕ → Bool
 asks kind desired right =
-    (shares desired right && not (is_generic right || right == MAXIMUM_ALLOWED))
-    || (shares desired GENERIC_ALL && shares (generic_mapping kind).all right)
-    || (shares desired GENERIC_READ && shares (generic_mapping kind).read right)
-    || (shares desired GENERIC_WRITE && shares (generic_mapping kind).write right)
-    || (shares desired GENERIC_EXECUTE && shares (generic_mapping kind).execute right)
+    (shares desired right && not (is_generic right || right == maximum_allowed))
+    || (shares desired generic_all && shares (generic_mapping kind).all right)
+    || (shares desired generic_read && shares (generic_mapping kind).read right)
+    || (shares desired generic_write && shares (generic_mapping kind).write right)
+    || (shares desired generic_execute && shares (generic_mapping kind).execute right)
 
 -- whether the right is one to objects of the kind, and the descriptor grants it to the token
 unfoldable pub may_have : Kind → Descriptor → List SidValue → ℕ → Bool
@@ -24,7 +24,7 @@ may_have kind descriptor token right = shares (valid_rights kind) right && grant
 
 -- whether an opening gives the right: it is asked for, or all that may be had are
 unfoldable pub gives : Kind → Descriptor → List SidValue → ℕ → ℕ → Bool
-gives kind descriptor token desired right = asks kind desired right || (shares desired MAXIMUM_ALLOWED && may_have kind descriptor token right)
+gives kind descriptor token desired right = asks kind desired right || (shares desired maximum_allowed && may_have kind descriptor token right)
 
 -- whether each of the first rights passes a test, from bit 0 on
 unfoldable pub all_rights : ℕ → (ℕ → Bool) → Bool

@@ -1,5 +1,5 @@
 -- The descriptor that bytes spell, or the first reason that they spell none (MS-DTYP 2.4.4 to 2.4.6)
-use Rattle.std.specs.Prelude.{◌≡◌, ℕ, zero, suc, ◌+◌, ◌-◌, Bool, not, ◌||◌, List, [], ◌∷◌, length, take, drop, slice_index, nat_lt, ◌==◌, if◌then◌else◌}
+use Rattle.std.specs.Prelude.{◌≡◌, ℕ, zero, suc, ◌+◌, ◌-◌, Bool, true, false, not, ◌&&◌, ◌||◌, List, [], ◌∷◌, length, take, drop, slice_index, nat_lt, ◌==◌, if◌then◌else◌}
 use Rattle.std.specs.Int.{w16, w32, from_le_bytes}
 use Rattle.std.specs.declared.option.Option.{Option}
 use Rattle.std.specs.declared.option.Option.TheVariants.{Some, None}
@@ -99,3 +99,29 @@ abbrev pub AnswersOrMemory : {X : Type 0} → Result X DescError → Result X De
 AnswersOrMemory (Ok x) wanted = wanted ≡ Ok x
 AnswersOrMemory (Err Memory) wanted = Unit {0}
 AnswersOrMemory (Err refusal) wanted = wanted ≡ Err refusal
+
+-- whether bytes have a list: control says so, and its offset isn't 0 and points behind the header and not past the end
+unfoldable pub has_list : List ℕ → Bool
+has_list bytes = shares (u16_at 2 bytes) 0x0004 && (not (u32_at 16 bytes == 0) && not (is_outside (u32_at 16 bytes) bytes))
+
+-- memory runs out only where there is a list, whose entries take it
+abbrev pub OnlyWithList : {X : Type 0} → Result X DescError → List ℕ → Type 0
+OnlyWithList (Ok x) bytes = Unit {0}
+OnlyWithList (Err Memory) bytes = has_list bytes ≡ true
+OnlyWithList (Err refusal) bytes = Unit {0}
+
+abbrev pub is_read : {X : Type 0} → Result X DescError → Bool
+is_read (Ok x) = true
+is_read (Err refusal) = false
+
+-- memory runs out only where the list is reached: the owner and the group are read, and there is a list
+abbrev pub OnlyAtList : Result Descriptor DescError → List ℕ → Type 0
+OnlyAtList (Ok d) bytes = Unit {0}
+OnlyAtList (Err Memory) bytes = (is_read (sid_of_field 4 bytes) ≡ true) × (is_read (group_of bytes) ≡ true) × (has_list bytes ≡ true)
+OnlyAtList (Err refusal) bytes = Unit {0}
+
+-- reading a SID takes no memory
+abbrev pub NeverMemory : {X : Type 0} → Result X DescError → Type 0
+NeverMemory (Ok x) = Unit {0}
+NeverMemory (Err Memory) = ⊥
+NeverMemory (Err refusal) = Unit {0}

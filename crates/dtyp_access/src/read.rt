@@ -2,7 +2,7 @@
 ghost use Rattle.std.specs.Prelude.{◌≡◌, ◌+◌, ◌≤◌, length, IfOk, IfErr, Ok, Err};
 ghost use Rattle.std.specs.Int.{w16, w32, from_le_bytes};
 ghost use Rattle.dtyp_access.specs.Spelled.{SpellDescriptor};
-ghost use Rattle.dtyp_access.specs.Reading.{AnswersOrMemory, descriptor_of_bytes, sid_of_field, group_of, list_of, acl_at, aces_at, ace_at, next_ace, kind_of, or_no_sid, u16_at, u32_at};
+ghost use Rattle.dtyp_access.specs.Reading.{AnswersOrMemory, OnlyAtList, OnlyWithList, NeverMemory, descriptor_of_bytes, sid_of_field, group_of, list_of, acl_at, aces_at, ace_at, next_ace, kind_of, or_no_sid, u16_at, u32_at};
 
 use crate::laws::read_bytes_spell;
 use crate::{Ace, AceKind, Acl, DescError, Descriptor};
@@ -16,6 +16,7 @@ use std::alloc::Global;
 pub fn read_descriptor(alloc: Global, bytes: &[u8]) -> Result<Descriptor, DescError>
     ensures answer { AnswersOrMemory result (descriptor_of_bytes bytes.now) }
     ensures spelled { IfOk result (λ d. SpellDescriptor bytes.now d) }
+    ensures wants { OnlyAtList result bytes.now }
 {
     read_bytes_spell();
     if bytes.len() < 20 {
@@ -29,15 +30,18 @@ pub fn read_descriptor(alloc: Global, bytes: &[u8]) -> Result<Descriptor, DescEr
     }
     let owner = sid_of_field(bytes, 4)?;
     let group = group_of(bytes)?;
-    let acl = list_of(alloc, bytes)?;
-    Ok(Descriptor { owner, group, acl })
+    match list_of(alloc, bytes) {
+        Ok(acl) => Ok(Descriptor { owner, group, acl }),
+        Err(refusal) => Err(refusal),
+    }
 }
 
 /// The SID that the offset in a field of the header points to.
 #[tactic(auto, unfolding(crate::specs::Reading::sid_of_field))]
 fn sid_of_field(bytes: &[u8], field: usize) -> Result<Sid, DescError>
     requires { field + 4 ≤ length bytes.now }
-    ensures { result ≡ sid_of_field field bytes.now }
+    ensures value { result ≡ sid_of_field field bytes.now }
+    ensures wants { NeverMemory result }
 {
     let offset = u32_at(bytes, field) as usize;
     if offset < 20 || bytes.len() < offset {
@@ -53,20 +57,24 @@ fn sid_of_field(bytes: &[u8], field: usize) -> Result<Sid, DescError>
 #[tactic(auto, unfolding(crate::specs::Reading::group_of))]
 fn group_of(bytes: &[u8]) -> Result<Option<Sid>, DescError>
     requires { 20 ≤ length bytes.now }
-    ensures { result ≡ group_of bytes.now }
+    ensures value { result ≡ group_of bytes.now }
+    ensures wants { NeverMemory result }
 {
     if u32_at(bytes, 8) == 0 {
         return Ok(None);
     }
-    let group = sid_of_field(bytes, 8)?;
-    Ok(Some(group))
+    match sid_of_field(bytes, 8) {
+        Ok(group) => Ok(Some(group)),
+        Err(refusal) => Err(refusal),
+    }
 }
 
 /// The list, which is absent where the control bits or its offset say so.
-#[tactic(auto, unfolding(crate::specs::Reading::list_of, crate::specs::Granted::shares))]
+#[tactic(auto, unfolding(crate::specs::Reading::list_of, crate::specs::Reading::has_list, crate::specs::Granted::shares))]
 fn list_of(alloc: Global, bytes: &[u8]) -> Result<Option<Acl>, DescError>
     requires { 20 ≤ length bytes.now }
-    ensures { AnswersOrMemory result (list_of bytes.now) }
+    ensures answer { AnswersOrMemory result (list_of bytes.now) }
+    ensures wants { OnlyWithList result bytes.now }
 {
     let offset = u32_at(bytes, 16) as usize;
     if u16_at(bytes, 2) & 0x0004 == 0 || offset == 0 {
@@ -75,8 +83,10 @@ fn list_of(alloc: Global, bytes: &[u8]) -> Result<Option<Acl>, DescError>
     if offset < 20 || bytes.len() < offset {
         return Err(DescError::Offset(16));
     }
-    let acl = acl_at(alloc, bytes, offset)?;
-    Ok(Some(acl))
+    match acl_at(alloc, bytes, offset) {
+        Ok(acl) => Ok(Some(acl)),
+        Err(refusal) => Err(refusal),
+    }
 }
 
 /// The list at a place.

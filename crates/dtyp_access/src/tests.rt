@@ -133,6 +133,29 @@ fn the_owner_and_the_absent_list(rt: HostRuntime) -> Result<(), Fail> {
     Ok(())
 }
 
+/// What each generic bit, as the standard prints it, stands for at a domain.
+#[test]
+fn generic_bits_one_by_one(rt: HostRuntime) -> Result<(), Fail> {
+    let token = make_token(rt.alloc(), &[sid_of(&rt, "S-1-5-18")])?;
+    let open = Descriptor {
+        owner: sid_of(&rt, "S-1-1-0"),
+        group: None,
+        acl: None,
+    };
+    for (generic, stands_for) in [
+        (0x1000_0000, 0x000F_07FF),
+        (0x2000_0000, 0x0002_0301),
+        (0x4000_0000, 0x0002_047A),
+        (0x8000_0000, 0x0002_0084),
+    ] {
+        assert_eq!(rt;
+            opening(Kind::Domain, &open, &token, generic),
+            Some(stands_for)
+        );
+    }
+    Ok(())
+}
+
 #[test]
 fn one_entry_is_written_and_read(rt: HostRuntime) -> Result<(), Fail> {
     let alloc = rt.alloc();

@@ -11,3 +11,4 @@ pub mod Exact
 pub mod Divided
 pub mod WrittenPdu
 pub mod Bounds
+pub mod Wants

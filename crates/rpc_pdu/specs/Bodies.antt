@@ -1,5 +1,7 @@
 -- What a whole PDU says, by its type (C706, section 12.6.4).
-use Rattle.std.specs.Prelude.{ℕ, ◌+◌, ◌*◌, ◌/◌, List, length, drop, Option, Some, None, if◌then◌else◌, nat_lt, slice_index}
+use Rattle.std.specs.Prelude.{◌≡◌, ℕ, ◌+◌, ◌*◌, ◌/◌, Bool, true, false, List, length, drop, Option, Some, None, Result, Ok, Err, if◌then◌else◌, nat_lt, slice_index}
+use Rattle.rpc_pdu.specs.declared.lists.Lack.{Lack}
+use Rattle.rpc_pdu.specs.declared.lists.Lack.TheVariants.{Memory, Short}
 use Rattle.rpc_pdu.specs.declared.headers.Kind.{Kind}
 use Rattle.rpc_pdu.specs.declared.headers.Kind.TheVariants as kind
 use Rattle.rpc_pdu.specs.declared.pdus.Outcome.{Outcome}
@@ -66,3 +68,22 @@ body_of kind.Alter bytes = alter_of bytes
 body_of kind.AlterResp bytes = alter_resp_of bytes
 body_of kind.Cancel bytes = Some (Cancel (u32_at bytes 12))
 body_of kind.Orphaned bytes = Some (Orphaned (u32_at bytes 12))
+
+-- the types whose PDUs take memory to read, for their stub, their elements or their outcomes
+abbrev pub takes_memory : Kind → Bool
+takes_memory kind.Request = true
+takes_memory kind.Response = true
+takes_memory kind.Bind = true
+takes_memory kind.BindAck = true
+takes_memory kind.Alter = true
+takes_memory kind.AlterResp = true
+takes_memory kind.Fault = false
+takes_memory kind.BindNak = false
+takes_memory kind.Cancel = false
+takes_memory kind.Orphaned = false
+
+-- memory runs out only for a type that takes some
+abbrev pub OnlyWhereTaken : {A : Type 0} → Kind → Result A Lack → Type 0
+OnlyWhereTaken _ (Ok x) = Unit {0}
+OnlyWhereTaken _ (Err Short) = Unit {0}
+OnlyWhereTaken known (Err Memory) = takes_memory known ≡ true

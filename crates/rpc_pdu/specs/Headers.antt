@@ -1,6 +1,7 @@
--- The header of a PDU (C706, section 12.6.3.1), and which of it is refused: causes 1 Version, 2 Representation, 3 Ptype, 4 Length,
--- 5 Verifier, each with its place.
+-- The header of a PDU (C706, section 12.6.3.1), and which of it is refused: version, representation, packet type, length, verifier, in
+-- this order, each with its place.
 use Rattle.std.specs.Prelude.{ℕ, ◌==◌, Bool, List, Option, Some, None, if◌then◌else◌, nat_lt, nat_le, not, ◌&&◌, bit_and, slice_index}
+use Rattle.acct_codes.specs.Causes.{cause_version, cause_representation, cause_packet_type, cause_length, cause_verifier}
 use Rattle.rpc_pdu.specs.declared.pdus.Side.{Side}
 use Rattle.rpc_pdu.specs.declared.pdus.Side.TheVariants.{Server, Client}
 use Rattle.rpc_pdu.specs.declared.headers.Kind.{Kind}
@@ -42,14 +43,14 @@ least_length Cancel flags = 16
 least_length Orphaned flags = 16
 
 abbrev pub sized : List ℕ → Option Kind → Header
-sized head None = Bad 2 3
+sized head None = Bad 2 cause_packet_type
 sized head (Some known) =
-    if nat_lt (u16_at head 8) (least_length known (slice_index head 3)) then Bad 8 4
-    else (if u16_at head 10 == 0 then Long known (u16_at head 8) else Bad 10 5)
+    if nat_lt (u16_at head 8) (least_length known (slice_index head 3)) then Bad 8 cause_length
+    else (if u16_at head 10 == 0 then Long known (u16_at head 8) else Bad 10 cause_verifier)
 
--- the first of causes 1 to 5 that holds of 16 bytes, or the type and the length of the PDU
+-- the first of these causes that holds of 16 bytes, or the type and the length of the PDU
 unfoldable pub header_of : Side → List ℕ → Header
 header_of side head =
-    if not ((slice_index head 0 == 5) && nat_le (slice_index head 1) 1) then Bad 0 1
-    else (if not ((slice_index head 4 == 0x10) && (slice_index head 5 == 0)) then Bad 4 2
+    if not ((slice_index head 0 == 5) && nat_le (slice_index head 1) 1) then Bad 0 cause_version
+    else (if not ((slice_index head 4 == 0x10) && (slice_index head 5 == 0)) then Bad 4 cause_representation
     else sized head (kind_of side (slice_index head 2)))

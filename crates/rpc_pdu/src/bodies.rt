@@ -2,7 +2,7 @@
 ghost use Rattle.std.specs.Prelude.{◌≡◌, ◌≤◌, length, slice_index};
 ghost use Rattle.rpc_pdu.specs.Headers.{least_length};
 ghost use Rattle.rpc_pdu.specs.Reading.{Says};
-ghost use Rattle.rpc_pdu.specs.Bodies.{stub_place, bind_of, alter_of, request_of, response_of, outcomes_place, outcomes_in, bind_ack_of, alter_resp_of, fault_of, body_of};
+ghost use Rattle.rpc_pdu.specs.Bodies.{stub_place, bind_of, alter_of, request_of, response_of, outcomes_place, outcomes_in, bind_ack_of, alter_resp_of, fault_of, body_of, OnlyWhereTaken};
 
 use crate::headers::{Kind, has_object};
 use crate::lists::{Fields, Lack};
@@ -135,7 +135,8 @@ fn fault_of(bytes: &[u8]) -> Pdu
 pub fn body_of(alloc: Global, kind: Kind, bytes: &[u8]) -> Result<Pdu, Lack>
     requires header { 16 ≤ length bytes.now }
     requires long { least_length kind (slice_index bytes.now 3) ≤ length bytes.now }
-    ensures { Says result (body_of kind bytes.now) }
+    ensures says { Says result (body_of kind bytes.now) }
+    ensures wants { OnlyWhereTaken kind result }
 {
     match kind {
         Kind::Request => request_of(alloc, bytes),

@@ -6,6 +6,7 @@ use crate::headers::{Header, header_of};
 use crate::lists::Lack;
 use crate::numbers::u32_at;
 use crate::pdus::{Pdu, Side};
+use acct_codes::cause::CAUSE_BODY;
 use std::alloc::Global;
 
 /// What stands in front of a stream.
@@ -69,7 +70,7 @@ pub fn read_pdu(alloc: Global, side: Side, bytes: &[u8]) -> ReadPdu
                 Err(Lack::Memory) => ReadPdu::NoMemory,
                 Err(Lack::Short) => ReadPdu::Refused {
                     place: 16,
-                    cause: 6,
+                    cause: CAUSE_BODY,
                     ptype: head[2],
                     id: u32_at(head, 12),
                 },

@@ -4,6 +4,9 @@ ghost use Rattle.rpc_pdu.specs.Headers.{kind_of, has_object, least_length, heade
 
 use crate::numbers::u16_at;
 use crate::pdus::Side;
+use acct_codes::cause::{
+    CAUSE_LENGTH, CAUSE_PACKET_TYPE, CAUSE_REPRESENTATION, CAUSE_VERIFIER, CAUSE_VERSION,
+};
 
 /// The types of PDUs that are read.
 #[derive(Clone, Copy, Debug, PartialEq, Eq)]
@@ -80,22 +83,34 @@ pub fn header_of(side: Side, head: &[u8]) -> Header
     ensures { result ≡ header_of side head.now }
 {
     if head[0] != 5 || head[1] > 1 {
-        return Header::Bad { place: 0, cause: 1 };
+        return Header::Bad {
+            place: 0,
+            cause: CAUSE_VERSION,
+        };
     }
     if head[4] != 0x10 || head[5] != 0 {
-        return Header::Bad { place: 4, cause: 2 };
+        return Header::Bad {
+            place: 4,
+            cause: CAUSE_REPRESENTATION,
+        };
     }
     match kind_of(side, head[2]) {
-        None => Header::Bad { place: 2, cause: 3 },
+        None => Header::Bad {
+            place: 2,
+            cause: CAUSE_PACKET_TYPE,
+        },
         Some(kind) => {
             let size = u16_at(head, 8);
             if size < least_length(kind, head[3]) {
-                return Header::Bad { place: 8, cause: 4 };
+                return Header::Bad {
+                    place: 8,
+                    cause: CAUSE_LENGTH,
+                };
             }
             if u16_at(head, 10) != 0 {
                 return Header::Bad {
                     place: 10,
-                    cause: 5,
+                    cause: CAUSE_VERIFIER,
                 };
             }
             Header::Long { kind, size }

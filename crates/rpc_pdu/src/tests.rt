@@ -467,6 +467,17 @@ fn minor_version_flags_and_what_is_left_are_taken(rt: HostRuntime) -> Result<(),
     Ok(())
 }
 
+/// A request of the largest fragment that the length's 16 bits tell.
+#[test]
+fn a_fragment_of_65535_bytes(rt: HostRuntime) -> Result<(), Fail> {
+    let head = "05000003 10000000 ffff0000 02000000 e7ff0000 00003900";
+    let mut bytes = bytes_of(rt.alloc(), head)?;
+    bytes.extend_from_slice(&[7; 65511])?;
+    let pdu = whole(&rt, rt.alloc(), Side::Server, &bytes);
+    assert!(rt; write_pdu(rt.alloc(), &pdu)?.as_slice() == bytes.as_slice());
+    Ok(())
+}
+
 #[test]
 fn syntaxes_have_their_names(rt: HostRuntime) -> Result<(), Fail> {
     let names = format!(in rt.alloc(); "{} {} {}", samr().id, lsarpc().id, ndr().id)?;

@@ -3,6 +3,7 @@ use Rattle.std.proofs.Common.{◌≡◌, ℕ, zero, suc, ◌+◌, ◌≤◌, ◌
 use Rattle.std.specs.Prelude.{nat_lt, bit_and}
 use Rattle.std.proofs.lemmas.Bool.{cond_both, ltb-false}
 use Rattle.std.proofs.lemmas.List.Elements.{All-append, All-nil, All-cons}
+use Rattle.acct_codes.specs.Limits.{least_fragment, most_fragment, most_stub}
 use Rattle.rpc_pdu.specs.declared.pdus.Side.TheVariants.{Server}
 use Rattle.rpc_pdu.specs.declared.pdus.Pdu.{Pdu}
 use Rattle.rpc_pdu.specs.declared.pdus.Pdu.TheVariants.{Bind, Alter, Request, Cancel, Orphaned, BindAck, AlterResp, BindNak, Response, Fault}
@@ -25,7 +26,7 @@ use Rattle.rpc_session.specs.Hearings.{Heard, stepped, next_of, heard_next, list
 use Rattle.rpc_session.specs.Acts.{IsFit, AllFit, is_refusal, IsLastOf, AreRefusalsLast}
 
 abbrev FitSize : ℕ → Type 0
-FitSize size = (1432 ≤ size) × (size ≤ 4280)
+FitSize size = (least_fragment ≤ size) × (size ≤ most_fragment)
 
 abbrev FitSession : Session → Type 0
 FitSession Unbound = Unit {0}
@@ -42,7 +43,7 @@ FitStep (Goes act t) = FitAct act × FitSession t
 size_fits : (n : ℕ) → FitSize (size_for n)
 size_fits n = (omega arith, omega arith)
 
-asked_fits : (g : Gathered) (size : ℕ) (o : Option Context) → FitSize size → length g.stub ≤ 1048576 → FitAct (Some (asked g size o))
+asked_fits : (g : Gathered) (size : ℕ) (o : Option Context) → FitSize size → length g.stub ≤ most_stub → FitAct (Some (asked g size o))
 asked_fits g size None h le = (tt, refl)
 asked_fits g size (Some c) h le = ((h.0, h.1, le), refl)
 
@@ -51,8 +52,8 @@ binds_fits b answer h = cond_both (nat_lt 16 (length b.contexts)) _ _ FitStep (�
 
 gathers_fits : (b : Binding) (flags : ℕ) (g : Gathered) → FitSize b.sizes.xmit → FitStep (gathers b flags g)
 gathers_fits b flags g h =
-    cond_both (nat_lt 1048576 (length g.stub)) _ _ FitStep (λ _. tt)
-    (λ is. let le = ltb-false 1048576 (length g.stub) is in cond_both (bit_and flags 2 == 0) _ _ FitStep (λ _. (tt, h)) (λ _. (asked_fits g b.sizes.xmit (face_at g.context b.contexts) h le, h)))
+    cond_both (nat_lt most_stub (length g.stub)) _ _ FitStep (λ _. tt)
+    (λ is. let le = ltb-false most_stub (length g.stub) is in cond_both (bit_and flags 2 == 0) _ _ FitStep (λ _. (tt, h)) (λ _. (asked_fits g b.sizes.xmit (face_at g.context b.contexts) h le, h)))
 
 begins_fits : (b : Binding) (flags : ℕ) (g : Gathered) (o : Option Gathered) → FitSize b.sizes.xmit → FitStep (begins b flags g o)
 begins_fits b flags g None h = gathers_fits b flags g h

@@ -1,5 +1,6 @@
 -- The acts of a connection's stream.
 use Rattle.std.specs.Prelude.{◌≡◌, ℕ, ◌+◌, ◌≤◌, ◌<◌, ◌^◌, Bool, true, false, List, [], ◌∷◌, ◌++◌, length, All, Option, Some, None, slice_get}
+use Rattle.acct_codes.specs.Limits.{least_fragment, most_fragment, most_stub}
 use Rattle.rpc_pdu.specs.declared.pdus.Pdu.{Pdu}
 use Rattle.rpc_pdu.specs.declared.pdus.Side.TheVariants.{Server}
 use Rattle.rpc_pdu.specs.Front.{Front, Whole, Rest, Refused, front}
@@ -37,7 +38,7 @@ IsRoomByLength = (conn : ℕ) (stream : List ℕ) (hearing : Hearing) (acts_so_f
 -- what a call's reply is cut by, and its stub, lie within the limits
 abbrev pub IsFit : Act → Type 0
 IsFit (Answered bytes) = Unit {0}
-IsFit (Call id context face opnum size stub) = (1432 ≤ size) × (size ≤ 4280) × (length stub ≤ 1048576)
+IsFit (Call id context face opnum size stub) = (least_fragment ≤ size) × (size ≤ most_fragment) × (length stub ≤ most_stub)
 IsFit (Closed place cause bytes) = Unit {0}
 
 abbrev pub AllFit : Type 0

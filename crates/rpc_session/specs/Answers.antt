@@ -1,5 +1,8 @@
 -- What is answered on a connection without a call (C706, sections 12.6.3.1 and 12.6.4).
 use Rattle.std.specs.Prelude.{ℕ, ◌==◌, List, map, min, max, if◌then◌else◌}
+use Rattle.acct_codes.specs.Causes.{cause_version}
+use Rattle.acct_codes.specs.Faults.{fault_protocol_error}
+use Rattle.acct_codes.specs.Limits.{least_fragment, most_fragment}
 use Rattle.rpc_pdu.specs.declared.pdus.Element.{Element}
 use Rattle.rpc_pdu.specs.declared.pdus.Pdu.TheVariants.{BindAck, AlterResp, BindNak}
 use Rattle.rpc_pdu.specs.Written.{written}
@@ -11,7 +14,7 @@ use Rattle.rpc_session.specs.Replies.{fault_bytes}
 
 -- the size of fragments that is answered, for the one that was asked
 abbrev pub size_for : ℕ → ℕ
-size_for asked = min 4280 (max 1432 asked)
+size_for asked = min most_fragment (max least_fragment asked)
 
 -- what the client sends at most is what is received at most, and the other way round
 abbrev pub sizes_for : ℕ → ℕ → Sizes
@@ -28,7 +31,7 @@ alter_answer conn id sizes elements = written (AlterResp id sizes.xmit sizes.rec
 -- where the version is refused; otherwise the fault nca_s_proto_error, on context 0.
 unfoldable pub refusal_bytes : ℕ → ℕ → ℕ → List ℕ
 refusal_bytes cause ptype id =
-    if ptype == 11 then written (BindNak id (if cause == 1 then 4 else 0)) else fault_bytes id 0 0x1C01000B
+    if ptype == 11 then written (BindNak id (if cause == cause_version then 4 else 0)) else fault_bytes id 0 fault_protocol_error
 
 abbrev pub closing : ℕ → ℕ → ℕ → ℕ → Act
 closing place cause ptype id = Closed place cause (refusal_bytes cause ptype id)

@@ -1,6 +1,7 @@
 -- The bytes that answer a call: a fault, or a reply's stub cut into responses (C706, sections 12.6.3 and 12.6.4).
 use Rattle.std.specs.Prelude.{◌≡◌, ℕ, zero, suc, ◌+◌, ◌-◌, ◌*◌, ◌/◌, ◌≤◌, ◌<◌, Bool, true, false, List, [], ◌∷◌, ◌++◌, length, take, drop, min, if◌then◌else◌, nat_le}
 use Rattle.std.specs.List.{concat}
+use Rattle.acct_codes.specs.Limits.{least_fragment}
 use Rattle.rpc_pdu.specs.declared.pdus.Pdu.TheVariants.{Response, Fault}
 use Rattle.rpc_pdu.specs.Written.{written}
 
@@ -56,4 +57,4 @@ pub record BringsStub (id context most : ℕ) (first : Bool) (stub bytes : List 
   pub bytes_are : bytes ≡ responses id context first (part ∷ others)
 
 abbrev pub RepliesBringStubs : Type 0
-RepliesBringStubs = (id context size : ℕ) (stub : List ℕ) → 1432 ≤ size → BringsStub id context (most_of size) true stub (reply_bytes id context size stub)
+RepliesBringStubs = (id context size : ℕ) (stub : List ℕ) → least_fragment ≤ size → BringsStub id context (most_of size) true stub (reply_bytes id context size stub)

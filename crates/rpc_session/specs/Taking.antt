@@ -1,7 +1,9 @@
 -- What one whole PDU does in a session (C706, sections 12.6.3 and 12.6.4): which act it gives, and how the session stands after it,
--- or the cause for which it is refused: 7 first fragment twice, 8 no first fragment, 9 stub too long, 10 bind out of order,
--- 11 too many contexts.
+-- or the cause for which it is refused.
 use Rattle.std.specs.Prelude.{ℕ, ◌==◌, List, [], ◌++◌, length, Option, Some, None, if◌then◌else◌, nat_lt, bit_and}
+use Rattle.acct_codes.specs.Causes.{cause_first_twice, cause_no_first, cause_stub_too_long, cause_bind_order, cause_too_many_contexts}
+use Rattle.acct_codes.specs.Faults.{fault_unknown_interface}
+use Rattle.acct_codes.specs.Limits.{most_stub, most_contexts}
 use Rattle.rpc_pdu.specs.declared.pdus.Pdu.{Pdu}
 use Rattle.rpc_pdu.specs.declared.pdus.Pdu.TheVariants.{Bind, Alter, Request, Cancel, Orphaned}
 use Rattle.rpc_session.specs.declared.contexts.Context.{Context}
@@ -17,29 +19,29 @@ use Rattle.rpc_session.specs.Answers.{sizes_for, bind_answer, alter_answer}
 use Rattle.rpc_session.specs.Contexts.{with_elements, face_at}
 use Rattle.rpc_session.specs.Replies.{fault_bytes}
 
--- at most 16 contexts are accepted at a time
+-- the contexts that are accepted at a time are at most most_contexts
 abbrev pub binds : Binding → List ℕ → Step
-binds after answer = if nat_lt 16 (length after.contexts) then Refuses 11 else Goes (Some (Answered answer)) (Bound after)
+binds after answer = if nat_lt most_contexts (length after.contexts) then Refuses cause_too_many_contexts else Goes (Some (Answered answer)) (Bound after)
 
 -- a request that is whole, on the context that is accepted now with its id; where there is none, nca_s_unk_if is answered
 abbrev pub asked : Gathered → ℕ → Option Context → Act
-asked g size None = Answered (fault_bytes g.id g.context 0x1C010003)
+asked g size None = Answered (fault_bytes g.id g.context fault_unknown_interface)
 asked g size (Some c) = Call g.id g.context c.face g.opnum size g.stub
 
 -- a request with one more fragment, which has these flags: 0x02 marks the last
 abbrev pub gathers : Binding → ℕ → Gathered → Step
 gathers b flags g =
-    if nat_lt 1048576 (length g.stub) then Refuses 9
+    if nat_lt most_stub (length g.stub) then Refuses cause_stub_too_long
     else (if bit_and flags 2 == 0 then Goes None (Bound (record b { gathered = Some g }))
     else Goes (Some (asked g b.sizes.xmit (face_at g.context b.contexts))) (Bound (record b { gathered = None })))
 
 abbrev pub begins : Binding → ℕ → Gathered → Option Gathered → Step
 begins b flags g None = gathers b flags g
-begins b flags g (Some other) = Refuses 7
+begins b flags g (Some other) = Refuses cause_first_twice
 
 abbrev pub goes_on : Binding → ℕ → ℕ → List ℕ → Option Gathered → Step
-goes_on b flags id stub None = Refuses 8
-goes_on b flags id stub (Some g) = if g.id == id then gathers b flags (record g { stub = g.stub ++ stub }) else Refuses 8
+goes_on b flags id stub None = Refuses cause_no_first
+goes_on b flags id stub (Some g) = if g.id == id then gathers b flags (record g { stub = g.stub ++ stub }) else Refuses cause_no_first
 
 -- flag 0x01 marks the first fragment, which gives the call id, the context and the opnum
 abbrev pub requests : Binding → ℕ → ℕ → ℕ → ℕ → List ℕ → Step
@@ -56,7 +58,7 @@ without id (Some g) = if g.id == id then None else Some g
 unfoldable pub taken_first : ℕ → Pdu → Step
 taken_first conn (Bind id xmit recv group elements) =
     binds (record { sizes = sizes_for xmit recv; contexts = with_elements [] elements; gathered = None }) (bind_answer conn id (sizes_for xmit recv) elements)
-taken_first conn _ = Refuses 10
+taken_first conn _ = Refuses cause_bind_order
 
 -- and no other is
 unfoldable pub taken_later : ℕ → Binding → Pdu → Step
@@ -64,7 +66,7 @@ taken_later conn b (Alter id xmit recv group elements) = binds (record b { conte
 taken_later conn b (Request id flags context opnum stub) = requests b id flags context opnum stub
 taken_later conn b (Cancel id) = Goes None (Bound b)
 taken_later conn b (Orphaned id) = Goes None (Bound (record b { gathered = without id b.gathered }))
-taken_later conn b _ = Refuses 10
+taken_later conn b _ = Refuses cause_bind_order
 
 abbrev pub taken : ℕ → Session → Pdu → Step
 taken conn Unbound pdu = taken_first conn pdu

@@ -6,13 +6,16 @@ use crate::contexts::outcomes;
 use crate::replies::fault_bytes;
 use crate::sessions::{Act, Sizes};
 use acct_base::Seq;
+use acct_codes::cause::CAUSE_VERSION;
+use acct_codes::fault::NCA_S_PROTO_ERROR;
+use acct_codes::limit::{LEAST_FRAGMENT, MOST_FRAGMENT};
 use rpc_pdu::{Element, NoMemory, Pdu, write_pdu};
 use std::alloc::Global;
 
 fn size_for(asked: u16) -> u16
     ensures { result ≡ size_for asked }
 {
-    asked.max(1432).min(4280)
+    asked.max(LEAST_FRAGMENT).min(MOST_FRAGMENT)
 }
 
 /// The sizes for those that a bind asks for.
@@ -74,11 +77,11 @@ fn refusal_bytes(alloc: Global, cause: u8, ptype: u8, id: u32) -> Result<Seq<u8>
     ensures { IfOk result (λ bytes. bytes ≡ refusal_bytes cause ptype id) }
 {
     if ptype == 11 {
-        let reason = if cause == 1 { 4 } else { 0 };
+        let reason = if cause == CAUSE_VERSION { 4 } else { 0 };
         let answer = Pdu::BindNak { id, reason };
         return Ok(Seq::from_vec(write_pdu(alloc, &answer)?));
     }
-    Seq::copy_of(alloc, &fault_bytes(id, 0, 0x1C01000B))
+    Seq::copy_of(alloc, &fault_bytes(id, 0, NCA_S_PROTO_ERROR))
 }
 
 /// The last act, after a refusal.

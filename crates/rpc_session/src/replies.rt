@@ -1,10 +1,11 @@
 // The bytes that answer a call.
-ghost use Rattle.std.specs.Prelude.{◌≡◌, ◌++◌, ◌≤◌, ◌<◌, ◌^◌, length, take, IfOk, OnOk};
+ghost use Rattle.std.specs.Prelude.{◌≡◌, ◌++◌, ◌≤◌, ◌<◌, ◌^◌, length, take, min, IfOk, OnOk};
+ghost use Rattle.acct_codes.specs.Limits.{least_fragment, most_fragment};
 ghost use Rattle.rpc_pdu.specs.Numbers.{u16_bytes, u32_bytes};
 ghost use Rattle.rpc_session.specs.Replies.{fault_bytes, first_flag, response, reply_bytes};
 
-use acct_base::{Seq, rest_of};
-use rpc_pdu::{NoMemory, Pdu, write_pdu};
+use acct_base::rest_of;
+use rpc_pdu::NoMemory;
 use std::alloc::Global;
 
 fn u16_bytes(number: u16) -> [u8; 2]
@@ -40,9 +41,10 @@ pub fn fault_bytes(id: u32, context: u16, status: u32) -> [u8; 32]
     ]
 }
 
-#[tactic(auto, unfolding(crate::specs::Replies::response))]
+/// A response with a part of the stub, written behind what is there. `left` is the number of stub bytes that are left
+/// with this part.
+#[tactic(auto, unfolding(crate::specs::Replies::response, rpc_pdu::specs::Written::written, rpc_pdu::specs::Written::body_bytes))]
 fn push_response(
-    alloc: Global,
     out: &mut Vec<u8>,
     id: u32,
     context: u16,
@@ -53,20 +55,26 @@ fn push_response(
     requires { length part.now < 8192 }
     ensures { OnOk result (out.new.items ≡ out.old.items ++ response id context flags left part.now) }
 {
-    let hint = if left < 0xFFFFFFFF {
+    let size = u16_bytes(24 + part.len() as u16);
+    let call = u32_bytes(id);
+    let hint = u32_bytes(hint_of(left));
+    let on = u16_bytes(context);
+    out.extend_from_slice(&[
+        5, 0, 2, flags, 0x10, 0, 0, 0, size[0], size[1], 0, 0, call[0], call[1], call[2], call[3],
+        hint[0], hint[1], hint[2], hint[3], on[0], on[1], 0, 0,
+    ])?;
+    out.extend_from_slice(part)
+}
+
+/// The number of stub bytes that are left, as far as 32 bits tell it.
+fn hint_of(left: usize) -> u32
+    ensures { result ≡ min left 0xFFFFFFFF }
+{
+    if left < 0xFFFFFFFF {
         left as u32
     } else {
         0xFFFFFFFF
-    };
-    let pdu = Pdu::Response {
-        id,
-        flags,
-        context,
-        hint,
-        stub: Seq::copy_of(alloc, part)?,
-    };
-    out.extend_from_slice(&write_pdu(alloc, &pdu)?)?;
-    Ok(())
+    }
 }
 
 fn first_flag(first: bool) -> u8
@@ -93,8 +101,8 @@ pub fn reply_bytes(
     size: u16,
     stub: &[u8],
 ) -> Result<Vec<u8>, NoMemory>
-    requires low { 1432 ≤ size }
-    requires high { size ≤ 4280 }
+    requires low { least_fragment ≤ size }
+    requires high { size ≤ most_fragment }
     ensures { IfOk result (λ bytes. bytes.items ≡ reply_bytes id context size stub.now) }
 {
     let most = 8 * ((size as usize - 24) / 8);
@@ -103,19 +111,11 @@ pub fn reply_bytes(
     let mut rest = stub;
     while rest.len() > most {
         let part = front_of(rest, most);
-        push_response(
-            alloc,
-            &mut out,
-            id,
-            context,
-            first_flag(first),
-            rest.len(),
-            part,
-        )?;
+        push_response(&mut out, id, context, first_flag(first), rest.len(), part)?;
         rest = rest_of(rest, most);
         first = false;
     }
     let flags = first_flag(first) + 2;
-    push_response(alloc, &mut out, id, context, flags, rest.len(), rest)?;
+    push_response(&mut out, id, context, flags, rest.len(), rest)?;
     Ok(out)
 }

@@ -1,5 +1,6 @@
 // What one whole PDU does in a session.
 ghost use Rattle.std.specs.Prelude.{◌≡◌, ◌==◌, ◌++◌, ◌≤◌, not, bit_and, IfOk, length, Some, None};
+ghost use Rattle.acct_codes.specs.Limits.{most_stub};
 ghost use Rattle.rpc_pdu.specs.Written.{HasFewParts};
 ghost use Rattle.rpc_session.specs.Taking.{binds, asked, gathers, begins, goes_on, requests, without, taken_first, taken_later, taken};
 
@@ -8,6 +9,12 @@ use crate::contexts::{Context, face_at, with_elements};
 use crate::replies::fault_bytes;
 use acct_base::Seq;
 use acct_calls::Face;
+use acct_codes::cause::{
+    CAUSE_BIND_ORDER, CAUSE_FIRST_TWICE, CAUSE_NO_FIRST, CAUSE_STUB_TOO_LONG,
+    CAUSE_TOO_MANY_CONTEXTS,
+};
+use acct_codes::fault::NCA_S_UNK_IF;
+use acct_codes::limit::{MOST_CONTEXTS, MOST_STUB};
 use rpc_pdu::{NoMemory, Pdu};
 use std::alloc::Global;
 
@@ -28,10 +35,10 @@ pub enum Act {
         size: u16,
         stub: Seq<u8>,
     },
-    /// The PDU is refused and nothing more is heard. The place counts bytes from the stream's start. Causes 1 to 6
-    /// are those of `read_pdu`; 7 is a first fragment while another request is gathered, 8 a later fragment while
-    /// none with its call id is, 9 a stub of more than 1,048,576 bytes, 10 a bind after a bind or another type before
-    /// it, 11 more than 16 accepted contexts.
+    /// The PDU is refused and nothing more is heard. The place counts bytes from the stream's start. The causes
+    /// are those of `acct_codes::cause`: those of `read_pdu`; a first fragment while another request is gathered; a
+    /// later fragment while none with its call id is; a stub of more than 1,048,576 bytes; a bind after a bind, or
+    /// another type before it; more than 16 accepted contexts.
     Closed {
         place: u64,
         cause: u8,
@@ -83,8 +90,8 @@ pub enum Step {
 fn binds(after: Binding, answer: Seq<u8>) -> Step
     ensures { result ≡ binds after answer }
 {
-    if after.contexts.as_slice().len() > 16 {
-        return Step::Refuses(11);
+    if after.contexts.as_slice().len() > MOST_CONTEXTS {
+        return Step::Refuses(CAUSE_TOO_MANY_CONTEXTS);
     }
     Step::Goes {
         act: Some(Act::Answered { bytes: answer }),
@@ -102,7 +109,10 @@ fn asked(
 {
     match context {
         None => Ok(Act::Answered {
-            bytes: Seq::copy_of(alloc, &fault_bytes(request.id, request.context, 0x1C010003))?,
+            bytes: Seq::copy_of(
+                alloc,
+                &fault_bytes(request.id, request.context, NCA_S_UNK_IF),
+            )?,
         }),
         Some(c) => Ok(Act::Call {
             id: request.id,
@@ -129,7 +139,7 @@ fn is_last(flags: u8) -> bool
 
 /// A request with one more fragment: it waits for the others, or is whole.
 fn put(alloc: Global, binding: Binding, flags: u8, request: Gathered) -> Result<Step, NoMemory>
-    requires { length request.stub ≤ 1048576 }
+    requires { length request.stub ≤ most_stub }
     ensures { IfOk result (λ step. step ≡ gathers binding flags request) }
 {
     let Binding {
@@ -164,10 +174,10 @@ fn begins(alloc: Global, binding: Binding, flags: u8, request: Gathered) -> Resu
     ensures { IfOk result (λ step. step ≡ begins binding flags request binding.gathered) }
 {
     if binding.gathered.is_some() {
-        return Ok(Step::Refuses(7));
+        return Ok(Step::Refuses(CAUSE_FIRST_TWICE));
     }
-    if request.stub.as_slice().len() > 1048576 {
-        return Ok(Step::Refuses(9));
+    if request.stub.as_slice().len() > MOST_STUB {
+        return Ok(Step::Refuses(CAUSE_STUB_TOO_LONG));
     }
     put(alloc, binding, flags, request)
 }
@@ -193,10 +203,10 @@ fn more(
     ensures { IfOk result (λ step. step ≡ goes_on binding flags id stub.now (Some request)) }
 {
     if request.id != id {
-        return Ok(Step::Refuses(8));
+        return Ok(Step::Refuses(CAUSE_NO_FIRST));
     }
-    if stub.len() > 1048576 || request.stub.as_slice().len() > 1048576 - stub.len() {
-        return Ok(Step::Refuses(9));
+    if stub.len() > MOST_STUB || request.stub.as_slice().len() > MOST_STUB - stub.len() {
+        return Ok(Step::Refuses(CAUSE_STUB_TOO_LONG));
     }
     let request = Gathered {
         id: request.id,
@@ -227,7 +237,7 @@ fn goes_on(
         gathered: None,
     };
     match gathered {
-        None => Ok(Step::Refuses(8)),
+        None => Ok(Step::Refuses(CAUSE_NO_FIRST)),
         Some(request) => more(alloc, binding, flags, request, id, stub),
     }
 }
@@ -280,7 +290,7 @@ fn taken_first(alloc: Global, conn: u32, pdu: Pdu) -> Result<Step, NoMemory>
             };
             Ok(binds(after, answer))
         }
-        _ => Ok(Step::Refuses(10)),
+        _ => Ok(Step::Refuses(CAUSE_BIND_ORDER)),
     }
 }
 
@@ -331,7 +341,7 @@ fn taken_later(alloc: Global, conn: u32, binding: Binding, pdu: Pdu) -> Result<S
             act: None,
             session: Session::Bound(dropped(binding, id)),
         }),
-        _ => Ok(Step::Refuses(10)),
+        _ => Ok(Step::Refuses(CAUSE_BIND_ORDER)),
     }
 }
 

@@ -392,28 +392,69 @@ fn a_bind_without_its_element(rt: HostRuntime) -> Result<(), Fail> {
     )
 }
 
-#[test]
-fn seventeen_contexts(rt: HostRuntime) -> Result<(), Fail> {
-    let alloc = rt.alloc();
-    let mut stream = bytes_of(
-        alloc,
-        &["05000b03 10000000 08030000 01000000 b810b810 00000000 11000000"],
-    )?;
+/// A bind that offers so many contexts for the account database.
+fn bind_of(alloc: Global, head: &str, count: u8) -> Result<Vec<u8>, Fail> {
+    let mut stream = bytes_of(alloc, &[head])?;
     let element = bytes_of(
         alloc,
         &[
             "000100 78573412 3412cdab ef000123 456789ac 01000000 045d888a eb1cc911 9fe80800 2b104860 02000000",
         ],
     )?;
-    for context in 0..17 {
+    for context in 0..count {
         stream.push(context)?;
         stream.extend_from_slice(&element)?;
     }
-    let acts = heard_by_bytes(alloc, &stream)?;
+    Ok(stream)
+}
+
+#[test]
+fn sixteen_contexts_and_seventeen(rt: HostRuntime) -> Result<(), Fail> {
+    let alloc = rt.alloc();
+    let sixteen = "05000b03 10000000 dc020000 01000000 b810b810 00000000 10000000";
+    let acts = heard_by_bytes(alloc, &bind_of(alloc, sixteen, 16)?)?;
+    assert!(rt; matches!(acts.as_slice(), [Act::Answered { .. }]));
+    let seventeen = "05000b03 10000000 08030000 01000000 b810b810 00000000 11000000";
+    let acts = heard_by_bytes(alloc, &bind_of(alloc, seventeen, 17)?)?;
     assert_eq!(rt;
         shown(alloc, &acts)?.as_str(),
         "closed 0 11 05000d03 10000000 18000000 01000000 00000105 00000000"
     );
+    Ok(())
+}
+
+/// The sizes that answer a bind whose two sizes are these.
+fn sizes_answered(alloc: Global, xmit: u16, recv: u16) -> Result<String, Fail> {
+    let mut stream = bytes_of(alloc, &["05000b03 10000000 48000000 01000000"])?;
+    stream.extend_from_slice(&xmit.to_le_bytes())?;
+    stream.extend_from_slice(&recv.to_le_bytes())?;
+    stream.extend_from_slice(&bytes_of(alloc, &[BIND])?[20..])?;
+    let acts = heard_by_bytes(alloc, &stream)?;
+    match acts.as_slice() {
+        [Act::Answered { bytes }] => hex_of(
+            alloc,
+            bytes.as_slice().get(16..20).unwrap_or_default(),
+        ),
+        _ => Ok(String::new(alloc)),
+    }
+}
+
+#[test]
+fn sizes_at_their_bounds(rt: HostRuntime) -> Result<(), Fail> {
+    let sizes = [
+        (0, 1431, "98059805"),
+        (1431, 1432, "98059805"),
+        (1432, 1433, "99059805"),
+        (1433, 1439, "9f059905"),
+        (1439, 4279, "b7109f05"),
+        (4279, 4280, "b810b710"),
+        (4280, 4281, "b810b810"),
+        (4281, 65535, "b810b810"),
+    ];
+    for (xmit, recv, says) in sizes {
+        let text = sizes_answered(rt.alloc(), xmit, recv)?;
+        assert_eq!(rt; text.as_str(), says, "{xmit} {recv}");
+    }
     Ok(())
 }
 
@@ -480,6 +521,73 @@ fn replies_and_faults(rt: HostRuntime) -> Result<(), Fail> {
         hex_of(alloc, &reply[1432..1456])?.as_str(),
         "05000202 10000000 98050000 02000000 80050000 00000000"
     );
+    Ok(())
+}
+
+/// A stub of 1,048,576 bytes, as many as a request may bring: 246 responses of 4,256 stub bytes and one of 1,600.
+#[test]
+fn a_reply_of_a_megabyte(rt: HostRuntime) -> Result<(), Fail> {
+    let mut stub = Vec::new(rt.alloc());
+    for _turn in 0..256 {
+        stub.extend_from_slice(&[7; 4096])?;
+    }
+    let reply = reply_bytes(rt.alloc(), 2, 0, 4280, &stub)?;
+    assert_eq!(rt; reply.len(), 1054504);
+    assert_eq!(rt;
+        hex_of(rt.alloc(), &reply[..24])?.as_str(),
+        "05000201 10000000 b8100000 02000000 00001000 00000000"
+    );
+    assert_eq!(rt;
+        hex_of(rt.alloc(), &reply[1052880..1052904])?.as_str(),
+        "05000202 10000000 58060000 02000000 40060000 00000000"
+    );
+    Ok(())
+}
+
+/// The flags of fragment `turn` of requests of 16 fragments each.
+fn flags_at(turn: u8) -> u8 {
+    match turn % 16 {
+        0 => 1,
+        15 => 2,
+        _ => 0,
+    }
+}
+
+/// Two megabytes as one piece: a bind and two requests of 16 of the largest fragments.
+#[test]
+fn two_megabytes_as_one_piece(rt: HostRuntime) -> Result<(), Fail> {
+    let mut stream = bytes_of(rt.alloc(), &[BIND])?;
+    for turn in 0..32 {
+        stream.extend_from_slice(&[
+            5,
+            0,
+            0,
+            flags_at(turn),
+            0x10,
+            0,
+            0,
+            0,
+            0xff,
+            0xff,
+            0,
+            0,
+            2,
+            0,
+            0,
+            0,
+            0xe7,
+            0xff,
+            0,
+            0,
+            0,
+            0,
+            57,
+            0,
+        ])?;
+        stream.extend_from_slice(&[7; 65511])?;
+    }
+    let acts = heard_in_two(rt.alloc(), &stream, 0)?;
+    assert_eq!(rt; acts.len(), 3);
     Ok(())
 }
 

@@ -1,7 +1,7 @@
 use Rattle.std.proofs.Common.{◌≡◌, ◌^◌, ◌∙◌, ap, sym, List, Some}
 use Rattle.dtyp_access.specs.declared.ace.Ace.{Ace}
 use Rattle.std.specs.Prelude.{◌&&◌, not, ◌==◌}
-use Rattle.acct_codes.specs.declared.standard_rights.TheConstants.{ACCESS_SYSTEM_SECURITY}
+use Rattle.acct_codes.specs.Rights.{access_system_security}
 use Rattle.dtyp_access.specs.Granted.{shares, granted, grants}
 use Rattle.dtyp_access.proofs.Masks.{shares-and}
 use Rattle.dtyp_access.proofs.Nameless.{shares-all, shares-every}
@@ -28,4 +28,4 @@ returns c = λ bit within.
     shares-and c.match-d.granted 0xFEFF_FFFF bit
     ∙ ap (λ b. b && shares 0xFEFF_FFFF (2 ^ bit)) listed
     ∙ ap (λ b. grants token d.owner (2 ^ bit) d.acl && b) (shares-all bit within)
-    ∙ and_swapped (grants token d.owner (2 ^ bit) d.acl) (not ((2 ^ bit) == ACCESS_SYSTEM_SECURITY))
+    ∙ and_swapped (grants token d.owner (2 ^ bit) d.acl) (not ((2 ^ bit) == access_system_security))

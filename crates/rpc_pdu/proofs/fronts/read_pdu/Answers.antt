@@ -1,15 +1,18 @@
-use Rattle.std.proofs.Common.{◌≡◌, ◌≤◌, List, ℕ, length, get_or, take, sym, ap, ◌∙◌, arith, rules, w8}
+use Rattle.std.proofs.Common.{◌≡◌, ◌≤◌, List, ℕ, length, get_or, take, Err, subst, sym, ap, ◌∙◌, arith, rules, w8}
 use Rattle.std.proofs.Math.Facts.{Fits-lt-pow}
 use Rattle.std.proofs.lemmas.List.{get_or-take, length-take-le}
 use Rattle.rpc_pdu.specs.declared.headers.Header.TheVariants.{Long}
 use Rattle.rpc_pdu.specs.Headers.{least_length, header_of}
-use Rattle.rpc_pdu.specs.Bodies.{body_of}
+use Rattle.rpc_pdu.specs.declared.lists.Lack.{Lack}
+use Rattle.rpc_pdu.specs.declared.pdus.Pdu.{Pdu}
+use Rattle.rpc_pdu.specs.Bodies.{body_of, OnlyWhereTaken}
 use Rattle.rpc_pdu.specs.Front.{Whole, front}
 use Rattle.rpc_pdu.proofs.HeaderFacts.{header_long, long_16, bad_early}
 use Rattle.rpc_pdu.proofs.Whole.{has_front, head_at}
 use Rattle.rpc_pdu.proofs.Stubs.{stub_within}
 use Rattle.rpc_pdu.proofs.Exact.{exact_to}
 use Rattle.rpc_pdu.proofs.Bounds.{AreBytes, bytes-take, few, whole, room}
+use Rattle.rpc_pdu.proofs.Wants.{wants_front}
 use Rattle.rpc_pdu.proofs.fronts.read_pdu.Goals as goal
 
 pub body_of-requires-clause-header : goal.body_of-requires-clause-header
@@ -41,7 +44,7 @@ whole_front : (c : goal.In-Ok) → front c.args.side c.args.bytes.now ≡ Whole 
 whole_front c =
     let low = long_16 c.args.side c.split_at.result.0.now c.in-Long.kind c.in-Long.size (sym c.in-Long.ensures) in
     let header : header_of c.args.side (take 16 c.args.bytes.now) ≡ Long c.in-Long.kind c.in-Long.size = ap (λ (x : List ℕ). header_of c.args.side x) (sym c.split_at.ensures.front) ∙ sym c.in-Long.ensures in
-    has_front c.args.side c.args.bytes.now c.in-Ok.pdu c.in-Long.size (record { kind = c.in-Long.kind; header = header; sixteen = low; there = c.if-bytes-used.false; body = ap (λ (x : List ℕ). body_of c.in-Long.kind x) (sym c.split_at-in-Long.ensures.front) ∙ c.in-Ok.ensures })
+    has_front c.args.side c.args.bytes.now c.in-Ok.pdu c.in-Long.size (record { kind = c.in-Long.kind; header = header; sixteen = low; there = c.if-bytes-used.false; body = ap (λ (x : List ℕ). body_of c.in-Long.kind x) (sym c.split_at-in-Long.ensures.front) ∙ c.in-Ok.ensures.says })
 
 pub returns-in-Ok-clause-front : goal.returns-in-Ok-clause-front
 returns-in-Ok-clause-front c =
@@ -50,7 +53,7 @@ returns-in-Ok-clause-front c =
 pub returns-in-Ok-clause-bounds : goal.returns-in-Ok-clause-bounds
 returns-in-Ok-clause-bounds c =
     let len : length c.split_at-in-Long.result.0.now ≡ c.in-Long.size = ap length c.split_at-in-Long.ensures.front ∙ length-take-le _ _ c.if-bytes-used.false in
-    let stub = stub_within c.in-Long.kind c.split_at-in-Long.result.0.now c.in-Ok.pdu c.in-Ok.ensures in
+    let stub = stub_within c.in-Long.kind c.split_at-in-Long.result.0.now c.in-Ok.pdu c.in-Ok.ensures.says in
     let h = header_long c.args.side c.split_at.result.0.now c.in-Long.kind c.in-Long.size (sym c.in-Long.ensures) in
     let is = h.size_is in
     let are : AreBytes c.args.bytes.now = λ i. Fits-lt-pow {w = w8} (c.type_inv.bytes i) in
@@ -68,3 +71,9 @@ returns-in-Ok-clause-bounds c =
       written_most = room c.args.side c.in-Ok.pdu (take c.in-Long.size c.args.bytes.now) (omega (arith, most, took)) pdu;
       whole_ids = whole c.args.side c.in-Ok.pdu (take c.in-Long.size c.args.bytes.now) pdu;
     }
+
+pub returns-in-Err-Memory-clause-front : goal.returns-in-Err-Memory-clause-front
+returns-in-Err-Memory-clause-front c =
+    let header : header_of c.args.side (take 16 c.args.bytes.now) ≡ Long c.in-Long.kind c.in-Long.size = ap (λ (x : List ℕ). header_of c.args.side x) (sym c.split_at.ensures.front) ∙ sym c.in-Long.ensures in
+    wants_front c.args.side c.args.bytes.now c.in-Long.kind c.in-Long.size c.if-bytes-lt16.false header c.if-bytes-used.false
+    (subst (λ (e : Lack). OnlyWhereTaken {A = Pdu} c.in-Long.kind (Err e)) c.in-Err-Memory.field-0-is c.in-Err-Memory.ensures.wants)
