@@ -18,11 +18,6 @@ abbrev pub Gives : {A : Type 0} → Result A NdrError → Cursor → Result (A �
 Gives (Ok x) after read = read ≡ Ok (x, after)
 Gives (Err e) after read = read ≡ Err e
 
--- The reading goes on, in the same stub.
-pub record GoesOn (before after : Cursor) : Type 0 where
-  pub same : after.stub ≡ before.stub
-  pub onward : before.place ≤ after.place
-
 -- ---- alignment, always from the stub's start
 
 -- The least multiple of the size that is at least the place.

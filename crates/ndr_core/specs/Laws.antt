@@ -1,6 +1,7 @@
 -- The laws of readings that pass a test, stand one after another, or make a value of what is read, for any shapes that they are made of.
-use Rattle.std.proofs.Common.{◌≡◌, ℕ, suc, ◌+◌, ◌*◌, ◌%◌, ◌<◌, ◌^◌, lit<, Bool, true, false, List, ◌++◌, Ok, refl, sym, ap, subst, ◌∙◌, append_assoc, arith}
+use Rattle.std.proofs.Common.{◌≡◌, ℕ, suc, ◌+◌, ◌*◌, ◌%◌, ◌<◌, ◌^◌, lit<, Bool, true, false, List, ◌++◌, Result, Ok, Err, refl, sym, ap, subst, ◌∙◌, append_assoc, arith}
 use Rattle.std.specs.Int.{w32}
+use Rattle.ndr_core.specs.declared.error.NdrError.{NdrError}
 use Rattle.ndr_core.specs.declared.error.NdrError.TheVariants.{Count}
 use Rattle.ndr_core.specs.Cursor.{Cursor, ◌>>=◌, done, aligned_cursor, broken, test_passed, testing, making, both, is_there}
 use Rattle.ndr_core.specs.Written.{Written, IsBytes, referents, referent, put_padding, put_pointer}
@@ -29,6 +30,14 @@ given_found {A = A} a b c d e =
 
 pub given_only : {A : Type 0} (a b : A) (c d : Cursor) → (b ≡ a) × (d ≡ c) → done a c ≡ done b d
 given_only a b c d h = rw (h.0, h.1) refl
+
+-- ---- what nothing spells
+
+abbrev refused : {A : Type 0} → NdrError → Result (A × Cursor) NdrError
+refused e = Err e
+
+pub unspelled_found : {A : Type 0} (c d : Cursor) (x : A) → refused {A = A} (broken 0 c) ≡ Ok (x, d) → ⊥
+unspelled_found c d x e = cc
 
 -- ---- one after the other
 

@@ -1,13 +1,13 @@
 -- The shapes that all others are made of. Each is a value: a row of a table, or a structure, is written by these words as it stands in
 -- the IDL, from left to right, and has its laws with it.
-use Rattle.std.proofs.Common.{◌≡◌, ℕ, ◌^◌, ◌<◌, Bool, true, [], ◌++◌, length, replicate, ◌-◌, nat_le, refl, sym, ap, ◌∙◌}
+use Rattle.std.proofs.Common.{◌≡◌, ℕ, ◌^◌, ◌<◌, Bool, true, [], ◌++◌, length, replicate, ◌-◌, nat_le, Err, refl, sym, ap, ◌∙◌}
 use Rattle.std.proofs.lemmas.List.{append-nil}
 use Rattle.std.specs.Int.{Width, w8, w16, w32}
-use Rattle.ndr_core.specs.Cursor.{Cursor, done, aligned, aligned_cursor, number_at, testing, making, both, is_there, pointer_at, is_zero, second}
+use Rattle.ndr_core.specs.Cursor.{Cursor, broken, done, aligned, aligned_cursor, number_at, testing, making, both, is_there, pointer_at, is_zero, second}
 use Rattle.ndr_core.specs.Written.{put_number, put_padding, put_pointer}
 use Rattle.ndr_core.specs.Codec.{Codec, behind}
 use Rattle.ndr_core.specs.Numbers.{Number, IsNarrow, narrow8, narrow16, narrow32, number_found, number_only, number_grows, number_bytes, number_spelled, padded_bytes}
-use Rattle.ndr_core.specs.Laws.{such_found, such_only, given_found, given_only, chain_found, chain_only, grows_on, spelled_before, made_found, made_only, pointer_grows, pointer_bytes, pointer_spelled, padding_spelled, padding_found}
+use Rattle.ndr_core.specs.Laws.{such_found, such_only, given_found, given_only, unspelled_found, chain_found, chain_only, grows_on, spelled_before, made_found, made_only, pointer_grows, pointer_bytes, pointer_spelled, padding_spelled, padding_found}
 
 -- ---- numbers: padding to the size, and the number, little-endian
 
@@ -107,6 +107,22 @@ given a = record {
   grows = λ b o. ([], sym (append-nil o.bytes));
   bytes = λ b o h. h;
   spelled = λ b o rest h. (h, refl);
+}
+
+-- ---- what nothing spells: no value is read here
+
+abbrev pub unspelled : {A : Type 0} → Codec A
+unspelled {A = A} = record {
+  read = λ c. Err (broken 0 c);
+  Spells = λ x c d. ⊥;
+  Fits = λ x. ⊥;
+  write = λ x o. o;
+  found = λ c d x e. unspelled_found c d x e;
+  only = λ c d x h. absurd h;
+  stays = λ c d x h. absurd h;
+  grows = λ x o. ([], sym (append-nil o.bytes));
+  bytes = λ x o h. h;
+  spelled = λ x o rest h. absurd h;
 }
 
 -- ---- one field and then another, whose shape may depend on the first

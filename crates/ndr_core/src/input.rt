@@ -2,7 +2,7 @@
 ghost use Rattle.std.specs.Prelude.{◌≡◌, ◌<◌, ◌≤◌, ◌^◌, ◌-◌, ◌+◌, Ok, Err, OnErr, length, nat_lt, if◌then◌else◌};
 ghost use Rattle.std.specs.Int.{w8, w16, w32};
 ghost use Rattle.ndr_core.specs.declared.error.NdrError.TheVariants.{Short};
-ghost use Rattle.ndr_core.specs.Cursor.{Cursor, Gives, GoesOn, IsSize, aligned_cursor, broken, number_at, pointer_at, varying_at};
+ghost use Rattle.ndr_core.specs.Cursor.{Cursor, Gives, IsSize, aligned_cursor, broken, number_at, pointer_at, varying_at};
 
 use crate::error::NdrError;
 use std::marker::Model;
@@ -121,11 +121,10 @@ impl<'a> In<'a> {
         self.u32()
     }
 
-    /// The actual count of a varying array, behind its offset. An offset other than 0 is refused at the offset, and a
-    /// count above `most` at the count.
-    pub fn varying(&mut self, most: u32) -> Result<u32, NdrError>
+    /// The offset, which is 0, and the actual count behind it.
+    fn offset_and_count(&mut self, most: u32) -> Result<u32, NdrError>
         ensures value { Gives result self.new (varying_at most self.old) }
-        ensures onward { GoesOn self.old self.new }
+        ensures same { self.new.stub ≡ self.old.stub }
     {
         if self.u32()? != 0 {
             return Err(self.broken(4));
@@ -135,5 +134,19 @@ impl<'a> In<'a> {
             return Err(self.broken(4));
         }
         Ok(count)
+    }
+
+    /// The actual count of a varying array, behind its offset. An offset other than 0 is refused at the offset, and a
+    /// count above `most` at the count.
+    pub fn varying(&mut self, most: u32) -> Result<u32, NdrError>
+        ensures value { Gives result self.new (varying_at most self.old) }
+        ensures refused { OnErr result (self.new ≡ self.old) }
+    {
+        let start = self.place;
+        let count = self.offset_and_count(most);
+        if count.is_err() {
+            self.place = start;
+        }
+        count
     }
 }

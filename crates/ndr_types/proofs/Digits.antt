@@ -6,7 +6,8 @@ use Rattle.ndr_core.proofs.Complete.{IsComplete, u8_complete, u16_complete, u32_
 use Rattle.ndr_types.specs.Digits.{then_small, then_short}
 use Rattle.ndr_types.specs.Handles.{uuid, handle, handle_of}
 use Rattle.ndr_types.specs.Sids.{authority}
-use Rattle.ndr_types.specs.Laws.{IsHandle, HasValues}
+use Rattle.acct_layouts.specs.Bounds.{IsHandle}
+use Rattle.ndr_types.specs.Laws.{HasValues}
 
 -- The numbers that a shape takes are those below a limit.
 record Limit (a : Codec ℕ) (limit : ℕ) : Type 0 where

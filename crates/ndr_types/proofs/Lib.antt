@@ -7,3 +7,5 @@ pub mod Records
 pub mod Spelled
 pub mod ShapeValues
 pub mod Onward
+pub mod Entries
+pub mod OnwardEntries

@@ -15,8 +15,9 @@ use Rattle.ndr_types.specs.Domains.{place, place_of, parts_of_place, first, with
 use Rattle.ndr_types.specs.Members.{membership, rid_bits, rid_bits_of, parts_of_rid_bits}
 use Rattle.ndr_types.specs.Texts.{text}
 use Rattle.ndr_types.specs.Sids.{sid_pointer}
-use Rattle.ndr_types.specs.Bounds.{IfThere}
-use Rattle.ndr_types.specs.Laws.{IsPrivilege, IsPrivilegeSet, IsListOf, IsAccount, IsDomain, IsMember}
+use Rattle.acct_layouts.specs.Bounds.{IfThere}
+use Rattle.acct_layouts.specs.Bounds.{IsPrivilege, IsPrivilegeSet, IsAccount, IsDomain, IsMember}
+use Rattle.ndr_types.specs.Laws.{IsListOf}
 use Rattle.ndr_types.proofs.Parts.{Has, all_as, flat_has, join_has, part_of_has, list_has, times_fit, times_all, whole_fits, whole_kind, whole_complete}
 use Rattle.ndr_types.proofs.Texts.{text_has}
 use Rattle.ndr_types.proofs.Sids.{and_left, and_right, and_both, long_has, sid_pointer_has}

@@ -5,12 +5,6 @@ use Rattle.ndr_core.specs.declared.error.NdrError.TheVariants.{Short, Count, Mem
 use Rattle.ndr_core.specs.Cursor.{Cursor}
 use Rattle.ndr_core.specs.Written.{IsBytes}
 use Rattle.ndr_core.specs.Codec.{Codec}
-use Rattle.dtyp_sid.specs.Value.{IsSid}
-use Rattle.acct_calls.specs.declared.handle.Handle.{Handle}
-use Rattle.acct_calls.specs.declared.lists.Privilege.{Privilege}
-use Rattle.acct_calls.specs.declared.lists.RidName.{RidName}
-use Rattle.acct_calls.specs.declared.lists.Place.{Place}
-use Rattle.acct_calls.specs.declared.lists.RidBits.{RidBits}
 
 -- What some bytes spell can be written.
 abbrev pub IsWritable : {A : Type 0} → Codec A → Type 0
@@ -35,32 +29,6 @@ GoesOnward shape = (start : Cursor) → Onward start.place 0 (shape.read start)
 abbrev pub HasValues : {A : Type 0} → Codec A → (A → Type 0) → Type 0
 HasValues {A = A} shape P = (value : A) → shape.Fits value ↔ P value
 
--- ---- the kinds
-
-abbrev pub IsHandle : Handle → Type 0
-IsHandle handle = handle.number < 2 ^ 128
-
-abbrev pub IsLong : ℕ → Type 0
-IsLong n = n < 2 ^ 32
-
-abbrev pub IsText : List ℕ → Type 0
-IsText units = (length units ≤ 32767) × All (λ unit. unit < 2 ^ 16) units
-
 -- a list of at most so many values of a kind
 abbrev pub IsListOf : {A : Type 0} → ℕ → (A → Type 0) → List A → Type 0
 IsListOf most P xs = (length xs ≤ most) × (length xs < 2 ^ 32) × All P xs
-
-abbrev pub IsPrivilege : Privilege → Type 0
-IsPrivilege privilege = (privilege.low < 2 ^ 32) × (privilege.high < 2 ^ 32) × (privilege.attributes < 2 ^ 32)
-
-abbrev pub IsPrivilegeSet : List Privilege → Type 0
-IsPrivilegeSet privileges = (length privileges ≤ 1000) × All IsPrivilege privileges
-
-abbrev pub IsAccount : RidName → Type 0
-IsAccount account = (account.rid < 2 ^ 32) × IsText account.name
-
-abbrev pub IsDomain : Place → Type 0
-IsDomain place = IsText place.name × IsSid place.sid
-
-abbrev pub IsMember : RidBits → Type 0
-IsMember member = (member.rid < 2 ^ 32) × (member.bits < 2 ^ 32)

@@ -9,4 +9,7 @@ pub mod Accounts
 pub mod Domains
 pub mod Members
 pub mod Bounds
+pub mod Pointers
+pub mod PrivilegeNames
+pub mod Translations
 pub mod Laws

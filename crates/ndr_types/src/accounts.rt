@@ -2,7 +2,8 @@
 ghost use Rattle.std.specs.Prelude.{◌≡◌, OnOk};
 ghost use Rattle.std.specs.Option.{option_copied};
 ghost use Rattle.ndr_types.specs.Accounts.{rid_name, rid_names};
-ghost use Rattle.ndr_types.specs.Bounds.{HasShortName, IfThere, IsListed};
+ghost use Rattle.acct_layouts.specs.Bounds.{IfThere, IsListed};
+ghost use Rattle.ndr_types.specs.Bounds.{HasShortName};
 ghost use Rattle.ndr_types.specs.Outcomes.{Yields};
 
 use crate::array::{read_list, write_list};

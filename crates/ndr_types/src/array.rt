@@ -2,7 +2,7 @@
 ghost use Rattle.std.specs.Prelude.{◌≡◌, ℕ, All, OnOk, length, map};
 ghost use Rattle.ndr_core.specs.Cursor.{Gives};
 ghost use Rattle.ndr_core.specs.Parts.{times, each, list, list_of};
-ghost use Rattle.ndr_types.specs.Bounds.{IsListed};
+ghost use Rattle.acct_layouts.specs.Bounds.{IsListed};
 ghost use Rattle.ndr_types.specs.Outcomes.{Yields};
 
 use crate::{Embedded, NoMemory};

@@ -3,7 +3,8 @@ ghost use Rattle.std.specs.Prelude.{◌≡◌, OnOk};
 ghost use Rattle.std.specs.Option.{option_copied};
 ghost use Rattle.ndr_core.specs.Cursor.{Gives, making};
 ghost use Rattle.ndr_core.specs.Parts.{whole};
-ghost use Rattle.ndr_types.specs.Bounds.{IfThere, IsListed, IsShortPlace};
+ghost use Rattle.acct_layouts.specs.Bounds.{IfThere, IsListed};
+ghost use Rattle.ndr_types.specs.Bounds.{IsShortPlace};
 ghost use Rattle.ndr_types.specs.Domains.{or_empty, place, places, referenced};
 ghost use Rattle.ndr_types.specs.Outcomes.{Yields};
 
@@ -78,6 +79,18 @@ fn read_places(alloc: Global, from: &mut In<'_>) -> Result<Places, NdrError>
 {
     let head = read_places_head(from)?;
     read_places_tail(alloc, from, &head)
+}
+
+/// A list of domains, or none where the pointer is null.
+#[tactic(auto, unfolding(crate::specs::Domains::referenced))]
+pub fn read_referenced_pointer(alloc: Global, from: &mut In<'_>) -> Result<Option<Places>, NdrError>
+    ensures { Yields result from.new (referenced.read from.old) }
+{
+    if !from.pointer()? {
+        return Ok(None);
+    }
+    let list = read_places(alloc, from)?;
+    Ok(Some(list))
 }
 
 /// A list of domains. Where the pointer is null it is empty.

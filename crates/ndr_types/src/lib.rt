@@ -1,5 +1,6 @@
 //! The shapes of stubs that calls and replies share (C706, chapter 14): handles, texts, SIDs, lists of these and of
-//! numbers, sets of privileges, lists of accounts, and lists of the domains that a translation refers to.
+//! numbers, sets of privileges, lists of accounts, of the names of privileges, of translated names and SIDs, and of the
+//! domains that these refer to, and pointers to texts and sets of privileges.
 //!
 //! It stands on `ndr_core` for primitives and for what a shape is, on `acct_calls` and `dtyp_sid` for the values. Each
 //! shape is a definition in specs/, by its fields as they stand in the standard's IDL. The layers above use that each
@@ -18,16 +19,19 @@ mod lists;
 mod members;
 mod number;
 mod part;
+mod pointers;
+mod privilege_names;
 mod privileges;
 mod sid;
 mod text;
+mod translations;
 
 pub use accounts::{read_rid_names, write_rid_names};
 pub use array::{
     read_heads, read_list, read_list_head, read_list_tail, read_tails, write_heads, write_list,
     write_list_head, write_list_tail, write_tails,
 };
-pub use domains::{read_referenced, write_referenced};
+pub use domains::{read_referenced, read_referenced_pointer, write_referenced};
 pub use handle::{read_handle, write_handle};
 pub use laws::{
     one_reading, places_go_onward, read_where_spelled, spelled_is_writable, values_are_of_a_kind,
@@ -37,9 +41,16 @@ pub use lists::{
     read_rid_list, read_sid_list, read_text_list, write_rid_list, write_sid_list, write_text_list,
 };
 pub use part::Embedded;
+pub use pointers::{
+    read_privilege_set_pointer, read_text_pointer, write_privilege_set_pointer, write_text_pointer,
+};
+pub use privilege_names::{read_privilege_names, write_privilege_names};
 pub use privileges::{read_privilege_set, write_privilege_set};
 pub use sid::{read_sid, write_sid};
 pub use text::{read_text, write_text};
+pub use translations::{
+    read_translated_names, read_translated_sids, write_translated_names, write_translated_sids,
+};
 
 /// Want of memory, which is the only fault of the writers here.
 pub type NoMemory = std::alloc::AllocError;

@@ -7,6 +7,9 @@ use Rattle.ndr_types.specs.Privileges.{privilege_set}
 use Rattle.ndr_types.specs.Sids.{sid}
 use Rattle.ndr_types.specs.Texts.{text}
 use Rattle.ndr_types.proofs.Spelled.{spelled_read}
+use Rattle.ndr_types.specs.Pointers.{privilege_set_pointer, text_pointer}
+use Rattle.ndr_types.specs.PrivilegeNames.{privilege_names}
+use Rattle.ndr_types.specs.Translations.{translated_names, translated_sids}
 use Rattle.ndr_types.proofs.laws.read_where_spelled.Goals as goal
 
 pub returns-clause-handles : goal.returns-clause-handles
@@ -35,3 +38,18 @@ returns-clause-accounts c = spelled_read rid_names
 
 pub returns-clause-domains : goal.returns-clause-domains
 returns-clause-domains c = spelled_read referenced
+
+pub returns-clause-translated_sids : goal.returns-clause-translated_sids
+returns-clause-translated_sids c = λ most. spelled_read (translated_sids most)
+
+pub returns-clause-translated_names : goal.returns-clause-translated_names
+returns-clause-translated_names c = λ most. spelled_read (translated_names most)
+
+pub returns-clause-privilege_names : goal.returns-clause-privilege_names
+returns-clause-privilege_names c = spelled_read privilege_names
+
+pub returns-clause-text_pointers : goal.returns-clause-text_pointers
+returns-clause-text_pointers c = spelled_read text_pointer
+
+pub returns-clause-privilege_pointers : goal.returns-clause-privilege_pointers
+returns-clause-privilege_pointers c = spelled_read privilege_set_pointer

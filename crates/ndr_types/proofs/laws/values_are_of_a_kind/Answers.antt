@@ -6,6 +6,8 @@ use Rattle.ndr_types.proofs.Texts.{text_has}
 use Rattle.ndr_types.proofs.Digits.{handle_values}
 use Rattle.ndr_types.proofs.Sids.{long_has, sid_pointer_has}
 use Rattle.ndr_types.proofs.ShapeValues.{text_values, sid_values, list_values, privilege_set_values, rid_names_values, referenced_values}
+use Rattle.ndr_types.specs.Translations.{translated_name, translated_sid}
+use Rattle.ndr_types.proofs.Entries.{privilege_names_values, privilege_set_pointer_values, text_pointer_values, translated_name_has, translated_sid_has}
 use Rattle.ndr_types.proofs.laws.values_are_of_a_kind.Goals as goal
 
 pub returns-clause-handles : goal.returns-clause-handles
@@ -34,3 +36,18 @@ returns-clause-accounts c = rid_names_values
 
 pub returns-clause-domains : goal.returns-clause-domains
 returns-clause-domains c = referenced_values
+
+pub returns-clause-translated_sids : goal.returns-clause-translated_sids
+returns-clause-translated_sids c = λ most. list_values most (flat translated_sid) translated_sid_has
+
+pub returns-clause-translated_names : goal.returns-clause-translated_names
+returns-clause-translated_names c = λ most. list_values most translated_name translated_name_has
+
+pub returns-clause-privilege_names : goal.returns-clause-privilege_names
+returns-clause-privilege_names c = privilege_names_values
+
+pub returns-clause-text_pointers : goal.returns-clause-text_pointers
+returns-clause-text_pointers c = text_pointer_values
+
+pub returns-clause-privilege_pointers : goal.returns-clause-privilege_pointers
+returns-clause-privilege_pointers c = privilege_set_pointer_values

@@ -1,0 +1,6 @@
+use Rattle.ndr_core.proofs.Loop.{TimesSoFar}
+use Rattle.ndr_types.specs.PrivilegeNames.{privilege_name}
+use Rattle.ndr_types.proofs.privilege_names.read_heads.Given as goal
+
+abbrev pub invariant-loop : goal.invariant-loop
+invariant-loop l = TimesSoFar l.heads l.count l.counter privilege_name.head l.fn.from l.from

@@ -1,0 +1,6 @@
+use Rattle.ndr_types.specs.PrivilegeNames.{privilege_name}
+use Rattle.ndr_types.proofs.Arrays.{EachSoFar}
+use Rattle.ndr_types.proofs.privilege_names.read_tails.Given as goal
+
+abbrev pub invariant-loop-head : goal.invariant-loop-head
+invariant-loop-head l = EachSoFar l.values privilege_name.tail l.heads l.head-index l.fn.from l.from

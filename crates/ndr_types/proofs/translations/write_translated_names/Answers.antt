@@ -1,0 +1,4 @@
+use Rattle.ndr_types.proofs.translations.write_translated_names.Goals as goal
+
+pub returns : goal.returns
+returns c = rw (← c.as_slice.ensures) c.write_list.ensures

@@ -1,0 +1,144 @@
+// Translated names and SIDs as elements of arrays.
+ghost use Rattle.std.specs.Prelude.{◌≡◌, ◌<◌, ◌^◌, ℕ, OnOk, length};
+ghost use Rattle.ndr_core.specs.Cursor.{Gives};
+ghost use Rattle.ndr_core.specs.Parts.{flat};
+ghost use Rattle.acct_layouts.specs.Bounds.{IsListed};
+ghost use Rattle.ndr_types.specs.Bounds.{AnyValue, HasShortText};
+ghost use Rattle.ndr_types.specs.Outcomes.{Yields};
+ghost use Rattle.ndr_types.specs.Translations.{signed_long, translated_name, translated_names, translated_sid};
+ghost use Rattle.ndr_types.specs.Translations.{translated_sids};
+
+use crate::array::{read_list, write_list};
+use crate::{Embedded, NoMemory};
+use acct_calls::{Name, NamedList, Translated, TranslatedName, TranslatedSid};
+use ndr_core::{In, NdrError, Out};
+use std::alloc::Global;
+
+#[tactic(auto, unfolding(crate::specs::Translations::signed_long))]
+fn read_signed(from: &mut In<'_>) -> Result<i32, NdrError>
+    ensures { Gives result from.new (signed_long.read from.old) }
+{
+    let bits = from.u32()?;
+    Ok(bits.cast_signed())
+}
+
+#[tactic(auto, unfolding(crate::specs::Translations::signed_long))]
+fn write_signed(to: &mut Out, value: i32) -> Result<(), NoMemory>
+    ensures { OnOk result (to.new ≡ signed_long.write value to.old) }
+{
+    to.u32(value.cast_unsigned())
+}
+
+impl Embedded for TranslatedSid {
+    type Head = TranslatedSid;
+
+    ghost part = { flat translated_sid };
+
+    ghost Bounded = { AnyValue };
+
+    #[tactic(auto, unfolding(crate::specs::Translations::translated_sid))]
+    fn read_head(from: &mut In<'_>) -> Result<TranslatedSid, NdrError> {
+        let usage = from.u16()?;
+        let rid = from.u32()?;
+        let index = read_signed(from)?;
+        Ok(TranslatedSid { usage, rid, index })
+    }
+
+    fn read_tail(
+        _alloc: Global,
+        _from: &mut In<'_>,
+        head: &TranslatedSid,
+    ) -> Result<TranslatedSid, NdrError> {
+        Ok(*head)
+    }
+
+    #[tactic(auto, unfolding(crate::specs::Translations::translated_sid))]
+    fn write_head(&self, to: &mut Out) -> Result<(), NoMemory> {
+        to.u16(self.usage)?;
+        to.u32(self.rid)?;
+        write_signed(to, self.index)
+    }
+
+    fn write_tail(&self, _to: &mut Out) -> Result<(), NoMemory> {
+        Ok(())
+    }
+}
+
+impl Embedded for TranslatedName {
+    type Head = (u16, ((u16, bool), i32));
+
+    ghost part = { translated_name };
+
+    ghost Bounded = { HasShortText };
+
+    #[tactic(auto, unfolding(crate::specs::Translations::translated_name))]
+    fn read_head(from: &mut In<'_>) -> Result<(u16, ((u16, bool), i32)), NdrError> {
+        let usage = from.u16()?;
+        from.align(4);
+        let name = Name::read_head(from)?;
+        let index = read_signed(from)?;
+        Ok((usage, (name, index)))
+    }
+
+    #[tactic(auto, unfolding(crate::specs::Translations::translated_name))]
+    fn read_tail(
+        alloc: Global,
+        from: &mut In<'_>,
+        head: &(u16, ((u16, bool), i32)),
+    ) -> Result<TranslatedName, NdrError> {
+        let (usage, (name, index)) = *head;
+        let name = Name::read_tail(alloc, from, &name)?;
+        Ok(TranslatedName { usage, name, index })
+    }
+
+    #[tactic(auto, unfolding(crate::specs::Translations::translated_name))]
+    fn write_head(&self, to: &mut Out) -> Result<(), NoMemory> {
+        to.u16(self.usage)?;
+        to.align(4)?;
+        self.name.write_head(to)?;
+        write_signed(to, self.index)
+    }
+
+    #[tactic(auto, unfolding(crate::specs::Translations::translated_name))]
+    fn write_tail(&self, to: &mut Out) -> Result<(), NoMemory> {
+        self.name.write_tail(to)
+    }
+}
+
+/// A list of at most so many translated names.
+pub fn read_translated_sids(
+    alloc: Global,
+    from: &mut In<'_>,
+    most: u32,
+) -> Result<Translated, NdrError>
+    ensures { Yields result from.new ((translated_sids most).read from.old) }
+{
+    read_list(alloc, from, most)
+}
+
+/// A list of translated names.
+pub fn write_translated_sids(to: &mut Out, value: &Translated) -> Result<(), NoMemory>
+    requires { length value.now < 2 ^ 32 }
+    ensures { OnOk result ((most : ℕ) → to.new ≡ (translated_sids most).write value.now to.old) }
+{
+    write_list(to, value.as_slice())
+}
+
+/// A list of at most so many translated SIDs.
+pub fn read_translated_names(
+    alloc: Global,
+    from: &mut In<'_>,
+    most: u32,
+) -> Result<NamedList, NdrError>
+    ensures { Yields result from.new ((translated_names most).read from.old) }
+{
+    read_list(alloc, from, most)
+}
+
+/// A list of translated SIDs.
+pub fn write_translated_names(to: &mut Out, value: &NamedList) -> Result<(), NoMemory>
+    requires { IsListed HasShortText value.now }
+    ensures { OnOk result ((most : ℕ) → to.new ≡ (translated_names most).write value.now to.old) }
+{
+    write_list(to, value.as_slice())
+}
