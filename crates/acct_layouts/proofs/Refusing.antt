@@ -1,0 +1,152 @@
+-- The outputs of a refusal have the shape of their operation.
+use Rattle.std.proofs.Common.{◌≡◌, ℕ, ◌^◌, ◌<◌, List, [], Option, Some, None, refl, sym, subst, lit<}
+use Rattle.std.proofs.lemmas.List.Elements.{All-nil}
+use Rattle.dtyp_sid.specs.Value.{SidValue, IsSid}
+use Rattle.acct_calls.specs.declared.calls.Args.{Args}
+use Rattle.acct_calls.specs.declared.calls.Args.TheVariants as args
+use Rattle.acct_calls.specs.declared.calls.Call.{Call}
+use Rattle.acct_calls.specs.declared.handle.Handle.{Handle}
+use Rattle.acct_calls.specs.declared.replies.Reply.TheVariants.{Done}
+use Rattle.acct_layouts.specs.Bounds.{IsDomain, IsHandle, IsAccount, IsListed, IsLong, IsText}
+use Rattle.acct_layouts.specs.Bounds.{IsTranslatedName, IsTranslatedSid}
+use Rattle.acct_layouts.specs.CallShapes.{AreArguments, AreConnectArgs, ArePlainArgs, ArePolicyArgs, AreSearchArgs}
+use Rattle.acct_layouts.specs.CallShapes.{AreTranslationArgs, HasArguments, IsHandleOf, CanBeSpelled}
+use Rattle.acct_layouts.specs.Laws.{RefusalsHaveShape}
+use Rattle.acct_layouts.specs.Refusals.{context_of, refused_outs}
+use Rattle.acct_layouts.specs.ReplyShapes.{AreOutputs, HasOutputs, HasShape, domains_of}
+use Rattle.acct_layouts.specs.declared.fields.Connect.{Connect}
+use Rattle.acct_layouts.specs.declared.fields.Connect.TheVariants as connect
+use Rattle.acct_layouts.specs.declared.fields.Fields.{Fields}
+use Rattle.acct_layouts.specs.declared.fields.Fields.TheVariants as fields
+use Rattle.acct_layouts.specs.declared.fields.Plain.{Plain}
+use Rattle.acct_layouts.specs.declared.fields.Plain.TheVariants as plain
+use Rattle.acct_layouts.specs.declared.fields.PolicyFields.{PolicyFields}
+use Rattle.acct_layouts.specs.declared.fields.PolicyFields.TheVariants as policies
+use Rattle.acct_layouts.specs.declared.fields.Search.{Search}
+use Rattle.acct_layouts.specs.declared.fields.Search.TheVariants as search
+use Rattle.acct_layouts.specs.declared.fields.Translation.{Translation}
+use Rattle.acct_layouts.specs.declared.fields.Translation.TheVariants as translation
+use Rattle.acct_layouts.specs.declared.outputs.Listed.TheVariants as listed
+use Rattle.acct_layouts.specs.declared.outputs.Outputs.{Outputs}
+use Rattle.acct_layouts.specs.declared.outputs.Outputs.TheVariants as outputs
+use Rattle.acct_layouts.specs.declared.outputs.Plainly.TheVariants as plainly
+use Rattle.acct_layouts.specs.declared.outputs.PolicyOutputs.TheVariants as policy
+use Rattle.acct_layouts.specs.declared.table.Layout.{Layout}
+
+no_elements : {A : Type 0} (P : A → Type 0) → IsListed P []
+no_elements P = (lit< tt, All-nil P)
+
+-- ---- what a call brings that comes back
+
+no_opening : (c : Connect) (context filter preferred : ℕ) → AreConnectArgs c (args.Page context filter preferred) → ⊥
+no_opening connect.Connect2 context filter preferred h = h
+no_opening _ context filter preferred h = h
+
+no_plain : (p : Plain) (context filter preferred : ℕ) → ArePlainArgs p (args.Page context filter preferred) → ⊥
+no_plain plain.Nothing context filter preferred h = h
+no_plain _ context filter preferred h = h
+
+no_policy : (p : PolicyFields) (context filter preferred : ℕ) → ArePolicyArgs p (args.Page context filter preferred) → ⊥
+no_policy policies.Account context filter preferred h = h
+no_policy _ context filter preferred h = h
+
+no_translation : (t : Translation) (context filter preferred : ℕ)
+    → AreTranslationArgs t (args.Page context filter preferred) → ⊥
+no_translation translation.Names context filter preferred h = h
+no_translation translation.Sids context filter preferred h = h
+
+searched_context : (s : Search) (context filter preferred : ℕ) → AreSearchArgs s (args.Page context filter preferred)
+    → IsLong context
+searched_context search.Page context filter preferred h = h.0
+searched_context search.FilteredPage context filter preferred h = h.0
+searched_context _ context filter preferred h = absurd h
+
+page_context : (f : Fields) (context filter preferred : ℕ) → AreArguments f (args.Page context filter preferred)
+    → IsLong context
+page_context (fields.Connect c) context filter preferred h = absurd (no_opening c context filter preferred h)
+page_context (fields.Plain p) context filter preferred h = absurd (no_plain p context filter preferred h)
+page_context (fields.Search s) context filter preferred h = searched_context s context filter preferred h
+page_context (fields.Policy p) context filter preferred h = absurd (no_policy p context filter preferred h)
+page_context (fields.Translation t) context filter preferred h = absurd (no_translation t context filter preferred h)
+page_context _ context filter preferred h = absurd h
+
+context_is_long : (f : Fields) (a : Args) → AreArguments f a → IsLong (context_of a)
+context_is_long f (args.Page context filter preferred) h = page_context f context filter preferred h
+context_is_long f _ h = lit< tt
+
+zero_fits : (h : Handle) → h.number ≡ 0 → IsHandle h
+zero_fits h e = let P : ℕ → Type 0 = λ n. n < 2 ^ 128 in subst P (sym e) (lit< tt)
+
+handle_fits : (f : Fields) (h : Handle) → IsHandleOf f h → IsHandle h
+handle_fits (fields.Connect c) h is = zero_fits h is
+handle_fits _ h is = is
+
+-- ---- the outputs
+
+are_outputs : (o : Outputs) (a : Args) (h : Handle) → IsLong (context_of a) → IsHandle h
+    → AreOutputs o (refused_outs o a h)
+are_outputs (outputs.Plain plainly.Nothing) a h long fits = tt
+are_outputs (outputs.Plain plainly.Handle) a h long fits = lit< tt
+are_outputs (outputs.Plain plainly.HandleBack) a h long fits = fits
+are_outputs (outputs.Plain plainly.Connected) a h long fits = lit< tt
+are_outputs (outputs.Plain plainly.Created) a h long fits = (lit< tt, refl, lit< tt)
+are_outputs (outputs.Plain plainly.Granted) a h long fits = (lit< tt, lit< tt, lit< tt)
+are_outputs (outputs.Plain plainly.Sid) a h long fits = tt
+are_outputs (outputs.Listed listed.Page) a h long fits = (long, tt)
+are_outputs (outputs.Listed listed.Rids) a h long fits = no_elements IsLong
+are_outputs (outputs.Listed listed.RidUses) a h long fits = (no_elements IsLong, no_elements IsLong)
+are_outputs (outputs.Listed listed.NameUses) a h long fits = (no_elements IsText, no_elements IsLong)
+are_outputs (outputs.Listed listed.Groups) a h long fits = tt
+are_outputs (outputs.Listed listed.Members) a h long fits = tt
+are_outputs (outputs.Listed listed.Sids) a h long fits = no_elements IsSid
+are_outputs (outputs.Shown s) a h long fits = refl
+are_outputs (outputs.Policy policy.PrivilegePage) a h long fits = (long, no_elements IsAccount)
+are_outputs (outputs.Policy policy.SidPage) a h long fits = (long, no_elements IsSid)
+are_outputs (outputs.Policy policy.Privileges) a h long fits = tt
+are_outputs (outputs.Policy policy.SystemAccess) a h long fits = lit< tt
+are_outputs (outputs.Policy policy.Luid) a h long fits = (lit< tt, lit< tt)
+are_outputs (outputs.Policy policy.Name) a h long fits = tt
+are_outputs (outputs.Policy policy.Rights) a h long fits = no_elements IsText
+are_outputs (outputs.Translation translation.Names) a h long fits =
+    (no_elements IsDomain, no_elements IsTranslatedSid, lit< tt)
+are_outputs (outputs.Translation translation.Sids) a h long fits =
+    (no_elements IsDomain, no_elements IsTranslatedName, lit< tt)
+
+no_domains : (o : Outputs) (a : Args) (h : Handle) → domains_of (refused_outs o a h) ≡ []
+no_domains (outputs.Plain plainly.Nothing) a h = refl
+no_domains (outputs.Plain plainly.Handle) a h = refl
+no_domains (outputs.Plain plainly.HandleBack) a h = refl
+no_domains (outputs.Plain plainly.Connected) a h = refl
+no_domains (outputs.Plain plainly.Created) a h = refl
+no_domains (outputs.Plain plainly.Granted) a h = refl
+no_domains (outputs.Plain plainly.Sid) a h = refl
+no_domains (outputs.Listed listed.Page) a h = refl
+no_domains (outputs.Listed listed.Rids) a h = refl
+no_domains (outputs.Listed listed.RidUses) a h = refl
+no_domains (outputs.Listed listed.NameUses) a h = refl
+no_domains (outputs.Listed listed.Groups) a h = refl
+no_domains (outputs.Listed listed.Members) a h = refl
+no_domains (outputs.Listed listed.Sids) a h = refl
+no_domains (outputs.Shown s) a h = refl
+no_domains (outputs.Policy policy.PrivilegePage) a h = refl
+no_domains (outputs.Policy policy.SidPage) a h = refl
+no_domains (outputs.Policy policy.Privileges) a h = refl
+no_domains (outputs.Policy policy.SystemAccess) a h = refl
+no_domains (outputs.Policy policy.Luid) a h = refl
+no_domains (outputs.Policy policy.Name) a h = refl
+no_domains (outputs.Policy policy.Rights) a h = refl
+no_domains (outputs.Translation translation.Names) a h = refl
+no_domains (outputs.Translation translation.Sids) a h = refl
+
+-- ---- whole replies
+
+pub refusals_have_shape : RefusalsHaveShape
+unfolding CanBeSpelled HasShape
+refusals_have_shape call layout status can is long =
+    let has = subst (λ (o : Option Layout). HasArguments o call) is can in
+    let outs = refused_outs layout.outputs call.args call.handle in
+    let context = context_is_long layout.fields call.args has.1 in
+    let back = handle_fits layout.fields call.handle has.0 in
+    let shaped = are_outputs layout.outputs call.args call.handle context back in
+    let empty = no_domains layout.outputs call.args call.handle in
+    subst (λ (o : Option Layout). HasOutputs o (Done status outs)) (sym is) (long, shaped, λ refused. empty)

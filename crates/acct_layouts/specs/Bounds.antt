@@ -1,0 +1,54 @@
+-- Which values the fields of calls and replies have: numbers by their width, texts and lists by the counts that stand
+-- before them.
+use Rattle.std.specs.Prelude.{ℕ, ◌^◌, ◌<◌, ◌≤◌, All, List, length, Option, Some, None, FitsSigned}
+use Rattle.std.specs.Int.{w32}
+use Rattle.dtyp_sid.specs.Value.{IsSid}
+use Rattle.acct_calls.specs.declared.handle.Handle.{Handle}
+use Rattle.acct_calls.specs.declared.lists.Privilege.{Privilege}
+use Rattle.acct_calls.specs.declared.lists.RidName.{RidName}
+use Rattle.acct_calls.specs.declared.lists.Place.{Place}
+use Rattle.acct_calls.specs.declared.lists.RidBits.{RidBits}
+use Rattle.acct_calls.specs.declared.lists.TranslatedSid.{TranslatedSid}
+use Rattle.acct_calls.specs.declared.lists.TranslatedName.{TranslatedName}
+
+-- A UUID has 128 bits.
+abbrev pub IsHandle : Handle → Type 0
+IsHandle handle = handle.number < 2 ^ 128
+
+abbrev pub IsLong : ℕ → Type 0
+IsLong n = n < 2 ^ 32
+
+-- A text's length in bytes has 16 bits and is even.
+abbrev pub IsText : List ℕ → Type 0
+IsText units = (length units ≤ 32767) × All (λ unit. unit < 2 ^ 16) units
+
+-- A list's count has 32 bits.
+abbrev pub IsListed : {A : Type 0} → (A → Type 0) → List A → Type 0
+IsListed P xs = (length xs < 2 ^ 32) × All P xs
+
+-- what a pointer may leave out
+abbrev pub IfThere : {A : Type 0} → (A → Type 0) → Option A → Type 0
+IfThere P None = Unit {0}
+IfThere P (Some x) = P x
+
+abbrev pub IsPrivilege : Privilege → Type 0
+IsPrivilege privilege = (privilege.low < 2 ^ 32) × (privilege.high < 2 ^ 32) × (privilege.attributes < 2 ^ 32)
+
+abbrev pub IsPrivilegeSet : List Privilege → Type 0
+IsPrivilegeSet privileges = (length privileges ≤ 1000) × All IsPrivilege privileges
+
+abbrev pub IsAccount : RidName → Type 0
+IsAccount account = (account.rid < 2 ^ 32) × IsText account.name
+
+abbrev pub IsDomain : Place → Type 0
+IsDomain place = IsText place.name × IsSid place.sid
+
+abbrev pub IsMember : RidBits → Type 0
+IsMember member = (member.rid < 2 ^ 32) × (member.bits < 2 ^ 32)
+
+-- the index of a domain, or -1
+abbrev pub IsTranslatedSid : TranslatedSid → Type 0
+IsTranslatedSid entry = (entry.usage < 2 ^ 16) × (entry.rid < 2 ^ 32) × FitsSigned w32 entry.index
+
+abbrev pub IsTranslatedName : TranslatedName → Type 0
+IsTranslatedName entry = (entry.usage < 2 ^ 16) × IsText entry.name × FitsSigned w32 entry.index

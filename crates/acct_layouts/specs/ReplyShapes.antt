@@ -1,0 +1,113 @@
+-- The shape of a reply: which outputs its operation has (MS-SAMR 3.1.5, MS-LSAD 3.1.4, MS-LSAT 3.1.4), and which values
+-- these may have.
+use Rattle.std.specs.Prelude.{◌≡◌, ℕ, true, List, [], Option, Some, None}
+use Rattle.dtyp_sid.specs.Value.{IsSid}
+use Rattle.acct_calls.specs.declared.calls.Face.{Face}
+use Rattle.acct_calls.specs.declared.info.Info.{Info}
+use Rattle.acct_calls.specs.declared.lists.Place.{Place}
+use Rattle.acct_calls.specs.declared.replies.Outs.{Outs}
+use Rattle.acct_calls.specs.declared.replies.Outs.TheVariants as outs
+use Rattle.acct_calls.specs.declared.replies.Reply.{Reply}
+use Rattle.acct_calls.specs.declared.replies.Reply.TheVariants as reply
+use Rattle.acct_layouts.specs.Bounds.{IsAccount, IsDomain, IsHandle, IsLong, IsMember, IsPrivilegeSet, IsText}
+use Rattle.acct_layouts.specs.Bounds.{IsTranslatedName, IsTranslatedSid, IfThere, IsListed}
+use Rattle.acct_layouts.specs.Classes.{shown_arm}
+use Rattle.acct_layouts.specs.InfoShapes.{IsOfArm}
+use Rattle.acct_layouts.specs.Refusals.{is_refusal}
+use Rattle.acct_layouts.specs.Table.{layout_of}
+use Rattle.acct_layouts.specs.declared.classes.Subject.{Subject}
+use Rattle.acct_layouts.specs.declared.fields.Translation.{Translation}
+use Rattle.acct_layouts.specs.declared.fields.Translation.TheVariants as translation
+use Rattle.acct_layouts.specs.declared.outputs.Listed.{Listed}
+use Rattle.acct_layouts.specs.declared.outputs.Listed.TheVariants as listed
+use Rattle.acct_layouts.specs.declared.outputs.Outputs.{Outputs}
+use Rattle.acct_layouts.specs.declared.outputs.Outputs.TheVariants as outputs
+use Rattle.acct_layouts.specs.declared.outputs.Plainly.{Plainly}
+use Rattle.acct_layouts.specs.declared.outputs.Plainly.TheVariants as plainly
+use Rattle.acct_layouts.specs.declared.outputs.PolicyOutputs.{PolicyOutputs}
+use Rattle.acct_layouts.specs.declared.outputs.PolicyOutputs.TheVariants as policy
+use Rattle.acct_layouts.specs.declared.table.Layout.{Layout}
+
+-- A handle's number is below 2^128 (IsHandle), other numbers are below 2^32 (IsLong). A text has at most 32,767 units,
+-- each below 2^16 (IsText), a list fewer than 2^32 elements of a kind (IsListed). What a pointer may leave out is of
+-- its kind where it is there (IfThere).
+
+abbrev pub ArePlain : Plainly → Outs → Type 0
+ArePlain plainly.Nothing outs.Nothing = Unit {0}
+ArePlain plainly.Handle (outs.Handle h) = IsHandle h
+ArePlain plainly.HandleBack (outs.Handle h) = IsHandle h
+ArePlain plainly.Connected (outs.Handle h) = IsHandle h
+-- the granted access isn't among the outputs, and is 0
+ArePlain plainly.Created (outs.Created h granted rid) = IsHandle h × (granted ≡ 0) × IsLong rid
+ArePlain plainly.Granted (outs.Created h granted rid) = IsHandle h × IsLong granted × IsLong rid
+ArePlain plainly.Sid (outs.OneSid s) = IfThere IsSid s
+ArePlain _ _ = ⊥
+
+abbrev pub AreLists : Listed → Outs → Type 0
+AreLists listed.Page (outs.Page context entries) = IsLong context × IfThere (IsListed IsAccount) entries
+AreLists listed.Rids (outs.RidList rids) = IsListed IsLong rids
+-- two lists, each of its own length
+AreLists listed.RidUses (outs.RidUses rids uses) = IsListed IsLong rids × IsListed IsLong uses
+AreLists listed.NameUses (outs.NameUses names uses) = IsListed IsText names × IsListed IsLong uses
+AreLists listed.Groups (outs.Pairs groups) = IfThere (IsListed IsMember) groups
+AreLists listed.Members (outs.Pairs members) = IfThere (IsListed IsMember) members
+AreLists listed.Sids (outs.SidList sids) = IsListed IsSid sids
+AreLists _ _ = ⊥
+
+-- A class that is shown of such an object, with a value of this class; or the class 0, and no value.
+abbrev pub IsShown : Subject → ℕ → Option Info → Type 0
+IsShown s class None = class ≡ 0
+IsShown s class (Some value) = IsOfArm (shown_arm s class) value
+
+abbrev pub AreShown : Subject → Outs → Type 0
+AreShown s (outs.Shown class value) = IsShown s class value
+AreShown s _ = ⊥
+
+-- A page of privileges has the low parts of their LUIDs, whose high parts are 0.
+abbrev pub ArePolicyOuts : PolicyOutputs → Outs → Type 0
+ArePolicyOuts policy.PrivilegePage (outs.PrivilegePage context entries) = IsLong context × IsListed IsAccount entries
+ArePolicyOuts policy.SidPage (outs.SidPage context sids) = IsLong context × IsListed IsSid sids
+ArePolicyOuts policy.Privileges (outs.Privileges privileges) = IfThere IsPrivilegeSet privileges
+ArePolicyOuts policy.SystemAccess (outs.Bits bits) = IsLong bits
+ArePolicyOuts policy.Luid (outs.Luid low high) = IsLong low × IsLong high
+ArePolicyOuts policy.Name (outs.OneName name) = IfThere IsText name
+ArePolicyOuts policy.Rights (outs.NameList names) = IsListed IsText names
+ArePolicyOuts _ _ = ⊥
+
+abbrev pub AreTranslated : Translation → Outs → Type 0
+AreTranslated translation.Names (outs.Sids domains entries mapped) =
+    IsListed IsDomain domains × IsListed IsTranslatedSid entries × IsLong mapped
+AreTranslated translation.Sids (outs.Names domains entries mapped) =
+    IsListed IsDomain domains × IsListed IsTranslatedName entries × IsLong mapped
+AreTranslated _ _ = ⊥
+
+abbrev pub AreOutputs : Outputs → Outs → Type 0
+AreOutputs (outputs.Plain p) o = ArePlain p o
+AreOutputs (outputs.Listed l) o = AreLists l o
+AreOutputs (outputs.Shown s) o = AreShown s o
+AreOutputs (outputs.Policy p) o = ArePolicyOuts p o
+AreOutputs (outputs.Translation t) o = AreTranslated t o
+
+-- the domains that a translation refers to
+abbrev pub domains_of : Outs → List Place
+domains_of (outs.Sids domains entries mapped) = domains
+domains_of (outs.Names domains entries mapped) = domains
+domains_of _ = []
+
+-- A refusal refers to no domain.
+abbrev pub RefersRightly : Reply → Type 0
+RefersRightly (reply.Done status o) = is_refusal status ≡ true → domains_of o ≡ []
+RefersRightly (reply.Fault status) = Unit {0}
+
+-- The reply is no fault, and has these outputs.
+abbrev pub IsReplyOf : Outputs → Reply → Type 0
+IsReplyOf o (reply.Done status out) = IsLong status × AreOutputs o out × RefersRightly (reply.Done status out)
+IsReplyOf o (reply.Fault status) = ⊥
+
+abbrev pub HasOutputs : Option Layout → Reply → Type 0
+HasOutputs None r = ⊥
+HasOutputs (Some layout) r = IsReplyOf layout.outputs r
+
+-- The reply has the outputs of its operation.
+unfoldable pub HasShape : Face → ℕ → Reply → Type 0
+HasShape face opnum r = HasOutputs (layout_of face opnum) r

@@ -1,0 +1,78 @@
+// What a call brings behind its handle: the layouts of its fields.
+use crate::classes::Subject;
+
+/// The fields of an opening of the server or of the policy, which takes no handle.
+#[derive(Clone, Copy, Debug, PartialEq, Eq)]
+pub enum Connect {
+    Connect2,
+    Connect4,
+    Connect5,
+    OpenPolicy2,
+}
+
+/// Fields of which each is a number, a SID or a text.
+#[derive(Clone, Copy, Debug, PartialEq, Eq)]
+pub enum Plain {
+    Nothing,
+    Rid,
+    Member,
+    Sid,
+    Name,
+    OpenDomain,
+    OpenAccount,
+}
+
+/// Fields that ask for several accounts.
+#[derive(Clone, Copy, Debug, PartialEq, Eq)]
+pub enum Search {
+    Page,
+    FilteredPage,
+    Sids,
+    Names,
+    Rids,
+}
+
+/// Fields of a new account.
+#[derive(Clone, Copy, Debug, PartialEq, Eq)]
+pub enum Creation {
+    Account,
+    User,
+    TypedUser,
+}
+
+/// Fields of the policy and of its accounts.
+#[derive(Clone, Copy, Debug, PartialEq, Eq)]
+pub enum PolicyFields {
+    /// The SID of an account, and the access that its opening asks for.
+    Account,
+    AddPrivileges,
+    RemovePrivileges,
+    SystemAccess,
+    Luid,
+    /// The name of a privilege or of a right, if there is one.
+    Right,
+    AddRights,
+    RemoveRights,
+}
+
+/// What is translated.
+#[derive(Clone, Copy, Debug, PartialEq, Eq)]
+pub enum Translation {
+    Names,
+    Sids,
+}
+
+/// The fields of a call behind its handle.
+#[derive(Clone, Copy, Debug, PartialEq, Eq)]
+pub enum Fields {
+    Connect(Connect),
+    Plain(Plain),
+    Search(Search),
+    Creation(Creation),
+    /// A class of information that is asked for.
+    Class(Subject),
+    /// A class of information that is set.
+    Put(Subject),
+    Policy(PolicyFields),
+    Translation(Translation),
+}

@@ -1,0 +1,8 @@
+//! The law of refusals, which callers cite by this function.
+ghost use Rattle.acct_layouts.specs.Laws.{RefusalsHaveShape};
+
+/// The outputs of a refusal have the shape of the operation, where the call can be spelled.
+#[tactic(auto, using(crate::proofs::Refusing::refusals_have_shape))]
+pub fn refusals_have_shape()
+    ensures { RefusalsHaveShape }
+{}
