@@ -1,0 +1,11 @@
+pub mod Asked
+pub mod CallLaws
+pub mod CallValues
+pub mod Complete
+pub mod CompleteReplies
+pub mod InfoValues
+pub mod MemberLists
+pub mod Onward
+pub mod ReplyLaws
+pub mod ReplyValues
+pub mod Shared

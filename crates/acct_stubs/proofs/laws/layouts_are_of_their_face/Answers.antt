@@ -1,0 +1,5 @@
+use Rattle.acct_stubs.proofs.Shared.{layouts_of_their_face}
+use Rattle.acct_stubs.proofs.laws.layouts_are_of_their_face.Goals as goal
+
+pub returns : goal.returns
+returns c = layouts_of_their_face

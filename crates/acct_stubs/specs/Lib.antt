@@ -1,0 +1,10 @@
+pub mod ServerNames
+pub mod Infos
+pub mod Members
+pub mod Wire
+pub mod Arguments
+pub mod Outputs
+pub mod Shared
+pub mod Calls
+pub mod Replies
+pub mod Lawful
