@@ -1,11 +1,4 @@
 pub mod Openings
-pub mod Infos
-pub mod Members
-pub mod Arguments
-pub mod Outputs
-pub mod Table
-pub mod InfoShapes
-pub mod CallShapes
-pub mod ReplyShapes
-pub mod Calls
-pub mod Replies
+pub mod Creations
+pub mod Samr
+pub mod Lawful

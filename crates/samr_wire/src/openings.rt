@@ -1,43 +1,13 @@
 // The fields of openings of the server.
 ghost use Rattle.std.specs.Prelude.{◌≡◌, OnOk};
 ghost use Rattle.ndr_core.specs.Cursor.{Gives};
-ghost use Rattle.ndr_core.specs.Shapes.{u16};
-ghost use Rattle.ndr_core.specs.Parts.{times};
-ghost use Rattle.samr_wire.specs.Openings.{Passes, connect_args, revision_asked, server_name};
+ghost use Rattle.samr_wire.specs.Openings.{connect_args, revision_asked};
 
 use crate::NoMemory;
-use crate::rows::Connect;
 use acct_calls::Args;
+use acct_layouts::Connect;
+use acct_stubs::{read_server_name, write_server_name};
 use ndr_core::{In, NdrError, Out};
-
-/// Passes over the units of a text.
-fn skip_units(from: &mut In<'_>, count: u32) -> Result<(), NdrError>
-    ensures { Passes result from.new ((times count u16).read from.old) }
-{
-    for _ in 0..count {
-        from.u16()?;
-    }
-    Ok(())
-}
-
-#[tactic(auto, unfolding(crate::specs::Openings::server_name))]
-fn read_server_name(from: &mut In<'_>) -> Result<(), NdrError>
-    ensures { Gives result from.new (server_name.read from.old) }
-{
-    if !from.pointer()? {
-        return Ok(());
-    }
-    let maximum = from.conformant()?;
-    let actual = from.varying(maximum)?;
-    skip_units(from, actual)
-}
-
-#[tactic(auto, unfolding(crate::specs::Openings::server_name))]
-fn write_server_name(to: &mut Out) -> Result<(), NoMemory>
-    ensures { OnOk result (to.new ≡ server_name.write tt to.old) }
-{
-    to.pointer(false)
-}
 
 #[tactic(auto, unfolding(crate::specs::Openings::revision_asked))]
 fn read_revision(from: &mut In<'_>) -> Result<(), NdrError>
@@ -65,46 +35,51 @@ fn write_revision(to: &mut Out) -> Result<(), NoMemory>
 }
 
 #[tactic(auto, unfolding(crate::specs::Openings::connect_args))]
-pub fn read_connect(from: &mut In<'_>, row: Connect) -> Result<Args, NdrError>
-    ensures { Gives result from.new ((connect_args row).read from.old) }
+pub fn read_connect(from: &mut In<'_>, connect: Connect) -> Result<Args, NdrError>
+    ensures { Gives result from.new ((connect_args connect).read from.old) }
 {
-    read_server_name(from)?;
-    match row {
+    match connect {
         Connect::Connect2 => {
+            read_server_name(from)?;
             let access = from.u32()?;
             Ok(Args::Access(access))
         }
         Connect::Connect4 => {
+            read_server_name(from)?;
             from.u32()?;
             let access = from.u32()?;
             Ok(Args::Access(access))
         }
         Connect::Connect5 => {
+            read_server_name(from)?;
             let access = from.u32()?;
             read_revision(from)?;
             Ok(Args::Access(access))
         }
+        Connect::OpenPolicy2 => Err(from.broken(0)),
     }
 }
 
 #[tactic(auto, unfolding(crate::specs::Openings::connect_args))]
-pub fn write_connect(to: &mut Out, row: Connect, args: &Args) -> Result<(), NoMemory>
-    requires { (connect_args row).Fits args.now }
-    ensures { OnOk result (to.new ≡ (connect_args row).write args.now to.old) }
+pub fn write_connect(to: &mut Out, connect: Connect, args: &Args) -> Result<(), NoMemory>
+    requires { (connect_args connect).Fits args.now }
+    ensures { OnOk result (to.new ≡ (connect_args connect).write args.now to.old) }
 {
-    let Args::Access(access) = args else {
-        unreachable!()
-    };
-    write_server_name(to)?;
-    match row {
-        Connect::Connect2 => to.u32(*access),
-        Connect::Connect4 => {
+    match (connect, args) {
+        (Connect::Connect2, Args::Access(access)) => {
+            write_server_name(to)?;
+            to.u32(*access)
+        }
+        (Connect::Connect4, Args::Access(access)) => {
+            write_server_name(to)?;
             to.u32(2)?;
             to.u32(*access)
         }
-        Connect::Connect5 => {
+        (Connect::Connect5, Args::Access(access)) => {
+            write_server_name(to)?;
             to.u32(*access)?;
             write_revision(to)
         }
+        _ => unreachable!(),
     }
 }

@@ -1,6 +1,7 @@
 // Stubs of calls and replies as other software writes them, and the places of fields that have no reading. Tables are
 // texts: what is expected stands beside the stub in words, as `told` spells it.
 mod calls;
+mod limits;
 mod places;
 mod replies;
 mod served;
@@ -20,15 +21,26 @@ const HANDLE_WRITTEN: &str = "00000000 14151617 18191a1b 1c1d1e1f 20212223";
 /// The number of its UUID.
 const HANDLE: u128 = 0x1716_1514_1918_1b1a_1c1d_1e1f_2021_2223;
 
-/// The bytes in hexadecimal digits. Capitals, by which the source of a stub is named, are none.
-fn bytes_of(alloc: Global, text: &str) -> Result<Vec<u8>, Fail> {
-    let mut bytes = Vec::new(alloc);
+/// Of a row, or of what stands in it, that it is as expected.
+fn expect(rt: &impl Abort, holds: bool, row: &str) {
+    assert!(rt; holds, "{row}");
+}
+
+/// The value of a hexadecimal digit.
+fn digit_of(letter: u8) -> Option<u8> {
+    match letter {
+        b'0'..=b'9' => Some(letter - b'0'),
+        b'a'..=b'f' => Some(letter - b'a' + 10),
+        _ => None,
+    }
+}
+
+/// Adds the bytes in hexadecimal digits. Capitals, by which the source of a stub is named, are none.
+fn add_bytes(bytes: &mut Vec<u8>, digits: &str) -> Result<(), Fail> {
     let mut high: Option<u8> = None;
-    for letter in text.bytes() {
-        let digit = match letter {
-            b'0'..=b'9' => letter - b'0',
-            b'a'..=b'f' => letter - b'a' + 10,
-            _ => continue,
+    for letter in digits.bytes() {
+        let Some(digit) = digit_of(letter) else {
+            continue;
         };
         match high {
             None => high = Some(digit),
@@ -38,12 +50,15 @@ fn bytes_of(alloc: Global, text: &str) -> Result<Vec<u8>, Fail> {
             }
         }
     }
-    Ok(bytes)
+    Ok(())
 }
 
 /// The bytes in the digits of two texts.
 fn joined(alloc: Global, front: &str, rest: &str) -> Result<Vec<u8>, Fail> {
-    bytes_of(alloc, format!(in alloc; "{front}{rest}")?.as_str())
+    let mut bytes = Vec::new(alloc);
+    add_bytes(&mut bytes, front)?;
+    add_bytes(&mut bytes, rest)?;
+    Ok(bytes)
 }
 
 /// The number that a line begins with, and what stands behind it.
@@ -51,8 +66,18 @@ fn numbered<'a>(rt: &impl Abort, line: &'a str) -> (u16, &'a str) {
     let (number, rest) = line.split_once(' ').unwrap_or((line, ""));
     match number.parse::<u16>() {
         Ok(number) => (number, rest),
-        Err(_) => panic!(rt; "no number in front of {line}"),
+        Err(_) => panic!(rt; "no number in front"),
     }
+}
+
+/// The first line of a text, and the lines behind it.
+fn cut(text: &str) -> (&str, &str) {
+    text.split_once('\n').unwrap_or((text, ""))
+}
+
+/// Whether the operation takes no handle.
+fn takes_no_handle(opnum: u16) -> bool {
+    matches!(opnum, 57 | 62 | 64)
 }
 
 /// The place of the first field that has no reading, if it is a bad stub.

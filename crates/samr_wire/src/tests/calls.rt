@@ -1,15 +1,44 @@
 // Calls as Samba and impacket write them: what they bring, and how they are written here.
+ghost use Rattle.std.specs.Prelude.{◌≡◌, IfOk};
+ghost use Rattle.acct_layouts.specs.CallShapes.{CanBeSpelled};
+
 use super::places::call_beginnings;
 use super::told::told_args;
-use super::{HANDLE, HANDLE_SENT, HANDLE_WRITTEN, bad_call, bytes_of, joined, numbered};
+use super::{
+    HANDLE, HANDLE_SENT, HANDLE_WRITTEN, add_bytes, cut, expect, joined, numbered, takes_no_handle,
+};
 use crate::{read_call, write_call};
-use acct_calls::{Face, Handle};
+use acct_calls::{Call, Face};
 use std::alloc::Global;
 use std::process::Abort;
 use std::test::Fail;
 
+/// The call is written as a stub.
+fn is_spelled(
+    rt: &impl Abort,
+    alloc: Global,
+    call: &Call,
+    brought: &str,
+    written: &[u8],
+) -> Result<(), Fail>
+    requires ours { call.now.face ≡ Face.Samr }
+    requires spelled { CanBeSpelled call.now }
+{
+    let again = write_call(alloc, call)?;
+    expect(rt, again.as_slice() == written, brought);
+    Ok(())
+}
+
+/// The call that a stub spells.
+pub fn call_of(alloc: Global, opnum: u16, stub: &[u8]) -> Result<Call, Fail>
+    ensures { IfOk result (λ call. (call.face ≡ Face.Samr) × CanBeSpelled call) }
+{
+    let call = read_call(alloc, opnum, stub)?;
+    Ok(call)
+}
+
 /// The stub is read as a call that brings this, and that is written as another stub.
-fn is_written(
+pub fn is_written(
     rt: &impl Abort,
     alloc: Global,
     opnum: u16,
@@ -17,48 +46,56 @@ fn is_written(
     brought: &str,
     written: &[u8],
 ) -> Result<(), Fail> {
-    let call = match read_call(alloc, opnum, stub) {
-        Ok(call) => call,
-        Err(_) => panic!(rt; "no call of {opnum}: {brought}"),
-    };
-    let number = match opnum {
-        57 | 62 | 64 => 0,
-        _ => HANDLE,
-    };
-    assert_eq!(rt; call.handle, Handle { number });
-    assert_eq!(rt; call.opnum, opnum);
-    assert_eq!(rt; call.face, Face::Samr);
+    let call = call_of(alloc, opnum, stub)?;
+    is_spelled(rt, alloc, &call, brought, written)?;
+    let number = if takes_no_handle(opnum) { 0 } else { HANDLE };
+    expect(rt, call.handle.number == number, brought);
     let told = told_args(alloc, &call.args)?;
-    assert_eq!(rt; told.as_str(), brought);
-    let again = write_call(alloc, &call)?;
-    assert!(rt;
-        again.as_slice() == written,
-        "another stub of {opnum}: {brought}"
-    );
+    expect(rt, told.as_str() == brought, brought);
     Ok(())
+}
+
+/// Other stubs of the same call. It counts them.
+fn others_are_right(
+    rt: &impl Abort,
+    alloc: Global,
+    opnum: u16,
+    others: &str,
+    brought: &str,
+    written: &[u8],
+) -> Result<u32, Fail> {
+    let sent = if takes_no_handle(opnum) {
+        ""
+    } else {
+        HANDLE_SENT
+    };
+    let mut count: u32 = 0;
+    for line in others.lines() {
+        let stub = joined(alloc, sent, line)?;
+        is_written(rt, alloc, opnum, &stub, brought, written)?;
+        count = count.wrapping_add(1);
+    }
+    Ok(count)
 }
 
 /// A row of a table: each of its stubs is read as the call, which is written as the first of them, and each beginning of
 /// that one is bad at its place. It counts the stubs.
 fn row_is_right(rt: &impl Abort, alloc: Global, row: &str) -> Result<u32, Fail> {
-    let mut lines = row.lines();
-    let (opnum, _) = numbered(rt, lines.next().unwrap_or(""));
-    let brought = lines.next().unwrap_or("");
-    let fields = lines.next().unwrap_or("");
-    let (sent, kept) = match opnum {
-        57 | 62 | 64 => ("", ""),
-        _ => (HANDLE_SENT, HANDLE_WRITTEN),
+    let (opnum, rest) = numbered(rt, row);
+    let (_, rest) = cut(rest);
+    let (brought, rest) = cut(rest);
+    let (fields, rest) = cut(rest);
+    let (first, others) = cut(rest);
+    let kept = if takes_no_handle(opnum) {
+        ""
+    } else {
+        HANDLE_WRITTEN
     };
-    let written = joined(alloc, kept, lines.next().unwrap_or(""))?;
+    let written = joined(alloc, kept, first)?;
     is_written(rt, alloc, opnum, &written, brought, &written)?;
     call_beginnings(rt, alloc, opnum, &written, fields);
-    let mut count: u32 = 1;
-    for line in lines {
-        let stub = joined(alloc, sent, line)?;
-        is_written(rt, alloc, opnum, &stub, brought, &written)?;
-        count = count.wrapping_add(1);
-    }
-    Ok(count)
+    let count = others_are_right(rt, alloc, opnum, others, brought, &written)?;
+    Ok(count.wrapping_add(1))
 }
 
 /// The rows of a table and their stubs, each of which is right, by their numbers.
@@ -341,7 +378,7 @@ SAMBA 10001000 15000000
 IMPACKET 10001000 15000000
 
 37 SamrSetInformationUser, a pair of surrogates
-Put 8 Text 'Zo\u{eb} <d834><dd1e>'
+Put 8 Text 'Zo\u{eb} < 0xd834>< 0xdd1e>'
 44221111111122224444222222
 SAMBA 08000800 0c000c00 00000200 06000000 00000000 06000000 5a006f00 eb002000 34d81edd
 
@@ -447,42 +484,38 @@ fn calls_are_read_and_written(rt: HostRuntime) -> Result<(), Fail> {
     Ok(())
 }
 
-fn push_number(stub: &mut Vec<u8>, number: u32) -> Result<(), Fail> {
-    Ok(stub.extend_from_slice(&number.to_le_bytes())?)
-}
-
-/// A look-up of so many times `nobody`, as Samba writes that of a thousand.
-fn names_stub(alloc: Global, count: u32, maximum: u32) -> Result<Vec<u8>, Fail> {
-    let mut stub = bytes_of(alloc, HANDLE_WRITTEN)?;
-    for number in [count, maximum, 0, count] {
-        push_number(&mut stub, number)?;
+/// A look-up of so many times `nobody`, as Samba writes that of a thousand: 8 bytes that are the same but for the
+/// referent, which rises by 4, for each.
+fn names_stub(alloc: Global, count: &str, names: &str) -> Result<Vec<u8>, Fail> {
+    let mut stub = joined(alloc, HANDLE_WRITTEN, count)?;
+    for place in 0..1000u32 {
+        add_bytes(&mut stub, "0c000c00")?;
+        stub.push((place * 4 % 256) as u8)?;
+        stub.push((place * 4 / 256) as u8)?;
+        add_bytes(&mut stub, "0200")?;
     }
-    for place in 0..count {
-        push_number(&mut stub, 0x000c_000c)?;
-        push_number(&mut stub, place.wrapping_mul(4) | 0x0002_0000)?;
-    }
-    let nobody = bytes_of(
-        alloc,
-        "06000000 00000000 06000000 6e006f00 62006f00 64007900",
-    )?;
-    for _ in 0..count {
-        stub.extend_from_slice(&nobody)?;
+    for _ in 0..1000u32 {
+        add_bytes(&mut stub, names)?;
     }
     Ok(stub)
+}
+
+/// The words of a thousand names.
+fn names_told(alloc: Global) -> Result<String, Fail> {
+    let mut told = String::new(alloc);
+    told.push_str("NameList")?;
+    for _ in 0..1000u32 {
+        told.push_str(" 'nobody'")?;
+    }
+    Ok(told)
 }
 
 #[test]
 fn a_thousand_names_are_taken(rt: HostRuntime) -> Result<(), Fail> {
     let alloc = rt.alloc();
-    let stub = names_stub(alloc, 1000, 1000)?;
+    let names = "06000000 00000000 06000000 6e006f00 62006f00 64007900";
+    let stub = names_stub(alloc, "e8030000 e8030000 00000000 e8030000", names)?;
+    let told = names_told(alloc)?;
     assert_eq!(rt; stub.len(), 32036);
-    let mut brought = String::new(alloc);
-    brought.push_str("NameList")?;
-    for _ in 0..1000 {
-        brought.push_str(" 'nobody'")?;
-    }
-    is_written(&rt, alloc, 17, &stub, &brought, &stub)?;
-    let stub = names_stub(alloc, 1001, 1001)?;
-    assert_eq!(rt; bad_call(alloc, 17, &stub), Some(20));
-    Ok(())
+    is_written(&rt, alloc, 17, &stub, &told, &stub)
 }

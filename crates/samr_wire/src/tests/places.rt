@@ -1,5 +1,5 @@
 // The places of the first field that has no reading.
-use super::{HANDLE_WRITTEN, bad_call, bad_reply, joined, numbered};
+use super::{HANDLE_WRITTEN, bad_call, bad_reply, expect, joined, numbered, takes_no_handle};
 use std::alloc::Global;
 use std::process::Abort;
 use std::test::Fail;
@@ -26,80 +26,28 @@ fn place_in(fields: &str, length: usize) -> usize {
 
 /// Each beginning of the stub is bad at the place of the first field that it doesn't hold.
 pub fn call_beginnings(rt: &impl Abort, alloc: Global, opnum: u16, stub: &[u8], fields: &str) {
-    assert_eq!(rt; place_in(fields, stub.len()), stub.len());
+    expect(rt, place_in(fields, stub.len()) == stub.len(), fields);
     for length in 0..stub.len() {
         let place = place_in(fields, length);
-        assert!(rt;
+        expect(
+            rt,
             bad_call(alloc, opnum, &stub[..length]) == Some(place),
-            "{length} bytes of {opnum}"
+            fields,
         );
     }
 }
 
 /// The same of a reply.
 pub fn reply_beginnings(rt: &impl Abort, alloc: Global, opnum: u16, stub: &[u8], fields: &str) {
-    assert_eq!(rt; place_in(fields, stub.len()), stub.len());
+    expect(rt, place_in(fields, stub.len()) == stub.len(), fields);
     for length in 0..stub.len() {
         let place = place_in(fields, length);
-        assert!(rt;
+        expect(
+            rt,
             bad_reply(alloc, opnum, &stub[..length]) == Some(place),
-            "{length} bytes of {opnum}"
+            fields,
         );
     }
-}
-
-/// SamrCreateUser2InDomain of `alice`, as Samba writes it behind the handle.
-const CREATE: &str =
-    "0a000a00 00000200 05000000 00000000 05000000 61006c00 69006300 65000000 10000000 00000002";
-
-/// Where the fields of that stub begin and end: those of the handle, of the name (its length, its maximum, its pointer,
-/// three counts, five units), and behind two bytes of padding the type and the access.
-const CREATE_FIELDS: [(usize, usize); 25] = [
-    (0, 4),
-    (4, 8),
-    (8, 10),
-    (10, 12),
-    (12, 13),
-    (13, 14),
-    (14, 15),
-    (15, 16),
-    (16, 17),
-    (17, 18),
-    (18, 19),
-    (19, 20),
-    (20, 22),
-    (22, 24),
-    (24, 28),
-    (28, 32),
-    (32, 36),
-    (36, 40),
-    (40, 42),
-    (42, 44),
-    (44, 46),
-    (46, 48),
-    (48, 50),
-    (52, 56),
-    (56, 60),
-];
-
-#[test]
-fn each_beginning_of_a_create_has_its_place(rt: HostRuntime) -> Result<(), Fail> {
-    let alloc = rt.alloc();
-    let stub = joined(alloc, HANDLE_WRITTEN, CREATE)?;
-    let mut length: usize = 0;
-    for (place, end) in CREATE_FIELDS {
-        for _ in length..end {
-            let Some(beginning) = stub.get(..length) else {
-                panic!(rt; "too short");
-            };
-            assert_eq!(rt; bad_call(alloc, 50, beginning), Some(place));
-            length = length.wrapping_add(1);
-        }
-    }
-    assert_eq!(rt; length, 60);
-    assert_eq!(rt; stub.len(), 60);
-    assert_eq!(rt; bad_call(alloc, 50, &stub), None);
-    Ok(())
 }
 
 /// The opnum, the place that is bad, and the stub, behind a handle of 20 bytes if the operation takes one. One is of
@@ -238,14 +186,16 @@ const BAD_REPLIES: &str = "
 fn call_is_bad(rt: &impl Abort, alloc: Global, line: &str) -> Result<(), Fail> {
     let (opnum, rest) = numbered(rt, line);
     let (place, digits) = numbered(rt, rest);
-    let handle = match opnum {
-        57 | 62 | 64 => "",
-        _ => HANDLE_WRITTEN,
+    let handle = if takes_no_handle(opnum) {
+        ""
+    } else {
+        HANDLE_WRITTEN
     };
     let stub = joined(alloc, handle, digits)?;
-    assert!(rt;
+    expect(
+        rt,
         bad_call(alloc, opnum, &stub) == Some(usize::from(place)),
-        "{line}"
+        line,
     );
     Ok(())
 }
@@ -254,9 +204,10 @@ fn reply_is_bad(rt: &impl Abort, alloc: Global, line: &str) -> Result<(), Fail> 
     let (opnum, rest) = numbered(rt, line);
     let (place, digits) = numbered(rt, rest);
     let stub = joined(alloc, "", digits)?;
-    assert!(rt;
+    expect(
+        rt,
         bad_reply(alloc, opnum, &stub) == Some(usize::from(place)),
-        "{line}"
+        line,
     );
     Ok(())
 }

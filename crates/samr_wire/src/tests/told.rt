@@ -4,14 +4,33 @@ use dtyp_sid::Sid;
 use std::alloc::Global;
 use std::test::Fail;
 
-/// A name in quotes. A unit that is no character by itself stands there in hexadecimal digits.
+fn tell_number(told: &mut String, number: u32) -> Result<(), Fail> {
+    write!(told, " {number}")?;
+    Ok(())
+}
+
+fn tell_bits(told: &mut String, bits: u128) -> Result<(), Fail> {
+    write!(told, " {bits:#x}")?;
+    Ok(())
+}
+
+/// A unit that is a character by itself, or in hexadecimal digits.
+fn tell_unit(told: &mut String, unit: u16) -> Result<(), Fail> {
+    let Some(letter) = char::from_u32(u32::from(unit)) else {
+        told.push_str("<")?;
+        tell_bits(told, u128::from(unit))?;
+        told.push_str(">")?;
+        return Ok(());
+    };
+    told.push(letter)?;
+    Ok(())
+}
+
+/// A name in quotes.
 fn tell_name(told: &mut String, name: &Name) -> Result<(), Fail> {
     told.push_str(" '")?;
     for unit in name.units() {
-        match char::from_u32(u32::from(*unit)) {
-            Some(letter) => told.push(letter)?,
-            None => write!(told, "<{unit:x}>")?,
-        }
+        tell_unit(told, *unit)?;
     }
     told.push_str("'")?;
     Ok(())
@@ -26,7 +45,8 @@ fn tell_names(told: &mut String, names: &[Name]) -> Result<(), Fail> {
 
 fn tell_sid(alloc: Global, told: &mut String, sid: &Sid) -> Result<(), Fail> {
     let text = sid.text(alloc)?;
-    write!(told, " {text}")?;
+    told.push_str(" ")?;
+    told.push_str(text.as_str())?;
     Ok(())
 }
 
@@ -39,14 +59,14 @@ fn tell_sids(alloc: Global, told: &mut String, sids: &[Sid]) -> Result<(), Fail>
 
 fn tell_numbers(told: &mut String, numbers: &[u32]) -> Result<(), Fail> {
     for number in numbers {
-        write!(told, " {number}")?;
+        tell_number(told, *number)?;
     }
     Ok(())
 }
 
 fn tell_accounts(told: &mut String, accounts: &[RidName]) -> Result<(), Fail> {
     for account in accounts {
-        write!(told, " {}", account.rid)?;
+        tell_number(told, account.rid)?;
         tell_name(told, &account.name)?;
     }
     Ok(())
@@ -54,7 +74,8 @@ fn tell_accounts(told: &mut String, accounts: &[RidName]) -> Result<(), Fail> {
 
 fn tell_pairs(told: &mut String, pairs: &[RidBits]) -> Result<(), Fail> {
     for pair in pairs {
-        write!(told, " {} {:#x}", pair.rid, pair.bits)?;
+        tell_number(told, pair.rid)?;
+        tell_bits(told, u128::from(pair.bits))?;
     }
     Ok(())
 }
@@ -62,7 +83,10 @@ fn tell_pairs(told: &mut String, pairs: &[RidBits]) -> Result<(), Fail> {
 fn tell_info(told: &mut String, info: &Info) -> Result<(), Fail> {
     match info {
         Info::Unserved => told.push_str(" Unserved")?,
-        Info::Number(number) => write!(told, " Number {number}")?,
+        Info::Number(number) => {
+            told.push_str(" Number")?;
+            tell_number(told, *number)?;
+        }
         Info::Text(text) => {
             told.push_str(" Text")?;
             tell_name(told, text)?;
@@ -75,20 +99,21 @@ fn tell_info(told: &mut String, info: &Info) -> Result<(), Fail> {
         Info::Group(name, attributes, members, comment) => {
             told.push_str(" Group")?;
             tell_name(told, name)?;
-            write!(told, " {attributes:#x} {members}")?;
+            tell_bits(told, u128::from(*attributes))?;
+            tell_number(told, *members)?;
             tell_name(told, comment)?;
         }
         Info::Alias(name, members, comment) => {
             told.push_str(" Alias")?;
             tell_name(told, name)?;
-            write!(told, " {members}")?;
+            tell_number(told, *members)?;
             tell_name(told, comment)?;
         }
         Info::User(name, full_name, primary, comment) => {
             told.push_str(" User")?;
             tell_name(told, name)?;
             tell_name(told, full_name)?;
-            write!(told, " {primary}")?;
+            tell_number(told, *primary)?;
             tell_name(told, comment)?;
         }
         Info::Place(..) => told.push_str(" Place")?,
@@ -96,7 +121,7 @@ fn tell_info(told: &mut String, info: &Info) -> Result<(), Fail> {
     Ok(())
 }
 
-/// The lists that calls bring.
+/// The lists that calls bring, and single values.
 fn tell_lists(alloc: Global, told: &mut String, args: &Args) -> Result<(), Fail> {
     match args {
         Args::SidList(sids) => {
@@ -111,122 +136,180 @@ fn tell_lists(alloc: Global, told: &mut String, args: &Args) -> Result<(), Fail>
             told.push_str("RidList")?;
             tell_numbers(told, rids.as_slice())
         }
+        Args::OneSid(sid) => {
+            told.push_str("OneSid")?;
+            tell_sid(alloc, told, sid)
+        }
+        Args::OneName(Some(name)) => {
+            told.push_str("OneName")?;
+            tell_name(told, name)
+        }
+        Args::Put { class, value } => {
+            told.push_str("Put")?;
+            tell_number(told, u32::from(*class))?;
+            tell_info(told, value)
+        }
         _ => Ok(told.push_str("other arguments")?),
     }
 }
 
-/// The arguments of a call: the variant, and its fields in order.
-pub fn told_args(alloc: Global, args: &Args) -> Result<String, Fail> {
-    let mut told = String::new(alloc);
+/// Openings, and accesses that are asked for.
+fn tell_opening(alloc: Global, told: &mut String, args: &Args) -> Result<(), Fail> {
     match args {
-        Args::Nothing => told.push_str("Nothing")?,
-        Args::Access(access) => write!(told, "Access {access:#x}")?,
-        Args::AccessRid { access, rid } => write!(told, "AccessRid {access:#x} {rid}")?,
+        Args::Access(access) => {
+            told.push_str("Access")?;
+            tell_bits(told, u128::from(*access))
+        }
+        Args::AccessRid { access, rid } => {
+            told.push_str("AccessRid")?;
+            tell_bits(told, u128::from(*access))?;
+            tell_number(told, *rid)
+        }
         Args::AccessSid { access, sid } => {
-            write!(told, "AccessSid {access:#x}")?;
-            tell_sid(alloc, &mut told, sid)?;
+            told.push_str("AccessSid")?;
+            tell_bits(told, u128::from(*access))?;
+            tell_sid(alloc, told, sid)
         }
         Args::Make { name, bits, access } => {
             told.push_str("Make")?;
-            tell_name(&mut told, name)?;
-            write!(told, " {bits:#x} {access:#x}")?;
+            tell_name(told, name)?;
+            tell_bits(told, u128::from(*bits))?;
+            tell_bits(told, u128::from(*access))
         }
+        _ => tell_lists(alloc, told, args),
+    }
+}
+
+/// Arguments: the variant, and its fields in order.
+fn tell_args(alloc: Global, told: &mut String, args: &Args) -> Result<(), Fail> {
+    match args {
+        Args::Nothing => Ok(told.push_str("Nothing")?),
         Args::Page {
             context,
             filter,
             preferred,
-        } => write!(told, "Page {context} {filter:#x} {preferred}")?,
-        Args::Class(class) => write!(told, "Class {class}")?,
-        Args::Put { class, value } => {
-            write!(told, "Put {class}")?;
-            tell_info(&mut told, value)?;
+        } => {
+            told.push_str("Page")?;
+            tell_number(told, *context)?;
+            tell_bits(told, u128::from(*filter))?;
+            tell_number(told, *preferred)
         }
-        Args::Rid(rid) => write!(told, "Rid {rid}")?,
-        Args::RidBits { rid, bits } => write!(told, "RidBits {rid} {bits:#x}")?,
-        Args::OneSid(sid) => {
-            told.push_str("OneSid")?;
-            tell_sid(alloc, &mut told, sid)?;
+        Args::Class(class) => {
+            told.push_str("Class")?;
+            tell_number(told, u32::from(*class))
         }
-        Args::OneName(Some(name)) => {
-            told.push_str("OneName")?;
-            tell_name(&mut told, name)?;
+        Args::Rid(rid) => {
+            told.push_str("Rid")?;
+            tell_number(told, *rid)
         }
-        _ => tell_lists(alloc, &mut told, args)?,
+        Args::RidBits { rid, bits } => {
+            told.push_str("RidBits")?;
+            tell_number(told, *rid)?;
+            tell_bits(told, u128::from(*bits))
+        }
+        _ => tell_opening(alloc, told, args),
     }
+}
+
+/// The arguments of a call in words.
+pub fn told_args(alloc: Global, args: &Args) -> Result<String, Fail> {
+    let mut told = String::new(alloc);
+    tell_args(alloc, &mut told, args)?;
     Ok(told)
 }
 
 /// The outputs of a reply that are lists, or of which a list is part. A null pointer has no list.
 fn tell_listed(alloc: Global, told: &mut String, outs: &Outs) -> Result<(), Fail> {
     match outs {
-        Outs::Page { context, entries } => {
-            write!(told, " Page {context}")?;
-            if let Some(entries) = entries {
-                told.push_str(" of")?;
-                tell_accounts(told, entries.as_slice())?;
-            }
-        }
         Outs::RidList(rids) => {
             told.push_str(" RidList")?;
-            tell_numbers(told, rids.as_slice())?;
+            tell_numbers(told, rids.as_slice())
         }
         Outs::RidUses { rids, uses } => {
             told.push_str(" RidUses")?;
             tell_numbers(told, rids.as_slice())?;
             told.push_str(" used")?;
-            tell_numbers(told, uses.as_slice())?;
+            tell_numbers(told, uses.as_slice())
         }
         Outs::NameUses { names, uses } => {
             told.push_str(" NameUses")?;
             tell_names(told, names.as_slice())?;
             told.push_str(" used")?;
-            tell_numbers(told, uses.as_slice())?;
+            tell_numbers(told, uses.as_slice())
         }
-        Outs::Pairs(pairs) => {
-            told.push_str(" Pairs")?;
-            if let Some(pairs) = pairs {
-                told.push_str(" of")?;
-                tell_pairs(told, pairs.as_slice())?;
-            }
+        Outs::Pairs(Some(pairs)) => {
+            told.push_str(" Pairs of")?;
+            tell_pairs(told, pairs.as_slice())
         }
+        Outs::Pairs(None) => Ok(told.push_str(" Pairs")?),
         Outs::SidList(sids) => {
             told.push_str(" SidList")?;
-            tell_sids(alloc, told, sids.as_slice())?;
+            tell_sids(alloc, told, sids.as_slice())
         }
-        _ => told.push_str(" other outputs")?,
+        _ => Ok(told.push_str(" other outputs")?),
     }
-    Ok(())
 }
 
-/// A reply: its status, the variant of its outputs, and their fields in order. A null pointer isn't told.
+/// Outputs that a pointer may leave out.
+fn tell_pointed(alloc: Global, told: &mut String, outs: &Outs) -> Result<(), Fail> {
+    match outs {
+        Outs::OneSid(None) => Ok(told.push_str(" OneSid")?),
+        Outs::OneSid(Some(sid)) => {
+            told.push_str(" OneSid")?;
+            tell_sid(alloc, told, sid)
+        }
+        Outs::Shown { class, value } => {
+            told.push_str(" Shown")?;
+            tell_number(told, u32::from(*class))?;
+            match value {
+                Some(value) => tell_info(told, value),
+                None => Ok(()),
+            }
+        }
+        Outs::Page { context, entries } => {
+            told.push_str(" Page")?;
+            tell_number(told, *context)?;
+            let Some(entries) = entries else {
+                return Ok(());
+            };
+            told.push_str(" of")?;
+            tell_accounts(told, entries.as_slice())
+        }
+        _ => tell_listed(alloc, told, outs),
+    }
+}
+
+/// Outputs: the variant, and its fields in order. A null pointer isn't told.
+fn tell_outs(alloc: Global, told: &mut String, outs: &Outs) -> Result<(), Fail> {
+    match outs {
+        Outs::Nothing => Ok(told.push_str(" Nothing")?),
+        Outs::Handle(handle) => {
+            told.push_str(" Handle")?;
+            tell_bits(told, handle.number)
+        }
+        Outs::Created {
+            handle,
+            granted,
+            rid,
+        } => {
+            told.push_str(" Created")?;
+            tell_bits(told, handle.number)?;
+            tell_bits(told, u128::from(*granted))?;
+            tell_number(told, *rid)
+        }
+        _ => tell_pointed(alloc, told, outs),
+    }
+}
+
+/// A reply in words: its status and its outputs.
 pub fn told_reply(alloc: Global, reply: &Reply) -> Result<String, Fail> {
     let mut told = String::new(alloc);
     let Reply::Done { status, outs } = reply else {
         told.push_str("a fault")?;
         return Ok(told);
     };
-    write!(told, "{status:#x}")?;
-    match outs {
-        Outs::Nothing => told.push_str(" Nothing")?,
-        Outs::Handle(handle) => write!(told, " Handle {:#x}", handle.number)?,
-        Outs::Created {
-            handle,
-            granted,
-            rid,
-        } => write!(told, " Created {:#x} {granted:#x} {rid}", handle.number)?,
-        Outs::OneSid(sid) => {
-            told.push_str(" OneSid")?;
-            if let Some(sid) = sid {
-                tell_sid(alloc, &mut told, sid)?;
-            }
-        }
-        Outs::Shown { class, value } => {
-            write!(told, " Shown {class}")?;
-            if let Some(value) = value {
-                tell_info(&mut told, value)?;
-            }
-        }
-        _ => tell_listed(alloc, &mut told, outs)?,
-    }
+    told.push_str("status")?;
+    tell_bits(&mut told, u128::from(*status))?;
+    tell_outs(alloc, &mut told, outs)?;
     Ok(told)
 }

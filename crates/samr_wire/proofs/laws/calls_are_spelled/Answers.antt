@@ -1,11 +1,13 @@
-use Rattle.samr_wire.proofs.CallLaws.{one_call, read_where_spelled, the_spelled_calls}
+use Rattle.acct_stubs.proofs.CallLaws.{one_call, read_where_spelled, the_spelled_calls}
+use Rattle.samr_wire.specs.Samr.{samr}
+use Rattle.samr_wire.specs.Lawful.{samr_lawful}
 use Rattle.samr_wire.proofs.laws.calls_are_spelled.Goals as goal
 
 pub returns-clause-read : goal.returns-clause-read
-returns-clause-read c = read_where_spelled
+returns-clause-read c = read_where_spelled samr
 
 pub returns-clause-one : goal.returns-clause-one
-returns-clause-one c = one_call
+returns-clause-one c = one_call samr
 
 pub returns-clause-all : goal.returns-clause-all
-returns-clause-all c = the_spelled_calls
+returns-clause-all c = the_spelled_calls samr samr_lawful

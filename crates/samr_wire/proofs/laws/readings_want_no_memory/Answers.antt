@@ -1,8 +1,10 @@
-use Rattle.samr_wire.proofs.Onward.{no_call_wants_memory, no_reply_wants_memory}
+use Rattle.acct_stubs.proofs.Onward.{no_call_wants_memory, no_reply_wants_memory}
+use Rattle.samr_wire.specs.Samr.{samr}
+use Rattle.samr_wire.specs.Lawful.{samr_lawful}
 use Rattle.samr_wire.proofs.laws.readings_want_no_memory.Goals as goal
 
 pub returns-clause-calls : goal.returns-clause-calls
-returns-clause-calls c = no_call_wants_memory
+returns-clause-calls c = no_call_wants_memory samr samr_lawful
 
 pub returns-clause-replies : goal.returns-clause-replies
-returns-clause-replies c = no_reply_wants_memory
+returns-clause-replies c = no_reply_wants_memory samr samr_lawful

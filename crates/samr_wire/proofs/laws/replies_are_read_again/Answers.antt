@@ -1,5 +1,7 @@
-use Rattle.samr_wire.proofs.ReplyLaws.{read_again}
+use Rattle.acct_stubs.proofs.ReplyLaws.{read_again}
+use Rattle.samr_wire.specs.Samr.{samr}
+use Rattle.samr_wire.specs.Lawful.{samr_lawful}
 use Rattle.samr_wire.proofs.laws.replies_are_read_again.Goals as goal
 
 pub returns : goal.returns
-returns c = read_again
+returns c = read_again samr samr_lawful

@@ -1,11 +1,13 @@
-use Rattle.samr_wire.proofs.ReplyLaws.{one_reply, read_where_spelled, the_spelled_replies}
+use Rattle.acct_stubs.proofs.ReplyLaws.{one_reply, read_where_spelled, the_shared_replies}
+use Rattle.samr_wire.specs.Samr.{samr}
+use Rattle.samr_wire.specs.Lawful.{no_outputs, samr_lawful}
 use Rattle.samr_wire.proofs.laws.replies_are_spelled.Goals as goal
 
 pub returns-clause-read : goal.returns-clause-read
-returns-clause-read c = read_where_spelled
+returns-clause-read c = read_where_spelled samr
 
 pub returns-clause-one : goal.returns-clause-one
-returns-clause-one c = one_reply
+returns-clause-one c = one_reply samr
 
 pub returns-clause-all : goal.returns-clause-all
-returns-clause-all c = the_spelled_replies
+returns-clause-all c = the_shared_replies samr samr_lawful no_outputs

@@ -1,6 +1,0 @@
-use Rattle.ndr_types.proofs.Arrays.{HeadsSoFar}
-use Rattle.samr_wire.proofs.MemberLists.{rid_part}
-use Rattle.samr_wire.proofs.members.write_rids.Given as goal
-
-abbrev pub invariant-loop-member : goal.invariant-loop-member
-invariant-loop-member l = HeadsSoFar rid_part l.list l.member-index l.fn.to l.to
