@@ -1,0 +1,142 @@
+-- What stands behind the handle in the calls that this interface has alone: the fields of each layout, as they stand in
+-- the IDL, and the
+-- arguments that they make.
+use Rattle.std.specs.Prelude.{ℕ, Bool, true, false, Option, Some, None, List, [], length, nat_le, ◌==◌}
+use Rattle.ndr_core.specs.Codec.{Codec}
+use Rattle.ndr_core.specs.Cursor.{is_there}
+use Rattle.ndr_core.specs.Shapes.{u8, u16, u32, u32_such, unspelled, chain, made, led_by, ignored}
+use Rattle.ndr_core.specs.Parts.{Part, whole, array}
+use Rattle.dtyp_sid.specs.Value.{SidValue}
+use Rattle.acct_calls.specs.declared.calls.Args.{Args}
+use Rattle.acct_calls.specs.declared.calls.Args.TheVariants as args
+use Rattle.acct_calls.specs.declared.lists.Privilege.{Privilege}
+use Rattle.acct_layouts.specs.declared.fields.Connect.{Connect}
+use Rattle.acct_layouts.specs.declared.fields.Connect.TheVariants as connect
+use Rattle.acct_layouts.specs.declared.fields.Fields.{Fields}
+use Rattle.acct_layouts.specs.declared.fields.Fields.TheVariants as fields
+use Rattle.acct_layouts.specs.declared.fields.PolicyFields.{PolicyFields}
+use Rattle.acct_layouts.specs.declared.fields.PolicyFields.TheVariants as policy
+use Rattle.acct_layouts.specs.declared.fields.Translation.{Translation}
+use Rattle.acct_layouts.specs.declared.fields.Translation.TheVariants as translation
+use Rattle.acct_stubs.specs.ServerNames.{server_name}
+use Rattle.ndr_types.specs.Lists.{sid_list, text_list}
+use Rattle.ndr_types.specs.Pointers.{text_pointer, privilege_set_pointer}
+use Rattle.ndr_types.specs.Privileges.{privilege_set}
+use Rattle.ndr_types.specs.Sids.{sid}
+use Rattle.ndr_types.specs.Texts.{text}
+use Rattle.ndr_types.specs.Translations.{translated_names, translated_sids}
+use Rattle.lsa_wire.specs.ObjectAttributes.{object_attributes}
+
+-- ---- what is written for arguments: their parts, in the fields' order
+
+abbrev pub no_sid : SidValue
+no_sid = record { authority = 0; subs = [] }
+
+abbrev pub opening_in : Args → Bool × ℕ
+opening_in (args.Policy rooted access) = (rooted, access)
+opening_in _ = (false, 0)
+
+abbrev pub account_in : Args → SidValue × ℕ
+account_in (args.AccessSid access s) = (s, access)
+account_in _ = (no_sid, 0)
+
+abbrev pub added_in : Args → List Privilege
+added_in (args.Privileges all (Some privileges)) = privileges
+added_in _ = []
+
+abbrev pub removed_in : Args → Bool × Option (List Privilege)
+removed_in (args.Privileges all privileges) = (all, privileges)
+removed_in _ = (false, None)
+
+abbrev pub bits_in : Args → ℕ
+bits_in (args.Bits bits) = bits
+bits_in _ = 0
+
+abbrev pub luid_in : Args → ℕ × ℕ
+luid_in (args.Luid low high) = (low, high)
+luid_in _ = (0, 0)
+
+abbrev pub right_in : Args → Option (List ℕ)
+right_in (args.OneName name) = name
+right_in _ = None
+
+abbrev pub rights_in : Args → SidValue × List (List ℕ)
+rights_in (args.Rights s all names) = (s, names)
+rights_in _ = (no_sid, [])
+
+abbrev pub all_rights_in : Args → SidValue × (Bool × List (List ℕ))
+all_rights_in (args.Rights s all names) = (s, (all, names))
+all_rights_in _ = (no_sid, (false, []))
+
+abbrev pub names_in : Args → List (List ℕ) × ℕ
+names_in (args.LookNames level names) = (names, level)
+names_in _ = ([], 0)
+
+abbrev pub sids_in : Args → List SidValue × ℕ
+sids_in (args.LookSids level sids) = (sids, level)
+sids_in _ = ([], 0)
+
+-- ---- the layouts
+
+unfoldable pub connect_args : Connect → Codec Args
+-- LsarOpenPolicy2: SystemName, ObjectAttributes, DesiredAccess
+connect_args connect.OpenPolicy2 =
+    ignored tt server_name (made (λ x. args.Policy x.0 x.1) opening_in (chain object_attributes (λ _. u32)))
+connect_args _ = unspelled
+
+abbrev pub flag_number : Bool → ℕ
+flag_number true = 1
+flag_number false = 0
+
+-- a small that is true where it isn't 0
+unfoldable pub flag : Codec Bool
+flag = made is_there flag_number u8
+
+unfoldable pub policy_args : PolicyFields → Codec Args
+-- AccountSid, DesiredAccess
+policy_args policy.Account = made (λ x. args.AccessSid x.1 x.0) account_in (chain sid (λ _. u32))
+-- Privileges
+policy_args policy.AddPrivileges = made (λ privileges. args.Privileges false (Some privileges)) added_in privilege_set
+-- AllPrivileges, Privileges
+policy_args policy.RemovePrivileges =
+    made (λ x. args.Privileges x.0 x.1) removed_in (chain flag (λ _. privilege_set_pointer))
+-- SystemAccess
+policy_args policy.SystemAccess = made args.Bits bits_in u32
+-- Value
+policy_args policy.Luid = made (λ x. args.Luid x.0 x.1) luid_in (chain u32 (λ _. u32))
+-- UserRight
+policy_args policy.Right = made args.OneName right_in text_pointer
+-- AccountSid, UserRights
+policy_args policy.AddRights = made (λ x. args.Rights x.0 false x.1) rights_in (chain sid (λ _. text_list 256))
+-- AccountSid, AllRights, UserRights
+policy_args policy.RemoveRights =
+    made (λ x. args.Rights x.0 x.1.0 x.1.1) all_rights_in (chain sid (λ _. chain flag (λ _. text_list 256)))
+
+-- a value, and behind it a field that isn't kept, written as w
+abbrev pub followed : {A B : Type 0} → B → Codec B → Codec A → Codec A
+followed w b a = made (λ x. x.0) (λ x. (x, w)) (chain a (λ _. b))
+
+-- A count of at most so many, and a conformant array: the same count, and so many.
+unfoldable pub counted : {S A : Type 0} → ℕ → Part S A → Codec (List A)
+counted most p =
+    led_by length (u32_such (λ count. nat_le count most))
+    (λ count. ignored count (u32_such (λ maximum. maximum == count)) (whole (array count p)))
+
+unfoldable pub translation_args : Translation → Codec Args
+-- Count, Names, TranslatedSids, LookupLevel, MappedCount; of the translations and the last count nothing is kept
+translation_args translation.Names =
+    made
+    (λ x. args.LookNames x.1 x.0)
+    names_in (chain (counted 1000 text) (λ _. ignored [] (translated_sids 1000) (followed 0 u32 u16)))
+-- SidEnumBuffer, TranslatedNames, LookupLevel, MappedCount
+translation_args translation.Sids =
+    made
+    (λ x. args.LookSids x.1 x.0)
+    sids_in (chain (sid_list 20480) (λ _. ignored [] (translated_names 20480) (followed 0 u32 u16)))
+
+-- behind the handle, if the operation takes one
+unfoldable pub own_fields : Fields → Codec Args
+own_fields (fields.Connect c) = connect_args c
+own_fields (fields.Policy p) = policy_args p
+own_fields (fields.Translation t) = translation_args t
+own_fields _ = unspelled

@@ -1,0 +1,174 @@
+-- What some stub spells can be written: of each layout that this interface has alone, from the shapes that it is made
+-- of.
+use Rattle.std.proofs.Common.{◌≡◌, ℕ, zero, suc, ◌^◌, ◌<◌, Bool, true, false, List, [], length, Some}
+use Rattle.std.proofs.Common.{refl, sym, subst, lit<, arith}
+use Rattle.std.specs.Prelude.{◌==◌, nat_le}
+use Rattle.std.proofs.lemmas.Bool.{eqb-true}
+use Rattle.std.proofs.lemmas.List.Elements.{All-nil}
+use Rattle.ndr_core.specs.Cursor.{is_there}
+use Rattle.ndr_core.specs.Codec.{Codec}
+use Rattle.ndr_core.specs.Shapes.{u16, u32, u32_such, ignored, unspelled}
+use Rattle.ndr_core.specs.Parts.{Part, whole, array, flat}
+use Rattle.ndr_core.proofs.Complete.{IsComplete, u8_complete, u16_complete, u32_complete, such_complete, chain_complete}
+use Rattle.ndr_core.proofs.Complete.{made_complete, led_by_complete, ignored_complete, ignored_same}
+use Rattle.acct_calls.specs.declared.calls.Args.TheVariants as args
+use Rattle.acct_layouts.specs.declared.fields.Connect.{Connect}
+use Rattle.acct_layouts.specs.declared.fields.Connect.TheVariants as connect
+use Rattle.acct_layouts.specs.declared.fields.Fields.{Fields}
+use Rattle.acct_layouts.specs.declared.fields.Fields.TheVariants as fields
+use Rattle.acct_layouts.specs.declared.fields.PolicyFields.{PolicyFields}
+use Rattle.acct_layouts.specs.declared.fields.PolicyFields.TheVariants as policy
+use Rattle.acct_layouts.specs.declared.fields.Translation.{Translation}
+use Rattle.acct_layouts.specs.declared.fields.Translation.TheVariants as translation
+use Rattle.ndr_types.specs.Sids.{sid_pointer}
+use Rattle.ndr_types.specs.Texts.{text}
+use Rattle.ndr_types.specs.Translations.{translated_name, translated_names, translated_sid, translated_sids}
+use Rattle.ndr_types.proofs.Entries.{privilege_set_pointer_complete, text_pointer_complete, translated_name_has}
+use Rattle.ndr_types.proofs.Entries.{translated_sid_has}
+use Rattle.ndr_types.proofs.Parts.{Has, array_all, array_complete}
+use Rattle.ndr_types.proofs.Records.{privilege_set_complete}
+use Rattle.ndr_types.proofs.ShapeValues.{list_complete, list_values}
+use Rattle.ndr_types.proofs.Sids.{sid_complete, sid_pointer_has}
+use Rattle.ndr_types.proofs.Texts.{text_has}
+use Rattle.lsa_wire.specs.Arguments.{connect_args, flag, flag_number, policy_args, followed, counted, translation_args}
+use Rattle.lsa_wire.specs.Arguments.{own_fields, opening_in, account_in, added_in, removed_in, bits_in, luid_in}
+use Rattle.lsa_wire.specs.Arguments.{right_in, rights_in, all_rights_in, names_in, sids_in}
+use Rattle.lsa_wire.specs.ObjectAttributes.{object_attributes}
+use Rattle.acct_stubs.specs.ServerNames.{server_name}
+
+pub unspelled_complete : {A : Type 0} → IsComplete (unspelled {A = A})
+unspelled_complete = record { fits = λ x c d bytes h. absurd h }
+
+-- ---- the opening of the policy
+
+pub server_name_fits : server_name.Fits tt
+unfolding server_name
+server_name_fits = (((tt, refl), refl), refl)
+
+pub attributes_fit : (rooted : Bool) → object_attributes.Fits rooted
+unfolding object_attributes
+attributes_fit true = (
+  (
+    ((lit< tt, (tt, ((((tt, refl), ((lit< tt, (((tt, refl), tt), refl)), refl)), refl)))), refl),
+    (((lit< tt, ((refl, refl), refl)), refl)),
+  ),
+  refl,
+)
+attributes_fit false = (
+  (
+    ((lit< tt, (tt, ((((tt, refl), ((lit< tt, (((tt, refl), tt), refl)), refl)), refl)))), refl),
+    (((refl, ((refl, refl), refl)), refl)),
+  ),
+  refl,
+)
+
+attributes_complete : IsComplete object_attributes
+attributes_complete = record { fits = λ rooted c d bytes h. attributes_fit rooted }
+
+server_name_complete : IsComplete server_name
+server_name_complete = record { fits = λ u c d bytes h. server_name_fits }
+
+connect_complete : (c : Connect) → IsComplete (connect_args c)
+unfolding connect_args
+connect_complete connect.Connect2 = unspelled_complete
+connect_complete connect.Connect4 = unspelled_complete
+connect_complete connect.Connect5 = unspelled_complete
+connect_complete connect.OpenPolicy2 =
+    ignored_complete tt server_name_complete
+    (made_complete (λ x. args.Policy x.0 x.1) opening_in (chain_complete attributes_complete (λ x h. u32_complete))
+    (λ x h. (h, refl))) server_name_fits
+
+-- ---- the policy and its accounts
+
+flag_back : (n : ℕ) → is_there (flag_number (is_there n)) ≡ is_there n
+flag_back zero = refl
+flag_back (suc n) = refl
+
+pub flag_small : (b : Bool) → flag_number b < 256
+flag_small true = lit< tt
+flag_small false = lit< tt
+
+pub flag_complete : IsComplete flag
+unfolding flag
+flag_complete = made_complete is_there flag_number u8_complete (λ n h. (flag_small (is_there n), flag_back n))
+
+policy_complete : (p : PolicyFields) → IsComplete (policy_args p)
+unfolding policy_args
+policy_complete policy.Account =
+    made_complete (λ x. args.AccessSid x.1 x.0) account_in (chain_complete sid_complete (λ x h. u32_complete))
+    (λ x h. (h, refl))
+policy_complete policy.AddPrivileges =
+    made_complete (λ privileges. args.Privileges false (Some privileges)) added_in privilege_set_complete
+    (λ x h. (h, refl))
+policy_complete policy.RemovePrivileges =
+    made_complete
+    (λ x. args.Privileges x.0 x.1) removed_in (chain_complete flag_complete (λ x h. privilege_set_pointer_complete))
+    (λ x h. (h, refl))
+policy_complete policy.SystemAccess = made_complete args.Bits bits_in u32_complete (λ x h. (h, refl))
+policy_complete policy.Luid =
+    made_complete (λ x. args.Luid x.0 x.1) luid_in (chain_complete u32_complete (λ x h. u32_complete))
+    (λ x h. (h, refl))
+policy_complete policy.Right = made_complete args.OneName right_in text_pointer_complete (λ x h. (h, refl))
+policy_complete policy.AddRights =
+    made_complete
+    (λ x. args.Rights x.0 false x.1) rights_in (chain_complete sid_complete (λ x h. list_complete 256 text text_has))
+    (λ x h. (h, refl))
+policy_complete policy.RemoveRights =
+    made_complete
+    (λ x. args.Rights x.0 x.1.0 x.1.1)
+    all_rights_in (chain_complete sid_complete
+    (λ x h. chain_complete flag_complete (λ y k. list_complete 256 text text_has))) (λ x h. (h, refl))
+
+-- ---- translations
+
+-- what stands behind the count
+abbrev counted_rest : {S A : Type 0} → Part S A → ℕ → Codec (List A)
+counted_rest p n = ignored n (u32_such (λ maximum. maximum == n)) (whole (array n p))
+
+counted_complete : {S A : Type 0} {P : A → Type 0} (most : ℕ) (p : Part S A) → Has p P → IsComplete (counted most p)
+unfolding counted
+counted_complete {A = A} most p q =
+    led_by_complete length (such_complete 4 (λ count. nat_le count most) u32_complete)
+    (λ n f. ignored_same n (such_complete 4 (λ maximum. maximum == n) u32_complete) (array_complete p q n)
+    (λ k h. eqb-true k n h.1))
+    (λ n xs f h.
+    let len : length xs ≡ n = (array_all p n xs h.0.1.0.0 h.0.1.0.1).0 in (
+      (subst (λ (k : ℕ). k < 2 ^ 32) (sym len) f.0, subst (λ (k : ℕ). nat_le k most ≡ true) (sym len) f.1),
+      subst
+          (λ (k : ℕ). (counted_rest p k).Fits xs) (sym len) h,
+    ))
+
+level_complete : IsComplete (followed 0 u32 u16)
+level_complete =
+    made_complete (λ x. x.0) (λ x. (x, 0)) (chain_complete u16_complete (λ x h. u32_complete))
+    (λ x h. ((h.0, lit< tt), refl))
+
+pub no_sids_fit : (translated_sids 1000).Fits []
+no_sids_fit = (list_values 1000 (flat translated_sid) translated_sid_has []).1 (omega arith, lit< tt, All-nil _)
+
+pub no_names_fit : (translated_names 20480).Fits []
+no_names_fit = (list_values 20480 translated_name translated_name_has []).1 (omega arith, lit< tt, All-nil _)
+
+translation_complete : (t : Translation) → IsComplete (translation_args t)
+unfolding translation_args
+translation_complete translation.Names =
+    made_complete (λ x. args.LookNames x.1 x.0) names_in
+    (chain_complete (counted_complete 1000 text text_has)
+    (λ x h. ignored_complete []
+    (list_complete 1000 (flat translated_sid) translated_sid_has) level_complete no_sids_fit)) (λ x h. (h, refl))
+translation_complete translation.Sids =
+    made_complete (λ x. args.LookSids x.1 x.0) sids_in
+    (chain_complete (list_complete 20480 sid_pointer sid_pointer_has)
+    (λ x h. ignored_complete [] (list_complete 20480 translated_name translated_name_has) level_complete no_names_fit))
+    (λ x h. (h, refl))
+
+pub fields_complete : (f : Fields) → IsComplete (own_fields f)
+unfolding own_fields
+fields_complete (fields.Connect c) = connect_complete c
+fields_complete (fields.Policy p) = policy_complete p
+fields_complete (fields.Translation t) = translation_complete t
+fields_complete (fields.Plain p) = unspelled_complete
+fields_complete (fields.Search s) = unspelled_complete
+fields_complete (fields.Creation c) = unspelled_complete
+fields_complete (fields.Class s) = unspelled_complete
+fields_complete (fields.Put s) = unspelled_complete

@@ -1,0 +1,9 @@
+pub mod ObjectAttributes
+pub mod Arguments
+pub mod Outputs
+pub mod Wires
+pub mod Complete
+pub mod FieldValues
+pub mod ReplyValues
+pub mod Onward
+pub mod Lawful

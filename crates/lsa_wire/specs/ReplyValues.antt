@@ -1,0 +1,258 @@
+-- The replies that the layouts of this interface alone can write are those of their shapes.
+use Rattle.std.proofs.Common.{◌≡◌, Bool, true, false, cond, List, [], Option, Some, None, refl, sym}
+use Rattle.std.proofs.Common.{ap, subst, arith, lit<}
+use Rattle.std.proofs.lemmas.List.Elements.{All-nil}
+use Rattle.ndr_core.specs.Codec.{Codec}
+use Rattle.ndr_core.specs.Cursor.{Cursor}
+use Rattle.ndr_core.specs.Shapes.{u32, chain}
+use Rattle.ndr_core.specs.Parts.{Part, flat, list_of}
+use Rattle.ndr_core.specs.Written.{IsBytes}
+use Rattle.ndr_core.proofs.Complete.{IsComplete, u32_complete, chain_complete, made_complete}
+use Rattle.acct_calls.specs.declared.calls.Face.TheVariants.{Lsa}
+use Rattle.acct_calls.specs.declared.lists.Place.{Place}
+use Rattle.acct_calls.specs.declared.lists.TranslatedName.{TranslatedName}
+use Rattle.acct_calls.specs.declared.lists.TranslatedSid.{TranslatedSid}
+use Rattle.acct_calls.specs.declared.replies.Outs.{Outs}
+use Rattle.acct_calls.specs.declared.replies.Outs.TheVariants as outs
+use Rattle.acct_calls.specs.declared.replies.Reply.{Reply}
+use Rattle.acct_calls.specs.declared.replies.Reply.TheVariants as reply
+use Rattle.acct_layouts.specs.Bounds.{IsDomain, IsListed}
+use Rattle.acct_layouts.specs.Refusals.{is_refusal}
+use Rattle.acct_layouts.specs.ReplyShapes.{ArePolicyOuts, IsReplyOf, RefersRightly, domains_of}
+use Rattle.acct_layouts.specs.declared.fields.Translation.{Translation}
+use Rattle.acct_layouts.specs.declared.fields.Translation.TheVariants as translation
+use Rattle.acct_layouts.specs.declared.outputs.Outputs.{Outputs}
+use Rattle.acct_layouts.specs.declared.outputs.Outputs.TheVariants as outputs
+use Rattle.acct_layouts.specs.declared.outputs.PolicyOutputs.{PolicyOutputs}
+use Rattle.acct_layouts.specs.declared.outputs.PolicyOutputs.TheVariants as policy
+use Rattle.acct_stubs.specs.Outputs.{with_status, done_of, parts_of_reply}
+use Rattle.acct_stubs.specs.Shared.{own_outputs}
+use Rattle.ndr_types.specs.Accounts.{any}
+use Rattle.ndr_types.specs.Domains.{or_empty, referenced}
+use Rattle.ndr_types.specs.Sids.{sid_pointer}
+use Rattle.ndr_types.specs.Texts.{text}
+use Rattle.ndr_types.specs.Translations.{translated_name, translated_names, translated_sid, translated_sids}
+use Rattle.ndr_types.proofs.Entries.{privilege_names_complete, privilege_names_values, privilege_set_pointer_complete}
+use Rattle.ndr_types.proofs.Entries.{privilege_set_pointer_values, text_pointer_complete, text_pointer_values}
+use Rattle.ndr_types.proofs.Entries.{translated_name_has, translated_sid_has}
+use Rattle.ndr_types.proofs.Parts.{Has}
+use Rattle.ndr_types.proofs.ShapeValues.{list_complete, list_values, referenced_complete, referenced_values}
+use Rattle.ndr_types.proofs.Sids.{sid_pointer_has}
+use Rattle.ndr_types.proofs.Texts.{text_has}
+use Rattle.lsa_wire.specs.Outputs.{policy_outs, privilege_page_out, sid_page_out, privileges_out, bits_out, luid_out}
+use Rattle.lsa_wire.specs.Outputs.{name_out, names_out, referred_of, TranslatedParts, sids_done, names_done}
+use Rattle.lsa_wire.specs.Outputs.{translated, own_replies}
+
+-- ---- lists of any length that a count can say
+
+listed_kind : {S A : Type 0} {P : A → Type 0} (p : Part S A) → Has p P → (xs : List A) → (list_of any p).Fits xs
+    → IsListed P xs
+listed_kind p q xs f = let k = (list_values any p q xs).0 f in (k.1, k.2)
+
+listed_fits : {S A : Type 0} {P : A → Type 0} (p : Part S A) → Has p P → (xs : List A) → IsListed P xs
+    → (list_of any p).Fits xs
+listed_fits p q xs is = (list_values any p q xs).1 (omega (arith, is.0), is.0, is.1)
+
+-- ---- the policy and its accounts
+
+outs_kind : (p : PolicyOutputs) (o : Outs) → (policy_outs p).Fits o → ArePolicyOuts p o
+unfolding policy_outs
+outs_kind policy.PrivilegePage (outs.PrivilegePage context entries) f =
+    let k = (privilege_names_values entries).0 f.0.1 in (f.0.0, (k.1, k.2))
+outs_kind policy.SidPage (outs.SidPage context sids) f = (f.0.0, listed_kind sid_pointer sid_pointer_has sids f.0.1)
+outs_kind policy.Privileges (outs.Privileges ps) f = (privilege_set_pointer_values ps).0 f.0
+outs_kind policy.SystemAccess (outs.Bits bits) f = f.0
+outs_kind policy.Luid (outs.Luid low high) f = (f.0.0, f.0.1)
+outs_kind policy.Name (outs.OneName name) f = (text_pointer_values name).0 f.0
+outs_kind policy.Rights (outs.NameList names) f = listed_kind text text_has names f.0
+outs_kind _ _ f = absurd (cc f.1)
+
+outs_fit : (p : PolicyOutputs) (o : Outs) → ArePolicyOuts p o → (policy_outs p).Fits o
+unfolding policy_outs
+outs_fit policy.PrivilegePage (outs.PrivilegePage context entries) is =
+    ((is.0, (privilege_names_values entries).1 (omega (arith, is.1.0), is.1.0, is.1.1)), refl)
+outs_fit policy.SidPage (outs.SidPage context sids) is =
+    ((is.0, listed_fits sid_pointer sid_pointer_has sids is.1), refl)
+outs_fit policy.Privileges (outs.Privileges ps) is = ((privilege_set_pointer_values ps).1 is, refl)
+outs_fit policy.SystemAccess (outs.Bits bits) is = (is, refl)
+outs_fit policy.Luid (outs.Luid low high) is = ((is.0, is.1), refl)
+outs_fit policy.Name (outs.OneName name) is = ((text_pointer_values name).1 is, refl)
+outs_fit policy.Rights (outs.NameList names) is = (listed_fits text text_has names is, refl)
+outs_fit _ _ is = absurd is
+
+outs_complete : (p : PolicyOutputs) → IsComplete (policy_outs p)
+unfolding policy_outs
+outs_complete policy.PrivilegePage =
+    made_complete (λ x. outs.PrivilegePage x.0 x.1) privilege_page_out
+    (chain_complete u32_complete (λ x h. privilege_names_complete)) (λ x h. (h, refl))
+outs_complete policy.SidPage =
+    made_complete (λ x. outs.SidPage x.0 x.1) sid_page_out
+    (chain_complete u32_complete (λ x h. list_complete any sid_pointer sid_pointer_has)) (λ x h. (h, refl))
+outs_complete policy.Privileges =
+    made_complete outs.Privileges privileges_out privilege_set_pointer_complete (λ x h. (h, refl))
+outs_complete policy.SystemAccess = made_complete outs.Bits bits_out u32_complete (λ x h. (h, refl))
+outs_complete policy.Luid =
+    made_complete (λ x. outs.Luid x.0 x.1) luid_out (chain_complete u32_complete (λ x h. u32_complete))
+    (λ x h. (h, refl))
+outs_complete policy.Name = made_complete outs.OneName name_out text_pointer_complete (λ x h. (h, refl))
+outs_complete policy.Rights = made_complete outs.NameList names_out (list_complete any text text_has) (λ x h. (h, refl))
+
+-- such outputs refer to no domain
+nowhere : (p : PolicyOutputs) (o : Outs) → ArePolicyOuts p o → domains_of o ≡ []
+nowhere policy.PrivilegePage (outs.PrivilegePage context entries) is = refl
+nowhere policy.SidPage (outs.SidPage context sids) is = refl
+nowhere policy.Privileges (outs.Privileges ps) is = refl
+nowhere policy.SystemAccess (outs.Bits bits) is = refl
+nowhere policy.Luid (outs.Luid low high) is = refl
+nowhere policy.Name (outs.OneName name) is = refl
+nowhere policy.Rights (outs.NameList names) is = refl
+nowhere _ _ is = absurd is
+
+-- ---- the domains that a translation refers to
+
+domains_kind : (domains : Option (List Place)) → referenced.Fits domains → IsListed IsDomain (or_empty domains)
+domains_kind None f = (lit< tt, All-nil IsDomain)
+domains_kind (Some ps) f = let k = (referenced_values (Some ps)).0 f in (k.1, k.2)
+
+domains_fit : (b : Bool) (domains : List Place) → IsListed IsDomain domains
+    → referenced.Fits (cond b None (Some domains))
+domains_fit true domains is = (referenced_values None).1 tt
+domains_fit false domains is = (referenced_values (Some domains)).1 (omega (arith, is.0), is.0, is.1)
+
+domains_back : (b : Bool) (domains : List Place) → (b ≡ true → domains ≡ [])
+    → or_empty (cond b None (Some domains)) ≡ domains
+domains_back true domains h = sym (h refl)
+domains_back false domains h = refl
+
+refused_none : (b : Bool) (domains : List Place) → or_empty (cond b None (Some domains)) ≡ domains → b ≡ true
+    → domains ≡ []
+refused_none true domains e h = sym e
+refused_none false domains e h = absurd (cc h)
+
+domains_in : Reply → List Place
+domains_in (reply.Done status o) = domains_of o
+domains_in (reply.Fault status) = []
+
+-- ---- translations
+
+abbrev sids_fields : Codec (TranslatedParts TranslatedSid)
+sids_fields = chain referenced (λ _. chain (translated_sids any) (λ _. chain u32 (λ _. u32)))
+
+abbrev names_fields : Codec (TranslatedParts TranslatedName)
+names_fields = chain referenced (λ _. chain (translated_names any) (λ _. chain u32 (λ _. u32)))
+
+sids_fields_complete : IsComplete sids_fields
+sids_fields_complete =
+    chain_complete referenced_complete
+    (λ x h. chain_complete (list_complete any (flat translated_sid) translated_sid_has)
+    (λ y k. chain_complete u32_complete (λ z l. u32_complete)))
+
+names_fields_complete : IsComplete names_fields
+names_fields_complete =
+    chain_complete referenced_complete
+    (λ x h. chain_complete (list_complete any translated_name translated_name_has)
+    (λ y k. chain_complete u32_complete (λ z l. u32_complete)))
+
+sids_kind : (x : TranslatedParts TranslatedSid) → sids_fields.Fits x → RefersRightly (sids_done x)
+    → IsReplyOf (outputs.Translation translation.Names) (sids_done x)
+sids_kind x f rightly = (
+  f.1.1.1,
+  (domains_kind x.0 f.0, listed_kind (flat translated_sid) translated_sid_has x.1.0 f.1.0, f.1.1.0),
+  rightly,
+)
+
+names_kind : (x : TranslatedParts TranslatedName) → names_fields.Fits x → RefersRightly (names_done x)
+    → IsReplyOf (outputs.Translation translation.Sids) (names_done x)
+names_kind x f rightly =
+    (f.1.1.1, (domains_kind x.0 f.0, listed_kind translated_name translated_name_has x.1.0 f.1.0, f.1.1.0), rightly)
+
+translated_kind : (t : Translation) (r : Reply) → (translated t).Fits r → IsReplyOf (outputs.Translation t) r
+unfolding translated domains_in
+translated_kind translation.Names (reply.Done status (outs.Sids domains entries mapped)) f =
+    let e : or_empty (referred_of status domains) ≡ domains = ap domains_in f.1 in
+    let parts : TranslatedParts TranslatedSid = (referred_of status domains, (entries, (mapped, status))) in
+    subst (λ (r : Reply). IsReplyOf (outputs.Translation translation.Names) r) f.1
+    (sids_kind parts f.0
+    (subst (λ (r : Reply). RefersRightly r) (sym f.1) (refused_none (is_refusal status) domains e)))
+translated_kind translation.Sids (reply.Done status (outs.Names domains entries mapped)) f =
+    let e : or_empty (referred_of status domains) ≡ domains = ap domains_in f.1 in
+    let parts : TranslatedParts TranslatedName = (referred_of status domains, (entries, (mapped, status))) in
+    subst (λ (r : Reply). IsReplyOf (outputs.Translation translation.Sids) r) f.1
+    (names_kind parts f.0
+    (subst (λ (r : Reply). RefersRightly r) (sym f.1) (refused_none (is_refusal status) domains e)))
+translated_kind _ _ f = absurd (cc f.1)
+
+translated_fits : (t : Translation) (r : Reply) → IsReplyOf (outputs.Translation t) r → (translated t).Fits r
+unfolding translated
+translated_fits translation.Names (reply.Done status (outs.Sids domains entries mapped)) is = (
+  (
+    domains_fit (is_refusal status) domains is.1.0,
+    (listed_fits (flat translated_sid) translated_sid_has entries is.1.1, (is.1.2, is.0)),
+  ),
+  ap (λ (ds : List Place). reply.Done status (outs.Sids ds entries mapped))
+      (domains_back (is_refusal status) domains is.2),
+)
+translated_fits translation.Sids (reply.Done status (outs.Names domains entries mapped)) is = (
+  (
+    domains_fit (is_refusal status) domains is.1.0,
+    (listed_fits translated_name translated_name_has entries is.1.1, (is.1.2, is.0)),
+  ),
+  ap (λ (ds : List Place). reply.Done status (outs.Names ds entries mapped))
+      (domains_back (is_refusal status) domains is.2),
+)
+translated_fits translation.Names (reply.Done status _) is = absurd is.1
+translated_fits translation.Sids (reply.Done status _) is = absurd is.1
+translated_fits _ (reply.Fault status) is = absurd is
+
+translated_writable : (t : Translation) (r : Reply) (start end : Cursor) → IsBytes start.stub
+    → (translated t).Spells r start end → RefersRightly r → (translated t).Fits r
+unfolding translated
+translated_writable translation.Names r start end bytes s rightly =
+    let k = sids_kind s.0 (sids_fields_complete.fits s.0 start end bytes s.1)
+    (subst (λ (x : Reply). RefersRightly x) (sym s.2) rightly) in
+    translated_fits translation.Names r
+    (subst (λ (x : Reply). IsReplyOf (outputs.Translation translation.Names) x) s.2 k)
+translated_writable translation.Sids r start end bytes s rightly =
+    let k = names_kind s.0 (names_fields_complete.fits s.0 start end bytes s.1)
+    (subst (λ (x : Reply). RefersRightly x) (sym s.2) rightly) in
+    translated_fits translation.Sids r (subst (λ (x : Reply). IsReplyOf (outputs.Translation translation.Sids) x) s.2 k)
+
+-- ---- whole replies
+
+status_kind : (p : PolicyOutputs) (r : Reply) → (with_status (policy_outs p)).Fits r → IsReplyOf (outputs.Policy p) r
+unfolding with_status
+status_kind p (reply.Done status o) f = let k = outs_kind p o f.0.0 in (f.0.1, k, λ refused. nowhere p o k)
+status_kind p (reply.Fault status) f = absurd (cc f.1)
+
+status_fits : (p : PolicyOutputs) (r : Reply) → IsReplyOf (outputs.Policy p) r → (with_status (policy_outs p)).Fits r
+unfolding with_status
+status_fits p (reply.Done status o) is = ((outs_fit p o is.1, is.0), refl)
+status_fits p (reply.Fault status) is = absurd is
+
+status_complete : (p : PolicyOutputs) → IsComplete (with_status (policy_outs p))
+unfolding with_status
+status_complete p =
+    made_complete done_of parts_of_reply (chain_complete (outs_complete p) (λ x h. u32_complete)) (λ x h. (h, refl))
+
+pub reply_kind : (o : Outputs) (r : Reply) → (own_replies o).Fits r → IsReplyOf o r
+unfolding own_replies
+reply_kind (outputs.Policy p) r f = status_kind p r f
+reply_kind (outputs.Translation t) r f = translated_kind t r f
+reply_kind (outputs.Plain p) r f = absurd f
+reply_kind (outputs.Listed l) r f = absurd f
+reply_kind (outputs.Shown s) r f = absurd f
+
+pub reply_fits : (o : Outputs) (r : Reply) → own_outputs Lsa o ≡ true → IsReplyOf o r → (own_replies o).Fits r
+unfolding own_replies
+reply_fits (outputs.Policy p) r own is = status_fits p r is
+reply_fits (outputs.Translation t) r own is = translated_fits t r is
+reply_fits _ r own is = absurd (cc own)
+
+pub reply_writable : (o : Outputs) (r : Reply) (start end : Cursor) → IsBytes start.stub
+    → (own_replies o).Spells r start end → RefersRightly r → (own_replies o).Fits r
+unfolding own_replies
+reply_writable (outputs.Policy p) r start end bytes s rightly = (status_complete p).fits r start end bytes s
+reply_writable (outputs.Translation t) r start end bytes s rightly = translated_writable t r start end bytes s rightly
+reply_writable (outputs.Plain p) r start end bytes s rightly = absurd s
+reply_writable (outputs.Listed l) r start end bytes s rightly = absurd s
+reply_writable (outputs.Shown p) r start end bytes s rightly = absurd s

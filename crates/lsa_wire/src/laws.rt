@@ -1,0 +1,38 @@
+//! The laws of stubs, which callers cite by these functions.
+ghost use Rattle.acct_stubs.specs.Calls.{AreTheSpelledCalls, HasOneCall, IsReadAgain, IsReadWhereSpelled};
+ghost use Rattle.acct_stubs.specs.Calls.{NoCallWantsMemory};
+ghost use Rattle.acct_stubs.specs.Replies.{AreTheSpelledReplies, HasOneReply, IsReplyReadAgain};
+ghost use Rattle.acct_stubs.specs.Replies.{IsReplyReadWhereSpelled, NoReplyWantsMemory};
+ghost use Rattle.lsa_wire.specs.Wires.{lsa};
+
+/// A call is read exactly where its stub is served and spells it, no stub spells two calls of one opnum, and the calls
+/// that can be written are those that some served stub spells.
+pub fn calls_are_spelled()
+    ensures read { IsReadWhereSpelled lsa }
+    ensures one { HasOneCall lsa }
+    ensures all { AreTheSpelledCalls lsa }
+{}
+
+/// What is written for a call is read again, whatever bytes follow.
+pub fn calls_are_read_again()
+    ensures { IsReadAgain lsa }
+{}
+
+/// A reply is read exactly where its stub spells it, no stub spells two replies of one opnum, and the replies of an
+/// operation's shape are those that some stub spells, of which no refusal refers to a domain.
+pub fn replies_are_spelled()
+    ensures read { IsReplyReadWhereSpelled lsa }
+    ensures one { HasOneReply lsa }
+    ensures all { AreTheSpelledReplies lsa }
+{}
+
+/// What is written for a reply is read again, whatever bytes follow.
+pub fn replies_are_read_again()
+    ensures { IsReplyReadAgain lsa }
+{}
+
+/// No stub's reading wants memory by its definition: where a call answers `Memory`, a value had no room.
+pub fn readings_want_no_memory()
+    ensures calls { NoCallWantsMemory lsa }
+    ensures replies { NoReplyWantsMemory lsa }
+{}

@@ -1,0 +1,278 @@
+// Calls as Samba and impacket write them: what they bring, and how they are written here.
+ghost use Rattle.acct_stubs.specs.Calls.{IsCallOf};
+ghost use Rattle.lsa_wire.specs.Wires.{lsa};
+
+use super::places::call_beginnings;
+use super::told::tell_args;
+use super::{HANDLE_SENT, HANDLE_WRITTEN, joined, number_of};
+use crate::{read_call, write_call};
+use acct_calls::Call;
+use std::alloc::Global;
+use std::process::Abort;
+use std::test::Fail;
+
+/// The call brings this, and is written as a stub.
+fn is_right(
+    rt: &impl Abort,
+    alloc: Global,
+    call: &Call,
+    brought: &str,
+    written: &[u8],
+) -> Result<(), Fail>
+    requires { IsCallOf lsa call.now }
+{
+    let mut told = String::new(alloc);
+    tell_args(alloc, &mut told, &call.args)?;
+    assert_eq!(rt; told.as_str(), brought);
+    let again = write_call(alloc, call)?;
+    assert!(rt; again.as_slice() == written, "another stub: {brought}");
+    Ok(())
+}
+
+/// The stub is read as a call that brings this, and that is written as another stub.
+fn is_written(
+    rt: &impl Abort,
+    alloc: Global,
+    opnum: u16,
+    stub: &[u8],
+    brought: &str,
+    written: &[u8],
+) -> Result<(), Fail> {
+    match read_call(alloc, opnum, stub) {
+        Ok(call) => is_right(rt, alloc, &call, brought, written),
+        Err(_) => panic!(rt; "no call of {opnum}: {brought}"),
+    }
+}
+
+/// The handle that stands before the fields of a call as it is sent, and as it is written.
+fn handles_of(opnum: u16) -> (&'static str, &'static str) {
+    match opnum {
+        44 => ("", ""),
+        _ => (HANDLE_SENT, HANDLE_WRITTEN),
+    }
+}
+
+/// A row of a table: each of its stubs is read as the call, which is written as the first of them, and each beginning of
+/// that one is bad at its place. It counts the stubs.
+fn row_is_right(rt: &impl Abort, alloc: Global, row: &str) -> Result<u32, Fail> {
+    let mut lines = row.lines();
+    let opnum = number_of(rt, lines.next().unwrap_or(""));
+    let brought = lines.next().unwrap_or("");
+    let fields = lines.next().unwrap_or("");
+    let (sent, kept) = handles_of(opnum);
+    let written = joined(alloc, kept, lines.next().unwrap_or(""))?;
+    is_written(rt, alloc, opnum, &written, brought, &written)?;
+    call_beginnings(rt, alloc, opnum, &written, fields);
+    let mut count: u32 = 1;
+    for line in lines {
+        let stub = joined(alloc, sent, line)?;
+        is_written(rt, alloc, opnum, &stub, brought, &written)?;
+        count = count.wrapping_add(1);
+    }
+    Ok(count)
+}
+
+/// The rows of a table and their stubs, each of which is right, by their numbers.
+fn table_is_right(rt: &impl Abort, alloc: Global, table: &str) -> Result<(u32, u32), Fail> {
+    let mut rows: u32 = 0;
+    let mut stubs: u32 = 0;
+    for row in table.trim().split("\n\n") {
+        stubs = stubs.wrapping_add(row_is_right(rt, alloc, row)?);
+        rows = rows.wrapping_add(1);
+    }
+    Ok((rows, stubs))
+}
+
+/// A row has the opnum and the operation, what the call brings, the fields of the first stub (a digit for each, of so
+/// many bytes, and a dot for each byte of padding), the first stub, and others of the same call; of these only what
+/// stands behind the handle, if there is one. Each expected value is that which was given to the other software.
+///
+/// SAMBA is samba.dcerpc.lsa with samba.ndr.ndr_pack_in (Debian's python3-samba 4.17.12). IMPACKET is a request structure
+/// of impacket.dcerpc.v5.lsad or lsat with getData (Debian's python3-impacket 0.10.0-4), whose referents and padding are
+/// arbitrary, and whose length of object attributes is 0. HAND is Samba's stub with maximum lengths and counts that are
+/// those of the text, where it has room for a zero; and with a root that refers to a zero byte.
+const CALLS: &str = "
+44 LsarOpenPolicy2
+Policy 0x2000000
+44444444
+SAMBA 00000000 18000000 00000000 00000000 00000000 00000000 00000000 00000002
+IMPACKET 00000000 00000000 00000000 00000000 00000000 00000000 00000000 00000002
+SAMBA 00000200 05000000 00000000 05000000 5c005c00 64006300 00000000 18000000 00000000 00000000 00000000 00000000 04000200 0c000000 02000100 00000002
+
+44 LsarOpenPolicy2, with a root
+Policy rooted 0x2000000
+44444441...4
+HAND 00000000 18000000 00000200 00000000 00000000 00000000 00000000 00000000 00000002
+SAMBA 00000000 18000000 00000200 00000000 00000000 00000000 00000000 5c000000 00000002
+SAMBA 00000000 18000000 00000200 00000000 00000000 00000000 04000200 01000000 0c000000 02000100 00000002
+
+0 LsarClose
+Nothing
+442211111111
+SAMBA
+IMPACKET
+
+34 LsarDeleteObject
+Nothing
+442211111111
+SAMBA
+IMPACKET
+
+2 LsarEnumeratePrivileges
+Page 1 65535
+44221111111144
+SAMBA 01000000 ffff0000
+IMPACKET 01000000 ffff0000
+
+11 LsarEnumerateAccounts
+Page 2 4096
+44221111111144
+SAMBA 02000000 00100000
+IMPACKET 02000000 00100000
+
+7 LsarQueryInformationPolicy
+Class 5
+4422111111112
+SAMBA 0500
+IMPACKET 0500
+
+46 LsarQueryInformationPolicy2
+Class 5
+4422111111112
+SAMBA 0500
+IMPACKET 0500
+
+10 LsarCreateAccount
+AccessSid 0xf S-1-5-21-1-2-3-1000
+442211111111411111111444444
+SAMBA 05000000 01050000 00000005 15000000 01000000 02000000 03000000 e8030000 0f000000
+IMPACKET 05000000 01050000 00000005 15000000 01000000 02000000 03000000 e8030000 0f000000
+
+17 LsarOpenAccount
+AccessSid 0xf S-1-5-21-1-2-3-1000
+442211111111411111111444444
+SAMBA 05000000 01050000 00000005 15000000 01000000 02000000 03000000 e8030000 0f000000
+IMPACKET 05000000 01050000 00000005 15000000 01000000 02000000 03000000 e8030000 0f000000
+
+14 LsarLookupNames
+LookNames 1 'bob' 'CORP\\x'
+44221111111144224224444222..444222222442..4
+SAMBA 02000000 02000000 06000600 00000200 0c000c00 04000200 03000000 00000000 03000000 62006f00 62000000 06000000 00000000 06000000 43004f00 52005000 5c007800 00000000 00000000 01000000 00000000
+IMPACKET 02000000 02000000 06000600 08850000 0c000c00 26c30000 03000000 00000000 03000000 62006f00 6200abab 06000000 00000000 06000000 43004f00 52005000 5c007800 00000000 00000000 0100bfbf 00000000
+SAMBA 02000000 02000000 06000600 00000200 0c000c00 04000200 03000000 00000000 03000000 62006f00 62000000 06000000 00000000 06000000 43004f00 52005000 5c007800 01000000 08000200 01000000 01000000 e8030000 00000000 01000000 07000000
+
+14 LsarLookupNames, of none
+LookNames 6
+44221111111144442..4
+SAMBA 00000000 00000000 00000000 00000000 06000000 00000000
+
+15 LsarLookupSids
+LookSids 1 S-1-1-0 S-1-5-32-544
+44221111111144444411111111441111111144442..4
+SAMBA 02000000 00000200 02000000 04000200 08000200 01000000 01010000 00000001 00000000 02000000 01020000 00000005 20000000 20020000 00000000 00000000 01000000 00000000
+IMPACKET 02000000 e0780000 02000000 0d8f0000 58270000 01000000 01010000 00000001 00000000 02000000 01020000 00000005 20000000 20020000 00000000 00000000 0100bfbf 00000000
+SAMBA 02000000 00000200 02000000 04000200 08000200 01000000 01010000 00000001 00000000 02000000 01020000 00000005 20000000 20020000 02000000 0c000200 02000000 01000000 02000200 10000200 00000000 08000000 00000000 00000000 ffffffff 01000000 00000000 01000000 61000100 02000000
+
+18 LsarEnumeratePrivilegesAccount
+Nothing
+442211111111
+SAMBA
+IMPACKET
+
+23 LsarGetSystemAccessAccount
+Nothing
+442211111111
+SAMBA
+IMPACKET
+
+19 LsarAddPrivilegesToAccount
+Privileges of 17 0 0x3 18 0 0x0
+442211111111444444444
+SAMBA 02000000 02000000 00000000 11000000 00000000 03000000 12000000 00000000 00000000
+IMPACKET 02000000 02000000 00000000 11000000 00000000 03000000 12000000 00000000 00000000
+SAMBA 02000000 02000000 09000000 11000000 00000000 03000000 12000000 00000000 00000000
+
+20 LsarRemovePrivilegesFromAccount
+Privileges of 17 0 0x3 18 0 0x0
+4422111111111...4444444444
+SAMBA 00000000 00000200 02000000 02000000 00000000 11000000 00000000 03000000 12000000 00000000 00000000
+IMPACKET 00aaaaaa 18f10000 02000000 02000000 00000000 11000000 00000000 03000000 12000000 00000000 00000000
+
+20 LsarRemovePrivilegesFromAccount, of each
+Privileges all
+4422111111111...4
+SAMBA 01000000 00000000
+SAMBA ff000000 00000000
+SAMBA 02000000 00000000
+
+20 LsarRemovePrivilegesFromAccount, with an empty set
+Privileges all of
+4422111111111...4444
+SAMBA 01000000 00000200 00000000 00000000 00000000
+
+24 LsarSetSystemAccessAccount
+Bits 0x7
+4422111111114
+SAMBA 07000000
+IMPACKET 07000000
+
+31 LsarLookupPrivilegeValue
+OneName 'SeBackupPrivilege'
+44221111111122444422222222222222222
+SAMBA 22002200 00000200 11000000 00000000 11000000 53006500 42006100 63006b00 75007000 50007200 69007600 69006c00 65006700 6500
+IMPACKET 22002200 97200000 11000000 00000000 11000000 53006500 42006100 63006b00 75007000 50007200 69007600 69006c00 65006700 6500
+
+32 LsarLookupPrivilegeName
+Luid 17 1
+44221111111144
+SAMBA 11000000 01000000
+IMPACKET 11000000 01000000
+
+35 LsarEnumerateAccountsWithUserRight
+OneName 'SeTcb'
+442211111111422444422222
+SAMBA 00000200 0a000a00 04000200 05000000 00000000 05000000 53006500 54006300 6200
+IMPACKET fe410000 0a000a00 f70b0000 05000000 00000000 05000000 53006500 54006300 6200
+
+35 LsarEnumerateAccountsWithUserRight, of any
+OneName
+4422111111114
+SAMBA 00000000
+IMPACKET 00000000
+
+35 LsarEnumerateAccountsWithUserRight, of an empty text
+OneName ''
+4422111111114224
+SAMBA 00000200 00000000 00000000
+
+36 LsarEnumerateAccountRights
+OneSid S-1-5-21-1-2-3-1000
+44221111111141111111144444
+SAMBA 05000000 01050000 00000005 15000000 01000000 02000000 03000000 e8030000
+IMPACKET 05000000 01050000 00000005 15000000 01000000 02000000 03000000 e8030000
+
+37 LsarAddAccountRights
+Rights S-1-5-21-1-2-3-1000 'SeTcb' 'SeX'
+4422111111114111111114444444422422444422222..444222
+HAND 05000000 01050000 00000005 15000000 01000000 02000000 03000000 e8030000 02000000 00000200 02000000 0a000a00 04000200 06000600 08000200 05000000 00000000 05000000 53006500 54006300 62000000 03000000 00000000 03000000 53006500 5800
+SAMBA 05000000 01050000 00000005 15000000 01000000 02000000 03000000 e8030000 02000000 00000200 02000000 0a000c00 04000200 06000800 08000200 06000000 00000000 05000000 53006500 54006300 62000000 04000000 00000000 03000000 53006500 5800
+IMPACKET 05000000 01050000 00000005 15000000 01000000 02000000 03000000 e8030000 02000000 83ae0000 02000000 0a000a00 3b4e0000 06000600 6e830000 05000000 00000000 05000000 53006500 54006300 6200abab 03000000 00000000 03000000 53006500 5800
+
+38 LsarRemoveAccountRights
+Rights S-1-5-21-1-2-3-1000 all 'SeTcb' 'SeX'
+442211111111411111111444441...44422422444422222..444222
+HAND 05000000 01050000 00000005 15000000 01000000 02000000 03000000 e8030000 01000000 02000000 00000200 02000000 0a000a00 04000200 06000600 08000200 05000000 00000000 05000000 53006500 54006300 62000000 03000000 00000000 03000000 53006500 5800
+SAMBA 05000000 01050000 00000005 15000000 01000000 02000000 03000000 e8030000 07000000 02000000 00000200 02000000 0a000c00 04000200 06000800 08000200 06000000 00000000 05000000 53006500 54006300 62000000 04000000 00000000 03000000 53006500 5800
+IMPACKET 05000000 01050000 00000005 15000000 01000000 02000000 03000000 e8030000 01ababab 02000000 2d410000 02000000 0a000a00 933b0000 06000600 be350000 05000000 00000000 05000000 53006500 54006300 6200abab 03000000 00000000 03000000 53006500 5800
+
+38 LsarRemoveAccountRights, of none
+Rights S-1-1-0
+44221111111141111111141...44
+SAMBA 01000000 01010000 00000001 00000000 00000000 00000000 00000000
+";
+
+#[test]
+fn calls_are_read_and_written(rt: HostRuntime) -> Result<(), Fail> {
+    assert_eq!(rt; table_is_right(&rt, rt.alloc(), CALLS)?, (29, 62));
+    Ok(())
+}
