@@ -1,0 +1,115 @@
+-- What later rows have to keep of sound rows to be sound
+use Rattle.std.proofs.Common.{◌≡◌, ℕ, ◌≤◌, Bool, true, false, Some, refl}
+use Rattle.std.proofs.Common.{inl, inr, ◌⊎◌, is_some, arith}
+use Rattle.acct_codes.specs.declared.kind.Kind.{Kind}
+use Rattle.acct_codes.specs.declared.kind.Kind.TheVariants.{Group, Alias, User}
+use Rattle.dtyp_sid.specs.Value.{SidValue}
+use Rattle.acct_calls.specs.Folding.{is_same}
+use Rattle.acct_rows.specs.Keyed.{is_ascending}
+use Rattle.acct_rows.specs.Rows.{Lists, domain_key, account_key, member_key, alias_key, lsa_key, is_of}
+use Rattle.acct_rows.specs.Rows.{domain_at, account_at, member_at, alias_row_at, lsa_at}
+use Rattle.acct_rows.specs.Objects.{exists}
+use Rattle.acct_rows.specs.Sound.{next_rid_of, IsGoodDomain, IsGoodAccount, IsGoodLsa, IsSoundRows}
+use Rattle.acct_rows.specs.Laws.{Keeps}
+use Rattle.acct_rows.specs.declared.object.Object.{Object}
+use Rattle.acct_rows.specs.declared.object.Object.TheVariants as objects
+use Rattle.acct_rows.specs.declared.row.DomainRow.{DomainRow}
+use Rattle.acct_rows.specs.declared.row.AccountRow.{AccountRow}
+use Rattle.acct_rows.specs.declared.row.MemberRow.{MemberRow}
+use Rattle.acct_rows.specs.declared.row.AliasRow.{AliasRow}
+use Rattle.acct_rows.specs.declared.row.LsaRow.{LsaRow}
+
+-- what is there stays, with its kind, and no next RID is lower
+pub record Kept (r s : Lists) : Type 0 where
+  pub domains : (n : ℕ) → is_some (domain_at r n) ≡ true → is_some (domain_at s n) ≡ true
+  pub nexts : (n : ℕ) → next_rid_of (domain_at r n) ≤ next_rid_of (domain_at s n)
+  pub kinds : (kind : Kind) (n i : ℕ) → is_of kind (account_at r n i) ≡ true → is_of kind (account_at s n i) ≡ true
+
+-- so do the member rows
+abbrev pub MembersKept : Lists → Lists → Type 0
+MembersKept r s = (g u : ℕ) → is_some (member_at r g u) ≡ true → is_some (member_at s g u) ≡ true
+
+-- and the accounts of the policy, but for those that are gone
+abbrev pub LsaKept : (Object → Bool) → Lists → Lists → Type 0
+LsaKept gone r s = (sid : SidValue) → is_some (lsa_at r sid) ≡ true → gone (objects.Account sid) ≡ false
+    → is_some (lsa_at s sid) ≡ true
+
+pub good_kept : (r s : Lists) → Kept r s → MembersKept r s → (a : AccountRow) → IsGoodAccount r a → IsGoodAccount s a
+good_kept r s kept members a good = record {
+  itself = good.itself;
+  below = omega (arith, good.below, kept.nexts a.domain);
+  primary_group = λ u. kept.kinds Group 0 a.primary (good.primary_group u);
+  primary_member = λ u. members a.primary a.rid (good.primary_member u);
+}
+
+-- each list ascends
+pub record Ascends (s : Lists) : Type 0 where
+  pub domains : is_ascending domain_key s.domains ≡ true
+  pub accounts : is_ascending account_key s.accounts ≡ true
+  pub members : is_ascending member_key s.members ≡ true
+  pub aliases : is_ascending alias_key s.aliases ≡ true
+  pub lsa : is_ascending lsa_key s.lsa ≡ true
+
+pub ascends : (r : Lists) → IsSoundRows r → Ascends r
+ascends r sound = record {
+  domains = sound.domains_ascend;
+  accounts = sound.accounts_ascend;
+  members = sound.members_ascend;
+  aliases = sound.aliases_ascend;
+  lsa = sound.lsa_ascend;
+}
+
+-- the later rows: each row was there, or keeps the rules among them
+pub record Moves (r s : Lists) : Type 0 where
+  pub order : Ascends s
+  pub kept : Kept r s
+  pub domains : (n : ℕ) (d : DomainRow) → domain_at s n ≡ Some d → (domain_at r n ≡ Some d) ⊎ IsGoodDomain d
+  pub accounts : (n i : ℕ) (a : AccountRow) → account_at s n i ≡ Some a → IsGoodAccount s a
+  pub names : (n i j : ℕ) (a b : AccountRow) → account_at s n i ≡ Some a → account_at s n j ≡ Some b
+      → is_same a.name b.name ≡ true → i ≡ j
+  pub members : (g u : ℕ) (m : MemberRow) → member_at s g u ≡ Some m
+      → (member_at r g u ≡ Some m) ⊎ ((is_of Group (account_at s 0 g) ≡ true) × (is_of User (account_at s 0 u) ≡ true))
+  pub aliases : (n i : ℕ) (sid : SidValue) (a : AliasRow) → alias_row_at s n i sid ≡ Some a
+      → (alias_row_at r n i sid ≡ Some a) ⊎ (is_of Alias (account_at s n i) ≡ true)
+  pub lsa : (sid : SidValue) (l : LsaRow) → lsa_at s sid ≡ Some l → (lsa_at r sid ≡ Some l) ⊎ IsGoodLsa l
+
+moved_sound : (r s : Lists) → IsSoundRows r → Moves r s → IsSoundRows s
+moved_sound r s sound by = record {
+  domains_ascend = by.order.domains;
+  accounts_ascend = by.order.accounts;
+  members_ascend = by.order.members;
+  aliases_ascend = by.order.aliases;
+  lsa_ascend = by.order.lsa;
+  domain_rules = λ n d e. elim (by.domains n d e) [ inl old ↦ sound.domain_rules n d old | inr good ↦ good ];
+  account_domain = by.kept.domains 0 sound.account_domain;
+  builtin_domain = by.kept.domains 1 sound.builtin_domain;
+  account_rules = by.accounts;
+  names_differ = by.names;
+  users_group = by.kept.kinds Group 0 513 sound.users_group;
+  member_groups = λ g u m e. elim (by.members g u m e) [
+    | inl old ↦ by.kept.kinds Group 0 g (sound.member_groups g u m old)
+    | inr there ↦ there.0
+  ];
+  member_users = λ g u m e. elim (by.members g u m e) [
+    | inl old ↦ by.kept.kinds User 0 u (sound.member_users g u m old)
+    | inr there ↦ there.1
+  ];
+  alias_rows = λ n i sid a e. elim (by.aliases n i sid a e) [
+    | inl old ↦ by.kept.kinds Alias n i (sound.alias_rows n i sid a old)
+    | inr there ↦ there
+  ];
+  lsa_rules = λ sid l e. elim (by.lsa sid l e) [ inl old ↦ sound.lsa_rules sid l old | inr good ↦ good ];
+}
+
+moved_stays : (gone : Object → Bool) (r s : Lists) → Kept r s → LsaKept gone r s → (x : Object) → exists r x ≡ true
+    → gone x ≡ false → exists s x ≡ true
+moved_stays gone r s kept lsa objects.Server was other = refl
+moved_stays gone r s kept lsa objects.Policy was other = refl
+moved_stays gone r s kept lsa (objects.Domain n) was other = kept.domains n was
+moved_stays gone r s kept lsa (objects.Group i) was other = kept.kinds Group 0 i was
+moved_stays gone r s kept lsa (objects.Alias n i) was other = kept.kinds Alias n i was
+moved_stays gone r s kept lsa (objects.User i) was other = kept.kinds User 0 i was
+moved_stays gone r s kept lsa (objects.Account sid) was other = lsa sid was other
+
+pub moved : (gone : Object → Bool) (r s : Lists) → IsSoundRows r → Moves r s → LsaKept gone r s → Keeps gone r s
+moved gone r s sound by lsa = record { sound = moved_sound r s sound by; stays = moved_stays gone r s by.kept lsa }

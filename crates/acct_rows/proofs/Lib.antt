@@ -1,0 +1,12 @@
+pub mod Tables
+pub mod Places
+pub mod Halving
+pub mod Lookups
+pub mod Passing
+pub mod Seeded
+pub mod Once
+pub mod Removals
+pub mod Kept
+pub mod Moves
+pub mod Purges
+pub mod Rising

@@ -1,0 +1,5 @@
+use Rattle.acct_rows.proofs.Moves.{member_sound}
+use Rattle.acct_rows.proofs.laws.members_stay_sound.Goals as goal
+
+pub returns : goal.returns
+returns c = member_sound

@@ -1,0 +1,5 @@
+use Rattle.acct_rows.proofs.Moves.{found_name_free}
+use Rattle.acct_rows.proofs.laws.name_found_is_free.Goals as goal
+
+pub returns : goal.returns
+returns c = found_name_free

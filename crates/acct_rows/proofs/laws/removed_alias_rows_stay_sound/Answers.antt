@@ -1,0 +1,5 @@
+use Rattle.acct_rows.proofs.Moves.{removed_alias_row_sound}
+use Rattle.acct_rows.proofs.laws.removed_alias_rows_stay_sound.Goals as goal
+
+pub returns : goal.returns
+returns c = removed_alias_row_sound

@@ -1,0 +1,9 @@
+use Rattle.std.proofs.Common.{◌≡◌, drop}
+use Rattle.acct_rows.specs.Rows.{removed}
+use Rattle.acct_rows.proofs.rows.remove_all.Given as goal
+
+abbrev pub invariant-loop-key : goal.invariant-loop-key
+invariant-loop-key l = record {
+  rest : removed (drop l.key-index l.keys) l.rows.lists ≡ removed l.keys l.fn.rows.lists;
+  spare : l.rows.spare ≡ l.fn.rows.spare;
+}

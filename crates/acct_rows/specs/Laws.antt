@@ -1,0 +1,161 @@
+-- What changes of rows keep: sound rows stay sound, and the objects that are there stay
+use Rattle.std.specs.Prelude.{◌≡◌, ◌≢◌, ℕ, ◌<◌, ◌≤◌, ◌==◌, Bool, true, false, ◌&&◌, ◌||◌, List, [], ◌∷◌, ◌++◌, map}
+use Rattle.std.specs.Prelude.{Some, None, is_some}
+use Rattle.std.specs.List.{filter}
+use Rattle.acct_codes.specs.declared.kind.Kind.TheVariants.{Group, Alias, User}
+use Rattle.dtyp_sid.specs.Value.{SidValue}
+use Rattle.dtyp_sid.specs.Order.{sid_eq}
+use Rattle.acct_calls.specs.Folding.{is_same}
+use Rattle.acct_rows.specs.Rows.{Lists, domain_at, account_at, member_at, find_name, same_kind, is_of}
+use Rattle.acct_rows.specs.Rows.{put_row, remove_row, removed}
+use Rattle.acct_rows.specs.Objects.{kind_of, domain_of, rid_of, exists, same_object}
+use Rattle.acct_rows.specs.Sound.{is_account_kind, next_rid_of, IsGoodDomain, IsGoodRow, IsGoodLsa, IsSoundRows}
+use Rattle.acct_rows.specs.declared.object.Object.{Object}
+use Rattle.acct_rows.specs.declared.object.Object.TheVariants as objects
+use Rattle.acct_rows.specs.declared.row.DomainRow.{DomainRow}
+use Rattle.acct_rows.specs.declared.row.AccountRow.{AccountRow}
+use Rattle.acct_rows.specs.declared.row.MemberRow.{MemberRow}
+use Rattle.acct_rows.specs.declared.row.AliasRow.{AliasRow}
+use Rattle.acct_rows.specs.declared.row.LsaRow.{LsaRow}
+use Rattle.acct_rows.specs.declared.row.Row.TheVariants as rows
+use Rattle.acct_rows.specs.declared.row.RowKey.{RowKey}
+use Rattle.acct_rows.specs.declared.row.RowKey.TheVariants as keys
+
+-- the later rows are sound, and every object that was there is there, but for those that are gone
+pub record Keeps (gone : Object → Bool) (lists later : Lists) : Type 0 where
+  pub sound : IsSoundRows later
+  pub stays : (x : Object) → exists lists x ≡ true → gone x ≡ false → exists later x ≡ true
+
+abbrev pub nothing : Object → Bool
+nothing x = false
+
+-- a domain's row is replaced by one that keeps the rules and whose next RID is not lower
+abbrev pub DomainsStaySound : Type 0
+DomainsStaySound = (lists : Lists) (old d : DomainRow) → IsSoundRows lists → domain_at lists d.number ≡ Some old
+    → IsGoodDomain d → old.next_rid ≤ d.next_rid → Keeps nothing lists (put_row (rows.Domain d) lists)
+
+-- no account has the next RID of a domain
+abbrev pub NextIsFree : Type 0
+NextIsFree = (lists : Lists) (number : ℕ) (d : DomainRow) → IsSoundRows lists → domain_at lists number ≡ Some d
+    → account_at lists number d.next_rid ≡ None
+
+-- an account that may be added: it keeps the rules by itself, and its RID, below the next one, and its name are free
+pub record IsNew (lists : Lists) (a : AccountRow) : Type 0 where
+  pub good : IsGoodRow a
+  pub below : a.rid < next_rid_of (domain_at lists a.domain)
+  pub rid_free : account_at lists a.domain a.rid ≡ None
+  pub name_free : find_name lists a.domain a.name ≡ None
+
+-- a group or an alias is added
+abbrev pub AddedAccountsStaySound : Type 0
+AddedAccountsStaySound = (lists : Lists) (a : AccountRow) → IsSoundRows lists → IsNew lists a
+    → same_kind User a.kind ≡ false
+    → Keeps nothing lists (put_row (rows.Account a) lists)
+
+-- a user is added, with its row as a member of its primary group, which is there
+abbrev pub AddedUsersStaySound : Type 0
+AddedUsersStaySound = (lists : Lists) (a : AccountRow) (m : MemberRow) → IsSoundRows lists → IsNew lists a
+    → same_kind User a.kind ≡ true → is_of Group (account_at lists 0 a.primary) ≡ true → m.group ≡ a.primary
+    → m.user ≡ a.rid
+    → Keeps nothing lists (put_row (rows.Member m) (put_row (rows.Account a) lists))
+
+-- no other account of the domain has the name
+abbrev pub IsFree : Lists → AccountRow → Type 0
+IsFree lists a = (j : ℕ) (b : AccountRow) → account_at lists a.domain j ≡ Some b → is_same b.name a.name ≡ true
+    → j ≡ a.rid
+
+-- an account's row may be replaced by the other: it has the same key and kind and keeps the rules
+pub record Replaces (lists : Lists) (old a : AccountRow) : Type 0 where
+  pub there : account_at lists a.domain a.rid ≡ Some old
+  pub kind : a.kind ≡ old.kind
+  pub good : IsGoodRow a
+  pub free : IsFree lists a
+  pub primary_group : same_kind User a.kind ≡ true → is_of Group (account_at lists 0 a.primary) ≡ true
+  pub primary_member : same_kind User a.kind ≡ true → is_some (member_at lists a.primary a.rid) ≡ true
+
+abbrev pub ReplacedAccountsStaySound : Type 0
+ReplacedAccountsStaySound = (lists : Lists) (old a : AccountRow) → IsSoundRows lists → Replaces lists old a
+    → Keeps nothing lists (put_row (rows.Account a) lists)
+
+-- the account's own name is free for it, and so is a name that no account has, or it alone
+abbrev pub OwnNameIsFree : Type 0
+OwnNameIsFree = (lists : Lists) (old a : AccountRow) → IsSoundRows lists → account_at lists a.domain a.rid ≡ Some old
+    → a.name ≡ old.name → IsFree lists a
+
+abbrev pub UnusedNameIsFree : Type 0
+UnusedNameIsFree = (lists : Lists) (a : AccountRow) → find_name lists a.domain a.name ≡ None → IsFree lists a
+
+abbrev pub NameFoundIsFree : Type 0
+NameFoundIsFree = (lists : Lists) (a found : AccountRow) → IsSoundRows lists
+    → find_name lists a.domain a.name ≡ Some found
+    → found.rid ≡ a.rid → IsFree lists a
+
+-- a member row is put: its group and its user are there
+abbrev pub MembersStaySound : Type 0
+MembersStaySound = (lists : Lists) (m : MemberRow) → IsSoundRows lists → is_of Group (account_at lists 0 m.group) ≡ true
+    → is_of User (account_at lists 0 m.user) ≡ true → Keeps nothing lists (put_row (rows.Member m) lists)
+
+-- a member row is removed that isn't the user's for its primary group
+abbrev pub RemovedMembersStaySound : Type 0
+RemovedMembersStaySound = (lists : Lists) (group user : ℕ) → IsSoundRows lists
+    → ((a : AccountRow) → account_at lists 0 user ≡ Some a → same_kind User a.kind ≡ true → a.primary ≢ group)
+    → Keeps nothing lists (remove_row (keys.Member group user) lists)
+
+-- an alias row is put, of an alias that is there, or removed
+abbrev pub AliasRowsStaySound : Type 0
+AliasRowsStaySound = (lists : Lists) (a : AliasRow) → IsSoundRows lists
+    → is_of Alias (account_at lists a.domain a.alias) ≡ true
+    → Keeps nothing lists (put_row (rows.Alias a) lists)
+
+abbrev pub RemovedAliasRowsStaySound : Type 0
+RemovedAliasRowsStaySound = (lists : Lists) (domain alias : ℕ) (member : SidValue) → IsSoundRows lists
+    → Keeps nothing lists (remove_row (keys.Alias domain alias member) lists)
+
+-- an account of the policy is put, or removed
+abbrev pub LsaAccountsStaySound : Type 0
+LsaAccountsStaySound = (lists : Lists) (l : LsaRow) → IsSoundRows lists → IsGoodLsa l
+    → Keeps nothing lists (put_row (rows.Lsa l) lists)
+
+abbrev pub RemovedLsaAccountsStaySound : Type 0
+RemovedLsaAccountsStaySound = (lists : Lists) (sid : SidValue) → IsSoundRows lists
+    → Keeps (λ x. same_object x (objects.Account sid)) lists (remove_row (keys.Lsa sid) lists)
+
+-- whether a member row names an account of a domain
+abbrev pub is_member_of : ℕ → ℕ → MemberRow → Bool
+is_member_of domain rid m = (domain == 0) && ((m.group == rid) || (m.user == rid))
+
+-- whether an alias row is of the alias, or has the SID as its member
+abbrev pub is_alias_row_of : ℕ → ℕ → SidValue → AliasRow → Bool
+is_alias_row_of domain rid sid a = ((a.domain == domain) && (a.alias == rid)) || sid_eq a.member sid
+
+abbrev pub key_of_member : MemberRow → RowKey
+key_of_member m = keys.Member m.group m.user
+
+abbrev pub key_of_alias : AliasRow → RowKey
+key_of_alias a = keys.Alias a.domain a.alias a.member
+
+-- the keys of an account and of every row that names it: as a group or a user, as an alias, or by its SID
+abbrev pub naming : Lists → ℕ → ℕ → SidValue → List RowKey
+naming lists domain rid sid =
+    map key_of_member (filter (is_member_of domain rid) lists.members)
+    ++ map key_of_alias (filter (is_alias_row_of domain rid sid) lists.aliases)
+    ++ keys.Account domain rid ∷ []
+
+-- the account is no user's primary group
+abbrev pub IsNoPrimary : Lists → ℕ → ℕ → Type 0
+IsNoPrimary lists domain rid = (j : ℕ) (u : AccountRow) → account_at lists 0 j ≡ Some u → same_kind User u.kind ≡ true
+    → domain ≡ 0 → u.primary ≢ rid
+
+-- so it is with an account that isn't a group
+abbrev pub OthersAreNoPrimary : Type 0
+OthersAreNoPrimary = (lists : Lists) (domain rid : ℕ) → IsSoundRows lists
+    → is_of Group (account_at lists domain rid) ≡ false
+    → IsNoPrimary lists domain rid
+
+-- a user, a group or an alias that is there, but for the group of all users, is removed with every row that names it
+abbrev pub RemovedAccountsStaySound : Type 0
+RemovedAccountsStaySound = (lists : Lists) (object : Object) (sid : SidValue) → IsSoundRows lists
+    → is_account_kind (kind_of object) ≡ true → exists lists object ≡ true
+    → same_object object (objects.Group 513) ≡ false
+    → IsNoPrimary lists (domain_of object) (rid_of object)
+    → Keeps (λ x. same_object x object) lists (removed (naming lists (domain_of object) (rid_of object) sid) lists)

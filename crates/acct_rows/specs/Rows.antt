@@ -1,0 +1,152 @@
+-- The rows of the account database as lists by ascending key, what is looked up in them, and a plan applied to them
+use Rattle.std.specs.Prelude.{ℕ, ◌+◌, ◌^◌, ◌<◌, ◌==◌, Bool, true, false, ◌&&◌, List, [], ◌∷◌, length, Option, Some}
+use Rattle.std.specs.Prelude.{None, map, if◌then◌else◌}
+use Rattle.std.specs.List.{filter, find, list_any}
+use Rattle.acct_codes.specs.declared.kind.Kind.{Kind}
+use Rattle.acct_codes.specs.declared.kind.Kind.TheVariants.{Server, Domain, Group, Alias, User, Policy, Account}
+use Rattle.dtyp_sid.specs.Value.{SidValue}
+use Rattle.dtyp_sid.specs.Order.{sid_eq}
+use Rattle.acct_calls.specs.Folding.{is_same}
+use Rattle.acct_rows.specs.Keyed.{at, put, without}
+use Rattle.acct_rows.specs.declared.row.DomainRow.{DomainRow}
+use Rattle.acct_rows.specs.declared.row.AccountRow.{AccountRow}
+use Rattle.acct_rows.specs.declared.row.MemberRow.{MemberRow}
+use Rattle.acct_rows.specs.declared.row.AliasRow.{AliasRow}
+use Rattle.acct_rows.specs.declared.row.LsaRow.{LsaRow}
+use Rattle.acct_rows.specs.declared.row.Row.{Row}
+use Rattle.acct_rows.specs.declared.row.Row.TheVariants as rows
+use Rattle.acct_rows.specs.declared.row.RowKey.{RowKey}
+use Rattle.acct_rows.specs.declared.row.RowKey.TheVariants as keys
+use Rattle.acct_rows.specs.declared.plan.Plan.{Plan}
+
+-- a SID in a key: its authority, and then its sub-authorities
+abbrev pub sid_key : SidValue → List ℕ
+sid_key sid = sid.authority ∷ sid.subs
+
+abbrev pub domain_key : DomainRow → List ℕ
+domain_key d = d.number ∷ []
+
+abbrev pub account_key : AccountRow → List ℕ
+account_key a = a.domain ∷ a.rid ∷ []
+
+abbrev pub member_key : MemberRow → List ℕ
+member_key m = m.group ∷ m.user ∷ []
+
+abbrev pub alias_key : AliasRow → List ℕ
+alias_key a = a.domain ∷ a.alias ∷ sid_key a.member
+
+abbrev pub lsa_key : LsaRow → List ℕ
+lsa_key l = sid_key l.sid
+
+-- the rows: the domains, their accounts, the members of groups and of aliases, and the accounts of the policy
+pub record Lists : Type 0 where
+  pub domains : List DomainRow
+  pub accounts : List AccountRow
+  pub members : List MemberRow
+  pub aliases : List AliasRow
+  pub lsa : List LsaRow
+
+-- the lists, and for how many more rows there is room
+pub record Shown : Type 0 where
+  pub lists : Lists
+  pub spare : ℕ
+
+-- with that many more rows each list has fewer than 2^32
+pub record HasRoom (lists : Lists) (more : ℕ) : Type 0 where
+  pub domains : length lists.domains + more < 2 ^ 32
+  pub accounts : length lists.accounts + more < 2 ^ 32
+  pub members : length lists.members + more < 2 ^ 32
+  pub aliases : length lists.aliases + more < 2 ^ 32
+  pub lsa : length lists.lsa + more < 2 ^ 32
+
+abbrev pub domain_at : Lists → ℕ → Option DomainRow
+domain_at lists number = at domain_key (number ∷ []) lists.domains
+
+abbrev pub account_at : Lists → ℕ → ℕ → Option AccountRow
+account_at lists domain rid = at account_key (domain ∷ rid ∷ []) lists.accounts
+
+abbrev pub member_at : Lists → ℕ → ℕ → Option MemberRow
+member_at lists group user = at member_key (group ∷ user ∷ []) lists.members
+
+abbrev pub alias_row_at : Lists → ℕ → ℕ → SidValue → Option AliasRow
+alias_row_at lists domain alias member = at alias_key (domain ∷ alias ∷ sid_key member) lists.aliases
+
+abbrev pub lsa_at : Lists → SidValue → Option LsaRow
+lsa_at lists sid = at lsa_key (sid_key sid) lists.lsa
+
+-- whether two kinds are one
+abbrev pub same_kind : Kind → Kind → Bool
+same_kind Server Server = true
+same_kind Domain Domain = true
+same_kind Group Group = true
+same_kind Alias Alias = true
+same_kind User User = true
+same_kind Policy Policy = true
+same_kind Account Account = true
+same_kind _ _ = false
+
+-- whether there is an account, and of that kind
+abbrev pub is_of : Kind → Option AccountRow → Bool
+is_of kind None = false
+is_of kind (Some a) = same_kind kind a.kind
+
+-- whether an account of a domain has a name: names are one where they are so after simple case folding
+abbrev pub has_name : ℕ → List ℕ → AccountRow → Bool
+has_name domain name a = (a.domain == domain) && is_same a.name name
+
+-- the account of a domain with that name, the one with the least RID if there are several
+abbrev pub find_name : Lists → ℕ → List ℕ → Option AccountRow
+find_name lists domain name = find (has_name domain name) lists.accounts
+
+-- the members of a group by ascending user
+abbrev pub is_in_group : ℕ → MemberRow → Bool
+is_in_group group m = m.group == group
+
+abbrev pub members_of : Lists → ℕ → List MemberRow
+members_of lists group = filter (is_in_group group) lists.members
+
+-- whether an alias row is of the domain, with one of the SIDs
+abbrev pub has_one : ℕ → List SidValue → AliasRow → Bool
+has_one domain sids a = (a.domain == domain) && list_any (sid_eq a.member) sids
+
+-- numbers that don't fall, each once: without those that are equal to the one before
+abbrev pub each_once_after : ℕ → List ℕ → List ℕ
+each_once_after before [] = []
+each_once_after before (n ∷ ns) = if n == before then each_once_after before ns else n ∷ each_once_after n ns
+
+abbrev pub each_once : List ℕ → List ℕ
+each_once [] = []
+each_once (n ∷ ns) = n ∷ each_once_after n ns
+
+-- the RIDs of the aliases of a domain that have one of the SIDs as a member, ascending, each once
+abbrev pub aliases_of : Lists → ℕ → List SidValue → List ℕ
+aliases_of lists domain sids = each_once (map (λ a. a.alias) (filter (has_one domain sids) lists.aliases))
+
+abbrev pub put_row : Row → Lists → Lists
+put_row (rows.Domain d) lists = record lists { domains = put domain_key d lists.domains }
+put_row (rows.Account a) lists = record lists { accounts = put account_key a lists.accounts }
+put_row (rows.Member m) lists = record lists { members = put member_key m lists.members }
+put_row (rows.Alias a) lists = record lists { aliases = put alias_key a lists.aliases }
+put_row (rows.Lsa l) lists = record lists { lsa = put lsa_key l lists.lsa }
+
+abbrev pub remove_row : RowKey → Lists → Lists
+remove_row (keys.Domain number) lists = record lists { domains = without domain_key (number ∷ []) lists.domains }
+remove_row (keys.Account domain rid) lists =
+    record lists { accounts = without account_key (domain ∷ rid ∷ []) lists.accounts }
+remove_row (keys.Member group user) lists =
+    record lists { members = without member_key (group ∷ user ∷ []) lists.members }
+remove_row (keys.Alias domain alias member) lists =
+    record lists { aliases = without alias_key (domain ∷ alias ∷ sid_key member) lists.aliases }
+remove_row (keys.Lsa sid) lists = record lists { lsa = without lsa_key (sid_key sid) lists.lsa }
+
+abbrev pub removed : List RowKey → Lists → Lists
+removed [] lists = lists
+removed (key ∷ keys) lists = removed keys (remove_row key lists)
+
+abbrev pub with_puts : List Row → Lists → Lists
+with_puts [] lists = lists
+with_puts (row ∷ rows) lists = with_puts rows (put_row row lists)
+
+-- the rows after a plan: first without the rows that it removes, then with those that it puts
+abbrev pub after : Plan → Lists → Lists
+after plan lists = with_puts plan.puts (removed plan.removes lists)

@@ -1,0 +1,171 @@
+-- Which rows are sound: each breaks no rule, by itself and among the others
+use Rattle.std.specs.Prelude.{◌≡◌, ℕ, ◌+◌, ◌<◌, ◌≤◌, ◌==◌, nat_le, nat_lt, Bool, true, false, not, ◌&&◌, ◌||◌, codes}
+use Rattle.std.specs.Prelude.{chars}
+use Rattle.std.specs.Prelude.{List, [], ◌∷◌, length, All, Option, Some, None, is_some, bit_and}
+use Rattle.acct_codes.specs.declared.kind.Kind.{Kind}
+use Rattle.acct_codes.specs.declared.kind.Kind.TheVariants.{Group, Alias, User}
+use Rattle.acct_codes.specs.UserControl.{user_account_disabled, user_password_not_required, user_normal_account}
+use Rattle.acct_codes.specs.UserControl.{user_workstation_trust_account, user_server_trust_account}
+use Rattle.dtyp_sid.specs.Value.{SidValue}
+use Rattle.dtyp_sid.specs.Order.{sid_eq}
+use Rattle.acct_calls.specs.CodePoints.{units_of}
+use Rattle.acct_calls.specs.Folding.{is_same}
+use Rattle.acct_calls.specs.Validity.{is_valid_name}
+use Rattle.acct_rows.specs.Keyed.{is_ascending}
+use Rattle.acct_rows.specs.Rows.{Lists, domain_key, account_key, member_key, alias_key, lsa_key, domain_at, account_at}
+use Rattle.acct_rows.specs.Rows.{member_at, alias_row_at, lsa_at, same_kind, is_of}
+use Rattle.acct_rows.specs.declared.row.DomainRow.{DomainRow}
+use Rattle.acct_rows.specs.declared.row.AccountRow.{AccountRow}
+use Rattle.acct_rows.specs.declared.row.MemberRow.{MemberRow}
+use Rattle.acct_rows.specs.declared.row.AliasRow.{AliasRow}
+use Rattle.acct_rows.specs.declared.row.LsaRow.{LsaRow}
+use Rattle.acct_rows.specs.declared.row.Held.{Held}
+
+-- the name that a text spells
+abbrev pub name_of_text : List ℕ → List ℕ
+name_of_text text = units_of (chars text)
+
+-- the domain BUILTIN, S-1-5-32 (MS-DTYP 2.4.2.4)
+abbrev pub builtin_name : List ℕ
+builtin_name = name_of_text (codes "BUILTIN")
+
+abbrev pub builtin_sid : SidValue
+builtin_sid = record { authority = 5; subs = 32 ∷ [] }
+
+-- the account domain's name: one that a group may have, of at most 15 units, and not that of another domain
+unfoldable pub is_domain_name : List ℕ → Bool
+is_domain_name name =
+    nat_le (length name) 15 && is_valid_name Group name
+    && not (is_same name builtin_name) && not (is_same name (name_of_text (codes "NT AUTHORITY")))
+
+-- the account domain's SID: it has 1 to 14 sub-authorities, so that an account's has one more, and isn't BUILTIN's
+unfoldable pub is_domain_sid : SidValue → Bool
+is_domain_sid sid = (nat_le 1 (length sid.subs) && nat_le (length sid.subs) 14) && not (sid_eq sid builtin_sid)
+
+-- a domain by itself
+pub record IsGoodDomain (d : DomainRow) : Type 0 where
+  -- there are the account domain, 0, and BUILTIN, 1
+  pub number_most : d.number ≤ 1
+  -- the account domain's name and SID are such that a configuration may name
+  pub account_name : d.number ≡ 0 → is_domain_name d.name ≡ true
+  pub account_sid : d.number ≡ 0 → is_domain_sid d.sid ≡ true
+  -- those of BUILTIN are its own
+  pub builtin_named : d.number ≡ 1 → d.name ≡ builtin_name
+  pub builtin_sided : d.number ≡ 1 → d.sid ≡ builtin_sid
+  -- OEM information has at most 256 units
+  pub oem_most : length d.oem ≤ 256
+  -- the next RID is a RID that a created account may take, or the limit
+  pub next_least : 1000 ≤ d.next_rid
+  pub next_most : d.next_rid ≤ 0x3FFFFFFF
+
+-- the types of a user
+abbrev pub is_user_type : ℕ → Bool
+is_user_type bits =
+    (bits == user_normal_account) || ((bits == user_workstation_trust_account) || (bits == user_server_trust_account))
+
+-- every bit of a user's control, and those of its type
+abbrev pub user_types : ℕ
+user_types = user_normal_account + user_workstation_trust_account + user_server_trust_account
+
+abbrev pub known_control : ℕ
+known_control = user_account_disabled + user_password_not_required + user_types
+
+-- a user's control has known bits alone, and exactly one of the types
+abbrev pub control_is_good : ℕ → Bool
+control_is_good bits = (bit_and bits known_control == bits) && is_user_type (bit_and bits user_types)
+
+-- what the bits of an account may be: a group's attributes are any number
+abbrev pub good_bits : Kind → ℕ → Bool
+good_bits User bits = control_is_good bits
+good_bits Group bits = true
+good_bits _ bits = bits == 0
+
+-- only users have a primary group
+abbrev pub good_primary : Kind → ℕ → Bool
+good_primary User primary = true
+good_primary _ primary = primary == 0
+
+-- users, groups and aliases are accounts
+abbrev pub is_account_kind : Kind → Bool
+is_account_kind User = true
+is_account_kind Group = true
+is_account_kind Alias = true
+is_account_kind _ = false
+
+-- BUILTIN has aliases alone
+abbrev pub good_place : ℕ → Kind → Bool
+good_place domain kind = (domain == 0) || ((domain == 1) && same_kind Alias kind)
+
+-- an account by itself
+pub record IsGoodRow (a : AccountRow) : Type 0 where
+  pub kind_known : is_account_kind a.kind ≡ true
+  pub place : good_place a.domain a.kind ≡ true
+  -- its name is one that its kind may have (MS-SAMR 3.1.1.8.4)
+  pub named : is_valid_name a.kind a.name ≡ true
+  -- its full name and its comment have at most 256 units
+  pub full_name_most : length a.full_name ≤ 256
+  pub comment_most : length a.comment ≤ 256
+  pub control : good_bits a.kind a.bits ≡ true
+  pub primary_kind : good_primary a.kind a.primary ≡ true
+
+-- the next RID of a domain; 0 where there is no domain, so that no RID is below it
+abbrev pub next_rid_of : Option DomainRow → ℕ
+next_rid_of None = 0
+next_rid_of (Some d) = d.next_rid
+
+-- an account among the rows
+pub record IsGoodAccount (lists : Lists) (a : AccountRow) : Type 0 where
+  pub itself : IsGoodRow a
+  -- its domain is there, and its RID below the next one
+  pub below : a.rid < next_rid_of (domain_at lists a.domain)
+  -- a user's primary group is there, and the user is its member
+  pub primary_group : same_kind User a.kind ≡ true → is_of Group (account_at lists 0 a.primary) ≡ true
+  pub primary_member : same_kind User a.kind ≡ true → is_some (member_at lists a.primary a.rid) ≡ true
+
+-- privileges stand by strictly ascending low part of their LUID, so that none stands twice
+abbrev pub are_above : ℕ → List Held → Bool
+are_above low [] = true
+are_above low (held ∷ rest) = nat_lt low held.low && are_above held.low rest
+
+-- the known privileges have the low parts 2 to 30
+abbrev pub IsKnown : Held → Type 0
+IsKnown held = (2 ≤ held.low) × (held.low ≤ 30)
+
+-- an account of the policy by itself
+pub record IsGoodLsa (l : LsaRow) : Type 0 where
+  -- its system access has bits of rights alone (MS-LSAD 2.2.1.2)
+  pub access_known : bit_and l.access 0xFD7 ≡ l.access
+  pub privileges_ascend : are_above 0 l.privileges ≡ true
+  pub privileges_known : All IsKnown l.privileges
+
+-- the rows are sound
+pub record IsSoundRows (lists : Lists) : Type 0 where
+  -- each list stands by strictly ascending key, so that no key stands twice
+  pub domains_ascend : is_ascending domain_key lists.domains ≡ true
+  pub accounts_ascend : is_ascending account_key lists.accounts ≡ true
+  pub members_ascend : is_ascending member_key lists.members ≡ true
+  pub aliases_ascend : is_ascending alias_key lists.aliases ≡ true
+  pub lsa_ascend : is_ascending lsa_key lists.lsa ≡ true
+  -- each domain keeps its rules
+  pub domain_rules : (number : ℕ) (d : DomainRow) → domain_at lists number ≡ Some d → IsGoodDomain d
+  -- the account domain and BUILTIN are there
+  pub account_domain : is_some (domain_at lists 0) ≡ true
+  pub builtin_domain : is_some (domain_at lists 1) ≡ true
+  -- each account keeps its rules
+  pub account_rules : (domain rid : ℕ) (a : AccountRow) → account_at lists domain rid ≡ Some a
+      → IsGoodAccount lists a
+  -- no two accounts of a domain have one name
+  pub names_differ : (domain i j : ℕ) (a b : AccountRow) → account_at lists domain i ≡ Some a
+      → account_at lists domain j ≡ Some b → is_same a.name b.name ≡ true → i ≡ j
+  -- the group of all users, 513, is there
+  pub users_group : is_of Group (account_at lists 0 513) ≡ true
+  -- a member row's group and user are there
+  pub member_groups : (group user : ℕ) (m : MemberRow) → member_at lists group user ≡ Some m
+      → is_of Group (account_at lists 0 group) ≡ true
+  pub member_users : (group user : ℕ) (m : MemberRow) → member_at lists group user ≡ Some m
+      → is_of User (account_at lists 0 user) ≡ true
+  -- an alias row's alias is there
+  pub alias_rows : (domain alias : ℕ) (sid : SidValue) (a : AliasRow) → alias_row_at lists domain alias sid ≡ Some a
+      → is_of Alias (account_at lists domain alias) ≡ true
+  -- each account of the policy keeps its rules
+  pub lsa_rules : (sid : SidValue) (l : LsaRow) → lsa_at lists sid ≡ Some l → IsGoodLsa l

@@ -1,0 +1,89 @@
+// Copies of rows that hold heap memory.
+ghost use Rattle.std.specs.Prelude.{◌≡◌, IfOk};
+
+use crate::row::{AccountRow, DomainRow, LsaRow, Privileges};
+use acct_base::Seq;
+use acct_calls::NoMemory;
+use std::alloc::Global;
+
+impl DomainRow {
+    /// An equal row of its own.
+    pub fn copy(&self, alloc: Global) -> Result<DomainRow, NoMemory>
+        ensures { IfOk result (λ copy. copy ≡ self.now) }
+    {
+        Ok(DomainRow {
+            number: self.number,
+            sid: self.sid,
+            name: self.name.copy(alloc)?,
+            oem: self.oem.copy(alloc)?,
+            next_rid: self.next_rid,
+        })
+    }
+}
+
+impl AccountRow {
+    /// An equal row of its own.
+    pub fn copy(&self, alloc: Global) -> Result<AccountRow, NoMemory>
+        ensures { IfOk result (λ copy. copy ≡ self.now) }
+    {
+        Ok(AccountRow {
+            domain: self.domain,
+            rid: self.rid,
+            kind: self.kind,
+            name: self.name.copy(alloc)?,
+            full_name: self.full_name.copy(alloc)?,
+            comment: self.comment.copy(alloc)?,
+            bits: self.bits,
+            primary: self.primary,
+        })
+    }
+}
+
+impl LsaRow {
+    /// An equal row of its own.
+    pub fn copy(&self, alloc: Global) -> Result<LsaRow, NoMemory>
+        ensures { IfOk result (λ copy. copy ≡ self.now) }
+    {
+        Ok(LsaRow {
+            sid: self.sid,
+            access: self.access,
+            privileges: copy_privileges(alloc, &self.privileges)?,
+        })
+    }
+}
+
+fn copy_privileges(alloc: Global, privileges: &Privileges) -> Result<Privileges, NoMemory>
+    ensures { IfOk result (λ copy. copy ≡ privileges.now) }
+{
+    Ok(Seq::from_vec(privileges.as_slice().to_vec(alloc)?))
+}
+
+pub fn copy_domains(alloc: Global, rows: &[DomainRow]) -> Result<Vec<DomainRow>, NoMemory>
+    ensures { IfOk result (λ copies. copies.items ≡ rows.now) }
+{
+    let mut copies = Vec::with_capacity(alloc, rows.len())?;
+    for row in rows {
+        copies.push(row.copy(alloc)?)?;
+    }
+    Ok(copies)
+}
+
+pub fn copy_accounts(alloc: Global, rows: &[AccountRow]) -> Result<Vec<AccountRow>, NoMemory>
+    ensures { IfOk result (λ copies. copies.items ≡ rows.now) }
+{
+    let mut copies = Vec::with_capacity(alloc, rows.len())?;
+    for row in rows {
+        copies.push(row.copy(alloc)?)?;
+    }
+    Ok(copies)
+}
+
+pub fn copy_lsa(alloc: Global, rows: &[LsaRow]) -> Result<Vec<LsaRow>, NoMemory>
+    ensures { IfOk result (λ copies. copies.items ≡ rows.now) }
+{
+    let mut copies = Vec::with_capacity(alloc, rows.len())?;
+    for row in rows {
+        copies.push(row.copy(alloc)?)?;
+    }
+    Ok(copies)
+}

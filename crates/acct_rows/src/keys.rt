@@ -1,0 +1,91 @@
+// The keys of the tables.
+ghost use Rattle.std.specs.Prelude.{[], ◌∷◌};
+ghost use Rattle.acct_rows.specs.Rows.{domain_key, account_key, member_key, alias_key, lsa_key, sid_key};
+
+use crate::keyed::Keyed;
+use crate::row::{AccountRow, AliasRow, DomainRow, LsaRow, MemberRow};
+use dtyp_sid::Sid;
+use std::cmp::Ordering;
+
+impl Keyed for DomainRow {
+    type Key = u8;
+
+    ghost key_of = { domain_key };
+
+    ghost path = { λ number. number ∷ [] };
+
+    fn key(&self) -> u8 {
+        self.number
+    }
+
+    fn order(row: &Self, key: &u8) -> Ordering {
+        row.number.cmp(key)
+    }
+}
+
+impl Keyed for AccountRow {
+    type Key = (u8, u32);
+
+    ghost key_of = { account_key };
+
+    ghost path = { λ key. key.0 ∷ key.1 ∷ [] };
+
+    fn key(&self) -> (u8, u32) {
+        (self.domain, self.rid)
+    }
+
+    fn order(row: &Self, key: &(u8, u32)) -> Ordering {
+        row.domain.cmp(&key.0).then(row.rid.cmp(&key.1))
+    }
+}
+
+impl Keyed for MemberRow {
+    type Key = (u32, u32);
+
+    ghost key_of = { member_key };
+
+    ghost path = { λ key. key.0 ∷ key.1 ∷ [] };
+
+    fn key(&self) -> (u32, u32) {
+        (self.group, self.user)
+    }
+
+    fn order(row: &Self, key: &(u32, u32)) -> Ordering {
+        row.group.cmp(&key.0).then(row.user.cmp(&key.1))
+    }
+}
+
+impl Keyed for AliasRow {
+    type Key = (u8, u32, Sid);
+
+    ghost key_of = { alias_key };
+
+    ghost path = { λ key. key.0 ∷ key.1 ∷ sid_key key.2 };
+
+    fn key(&self) -> (u8, u32, Sid) {
+        (self.domain, self.alias, self.member)
+    }
+
+    fn order(row: &Self, key: &(u8, u32, Sid)) -> Ordering {
+        row.domain
+            .cmp(&key.0)
+            .then(row.alias.cmp(&key.1))
+            .then(row.member.cmp(&key.2))
+    }
+}
+
+impl Keyed for LsaRow {
+    type Key = Sid;
+
+    ghost key_of = { lsa_key };
+
+    ghost path = { sid_key };
+
+    fn key(&self) -> Sid {
+        self.sid
+    }
+
+    fn order(row: &Self, key: &Sid) -> Ordering {
+        row.sid.cmp(key)
+    }
+}

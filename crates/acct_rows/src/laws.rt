@@ -1,0 +1,87 @@
+//! Laws of rows, each the contract of a function that does nothing: what changes keep sound rows sound, and which
+//! objects stay.
+ghost use Rattle.acct_rows.specs.Laws.{DomainsStaySound, NextIsFree, AddedAccountsStaySound, AddedUsersStaySound};
+ghost use Rattle.acct_rows.specs.Laws.{ReplacedAccountsStaySound, OwnNameIsFree, UnusedNameIsFree, NameFoundIsFree};
+ghost use Rattle.acct_rows.specs.Laws.{MembersStaySound, RemovedMembersStaySound, AliasRowsStaySound};
+ghost use Rattle.acct_rows.specs.Laws.{RemovedAliasRowsStaySound, LsaAccountsStaySound, RemovedLsaAccountsStaySound};
+ghost use Rattle.acct_rows.specs.Laws.{OthersAreNoPrimary, RemovedAccountsStaySound};
+
+/// Rows stay sound when a domain's row is replaced by one that keeps the rules, with a next RID that is not lower.
+pub fn domains_stay_sound()
+    ensures { DomainsStaySound }
+{}
+
+/// No account has the next RID of a domain.
+pub fn next_is_free()
+    ensures { NextIsFree }
+{}
+
+/// Rows stay sound when a group or an alias is added.
+pub fn added_accounts_stay_sound()
+    ensures { AddedAccountsStaySound }
+{}
+
+/// Rows stay sound when a user is added with its row as a member of its primary group.
+pub fn added_users_stay_sound()
+    ensures { AddedUsersStaySound }
+{}
+
+/// Rows stay sound when an account is replaced by one with its key and kind that keeps the rules.
+pub fn replaced_accounts_stay_sound()
+    ensures { ReplacedAccountsStaySound }
+{}
+
+/// An account's own name is free for it.
+pub fn own_name_is_free()
+    ensures { OwnNameIsFree }
+{}
+
+/// A name that no account of the domain has is free.
+pub fn unused_name_is_free()
+    ensures { UnusedNameIsFree }
+{}
+
+/// A name that the account itself has, in whatever case, is free for it.
+pub fn name_found_is_free()
+    ensures { NameFoundIsFree }
+{}
+
+/// Rows stay sound when a member row of a group and a user that are there is put.
+pub fn members_stay_sound()
+    ensures { MembersStaySound }
+{}
+
+/// Rows stay sound when a member row is removed that is not a user's for its primary group.
+pub fn removed_members_stay_sound()
+    ensures { RemovedMembersStaySound }
+{}
+
+/// Rows stay sound when an alias row of an alias that is there is put.
+pub fn alias_rows_stay_sound()
+    ensures { AliasRowsStaySound }
+{}
+
+/// Rows stay sound when an alias row is removed.
+pub fn removed_alias_rows_stay_sound()
+    ensures { RemovedAliasRowsStaySound }
+{}
+
+/// Rows stay sound when an account of the policy that keeps the rules is put.
+pub fn lsa_accounts_stay_sound()
+    ensures { LsaAccountsStaySound }
+{}
+
+/// Rows stay sound when an account of the policy is removed.
+pub fn removed_lsa_accounts_stay_sound()
+    ensures { RemovedLsaAccountsStaySound }
+{}
+
+/// An account that is no group is no user's primary group.
+pub fn others_are_no_primary()
+    ensures { OthersAreNoPrimary }
+{}
+
+/// Rows stay sound when a user, a group or an alias is removed with every row that names it.
+pub fn removed_accounts_stay_sound()
+    ensures { RemovedAccountsStaySound }
+{}

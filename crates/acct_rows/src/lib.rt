@@ -1,0 +1,25 @@
+//! The rows of the account database: domains, accounts, members of groups and of aliases, and accounts of the policy.
+//!
+//! It stands on the names of `acct_calls`, the kinds of `acct_codes`, the SIDs of `dtyp_sid` and the list type of
+//! `acct_base`. The layers above use that a contract sees `Rows` as five lists by strictly ascending key, that each
+//! look-up is its filter over them, that a plan changes the rows at its keys and nothing else, and what sound rows are.
+#![tactic(auto)]
+
+mod copies;
+mod keyed;
+mod keys;
+pub mod laws;
+mod membership;
+mod object;
+mod plan;
+mod row;
+mod rows;
+mod seed;
+
+pub use object::Object;
+pub use plan::Plan;
+pub use row::{AccountRow, AliasRow, DomainRow, Held, LsaRow, MemberRow, Privileges, Row, RowKey};
+pub use rows::Rows;
+
+#[cfg(test)]
+mod tests;

@@ -1,0 +1,292 @@
+// The rows.
+ghost use Rattle.std.specs.Prelude.{◌≡◌, ◌+◌, ◌<◌, ◌≤◌, true, [], ◌∷◌, IfOk, OnOk, length, find};
+ghost use Rattle.acct_rows.specs.Sound.{is_domain_name, is_domain_sid, IsSoundRows};
+ghost use Rattle.acct_rows.specs.Seed.{seed_lists};
+ghost use Rattle.std.specs.Option.{option_copied};
+ghost use Rattle.acct_rows.specs.Keyed.{is_ascending};
+ghost use Rattle.acct_rows.specs.Rows.{members_of, aliases_of, HasRoom, domain_key, account_key, member_key, alias_key};
+ghost use Rattle.acct_rows.specs.Rows.{lsa_key, domain_at};
+ghost use Rattle.acct_rows.specs.Rows.{account_at, member_at, lsa_at, has_name, find_name, put_row, remove_row};
+ghost use Rattle.acct_rows.specs.Rows.{removed, with_puts, after};
+
+use crate::copies::{copy_accounts, copy_domains, copy_lsa};
+use crate::keyed::Table;
+use crate::membership::{aliases_among, members_among};
+use crate::plan::Plan;
+use crate::row::{AccountRow, AliasRow, DomainRow, LsaRow, MemberRow, Row, RowKey};
+use crate::seed::{seed_accounts, seed_aliases, seed_domains, seed_members};
+use acct_calls::{Name, NoMemory, Rids, Sids};
+use dtyp_sid::Sid;
+use std::alloc::Global;
+use std::marker::Model;
+
+/// The rows of the account database. A contract sees their lists by ascending key, and for how many more rows there
+/// is room.
+#[derive(Drop)]
+pub struct Rows {
+    domains: Table<DomainRow>,
+    accounts: Table<AccountRow>,
+    members: Table<MemberRow>,
+    aliases: Table<AliasRow>,
+    lsa: Table<LsaRow>,
+    spare: usize,
+}
+
+impl Model for Rows {
+    ghost use Rattle.std.specs.Prelude.{◌≤◌};
+    ghost use Rattle.acct_rows.specs.Rows.{Shown};
+
+    ghost Value = { Shown };
+
+    ghost view = { λ rows. record {
+      lists = record {
+        domains = rows.domains.0;
+        accounts = rows.accounts.0;
+        members = rows.members.0;
+        aliases = rows.aliases.0;
+        lsa = rows.lsa.0;
+      };
+      spare = rows.spare;
+    } };
+
+    ghost invariant = { λ rows. (rows.spare ≤ rows.domains.1)
+        × (rows.spare ≤ rows.accounts.1)
+        × (rows.spare ≤ rows.members.1)
+        × (rows.spare ≤ rows.aliases.1)
+        × (rows.spare ≤ rows.lsa.1) };
+}
+
+fn has_name(account: &AccountRow, domain: u8, name: &Name) -> bool
+    ensures { result ≡ has_name domain name.now account.now }
+{
+    account.domain == domain && account.name.same(name)
+}
+
+fn find_in<'a>(accounts: &'a [AccountRow], domain: u8, name: &Name) -> Option<&'a AccountRow>
+    ensures { option_copied result ≡ find (has_name domain name.now) accounts.now }
+{
+    for account in accounts {
+        if has_name(account, domain, name) {
+            return Some(account);
+        }
+    }
+    None
+}
+
+impl Rows {
+    /// The rows that a database without rows begins with, for an account domain of that name and SID.
+    pub fn seed(alloc: Global, name: &Name, sid: Sid) -> Result<Rows, NoMemory>
+        requires name { is_domain_name name.now ≡ true }
+        requires sid { is_domain_sid sid ≡ true }
+        ensures lists { IfOk result (λ rows. rows.lists ≡ seed_lists name.now sid) }
+        ensures sound { IfOk result (λ rows. IsSoundRows rows.lists) }
+    {
+        Ok(Rows {
+            domains: Table::from_rows(seed_domains(alloc, name, sid)?),
+            accounts: Table::from_rows(seed_accounts(alloc)?),
+            members: Table::from_rows(seed_members(alloc)?),
+            aliases: Table::from_rows(seed_aliases(alloc, sid)?),
+            lsa: Table::new(alloc),
+            spare: 0,
+        })
+    }
+
+    /// Rows with equal lists of their own. It takes time as there are rows.
+    pub fn copy(&self, alloc: Global) -> Result<Rows, NoMemory>
+        ensures { IfOk result (λ copy. copy.lists ≡ self.now.lists) }
+    {
+        Ok(Rows {
+            domains: Table::from_rows(copy_domains(alloc, self.domains.rows())?),
+            accounts: Table::from_rows(copy_accounts(alloc, self.accounts.rows())?),
+            members: Table::from_rows(self.members.rows().to_vec(alloc)?),
+            aliases: Table::from_rows(self.aliases.rows().to_vec(alloc)?),
+            lsa: Table::from_rows(copy_lsa(alloc, self.lsa.rows())?),
+            spare: 0,
+        })
+    }
+}
+
+impl Rows {
+    /// The domains by ascending number.
+    pub fn domains(&self) -> &[DomainRow]
+        ensures all { result.now ≡ self.now.lists.domains }
+        ensures ascending { is_ascending domain_key result.now ≡ true }
+    {
+        self.domains.rows()
+    }
+
+    /// The accounts by ascending domain and RID.
+    pub fn accounts(&self) -> &[AccountRow]
+        ensures all { result.now ≡ self.now.lists.accounts }
+        ensures ascending { is_ascending account_key result.now ≡ true }
+    {
+        self.accounts.rows()
+    }
+
+    /// The members of groups by ascending group and user.
+    pub fn member_rows(&self) -> &[MemberRow]
+        ensures all { result.now ≡ self.now.lists.members }
+        ensures ascending { is_ascending member_key result.now ≡ true }
+    {
+        self.members.rows()
+    }
+
+    /// The members of aliases by ascending domain, alias and SID.
+    pub fn alias_rows(&self) -> &[AliasRow]
+        ensures all { result.now ≡ self.now.lists.aliases }
+        ensures ascending { is_ascending alias_key result.now ≡ true }
+    {
+        self.aliases.rows()
+    }
+
+    /// The accounts of the policy by ascending SID.
+    pub fn lsa_rows(&self) -> &[LsaRow]
+        ensures all { result.now ≡ self.now.lists.lsa }
+        ensures ascending { is_ascending lsa_key result.now ≡ true }
+    {
+        self.lsa.rows()
+    }
+
+    /// A law: with as many more rows as there is room for, each list has fewer than 2^32.
+    pub fn has_few_rows(&self)
+        ensures { HasRoom self.now.lists self.now.spare }
+    {
+        let _domains = self.domains.rows();
+        let _accounts = self.accounts.rows();
+        let _members = self.members.rows();
+        let _aliases = self.aliases.rows();
+        let _lsa = self.lsa.rows();
+    }
+
+    /// The domain with that number.
+    pub fn domain(&self, number: u8) -> Option<&DomainRow>
+        ensures { option_copied result ≡ domain_at self.now.lists number }
+    {
+        self.domains.find(&number)
+    }
+
+    /// The account of a domain with that RID.
+    pub fn find_rid(&self, domain: u8, rid: u32) -> Option<&AccountRow>
+        ensures { option_copied result ≡ account_at self.now.lists domain rid }
+    {
+        self.accounts.find(&(domain, rid))
+    }
+
+    /// The account of a domain with that name: names are one where they are so after simple case folding.
+    pub fn find_name(&self, domain: u8, name: &Name) -> Option<&AccountRow>
+        ensures { option_copied result ≡ find_name self.now.lists domain name.now }
+    {
+        find_in(self.accounts.rows(), domain, name)
+    }
+
+    /// A user's row as a member of a group.
+    pub fn member(&self, group: u32, user: u32) -> Option<&MemberRow>
+        ensures { option_copied result ≡ member_at self.now.lists group user }
+    {
+        self.members.find(&(group, user))
+    }
+
+    /// The members of a group by ascending user.
+    pub fn members(&self, alloc: Global, group: u32) -> Result<Vec<MemberRow>, NoMemory>
+        ensures { IfOk result (λ members. members.items ≡ members_of self.now.lists group) }
+    {
+        members_among(alloc, self.members.rows(), group)
+    }
+
+    /// The RIDs of the aliases of a domain that have one of the SIDs as a member, ascending, each once.
+    pub fn aliases_of(&self, alloc: Global, domain: u8, sids: &Sids) -> Result<Rids, NoMemory>
+        ensures rids { IfOk result (λ rids. rids ≡ aliases_of self.now.lists domain sids.now) }
+        ensures rising { IfOk result (λ rids. is_ascending (λ rid. rid ∷ []) rids ≡ true) }
+    {
+        aliases_among(alloc, self.aliases.rows(), domain, sids.as_slice())
+    }
+
+    /// The account of the policy with that SID.
+    pub fn lsa_account(&self, sid: &Sid) -> Option<&LsaRow>
+        ensures { option_copied result ≡ lsa_at self.now.lists sid.now }
+    {
+        self.lsa.find(sid)
+    }
+}
+
+impl Rows {
+    /// Makes room for as many puts. A list that would reach 2^32 rows is want of memory.
+    pub fn reserve(&mut self, puts: usize) -> Result<(), NoMemory>
+        ensures lists { self.new.lists ≡ self.old.lists }
+        ensures ok { OnOk result (puts ≤ self.new.spare) }
+        ensures kept { self.old.spare ≤ self.new.spare }
+    {
+        if self.spare < puts {
+            self.domains.reserve(puts)?;
+            self.accounts.reserve(puts)?;
+            self.members.reserve(puts)?;
+            self.aliases.reserve(puts)?;
+            self.lsa.reserve(puts)?;
+            self.spare = puts;
+        }
+        Ok(())
+    }
+
+    /// Puts a row in its place; a row with its key goes. It takes no memory.
+    pub fn put(&mut self, row: Row)
+        requires { 0 < self.old.spare }
+        ensures lists { self.new.lists ≡ put_row row self.old.lists }
+        ensures spare { self.new.spare + 1 ≡ self.old.spare }
+    {
+        match row {
+            Row::Domain(domain) => self.domains.put(domain),
+            Row::Account(account) => self.accounts.put(account),
+            Row::Member(member) => self.members.put(member),
+            Row::Alias(alias) => self.aliases.put(alias),
+            Row::Lsa(account) => self.lsa.put(account),
+        }
+        self.spare -= 1;
+    }
+
+    /// Removes the row with that key, if there is one. It takes no memory.
+    pub fn remove(&mut self, key: &RowKey)
+        ensures lists { self.new.lists ≡ remove_row key.now self.old.lists }
+        ensures spare { self.new.spare ≡ self.old.spare }
+    {
+        match *key {
+            RowKey::Domain(number) => self.domains.remove(&number),
+            RowKey::Account { domain, rid } => self.accounts.remove(&(domain, rid)),
+            RowKey::Member { group, user } => self.members.remove(&(group, user)),
+            RowKey::Alias {
+                domain,
+                alias,
+                member,
+            } => self.aliases.remove(&(domain, alias, member)),
+            RowKey::Lsa(sid) => self.lsa.remove(&sid),
+        }
+    }
+
+    /// Applies a plan: first its removes, then its puts, for which there must be room. It takes no memory.
+    pub fn apply(&mut self, plan: Plan)
+        requires { length plan.puts ≤ self.old.spare }
+        ensures lists { self.new.lists ≡ after plan self.old.lists }
+        ensures spare { self.new.spare + length plan.puts ≡ self.old.spare }
+    {
+        remove_all(self, plan.removes.as_slice());
+        put_all(self, plan.puts.into_vec());
+    }
+}
+
+fn remove_all(rows: &mut Rows, keys: &[RowKey])
+    ensures lists { rows.new.lists ≡ removed keys.now rows.old.lists }
+    ensures spare { rows.new.spare ≡ rows.old.spare }
+{
+    for key in keys {
+        rows.remove(key);
+    }
+}
+
+fn put_all(rows: &mut Rows, puts: Vec<Row>)
+    requires { length puts.items ≤ rows.old.spare }
+    ensures lists { rows.new.lists ≡ with_puts puts.items rows.old.lists }
+    ensures spare { rows.new.spare + length puts.items ≡ rows.old.spare }
+{
+    for row in puts {
+        rows.put(row);
+    }
+}

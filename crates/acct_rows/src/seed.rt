@@ -1,0 +1,181 @@
+// The rows that a database without rows begins with.
+ghost use Rattle.std.specs.Prelude.{◌≡◌, ◌<◌, ◌++◌, length, IfOk, OnOk};
+ghost use Rattle.acct_rows.specs.Sound.{builtin_sid};
+ghost use Rattle.acct_rows.specs.Seed.{seed_domain, seed_user, seed_group, seed_alias, seed_member, seed_alias_row};
+ghost use Rattle.acct_rows.specs.Seed.{seed_domains, seed_users, seed_groups, builtin_aliases, seed_accounts};
+ghost use Rattle.acct_rows.specs.Seed.{seed_members, seed_aliases};
+
+use crate::row::{AccountRow, AliasRow, DomainRow, MemberRow};
+use acct_base::Seq;
+use acct_calls::{Name, NoMemory};
+use acct_codes::Kind;
+use acct_codes::user_control::{
+    USER_ACCOUNT_DISABLED, USER_NORMAL_ACCOUNT, USER_PASSWORD_NOT_REQUIRED,
+};
+use dtyp_sid::Sid;
+use std::alloc::Global;
+
+fn seed_domain(alloc: Global, number: u8, sid: Sid, name: Name) -> DomainRow
+    ensures { result ≡ seed_domain number sid name }
+{
+    DomainRow {
+        number,
+        sid,
+        name,
+        oem: Name::from_units(Vec::new(alloc)),
+        next_rid: 1000,
+    }
+}
+
+fn seed_user(
+    alloc: Global,
+    rid: u32,
+    text: &str,
+    control: u32,
+    primary: u32,
+) -> Result<AccountRow, NoMemory>
+    ensures { IfOk result (λ row. row ≡ seed_user rid text.now control primary) }
+{
+    Ok(AccountRow {
+        domain: 0,
+        rid,
+        kind: Kind::User,
+        name: Name::from_text(alloc, text)?,
+        full_name: Name::from_units(Vec::new(alloc)),
+        comment: Name::from_units(Vec::new(alloc)),
+        bits: control,
+        primary,
+    })
+}
+
+fn seed_group(alloc: Global, rid: u32, text: &str) -> Result<AccountRow, NoMemory>
+    ensures { IfOk result (λ row. row ≡ seed_group rid text.now) }
+{
+    Ok(AccountRow {
+        domain: 0,
+        rid,
+        kind: Kind::Group,
+        name: Name::from_text(alloc, text)?,
+        full_name: Name::from_units(Vec::new(alloc)),
+        comment: Name::from_units(Vec::new(alloc)),
+        bits: 7,
+        primary: 0,
+    })
+}
+
+fn seed_alias(alloc: Global, rid: u32, text: &str) -> Result<AccountRow, NoMemory>
+    ensures { IfOk result (λ row. row ≡ seed_alias rid text.now) }
+{
+    Ok(AccountRow {
+        domain: 1,
+        rid,
+        kind: Kind::Alias,
+        name: Name::from_text(alloc, text)?,
+        full_name: Name::from_units(Vec::new(alloc)),
+        comment: Name::from_units(Vec::new(alloc)),
+        bits: 0,
+        primary: 0,
+    })
+}
+
+fn seed_member(group: u32, user: u32) -> MemberRow
+    ensures { result ≡ seed_member group user }
+{
+    MemberRow {
+        group,
+        user,
+        attributes: 7,
+    }
+}
+
+fn seed_alias_row(alias: u32, sid: Sid, rid: u32) -> AliasRow
+    requires { length sid.subs < 15 }
+    ensures { result ≡ seed_alias_row alias sid rid }
+{
+    let Some(member) = sid.with_rid(rid) else {
+        unreachable!()
+    };
+    AliasRow {
+        domain: 1,
+        alias,
+        member,
+    }
+}
+
+// BUILTIN's SID, S-1-5-32.
+fn builtin_sid() -> Sid
+    ensures { result ≡ builtin_sid }
+{
+    match Sid::new(5, &[32]) {
+        Ok(sid) => sid,
+        Err(_) => unreachable!(),
+    }
+}
+
+pub fn seed_domains(alloc: Global, name: &Name, sid: Sid) -> Result<Vec<DomainRow>, NoMemory>
+    ensures { IfOk result (λ rows. rows.items ≡ seed_domains name.now sid) }
+{
+    let account = seed_domain(alloc, 0, sid, name.copy(alloc)?);
+    let builtin = seed_domain(alloc, 1, builtin_sid(), Name::from_text(alloc, "BUILTIN")?);
+    Ok(vec![in alloc; account, builtin]?)
+}
+
+fn push_users(alloc: Global, rows: &mut Seq<AccountRow>) -> Result<(), NoMemory>
+    ensures { OnOk result (rows.new ≡ rows.old ++ seed_users) }
+{
+    let guest_control = USER_NORMAL_ACCOUNT + USER_PASSWORD_NOT_REQUIRED + USER_ACCOUNT_DISABLED;
+    rows.push(seed_user(alloc, 500, "Administrator", USER_NORMAL_ACCOUNT, 513)?)?;
+    rows.push(seed_user(alloc, 501, "Guest", guest_control, 514)?)
+}
+
+fn push_groups(alloc: Global, rows: &mut Seq<AccountRow>) -> Result<(), NoMemory>
+    ensures { OnOk result (rows.new ≡ rows.old ++ seed_groups) }
+{
+    rows.push(seed_group(alloc, 512, "Domain Admins")?)?;
+    rows.push(seed_group(alloc, 513, "Domain Users")?)?;
+    rows.push(seed_group(alloc, 514, "Domain Guests")?)?;
+    Ok(())
+}
+
+fn push_aliases(alloc: Global, rows: &mut Seq<AccountRow>) -> Result<(), NoMemory>
+    ensures { OnOk result (rows.new ≡ rows.old ++ builtin_aliases) }
+{
+    rows.push(seed_alias(alloc, 544, "Administrators")?)?;
+    rows.push(seed_alias(alloc, 545, "Users")?)?;
+    rows.push(seed_alias(alloc, 546, "Guests")?)
+}
+
+pub fn seed_accounts(alloc: Global) -> Result<Vec<AccountRow>, NoMemory>
+    ensures { IfOk result (λ rows. rows.items ≡ seed_accounts) }
+{
+    let mut rows = Seq::new(alloc);
+    push_users(alloc, &mut rows)?;
+    push_groups(alloc, &mut rows)?;
+    push_aliases(alloc, &mut rows)?;
+    Ok(rows.into_vec())
+}
+
+pub fn seed_members(alloc: Global) -> Result<Vec<MemberRow>, NoMemory>
+    ensures { IfOk result (λ rows. rows.items ≡ seed_members) }
+{
+    let rows = vec![in alloc;
+        seed_member(512, 500),
+        seed_member(513, 500),
+        seed_member(514, 501),
+    ]?;
+    Ok(rows)
+}
+
+pub fn seed_aliases(alloc: Global, sid: Sid) -> Result<Vec<AliasRow>, NoMemory>
+    requires { length sid.subs < 15 }
+    ensures { IfOk result (λ rows. rows.items ≡ seed_aliases sid) }
+{
+    let rows = vec![in alloc;
+        seed_alias_row(544, sid, 500),
+        seed_alias_row(544, sid, 512),
+        seed_alias_row(545, sid, 513),
+        seed_alias_row(546, sid, 501),
+        seed_alias_row(546, sid, 514),
+    ]?;
+    Ok(rows)
+}
