@@ -1,0 +1,14 @@
+// Laws of the operations: each function does nothing, and its contract is the law.
+ghost use Rattle.acct_operations.specs.Laws.{AreRight, KeepRows};
+
+/// Each operation is found by its interface and opnum, has a layout there, answers refusals where a condition fails and
+/// the outputs of its layout where none does, denies access by its handle and its opening alone, and takes memory only
+/// where its profile says so.
+pub fn operations_are_right()
+    ensures { AreRight }
+{}
+
+/// Each operation keeps the rows sound, and leaves the objects that it doesn't delete; what it opens is there.
+pub fn operations_keep_rows()
+    ensures { KeepRows }
+{}

@@ -1,0 +1,5 @@
+pub mod Asked
+pub mod Profiles
+pub mod Planned
+pub mod Filled
+pub mod Operations

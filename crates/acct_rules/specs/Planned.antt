@@ -1,0 +1,89 @@
+-- What an operation decides: its conditions in order, each with the status that it answers where it fails, and what is
+-- planned where none fails. The condition of an opening stands last of all, and is the machine's.
+use Rattle.std.specs.Prelude.{ℕ, Bool, true, false, not, List, [], ◌∷◌, ◌||◌, nat_lt, length, is_some, Option, Some}
+use Rattle.std.specs.Prelude.{None, if◌then◌else◌}
+use Rattle.std.specs.List.{list_all}
+use Rattle.acct_calls.specs.declared.handle.Handle.{Handle}
+use Rattle.acct_calls.specs.declared.replies.Outs.{Outs}
+use Rattle.acct_calls.specs.declared.replies.Outs.TheVariants as outs
+use Rattle.acct_codes.specs.Statuses.{status_success}
+use Rattle.acct_rows.specs.declared.object.Object.{Object}
+use Rattle.acct_rules.specs.declared.planned.Opening.{Opening}
+use Rattle.acct_rules.specs.declared.planned.Effect.{Effect}
+use Rattle.acct_rules.specs.declared.planned.Effect.TheVariants as effects
+use Rattle.acct_rules.specs.declared.planned.Planned.{Planned}
+
+-- whether it fails, and its status
+pub record Condition : Type 0 where
+  pub fails : Bool
+  pub status : ℕ
+
+abbrev pub when : Bool → ℕ → Condition
+when fails status = record { fails = fails; status = status }
+
+pub record Ruled : Type 0 where
+  pub conditions : List Condition
+  pub planned : Planned
+
+abbrev pub none_fails : List Condition → Bool
+none_fails conditions = list_all (λ (c : Condition). not c.fails) conditions
+
+-- ---- common plans
+
+abbrev pub zero_handle : Handle
+zero_handle = record { number = 0 }
+
+-- an answer that changes nothing
+abbrev pub answers : ℕ → Outs → Planned
+answers status out = record {
+  status = status;
+  outs = out;
+  plan = record { puts = []; removes = [] };
+  effect = effects.Nothing;
+}
+
+-- what a condition that fails answers
+abbrev pub refusal : ℕ → Planned
+refusal status = answers status outs.Nothing
+
+-- an opening, whose outputs have the zero handle until it is granted
+abbrev pub opens : Object → ℕ → Planned
+opens object desired =
+    record (answers status_success (outs.Handle zero_handle)) {
+      effect = effects.Opens (record { object = object; desired = desired });
+    }
+
+-- the end of the handle that was brought, in whose place the zero handle goes back
+abbrev pub closes : Planned
+closes = record (answers status_success (outs.Handle zero_handle)) { effect = effects.Closes }
+
+-- ---- the decision
+
+-- the first condition that fails is answered; where none fails it is what was planned
+abbrev pub decided : List Condition → Planned → Planned
+decided [] planned = planned
+decided (c ∷ cs) planned = if c.fails then refusal c.status else decided cs planned
+
+abbrev pub decision : Ruled → Planned
+decision ruled = decided ruled.conditions ruled.planned
+
+-- ---- the words of a plan
+
+-- the opening that must be granted
+abbrev pub opening_of : Effect → Option Opening
+opening_of (effects.Opens opening) = Some opening
+opening_of (effects.Checks opening) = Some opening
+opening_of effects.Nothing = None
+opening_of effects.Closes = None
+opening_of (effects.Deletes object) = None
+
+abbrev pub gives_handle : Effect → Bool
+gives_handle (effects.Opens opening) = true
+gives_handle (effects.Checks opening) = false
+gives_handle effects.Nothing = false
+gives_handle effects.Closes = false
+gives_handle (effects.Deletes object) = false
+
+-- room is taken for a handle, and for rows that are put
+abbrev pub takes_room : Planned → Bool
+takes_room planned = gives_handle planned.effect || nat_lt 0 (length planned.plan.puts)

@@ -1,0 +1,42 @@
+-- The words of an operation's profile: which handles it takes, and which bits their grants must have.
+use Rattle.std.specs.Prelude.{ℕ, ◌==◌, Bool, true, false, not, if◌then◌else◌}
+use Rattle.acct_codes.specs.declared.kind.Kind.{Kind}
+use Rattle.acct_codes.specs.declared.kind.Kind.TheVariants as kind
+use Rattle.acct_calls.specs.declared.calls.Args.{Args}
+use Rattle.acct_rows.specs.Rows.{Lists, same_kind}
+use Rattle.acct_rules.specs.declared.profile.Kinds.{Kinds}
+use Rattle.acct_rules.specs.declared.profile.Kinds.TheVariants as kinds
+use Rattle.acct_rules.specs.declared.profile.Memory.{Memory}
+use Rattle.acct_rules.specs.declared.profile.Memory.TheVariants as memory
+use Rattle.acct_rules.specs.declared.profile.Needs.{Needs}
+use Rattle.acct_rules.specs.declared.profile.Needs.TheVariants as needs
+use Rattle.acct_rules.specs.Asked.{class_of, has_account}
+
+-- the kinds of the policy (MS-LSAD); the others are those of the account database (MS-SAMR)
+abbrev pub is_lsa : Kind → Bool
+is_lsa kind.Policy = true
+is_lsa kind.Account = true
+is_lsa _ = false
+
+-- the kinds of objects whose handles are taken
+abbrev pub takes : Kinds → Kind → Bool
+takes (kinds.Only only) k = same_kind only k
+takes kinds.Samr k = not (is_lsa k)
+takes kinds.Lsa k = is_lsa k
+
+-- the bits that the handle's grant must have, by the rows and the arguments
+abbrev pub needed : Needs → Lists → Args → ℕ
+needed (needs.Bits bits) r asked = bits
+needed (needs.ByClass class bits others) r asked = if class_of asked == class then bits else others
+needed (needs.ByAccount bits missing) r asked = if has_account r asked then bits else missing
+
+-- memory may want wherever the handle passed
+abbrev pub is_anywhere : Memory → Bool
+is_anywhere memory.Anywhere = true
+is_anywhere memory.BehindConditions = false
+is_anywhere memory.Never = false
+
+abbrev pub is_never : Memory → Bool
+is_never memory.Never = true
+is_never memory.BehindConditions = false
+is_never memory.Anywhere = false

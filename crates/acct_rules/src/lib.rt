@@ -1,0 +1,22 @@
+//! What an operation of the account database or of the policy is: its profile, its conditions in order, and what it
+//! plans where none fails.
+//!
+//! It stands on the rows of `acct_rows`, the calls and replies of `acct_calls` and the layouts of `acct_layouts`. A
+//! crate of operations has for each of them a definition (in specs/, a `Ruled` of the rows, the object of the handle
+//! that was brought, and the arguments) and a function that answers what it decides, a `Planned`. The crates above use
+//! `Profile` with its words (which handles are taken, which bits of their grants are needed, where memory may want),
+//! `Planned` with what it does to rows and handles, and the outputs of what was opened. In specs/, `Operations` has
+//! what each operation owes: `IsRight`, and `KeepsRows`.
+#![tactic(auto)]
+
+mod asked;
+mod outputs;
+mod planned;
+mod profile;
+
+pub use acct_calls::NoMemory;
+pub use acct_rows::Object;
+pub use asked::{class_of, desired_access};
+pub use outputs::fill;
+pub use planned::{Effect, Opening, Planned, answers, closes, opens, refusal};
+pub use profile::{Brings, Kinds, Memory, Needs, Profile, needed_bits};

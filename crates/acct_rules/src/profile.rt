@@ -1,0 +1,98 @@
+// What is fixed for an operation before its conditions: its profile.
+ghost use Rattle.std.specs.Prelude.{◌≡◌};
+ghost use Rattle.acct_rules.specs.Profiles.{needed};
+
+use crate::asked::{class_of, has_account};
+use acct_calls::{Args, Face};
+use acct_codes::Kind;
+use acct_rows::Rows;
+
+/// The kinds of objects whose handles an operation takes.
+#[derive(Clone, Copy, Debug, PartialEq, Eq)]
+pub enum Kinds {
+    Only(Kind),
+    /// Each kind of the account database.
+    Samr,
+    /// Each kind of the policy.
+    Lsa,
+}
+
+impl Kinds {
+    ghost use Rattle.acct_rules.specs.Profiles.{takes};
+
+    /// Whether it is one of the kinds.
+    pub fn takes(self, kind: Kind) -> bool
+        ensures { result ≡ takes self kind }
+    {
+        match self {
+            Kinds::Only(only) => only == kind,
+            Kinds::Samr => !matches!(kind, Kind::Policy | Kind::Account),
+            Kinds::Lsa => matches!(kind, Kind::Policy | Kind::Account),
+        }
+    }
+}
+
+/// Which handle a call of an operation brings.
+#[derive(Clone, Copy, Debug, PartialEq, Eq)]
+pub enum Brings {
+    Nothing,
+    /// One to an object of these kinds.
+    Handle(Kinds),
+}
+
+/// Which bits the grant of the handle must have.
+#[derive(Clone, Copy, Debug, PartialEq, Eq)]
+pub enum Needs {
+    Bits(u32),
+    /// Some for a class of information, and others for each other class.
+    ByClass { class: u16, bits: u32, others: u32 },
+    /// Some where the policy has an account of the SID that is asked for, and others where it has none.
+    ByAccount { bits: u32, missing: u32 },
+}
+
+/// Where memory may want, of a call whose handle passed.
+#[derive(Clone, Copy, Debug, PartialEq, Eq)]
+pub enum Memory {
+    Never,
+    /// Only where no condition fails, that of an opening included.
+    BehindConditions,
+    Anywhere,
+}
+
+/// What is fixed for an operation: the interface and opnum by which it is called, the handle that it takes, the bits
+/// that the handle's grant must have, and where memory may want.
+#[derive(Clone, Copy, Debug, PartialEq, Eq)]
+pub struct Profile {
+    pub face: Face,
+    pub opnum: u16,
+    pub brings: Brings,
+    pub needs: Needs,
+    pub memory: Memory,
+}
+
+/// The bits that the handle's grant must have.
+pub fn needed_bits(needs: Needs, rows: &Rows, args: &Args) -> u32
+    ensures { result ≡ needed needs rows.now.lists args.now }
+{
+    match needs {
+        Needs::Bits(bits) => bits,
+        Needs::ByClass {
+            class,
+            bits,
+            others,
+        } => {
+            if class_of(args) == class {
+                bits
+            } else {
+                others
+            }
+        }
+        Needs::ByAccount { bits, missing } => {
+            if has_account(rows, args) {
+                bits
+            } else {
+                missing
+            }
+        }
+    }
+}
