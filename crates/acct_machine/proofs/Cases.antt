@@ -1,44 +1,80 @@
--- What a call can do to the state: nothing, open a handle, or close one.
-use Rattle.std.proofs.Common.{◌≡◌, ℕ, Bool, true, false, cond, ◌==◌, Option, Some, None, refl, arith}
-use Rattle.std.proofs.lemmas.Bool.Decides.{nat_tests}
+-- What a call can do to the state: nothing, what was planned, or that and one more handle.
+use Rattle.std.proofs.Common.{◌≡◌, ℕ, Option, Some, None, refl}
 use Rattle.acct_calls.specs.declared.calls.Call.{Call}
+use Rattle.acct_codes.specs.Statuses.{status_access_denied}
+use Rattle.acct_rules.specs.declared.planned.Opening.{Opening}
+use Rattle.acct_rules.specs.declared.planned.Effect.{Effect}
+use Rattle.acct_rules.specs.declared.planned.Effect.TheVariants as effects
+use Rattle.acct_rules.specs.Operations.{Operation}
 use Rattle.acct_machine.specs.declared.checks.Access.{Access}
 use Rattle.acct_machine.specs.declared.checks.Access.TheVariants.{Passed, Unknown, WrongKind, Denied}
 use Rattle.acct_machine.specs.declared.entry.Verdict.{Verdict}
 use Rattle.acct_machine.specs.declared.entry.Verdict.TheVariants.{Ran, NoMemory}
-use Rattle.acct_machine.specs.Codes.{samr_connect2}
-use Rattle.acct_machine.specs.declared.state.Object.TheVariants.{Server}
 use Rattle.acct_machine.specs.State.{State}
 use Rattle.acct_machine.specs.Opening.{grant_of}
-use Rattle.acct_machine.specs.Calls.{desired_access}
-use Rattle.acct_machine.specs.Checks.{access}
-use Rattle.acct_machine.specs.Step.{connected, closed, ran, acted}
+use Rattle.acct_machine.specs.Calls.{operation_of}
+use Rattle.acct_machine.specs.Access.{access}
+use Rattle.acct_machine.specs.Outcome.{changed, with_handle, refused, done, opened_to, by_grant, by_effect, planned_of}
+use Rattle.acct_machine.specs.Step.{by_access, by_operation, acted}
+use Rattle.acct_machine.specs.Legal.{HasPassed}
 
--- P holds after the call ran and opened a handle, with what its opening grants
-abbrev pub AfterConnect : (State → Type 0) → State → ℕ → Call → Verdict → Type 0
-AfterConnect P s conn call verdict =
-    (granted : ℕ) → Ran ≡ verdict → call.opnum ≡ samr_connect2 → grant_of s conn Server (desired_access call.args) ≡ Some granted → P (connected s conn call (Some granted)).0
+-- P holds of the state before; of the state after what was planned; and after the call ran and opened a handle as well,
+-- with what its opening grants.
+pub record InEachCase (P : State → Type 0) (s : State) (conn : ℕ) (call : Call) (verdict : Verdict) : Type 0 where
+  pub same : P s
+  pub planned : (o : Operation) → HasPassed o s conn call → P (changed s conn call (planned_of o s conn call))
+  pub opened : (o : Operation) (opening : Opening) (granted : ℕ) → Ran ≡ verdict → HasPassed o s conn call
+      → (planned_of o s conn call).effect ≡ effects.Opens opening
+      → grant_of s conn opening.object opening.desired ≡ Some granted
+      → P (with_handle (changed s conn call (planned_of o s conn call)) conn opening.object granted)
 
-connect-cases : (P : State → Type 0) (s : State) (conn : ℕ) (call : Call) → P s → AfterConnect P s conn call Ran → call.opnum ≡ samr_connect2
-    → (o : Option ℕ) → grant_of s conn Server (desired_access call.args) ≡ o → P (connected s conn call o).0
-connect-cases P s conn call same opened opens None is = same
-connect-cases P s conn call same opened opens (Some granted) is = opened granted refl opens is
+opens-by : (P : State → Type 0) (s : State) (conn : ℕ) (call : Call) → InEachCase P s conn call Ran → (o : Operation)
+    → HasPassed o s conn call
+    → (opening : Opening) → (planned_of o s conn call).effect ≡ effects.Opens opening
+    → (grant : Option ℕ) → grant_of s conn opening.object opening.desired ≡ grant
+    → P (by_grant (refused s call status_access_denied)
+    (opened_to s conn call (planned_of o s conn call) opening.object) grant).0
+opens-by P s conn call each o passed opening effect None is = each.same
+opens-by P s conn call each o passed opening effect (Some granted) is =
+    each.opened o opening granted refl passed effect is
 
-outcome-by : (P : State → Type 0) (s : State) (conn : ℕ) (call : Call) → P s → AfterConnect P s conn call Ran → P (closed s conn call.handle.number).0
-    → (opens : Bool) → (call.opnum == samr_connect2) ≡ opens
-    → P (cond opens (connected s conn call (grant_of s conn Server (desired_access call.args))) (closed s conn call.handle.number)).0
-outcome-by P s conn call same opened shut true is =
-    let opens : call.opnum ≡ samr_connect2 = grind (arith, nat_tests) in connect-cases P s conn call same opened opens (grant_of s conn Server (desired_access call.args)) refl
-outcome-by P s conn call same opened shut false is = shut
+checks-by : (P : State → Type 0) (s : State) (conn : ℕ) (call : Call) → InEachCase P s conn call Ran → (o : Operation)
+    → HasPassed o s conn call
+    → (grant : Option ℕ)
+    → P (by_grant (refused s call status_access_denied) (λ granted. done s conn call (planned_of o s conn call))
+    grant).0
+checks-by P s conn call each o passed None = each.same
+checks-by P s conn call each o passed (Some granted) = each.planned o passed
 
-ran-cases : (P : State → Type 0) (s : State) (conn : ℕ) (call : Call) → P s → AfterConnect P s conn call Ran → P (closed s conn call.handle.number).0
-    → (answer : Access) → P (ran s conn call answer).0
-ran-cases P s conn call same opened shut Passed = outcome-by P s conn call same opened shut (call.opnum == samr_connect2) refl
-ran-cases P s conn call same opened shut Unknown = same
-ran-cases P s conn call same opened shut WrongKind = same
-ran-cases P s conn call same opened shut Denied = same
+by-effect : (P : State → Type 0) (s : State) (conn : ℕ) (call : Call) → InEachCase P s conn call Ran → (o : Operation)
+    → HasPassed o s conn call
+    → (effect : Effect) → (planned_of o s conn call).effect ≡ effect
+    → P (by_effect s conn call (planned_of o s conn call) effect).0
+by-effect P s conn call each o passed (effects.Opens opening) is =
+    opens-by P s conn call each o passed opening is (grant_of s conn opening.object opening.desired) refl
+by-effect P s conn call each o passed (effects.Checks opening) is =
+    checks-by P s conn call each o passed (grant_of s conn opening.object opening.desired)
+by-effect P s conn call each o passed effects.Nothing is = each.planned o passed
+by-effect P s conn call each o passed effects.Closes is = each.planned o passed
+by-effect P s conn call each o passed (effects.Deletes object) is = each.planned o passed
 
-pub acted-cases : (P : State → Type 0) (s : State) (conn : ℕ) (call : Call) (verdict : Verdict) → P s → AfterConnect P s conn call verdict
-    → P (closed s conn call.handle.number).0 → P (acted s conn call verdict).0
-acted-cases P s conn call Ran same opened shut = ran-cases P s conn call same opened shut (access s conn call)
-acted-cases P s conn call NoMemory same opened shut = same
+by-access : (P : State → Type 0) (s : State) (conn : ℕ) (call : Call) → InEachCase P s conn call Ran → (o : Operation)
+    → operation_of call ≡ Some o
+    → (answer : Access) → access o s conn call ≡ answer → P (by_access o s conn call answer).0
+by-access P s conn call each o found Passed is =
+    by-effect P s conn call each o (record { found = found; passed = is }) (planned_of o s conn call).effect refl
+by-access P s conn call each o found Unknown is = each.same
+by-access P s conn call each o found WrongKind is = each.same
+by-access P s conn call each o found Denied is = each.same
+
+by-operation : (P : State → Type 0) (s : State) (conn : ℕ) (call : Call) (verdict : Verdict)
+    → InEachCase P s conn call verdict
+    → (o : Option Operation) → operation_of call ≡ o → P (by_operation o s conn call verdict).0
+by-operation P s conn call verdict each None is = each.same
+by-operation P s conn call Ran each (Some o) is = by-access P s conn call each o is (access o s conn call) refl
+by-operation P s conn call NoMemory each (Some o) is = each.same
+
+pub acted-cases : (P : State → Type 0) (s : State) (conn : ℕ) (call : Call) (verdict : Verdict)
+    → InEachCase P s conn call verdict
+    → P (acted s conn call verdict).0
+acted-cases P s conn call verdict each = by-operation P s conn call verdict each (operation_of call) refl

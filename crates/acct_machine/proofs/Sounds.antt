@@ -1,8 +1,10 @@
--- Each event of a legal history keeps the state sound.
-use Rattle.std.proofs.Common.{◌≡◌, ◌≢◌, inl, inr, ℕ, ◌+◌, ◌≤◌, ◌<◌, Bool, true, false, not, cond, ◌==◌, List, [], ◌∷◌, ◌++◌, length, map, get_or, bit_and, Option, Some, None, refl, sym, ◌∙◌, ap, subst, arith}
+-- Each event of a legal history keeps the state sound, since the operations keep the rows sound.
+use Rattle.std.proofs.Common.{◌≡◌, ◌≢◌, inl, inr, ℕ, ◌+◌, ◌≤◌, ◌<◌, Bool, true, false, not, ◌==◌, List, [], ◌∷◌, ◌++◌}
+use Rattle.std.proofs.Common.{length, map, get_or, bit_and, Option, Some, None, refl, sym, ◌∙◌, ap, subst, arith}
+use Rattle.std.specs.List.{All, AllPairs}
 use Rattle.std.proofs.lemmas.Bool.{cases_eq}
 use Rattle.std.proofs.lemmas.Bool.Decides.{nat_tests}
-use Rattle.std.proofs.lemmas.List.Elements.{All-map, All-push, All-filter, filter_passes}
+use Rattle.std.proofs.lemmas.List.Elements.{All-push, All-filter, filter_passes}
 use Rattle.std.proofs.lemmas.List.Kept.{AllPairs-filter}
 use Rattle.std.proofs.lemmas.List.Quantifiers.{all_pairs_push}
 use Rattle.acct_codes.specs.declared.kind.Kind.{Kind}
@@ -12,64 +14,118 @@ use Rattle.dtyp_access.specs.Laws.{GrantsAreValid}
 use Rattle.acct_config.specs.declared.config.Config.{Config}
 use Rattle.acct_config.specs.declared.config.Listener.{Listener}
 use Rattle.acct_calls.specs.declared.calls.Call.{Call}
+use Rattle.acct_layouts.specs.CallShapes.{CanBeSpelled}
+use Rattle.acct_rows.specs.declared.object.Object.{Object}
+use Rattle.acct_rows.specs.Objects.{kind_of, same_object, exists}
+use Rattle.acct_rows.specs.Sound.{IsSoundRows}
+use Rattle.acct_rules.specs.declared.planned.Effect.{Effect}
+use Rattle.acct_rules.specs.declared.planned.Effect.TheVariants as effects
+use Rattle.acct_rules.specs.declared.planned.Planned.{Planned}
+use Rattle.acct_rules.specs.Operations.{Operation, is_deleted, Keeps}
+use Rattle.acct_operations.specs.Laws.{AreRight, KeepRows}
 use Rattle.acct_machine.specs.declared.entry.Verdict.{Verdict}
 use Rattle.acct_machine.specs.declared.entry.Entry.{Entry}
 use Rattle.acct_machine.specs.declared.entry.Entry.TheVariants.{Opened, Called, Gone}
 use Rattle.acct_machine.specs.declared.state.Conn.{Conn}
 use Rattle.acct_machine.specs.declared.state.Held.{Held}
-use Rattle.acct_machine.specs.declared.state.Object.{Object}
-use Rattle.acct_machine.specs.declared.state.Object.TheVariants.{Server}
-use Rattle.acct_machine.specs.State.{State, nothing_open, find_conn, is_live, last_serial, is_handle, without_conn}
-use Rattle.acct_machine.specs.Opening.{kind_of, descriptor_of, listener_of, checked, grant_of}
-use Rattle.acct_machine.specs.Step.{new_conn, serial_set, live_ended, connected, closed, acted, step, state_after}
-use Rattle.acct_machine.specs.Legal.{May, LegalAfter}
-use Rattle.acct_machine.specs.Sound.{IsHeldSoundly, AreApart, IsSound}
-use Rattle.acct_machine.proofs.Conns.{live-set, serial-set-same, serial-set-other, numbered-set, live-ended-other, serial-ended, numbered-ended, live-push, serial-push, numbered-push, live-above}
+use Rattle.acct_machine.specs.State.{State, Start, first, find_conn, is_live, last_serial, is_handle, without_conn}
+use Rattle.acct_machine.specs.Opening.{descriptor_of, listener_of, checked, grant_of}
+use Rattle.acct_machine.specs.Outcome.{serial_set, left, changed, with_handle, planned_of}
+use Rattle.acct_machine.specs.Step.{new_conn, live_ended, acted, step, state_after, state_at}
+use Rattle.acct_machine.specs.Legal.{May, LegalAfter, Legal}
+use Rattle.acct_machine.specs.Sound.{IsHeldSoundly, AreApart, AreConnected, KeepsConnected, IsSound}
+use Rattle.acct_machine.proofs.Conns.{live-set, serial-set-same, serial-set-other, live-ended-other, serial-ended}
+use Rattle.acct_machine.proofs.Conns.{live-push, serial-push, live-above}
 use Rattle.acct_machine.proofs.Cases.{acted-cases}
-use Rattle.acct_machine.proofs.History.{state_after-push}
+use Rattle.acct_machine.proofs.History.{state_after-push, LegalAfter-push}
+use Rattle.acct_machine.proofs.Handles.{keeps}
 
--- a grant lies within the valid rights
-checked-valid : GrantsAreValid → (k : Kind) (descriptor : Option Descriptor) (listener : Option Listener) (desired granted : ℕ)
+-- ---- grants
+
+pub checked-valid : GrantsAreValid
+    → (k : Kind) (descriptor : Option Descriptor) (listener : Option Listener) (desired granted : ℕ)
     → checked k descriptor listener desired ≡ Some granted → bit_and granted (valid_rights k) ≡ granted
 checked-valid within k None listener desired granted is = cc
 checked-valid within k (Some descriptor) None desired granted is = cc
-checked-valid within k (Some descriptor) (Some listener) desired granted is = within k descriptor listener.token desired granted is
+checked-valid within k (Some descriptor) (Some listener) desired granted is =
+    within k descriptor listener.token desired granted is
 
-grant-valid : GrantsAreValid → (s : State) (conn : ℕ) (object : Object) (desired granted : ℕ) → grant_of s conn object desired ≡ Some granted
+pub grant-valid : GrantsAreValid → (s : State) (conn : ℕ) (object : Object) (desired granted : ℕ)
+    → grant_of s conn object desired ≡ Some granted
     → bit_and granted (valid_rights (kind_of object)) ≡ granted
 grant-valid within s conn object desired granted is =
-    checked-valid within (kind_of object) (descriptor_of s.config (kind_of object)) (listener_of s.config (find_conn conn s.conns)) desired granted is
+    checked-valid within (kind_of object) (descriptor_of s.config (kind_of object))
+    (listener_of s.config (find_conn conn s.conns)) desired granted is
 
--- a handle stays sound where its connection stays live and its last serial doesn't fall
-held-kept : (old new : List Conn) (h : Held) → IsHeldSoundly old h → is_live h.conn new ≡ is_live h.conn old → last_serial h.conn old ≤ last_serial h.conn new
-    → IsHeldSoundly new h
-held-kept old new h sound live le = record {
+-- ---- changes
+
+-- a handle stays sound where its connection stays live, its last serial doesn't fall and its object stays
+held-kept : (old new : State) (h : Held) → IsHeldSoundly old h → is_live h.conn new.conns ≡ is_live h.conn old.conns
+    → last_serial h.conn old.conns ≤ last_serial h.conn new.conns
+    → exists new.rows h.object ≡ true → IsHeldSoundly new h
+held-kept old new h sound live le there = record {
   live = live ∙ sound.live;
   from_one = sound.from_one;
   given = omega (arith, sound.given, le);
+  there = there;
   valid = sound.valid;
 }
 
--- a connection was opened
-sound-opened : (config : Config) (s : State) (conn listener : ℕ) → IsSound config s → conn ≡ length s.conns + 1 → listener < length config.listeners
-    → IsSound config (step s (Opened conn listener))
-sound-opened config s conn listener sound is fits =
-    let c : Conn = new_conn conn listener in
-    let held : (h : Held) → IsHeldSoundly s.conns h → IsHeldSoundly (s.conns ++ c ∷ []) h = λ h was.
-    elim (cases_eq conn h.conn) [
-      | inl same ↦ absurd (let e : true ≡ false = sym was.live ∙ live-above 1 h.conn s.conns sound.numbered (omega (arith, is, same)) in cc)
-      | inr other ↦ held-kept s.conns (s.conns ++ c ∷ []) h was (live-push h.conn c s.conns other) (rw (serial-push h.conn c s.conns other) (omega arith))
-    ] in
+passes-not : (b : Bool) → not b ≡ true → b ≡ false
+passes-not true h = cc
+passes-not false h = refl
+
+-- what holds of each handle whose object isn't deleted holds of those that are left
+All-left : (P Q : Held → Type 0) (effect : Effect) (conn number : ℕ) (handles : List Held) → All P handles
+    → ((h : Held) → P h → is_deleted effect h.object ≡ false → Q h)
+    → All Q (left effect conn number handles)
+All-left P Q effects.Nothing conn number handles all each = λ k d lt. each (get_or handles k d) (all k d lt) refl
+All-left P Q (effects.Opens opening) conn number handles all each =
+    λ k d lt. each (get_or handles k d) (all k d lt) refl
+All-left P Q (effects.Checks opening) conn number handles all each =
+    λ k d lt. each (get_or handles k d) (all k d lt) refl
+All-left P Q effects.Closes conn number handles all each =
+    let test : Held → Bool = λ h. not (is_handle conn number h) in
+    All-filter test Q handles (λ k d lt. each (get_or handles k d) (all k d lt) refl)
+All-left P Q (effects.Deletes object) conn number handles all each =
+    let test : Held → Bool = λ h. not (same_object h.object object) in
+    λ k d lt. each (get_or (left (effects.Deletes object) conn number handles) k d)
+    (All-filter test P handles all k d lt)
+    (passes-not (same_object (get_or (left (effects.Deletes object) conn number handles) k d).object object)
+    (filter_passes test handles k d lt))
+
+pairs-left : (effect : Effect) (conn number : ℕ) (handles : List Held) → AllPairs AreApart handles
+    → AllPairs AreApart (left effect conn number handles)
+pairs-left effects.Nothing conn number handles all = all
+pairs-left (effects.Opens opening) conn number handles all = all
+pairs-left (effects.Checks opening) conn number handles all = all
+pairs-left effects.Closes conn number handles all =
+    AllPairs-filter AreApart (λ h. not (is_handle conn number h)) handles all
+pairs-left (effects.Deletes object) conn number handles all =
+    AllPairs-filter AreApart (λ h. not (same_object h.object object)) handles all
+
+-- what was planned was done
+sound-changed : (config : Config) (s : State) (conn : ℕ) (call : Call) (planned : Planned) → IsSound config s
+    → Keeps s.rows planned
+    → IsSound config (changed s conn call planned)
+sound-changed config s conn call planned sound kept =
+    let new : State = changed s conn call planned in
     record {
-      configuration = sound.configuration;
-      numbered = numbered-push 1 c s.conns sound.numbered (omega (arith, is));
-      configured = All-push (λ (d : Conn). d.listener < length config.listeners) s.conns c sound.configured fits;
-      held = λ k d lt. held (get_or s.handles k d) (sound.held k d lt);
-      distinct = sound.distinct;
+      connected = record {
+        configuration = sound.connected.configuration;
+        numbered = sound.connected.numbered;
+        configured = sound.connected.configured;
+        few = sound.connected.few;
+      };
+      rows = kept.sound;
+      held = All-left (IsHeldSoundly s) (IsHeldSoundly new) planned.effect conn call.handle.number s.handles sound.held
+          (λ h was stays. held-kept s new h was refl (omega arith) (kept.stays h.object was.there stays));
+      distinct = pairs-left planned.effect conn call.handle.number s.handles sound.distinct;
     }
 
 -- the last serial doesn't fall where a connection is given its next
-serial-set-le : (k conn : ℕ) (conns : List Conn) → is_live conn conns ≡ true → last_serial k conns ≤ last_serial k (map (serial_set conn (last_serial conn conns + 1)) conns)
+serial-set-le : (k conn : ℕ) (conns : List Conn) → is_live conn conns ≡ true
+    → last_serial k conns ≤ last_serial k (map (serial_set conn (last_serial conn conns + 1)) conns)
 serial-set-le k conn conns live =
     let serial = last_serial conn conns + 1 in
     elim (cases_eq k conn) [
@@ -78,82 +134,132 @@ serial-set-le k conn conns live =
     ]
 
 -- a handle was opened
-sound-connected : (config : Config) (s : State) (conn : ℕ) (call : Call) (granted : ℕ) → IsSound config s → is_live conn s.conns ≡ true
-    → bit_and granted (valid_rights (kind_of Server)) ≡ granted → IsSound config (connected s conn call (Some granted)).0
-sound-connected config s conn call granted sound live valid =
+sound-opened : (config : Config) (s : State) (conn : ℕ) (object : Object) (granted : ℕ) → IsSound config s
+    → is_live conn s.conns ≡ true → exists s.rows object ≡ true
+    → bit_and granted (valid_rights (kind_of object)) ≡ granted
+    → AreConnected config (with_handle s conn object granted) → IsSound config (with_handle s conn object granted)
+sound-opened config s conn object granted sound live there valid connected =
     let serial = last_serial conn s.conns + 1 in
-    let new : List Conn = map (serial_set conn serial) s.conns in
-    let h : Held = record { conn = conn; serial = serial; object = Server; granted = granted } in
-    let last : last_serial conn new ≡ serial = serial-set-same conn serial s.conns live in
-    let held-old : (g : Held) → IsHeldSoundly s.conns g → IsHeldSoundly new g = λ g was. held-kept s.conns new g was (live-set g.conn conn serial s.conns) (serial-set-le g.conn conn s.conns live) in
+    let new : State = with_handle s conn object granted in
+    let h : Held = record { conn = conn; serial = serial; object = object; granted = granted } in
+    let last : last_serial conn new.conns ≡ serial = serial-set-same conn serial s.conns live in
+    let held-old : (g : Held) → IsHeldSoundly s g → IsHeldSoundly new g =
+    λ g was. held-kept s new g was (live-set g.conn conn serial s.conns) (serial-set-le g.conn conn s.conns live)
+    was.there in
     let held-new : IsHeldSoundly new h = record {
       live = live-set conn conn serial s.conns ∙ live;
       from_one = omega arith;
       given = omega (arith, last);
+      there = there;
       valid = valid;
     } in
-    let listeners : (c : Conn) → (serial_set conn serial c).listener ≡ c.listener = λ c. elim (c.number == conn) as (λ b. (cond b (record c { serial = serial }) c).listener ≡ c.listener) [ true ↦ refl | false ↦ refl ] in
-    let apart : (g : Held) → IsHeldSoundly s.conns g → g.conn ≡ conn → g.serial ≢ serial = λ g was same e. omega (arith, was.given, e, ap (λ k. last_serial k s.conns) same) in
+    let apart : (g : Held) → IsHeldSoundly s g → g.conn ≡ conn → g.serial ≢ serial =
+    λ g was same e. omega (arith, was.given, e, ap (λ k. last_serial k s.conns) same) in
     record {
-      configuration = sound.configuration;
-      numbered = numbered-set 1 conn serial s.conns sound.numbered;
-      configured = All-map (λ (d : Conn). d.listener < length config.listeners) (serial_set conn serial) s.conns (λ k d lt. omega (arith, listeners (get_or s.conns k d), sound.configured k d lt));
-      held = All-push (IsHeldSoundly new) s.handles h (λ k d lt. held-old (get_or s.handles k d) (sound.held k d lt)) held-new;
-      distinct = all_pairs_push AreApart s.handles h sound.distinct (λ k d lt. apart (get_or s.handles k d) (sound.held k d lt));
+      connected = connected;
+      rows = sound.rows;
+      held = All-push (IsHeldSoundly new) s.handles h (λ k d lt. held-old (get_or s.handles k d) (sound.held k d lt))
+          held-new;
+      distinct =
+          all_pairs_push AreApart s.handles h sound.distinct
+          (λ k d lt. apart (get_or s.handles k d) (sound.held k d lt));
     }
 
--- a handle was closed
-sound-closed : (config : Config) (s : State) (conn number : ℕ) → IsSound config s → IsSound config (closed s conn number).0
-sound-closed config s conn number sound = record {
-  configuration = sound.configuration;
-  numbered = sound.numbered;
-  configured = sound.configured;
-  held = All-filter (λ h. not (is_handle conn number h)) (IsHeldSoundly s.conns) s.handles sound.held;
-  distinct = AllPairs-filter AreApart (λ h. not (is_handle conn number h)) s.handles sound.distinct;
-}
+-- the state is sound where its connections are in order
+abbrev With : Config → State → Type 0
+With config s = AreConnected config s → IsSound config s
 
-sound-called : GrantsAreValid → (config : Config) (s : State) (conn : ℕ) (call : Call) (verdict : Verdict) → IsSound config s → is_live conn s.conns ≡ true
-    → IsSound config (acted s conn call verdict).0
-sound-called within config s conn call verdict sound live =
-    acted-cases (IsSound config) s conn call verdict sound
-    (λ granted ran opens is. sound-connected config s conn call granted sound live (grant-valid within s conn Server _ granted is))
-    (sound-closed config s conn call.handle.number sound)
+sound-called : GrantsAreValid → AreRight → KeepRows
+    → (config : Config) (s : State) (conn : ℕ) (call : Call) (verdict : Verdict) → IsSound config s
+    → is_live conn s.conns ≡ true → CanBeSpelled call → With config (acted s conn call verdict).0
+sound-called within right each config s conn call verdict sound live spelled =
+    acted-cases (With config) s conn call verdict (record {
+      same = λ connected. sound;
+      planned = λ o passed connected.
+          sound-changed config s conn call (planned_of o s conn call) sound
+          (keeps right each config s conn call o sound spelled passed);
+      opened = λ o opening granted ran passed effect grant connected.
+          let planned : Planned = planned_of o s conn call in
+          let kept : Keeps s.rows planned = keeps right each config s conn call o sound spelled passed in
+          sound-opened config (changed s conn call planned) conn opening.object granted
+          (sound-changed config s conn call planned sound kept) live
+          (kept.opens opening effect)
+          (grant-valid within s conn opening.object opening.desired granted grant) connected;
+    })
+
+-- a connection was opened
+sound-arrived : (config : Config) (s : State) (conn listener : ℕ) → IsSound config s → conn ≡ length s.conns + 1
+    → With config (step s (Opened conn listener))
+sound-arrived config s conn listener sound is connected =
+    let c : Conn = new_conn conn listener in
+    let new : State = step s (Opened conn listener) in
+    let held : (h : Held) → IsHeldSoundly s h → IsHeldSoundly new h = λ h was.
+    elim (cases_eq conn h.conn) [
+      | inl same ↦ absurd (let e : true ≡ false = sym was.live ∙ live-above 1 h.conn s.conns sound.connected.numbered
+          (omega (arith, is, same)) in cc)
+      | inr other ↦ held-kept s new h was (live-push h.conn c s.conns other)
+          (rw (serial-push h.conn c s.conns other) (omega arith)) was.there
+    ] in
+    record {
+      connected = connected;
+      rows = sound.rows;
+      held = λ k d lt. held (get_or s.handles k d) (sound.held k d lt);
+      distinct = sound.distinct;
+    }
 
 -- a connection is gone
-sound-gone : (config : Config) (s : State) (conn : ℕ) → IsSound config s → IsSound config (step s (Gone conn))
-sound-gone config s conn sound =
-    let new : List Conn = map (live_ended conn) s.conns in
-    let left : (h : Held) → IsHeldSoundly s.conns h → not (h.conn == conn) ≡ true → IsHeldSoundly new h = λ h was passes.
+sound-gone : (config : Config) (s : State) (conn : ℕ) → IsSound config s → With config (step s (Gone conn))
+sound-gone config s conn sound connected =
+    let new : State = step s (Gone conn) in
+    let stays : (h : Held) → IsHeldSoundly s h → not (h.conn == conn) ≡ true → IsHeldSoundly new h = λ h was passes.
     let other : h.conn ≢ conn = grind (arith, nat_tests) in
-    held-kept s.conns new h was (live-ended-other h.conn conn s.conns other) (rw (serial-ended h.conn conn s.conns) (omega arith)) in
-    let listeners : (c : Conn) → (live_ended conn c).listener ≡ c.listener = λ c. elim (c.number == conn) as (λ b. (cond b (record c { live = false }) c).listener ≡ c.listener) [ true ↦ refl | false ↦ refl ] in
+    held-kept s new h was (live-ended-other h.conn conn s.conns other)
+    (rw (serial-ended h.conn conn s.conns) (omega arith)) was.there in
     record {
-      configuration = sound.configuration;
-      numbered = numbered-ended 1 conn s.conns sound.numbered;
-      configured = All-map (λ (d : Conn). d.listener < length config.listeners) (live_ended conn) s.conns (λ k d lt. omega (arith, listeners (get_or s.conns k d), sound.configured k d lt));
-      held = λ k d lt. left (get_or (without_conn conn s.handles) k d) (All-filter (λ h. not (h.conn == conn)) (IsHeldSoundly s.conns) s.handles sound.held k d lt) (filter_passes (λ (h : Held). not (h.conn == conn)) s.handles k d lt);
+      connected = connected;
+      rows = sound.rows;
+      held = λ k d lt. stays (get_or (without_conn conn s.handles) k d)
+          (All-filter (λ h. not (h.conn == conn)) (IsHeldSoundly s) s.handles sound.held k d lt)
+          (filter_passes (λ (h : Held). not (h.conn == conn)) s.handles k d lt);
       distinct = AllPairs-filter AreApart (λ h. not (h.conn == conn)) s.handles sound.distinct;
     }
 
-sound-step : GrantsAreValid → (config : Config) (before : List Entry) (e : Entry) → IsSound config (state_after (nothing_open config) before) → May config before e
-    → IsSound config (step (state_after (nothing_open config) before) e)
-sound-step within config before (Opened conn listener) sound may = sound-opened config (state_after (nothing_open config) before) conn listener sound may.0 may.2
-sound-step within config before (Called conn call verdict bytes) sound may = sound-called within config (state_after (nothing_open config) before) conn call verdict sound may.0
-sound-step within config before (Gone conn) sound may = sound-gone config (state_after (nothing_open config) before) conn sound
+sound-step : GrantsAreValid → AreRight → KeepRows → (start : Start) (before : List Entry) (e : Entry)
+    → IsSound start.config (state_at start before)
+    → May start before e → With start.config (step (state_at start before) e)
+sound-step within right each start before (Opened conn listener) sound may =
+    sound-arrived start.config (state_at start before) conn listener sound may.0
+sound-step within right each start before (Called conn call verdict bytes) sound may =
+    sound-called within right each start.config (state_at start before) conn call verdict sound may.0 may.1.1
+sound-step within right each start before (Gone conn) sound may =
+    sound-gone start.config (state_at start before) conn sound
 
-pub sound-after : GrantsAreValid → (config : Config) (before es : List Entry) → LegalAfter config before es → (s : State) → state_after (nothing_open config) before ≡ s → IsSound config s
-    → IsSound config (state_after s es)
-sound-after within config before [] legal s is sound = sound
-sound-after within config before (e ∷ es) legal s is sound =
-    let now : IsSound config (state_after (nothing_open config) before) = subst (λ (x : State). IsSound config x) (sym is) sound in
-    let stepped : IsSound config (step s e) = subst (λ (x : State). IsSound config (step x e)) is (sound-step within config before e now legal.0) in
-    sound-after within config (before ++ e ∷ []) es legal.1 (step s e) (state_after-push (nothing_open config) before e ∙ ap (λ (x : State). step x e) is) stepped
+sound-after : GrantsAreValid → KeepsConnected → AreRight → KeepRows → (start : Start) (before es : List Entry)
+    → Legal start before
+    → LegalAfter start before es → (s : State) → state_at start before ≡ s → IsSound start.config s
+    → IsSound start.config (state_after s es)
+sound-after within connected right each start before [] was legal s is sound = sound
+sound-after within connected right each start before (e ∷ es) was legal s is sound =
+    let now : IsSound start.config (state_at start before) =
+    subst (λ (x : State). IsSound start.config x) (sym is) sound in
+    let longer : Legal start (before ++ e ∷ []) = LegalAfter-push start [] before e was legal.0 in
+    let next : state_at start (before ++ e ∷ []) ≡ step (state_at start before) e =
+    state_after-push (first start) before e in
+    let there : AreConnected start.config (step (state_at start before) e) =
+    subst (λ (x : State). AreConnected start.config x) next (connected start (before ++ e ∷ []) longer) in
+    let stepped : IsSound start.config (step s e) =
+    subst (λ (x : State). IsSound start.config (step x e)) is
+    (sound-step within right each start before e now legal.0 there) in
+    sound-after within connected right each start (before ++ e ∷ []) es longer legal.1 (step s e)
+    (next ∙ ap (λ (x : State). step x e) is) stepped
 
-pub sound-first : (config : Config) → IsSound config (nothing_open config)
-sound-first config = record {
-  configuration = refl;
-  numbered = tt;
-  configured = λ k d lt. absurd (omega (arith, lt));
-  held = λ k d lt. absurd (omega (arith, lt));
-  distinct = λ i j d lt lt'. absurd (omega (arith, lt, lt'));
-}
+pub are-sound : GrantsAreValid → KeepsConnected → AreRight → KeepRows → (start : Start) (history : List Entry)
+    → IsSoundRows start.rows
+    → Legal start history → IsSound start.config (state_at start history)
+are-sound within connected right each start history rows legal =
+    sound-after within connected right each start [] history tt legal (first start) refl (record {
+      connected = connected start [] tt;
+      rows = rows;
+      held = λ k d lt. absurd (omega (arith, lt));
+      distinct = λ i j d lt lt'. absurd (omega (arith, lt, lt'));
+    })

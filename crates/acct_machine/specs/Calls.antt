@@ -1,19 +1,13 @@
--- Which calls there are: those of the operations that are built, each spelled by some stub that is served.
-use Rattle.std.specs.Prelude.{◌≡◌, ℕ, ◌==◌, Bool, true, ◌||◌}
-use Rattle.acct_calls.specs.declared.calls.Args.{Args}
-use Rattle.acct_calls.specs.declared.calls.Args.TheVariants as args
+-- Which calls there are: those of the table's operations, each spelled by some stub that is served.
+use Rattle.std.specs.Prelude.{◌≡◌, true, Option, option_map}
 use Rattle.acct_calls.specs.declared.calls.Call.{Call}
-use Rattle.samr_wire.specs.Calls.{IsSpelled}
-use Rattle.acct_machine.specs.Codes.{samr_close_handle, samr_connect2}
+use Rattle.acct_layouts.specs.CallShapes.{CanBeSpelled}
+use Rattle.acct_rules.specs.Operations.{Operation}
+use Rattle.acct_operations.specs.Table.{operation, work_of, has_operation}
 
--- the operations that are built, by opnum
-abbrev pub is_built : ℕ → Bool
-is_built opnum = (opnum == samr_close_handle) || (opnum == samr_connect2)
+-- the operation of a call, by its interface and opnum
+abbrev pub operation_of : Call → Option Operation
+operation_of call = option_map operation (work_of call.face call.opnum)
 
 abbrev pub IsCall : Call → Type 0
-IsCall call = (is_built call.opnum ≡ true) × IsSpelled call
-
--- the access that an opening asks for
-abbrev pub desired_access : Args → ℕ
-desired_access (args.Access desired) = desired
-desired_access _ = 0
+IsCall call = (has_operation call.face call.opnum ≡ true) × CanBeSpelled call

@@ -1,16 +1,18 @@
--- What decides the openings of a connection: the descriptor of the object, and the token of the listener where it connected.
+-- What decides the openings of a connection: the descriptor of the object, and the token of the listener where it
+-- connected.
 use Rattle.std.specs.Prelude.{◌≡◌, ℕ, List, Some, slice_get}
 use Rattle.dtyp_access.specs.declared.descriptor.Descriptor.{Descriptor}
 use Rattle.dtyp_access.specs.Opening.{opened}
 use Rattle.acct_config.specs.declared.config.Config.{Config}
 use Rattle.acct_config.specs.declared.config.Listener.{Listener}
 use Rattle.acct_config.specs.Right.{IsRight}
+use Rattle.acct_rows.specs.declared.object.Object.{Object}
+use Rattle.acct_rows.specs.Objects.{kind_of}
 use Rattle.acct_machine.specs.declared.entry.Entry.{Entry}
 use Rattle.acct_machine.specs.declared.state.Conn.{Conn}
-use Rattle.acct_machine.specs.declared.state.Object.{Object}
-use Rattle.acct_machine.specs.State.{State, nothing_open, find_conn}
-use Rattle.acct_machine.specs.Opening.{kind_of, descriptor_of, grant_of}
-use Rattle.acct_machine.specs.Step.{state_after}
+use Rattle.acct_machine.specs.State.{State, Start, find_conn}
+use Rattle.acct_machine.specs.Opening.{descriptor_of, grant_of}
+use Rattle.acct_machine.specs.Step.{state_at}
 use Rattle.acct_machine.specs.Legal.{Legal}
 
 -- the configuration has both, and each opening grants what the check gives over them
@@ -19,10 +21,13 @@ pub record IsDecided (config : Config) (s : State) (conn : ℕ) (object : Object
   pub listener : Listener
   pub configured : descriptor_of config (kind_of object) ≡ Some descriptor
   pub connected : slice_get config.listeners c.listener ≡ Some listener
-  pub grants : (desired : ℕ) → grant_of s conn object desired ≡ opened (kind_of object) descriptor listener.token desired
+  pub grants : (desired : ℕ)
+      → grant_of s conn object desired ≡ opened (kind_of object) descriptor listener.token desired
 
 -- so it is with every connection of a legal history, under each right configuration
 abbrev pub OpeningsAreDecided : Type 0
 OpeningsAreDecided =
-    (config : Config) (history : List Entry) (conn : ℕ) (object : Object) (c : Conn) → IsRight config → Legal config history
-    → find_conn conn (state_after (nothing_open config) history).conns ≡ Some c → IsDecided config (state_after (nothing_open config) history) conn object c
+    (start : Start) (history : List Entry) (conn : ℕ) (object : Object) (c : Conn) → IsRight start.config
+    → Legal start history
+    → find_conn conn (state_at start history).conns ≡ Some c
+    → IsDecided start.config (state_at start history) conn object c

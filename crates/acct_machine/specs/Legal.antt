@@ -1,39 +1,85 @@
 -- Which histories the machine may have, and what they say of one connection.
-use Rattle.std.specs.Prelude.{◌≡◌, ℕ, ◌+◌, ◌^◌, ◌<◌, ◌==◌, true, false, List, [], ◌∷◌, ◌++◌, length, ⊤, if◌then◌else◌}
-use Rattle.acct_config.specs.declared.config.Config.{Config}
+use Rattle.std.specs.Prelude.{◌≡◌, ℕ, ◌+◌, ◌^◌, ◌<◌, ◌==◌, true, false, Some, List, [], ◌∷◌, ◌++◌, length, ⊤}
+use Rattle.std.specs.Prelude.{if◌then◌else◌}
 use Rattle.acct_calls.specs.declared.calls.Call.{Call}
 use Rattle.acct_calls.specs.declared.replies.Reply.{Reply}
+use Rattle.acct_rules.specs.declared.profile.Memory.{Memory}
+use Rattle.acct_rules.specs.declared.profile.Memory.TheVariants as memory
+use Rattle.acct_rules.specs.declared.planned.Planned.{Planned}
+use Rattle.acct_rules.specs.Planned.{none_fails, opening_of, takes_room}
+use Rattle.acct_rules.specs.Operations.{Operation}
 use Rattle.acct_machine.specs.declared.checks.Access.TheVariants.{Passed}
 use Rattle.acct_machine.specs.declared.entry.Verdict.{Verdict}
 use Rattle.acct_machine.specs.declared.entry.Verdict.TheVariants.{Ran, NoMemory}
 use Rattle.acct_machine.specs.declared.entry.Entry.{Entry}
 use Rattle.acct_machine.specs.declared.entry.Entry.TheVariants.{Opened, Called, Gone}
-use Rattle.acct_machine.specs.Codes.{samr_connect2}
-use Rattle.acct_machine.specs.State.{State, nothing_open, is_live}
-use Rattle.acct_machine.specs.Calls.{IsCall}
-use Rattle.acct_machine.specs.Checks.{access, is_opening_refused}
-use Rattle.acct_machine.specs.Step.{acted, step, state_after}
+use Rattle.acct_machine.specs.State.{State, Start, first, is_live}
+use Rattle.acct_machine.specs.Opening.{is_opening_refused}
+use Rattle.acct_machine.specs.Calls.{operation_of, IsCall}
+use Rattle.acct_machine.specs.Access.{access}
+use Rattle.acct_machine.specs.Outcome.{ruled_of}
+use Rattle.acct_machine.specs.Step.{acted, step, state_at}
 
--- Memory may want only where a call would have opened a handle: no check is left that could refuse it.
+-- ---- verdicts
+
+-- where room may want for a plan: its opening is granted, and it takes room
+abbrev pub WantsRoom : State → ℕ → Planned → Verdict → Type 0
+WantsRoom s conn planned Ran = ⊤
+WantsRoom s conn planned NoMemory =
+    (is_opening_refused s conn (opening_of planned.effect) ≡ false) × (takes_room planned ≡ true)
+
+-- no condition of the call fails, that of an opening included
+pub record NoneFails (o : Operation) (s : State) (conn : ℕ) (call : Call) : Type 0 where
+  pub conditions : none_fails (ruled_of o s conn call).conditions ≡ true
+  pub opening : is_opening_refused s conn (opening_of (ruled_of o s conn call).planned.effect) ≡ false
+
+-- where memory may want, by the profile of the operation
+abbrev pub MayWant : Memory → Operation → State → ℕ → Call → Type 0
+MayWant memory.Never o s conn call = ⊥
+MayWant memory.BehindConditions o s conn call = NoneFails o s conn call
+MayWant memory.Anywhere o s conn call = ⊤
+
+-- the same of the call's verdict
+abbrev pub Wants : Operation → State → ℕ → Call → Verdict → Type 0
+Wants o s conn call Ran = ⊤
+Wants o s conn call NoMemory = MayWant o.profile.memory o s conn call
+
+-- the handle of the call passed
+pub record HasPassed (o : Operation) (s : State) (conn : ℕ) (call : Call) : Type 0 where
+  pub found : operation_of call ≡ Some o
+  pub passed : access o s conn call ≡ Passed
+
+-- which verdict a call may have: memory may want only where its handle passed
 abbrev pub MayHave : State → ℕ → Call → Verdict → Type 0
 MayHave s conn call Ran = ⊤
-MayHave s conn call NoMemory = (call.opnum ≡ samr_connect2) × (access s conn call ≡ Passed) × (is_opening_refused s conn call ≡ false)
+MayHave s conn call NoMemory = (o : Operation) × HasPassed o s conn call × MayWant o.profile.memory o s conn call
 
--- What may come after some events: the connections are numbered from 1 in the order of their opening, each at a listener of the
--- configuration; calls and ends are of live connections, and some served stub spells each call.
-abbrev pub May : Config → List Entry → Entry → Type 0
-May config before (Opened conn listener) = (conn ≡ length (state_after (nothing_open config) before).conns + 1) × (conn < 2 ^ 32) × (listener < length config.listeners)
-May config before (Called conn call verdict bytes) =
-    (is_live conn (state_after (nothing_open config) before).conns ≡ true) × IsCall call × (bytes < 2 ^ 32) × MayHave (state_after (nothing_open config) before) conn call verdict
-May config before (Gone conn) = is_live conn (state_after (nothing_open config) before).conns ≡ true
+-- ---- histories
+
+-- What may come after some events: the connections are numbered from 1 in the order of their opening, each at a
+-- listener of the configuration; calls and ends are of live connections, and each call is one of an operation and
+-- spelled by some served stub.
+abbrev pub May : Start → List Entry → Entry → Type 0
+May start before (Opened conn listener) =
+    (conn ≡ length (state_at start before).conns + 1) × (conn < 2 ^ 32) × (listener < length start.config.listeners)
+May start before (Called conn call verdict bytes) =
+    (is_live conn (state_at start before).conns ≡ true) × IsCall call × (bytes < 2 ^ 32)
+    × MayHave (state_at start before) conn call verdict
+May start before (Gone conn) = is_live conn (state_at start before).conns ≡ true
 
 -- each event may come after those before it
-abbrev pub LegalAfter : Config → List Entry → List Entry → Type 0
-LegalAfter config before [] = ⊤
-LegalAfter config before (e ∷ es) = May config before e × LegalAfter config (before ++ e ∷ []) es
+abbrev pub LegalAfter : Start → List Entry → List Entry → Type 0
+LegalAfter start before [] = ⊤
+LegalAfter start before (e ∷ es) = May start before e × LegalAfter start (before ++ e ∷ []) es
 
-abbrev pub Legal : Config → List Entry → Type 0
-Legal config history = LegalAfter config [] history
+abbrev pub Legal : Start → List Entry → Type 0
+Legal start history = LegalAfter start [] history
+
+-- each front of a legal history is legal
+abbrev pub FrontsAreLegal : Type 0
+FrontsAreLegal = (start : Start) (before rest : List Entry) → Legal start (before ++ rest) → Legal start before
+
+-- ---- one connection
 
 -- the replies to the calls of a connection, in order
 abbrev pub replies_from : State → ℕ → List Entry → List Reply
@@ -44,8 +90,8 @@ replies_from s k (Called conn call verdict bytes ∷ es) =
 replies_from s k (Opened conn listener ∷ es) = replies_from (step s (Opened conn listener)) k es
 replies_from s k (Gone conn ∷ es) = replies_from (step s (Gone conn)) k es
 
-abbrev pub replies : Config → ℕ → List Entry → List Reply
-replies config k history = replies_from (nothing_open config) k history
+abbrev pub replies : Start → ℕ → List Entry → List Reply
+replies start k history = replies_from (first start) k history
 
 -- the calls of a connection in order, each with the bytes of its stub
 abbrev pub calls_of : ℕ → List Entry → List (Call × ℕ)
@@ -56,4 +102,5 @@ calls_of k (Gone conn ∷ es) = calls_of k es
 
 -- each call has a reply
 abbrev pub RepliesToEach : Type 0
-RepliesToEach = (config : Config) (k : ℕ) (history : List Entry) → length (replies config k history) ≡ length (calls_of k history)
+RepliesToEach =
+    (start : Start) (k : ℕ) (history : List Entry) → length (replies start k history) ≡ length (calls_of k history)

@@ -1,13 +1,15 @@
-pub mod Codes
 pub mod State
 pub mod Opening
 pub mod Calls
-pub mod Checks
+pub mod Access
+pub mod Outcome
 pub mod Step
 pub mod Legal
 pub mod Sound
 pub mod Denial
 pub mod Grants
+pub mod Shapes
+pub mod Passing
 pub mod Shown
 pub mod Machine
 pub mod Decided

@@ -2,8 +2,6 @@
 use Rattle.std.specs.Prelude.{◌≡◌, ◌≢◌, ℕ, ◌+◌, ◌==◌, true, false, [], ◌∷◌, ◌++◌, length, ⊤, if◌then◌else◌}
 use Rattle.acct_calls.specs.declared.calls.Call.{Call}
 use Rattle.acct_calls.specs.declared.replies.Reply.{Reply}
-use Rattle.acct_calls.specs.declared.replies.Reply.TheVariants.{Fault, Done}
-use Rattle.samr_wire.specs.ReplyShapes.{HasShape}
 use Rattle.acct_machine.specs.declared.entry.Verdict.{Verdict}
 use Rattle.acct_machine.specs.declared.entry.Entry.{Entry}
 use Rattle.acct_machine.specs.declared.entry.Entry.TheVariants.{Opened, Called, Gone}
@@ -11,9 +9,11 @@ use Rattle.acct_machine.specs.declared.machine.Acted.{Acted}
 use Rattle.acct_machine.specs.declared.machine.Acted.TheVariants as acts
 use Rattle.acct_machine.specs.declared.machine.Opened as answer
 use Rattle.acct_machine.specs.declared.machine.Opened.TheVariants as opens
-use Rattle.acct_machine.specs.State.{State, nothing_open, is_live}
-use Rattle.acct_machine.specs.Step.{state_after, acted}
+use Rattle.acct_machine.specs.State.{State, is_live}
+use Rattle.acct_machine.specs.Step.{state_at, acted}
 use Rattle.acct_machine.specs.Legal.{replies, calls_of}
+use Rattle.acct_machine.specs.Shapes.{IsAnswer}
+use Rattle.acct_machine.specs.Passing.{AreOfOthers}
 use Rattle.acct_machine.specs.Shown.{Shown}
 
 -- one more event, and nothing else
@@ -22,27 +22,30 @@ with_entry m e = record m { history = m.history ++ e ∷ [] }
 
 -- the state after a machine's history
 abbrev pub state_of : Shown → State
-state_of m = state_after (nothing_open m.config) m.history
+state_of m = state_at m.start m.history
 
 -- an opening of a connection
 abbrev pub Opens : Shown → ℕ → answer.Opened → Shown → Type 0
-Opens old listener (opens.Conn conn) new = (conn ≡ length (state_of old).conns + 1) × (new ≡ with_entry old (Opened conn listener))
+Opens old listener (opens.Conn conn) new =
+    (conn ≡ length (state_of old).conns + 1) × (new ≡ with_entry old (Opened conn listener))
 Opens old listener opens.NoMemory new = new ≡ old
+
+-- no entry before is of the connection that was opened
+abbrev pub OpensFresh : Shown → answer.Opened → Type 0
+OpensFresh old (opens.Conn conn) = AreOfOthers conn old.history
+OpensFresh old opens.NoMemory = ⊤
 
 -- a call, with the reply of the state before it
 abbrev pub Acts : Shown → ℕ → Call → ℕ → Acted → Shown → Type 0
 Acts old conn call bytes (acts.Reply reply) new =
-    (verdict : Verdict) × (new ≡ with_entry old (Called conn call verdict bytes)) × (reply ≡ (acted (state_of old) conn call verdict).1)
+    (verdict : Verdict) × (new ≡ with_entry old (Called conn call verdict bytes))
+    × (reply ≡ (acted (state_of old) conn call verdict).1)
 Acts old conn call bytes acts.NoMemory new = new ≡ old
 
 -- a reply that is no fault has the shape of its operation
-abbrev pub IsAnswer : ℕ → Reply → Type 0
-IsAnswer opnum (Fault status) = ⊤
-IsAnswer opnum (Done status outs) = HasShape opnum (Done status outs)
-
-abbrev pub Shaped : ℕ → Acted → Type 0
-Shaped opnum (acts.Reply reply) = IsAnswer opnum reply
-Shaped opnum acts.NoMemory = ⊤
+abbrev pub Shaped : Call → Acted → Type 0
+Shaped call (acts.Reply reply) = IsAnswer call reply
+Shaped call acts.NoMemory = ⊤
 
 -- the end of a connection
 abbrev pub Ends : Shown → ℕ → Shown → Type 0
@@ -74,12 +77,14 @@ OpensLive old opens.NoMemory new = SameLive (state_of old) (state_of new)
 -- Each connection has the calls and the replies that it had.
 pub record SameCalls (old new : Shown) : Type 0 where
   pub calls : (k : ℕ) → calls_of k new.history ≡ calls_of k old.history
-  pub replies : (k : ℕ) → replies new.config k new.history ≡ replies old.config k old.history
+  pub replies : (k : ℕ) → replies new.start k new.history ≡ replies old.start k old.history
 
 -- One connection has one call and its reply more, and every other has those that it had.
 pub record OneMoreCall (old new : Shown) (conn : ℕ) (call : Call) (bytes : ℕ) (reply : Reply) : Type 0 where
-  pub calls : (k : ℕ) → calls_of k new.history ≡ calls_of k old.history ++ (if conn == k then (call, bytes) ∷ [] else [])
-  pub replies : (k : ℕ) → replies new.config k new.history ≡ replies old.config k old.history ++ (if conn == k then reply ∷ [] else [])
+  pub calls : (k : ℕ)
+      → calls_of k new.history ≡ calls_of k old.history ++ (if conn == k then (call, bytes) ∷ [] else [])
+  pub replies : (k : ℕ)
+      → replies new.start k new.history ≡ replies old.start k old.history ++ (if conn == k then reply ∷ [] else [])
 
 -- what a call does to the calls of the connections
 abbrev pub ActsCalls : Shown → ℕ → Call → ℕ → Acted → Shown → Type 0

@@ -1,20 +1,17 @@
--- What an opening of an object grants: what the access check of MS-DTYP 2.5.3 gives over the descriptor that is configured for
--- the object and the token of whoever connected.
-use Rattle.std.specs.Prelude.{ℕ, Option, Some, None, slice_get}
+-- What an opening of an object grants: what the access check of MS-DTYP 2.5.3 gives over the descriptor that is
+-- configured for the object and the token of whoever connected.
+use Rattle.std.specs.Prelude.{ℕ, Bool, false, Option, Some, None, is_none, slice_get}
 use Rattle.acct_codes.specs.declared.kind.Kind.{Kind}
-use Rattle.acct_codes.specs.declared.kind.Kind.TheVariants as kind
 use Rattle.dtyp_access.specs.declared.descriptor.Descriptor.{Descriptor}
 use Rattle.dtyp_access.specs.Opening.{opened}
 use Rattle.acct_config.specs.declared.config.Config.{Config}
 use Rattle.acct_config.specs.declared.config.Listener.{Listener}
 use Rattle.acct_config.specs.Kinds.{kind_place}
+use Rattle.acct_rows.specs.declared.object.Object.{Object}
+use Rattle.acct_rows.specs.Objects.{kind_of}
+use Rattle.acct_rules.specs.declared.planned.Opening.{Opening}
 use Rattle.acct_machine.specs.declared.state.Conn.{Conn}
-use Rattle.acct_machine.specs.declared.state.Object.{Object}
-use Rattle.acct_machine.specs.declared.state.Object.TheVariants.{Server}
 use Rattle.acct_machine.specs.State.{State, find_conn}
-
-abbrev pub kind_of : Object → Kind
-kind_of Server = kind.Server
 
 -- the descriptor of the objects of a kind
 abbrev pub descriptor_of : Config → Kind → Option Descriptor
@@ -31,7 +28,16 @@ checked k None listener desired = None
 checked k (Some descriptor) None desired = None
 checked k (Some descriptor) (Some listener) desired = opened k descriptor listener.token desired
 
+-- what an opening grants a connection: by the descriptor of the object and the token of the connection's listener
+abbrev pub granted_to : Config → Option Conn → Object → ℕ → Option ℕ
+granted_to config c object desired =
+    checked (kind_of object) (descriptor_of config (kind_of object)) (listener_of config c) desired
+
 -- what an opening of an object grants a connection that asks for the desired access, if it isn't refused
 abbrev pub grant_of : State → ℕ → Object → ℕ → Option ℕ
-grant_of s conn object desired =
-    checked (kind_of object) (descriptor_of s.config (kind_of object)) (listener_of s.config (find_conn conn s.conns)) desired
+grant_of s conn object desired = granted_to s.config (find_conn conn s.conns) object desired
+
+-- an opening that an operation plans, if it plans one, is refused
+abbrev pub is_opening_refused : State → ℕ → Option Opening → Bool
+is_opening_refused s conn None = false
+is_opening_refused s conn (Some opening) = is_none (grant_of s conn opening.object opening.desired)

@@ -1,19 +1,28 @@
--- The state of the machine: its configuration, connections and handles.
+-- The state of the machine: its configuration, rows, connections and handles.
 use Rattle.std.specs.Prelude.{ℕ, ◌+◌, ◌*◌, ◌^◌, ◌==◌, Bool, false, ◌&&◌, not, List, [], Option, Some, None}
 use Rattle.std.specs.List.{filter, find}
 use Rattle.acct_config.specs.declared.config.Config.{Config}
-use Rattle.acct_calls.specs.declared.handle.Handle.{Handle}
+use Rattle.acct_rows.specs.declared.object.Object.{Object}
+use Rattle.acct_rows.specs.Objects.{same_object}
+use Rattle.acct_rows.specs.Rows.{Lists}
 use Rattle.acct_machine.specs.declared.state.Conn.{Conn}
 use Rattle.acct_machine.specs.declared.state.Held.{Held}
 
--- the configuration, and connections and handles in the order in which they came
+-- where a history begins
+pub record Start : Type 0 where
+  pub config : Config
+  pub rows : Lists
+
+-- Connections and handles stand in the order in which they came.
 pub record State : Type 0 where
   pub config : Config
+  pub rows : Lists
   pub conns : List Conn
   pub handles : List Held
 
-abbrev pub nothing_open : Config → State
-nothing_open config = record { config = config; conns = []; handles = [] }
+-- the state where a history begins: no connection, and no handle
+abbrev pub first : Start → State
+first start = record { config = start.config; rows = start.rows; conns = []; handles = [] }
 
 -- the connection of a number
 abbrev pub find_conn : ℕ → List Conn → Option Conn
@@ -39,10 +48,6 @@ last_serial conn conns = serial_of (find_conn conn conns)
 abbrev pub number_of : ℕ → ℕ → ℕ
 number_of conn serial = conn * 2 ^ 64 + serial
 
--- the zero handle, which stands for no object
-abbrev pub zero_handle : Handle
-zero_handle = record { number = 0 }
-
 -- the connection's handle of a number
 abbrev pub is_handle : ℕ → ℕ → Held → Bool
 is_handle conn number held = (held.conn == conn) && (number_of held.conn held.serial == number)
@@ -50,9 +55,12 @@ is_handle conn number held = (held.conn == conn) && (number_of held.conn held.se
 abbrev pub find_handle : ℕ → ℕ → List Held → Option Held
 find_handle conn number handles = find (is_handle conn number) handles
 
--- the handles but this one, and but those of a connection
+-- the handles but this one, but those of a connection, and but those to an object
 abbrev pub without_handle : ℕ → ℕ → List Held → List Held
 without_handle conn number handles = filter (λ h. not (is_handle conn number h)) handles
 
 abbrev pub without_conn : ℕ → List Held → List Held
 without_conn conn handles = filter (λ h. not (h.conn == conn)) handles
+
+abbrev pub without_object : Object → List Held → List Held
+without_object object handles = filter (λ h. not (same_object h.object object)) handles

@@ -1,10 +1,11 @@
 -- What an event does: the state before and after it, and for a call its reply.
-use Rattle.std.specs.Prelude.{ℕ, ◌+◌, ◌==◌, true, false, List, [], ◌∷◌, ◌++◌, map, Option, Some, None, if◌then◌else◌}
+use Rattle.std.specs.Prelude.{ℕ, ◌==◌, true, false, List, [], ◌∷◌, ◌++◌, map, Option, Some, None, if◌then◌else◌}
 use Rattle.acct_calls.specs.declared.calls.Call.{Call}
-use Rattle.acct_calls.specs.declared.handle.Handle.{Handle}
-use Rattle.acct_calls.specs.declared.replies.Outs.TheVariants as outs
 use Rattle.acct_calls.specs.declared.replies.Reply.{Reply}
-use Rattle.acct_calls.specs.declared.replies.Reply.TheVariants.{Fault, Done}
+use Rattle.acct_calls.specs.declared.replies.Reply.TheVariants.{Fault}
+use Rattle.acct_codes.specs.Faults.{fault_context_mismatch, fault_operation_range}
+use Rattle.acct_codes.specs.Statuses.{status_access_denied, status_no_memory, status_object_type_mismatch}
+use Rattle.acct_rules.specs.Operations.{Operation}
 use Rattle.acct_machine.specs.declared.checks.Access.{Access}
 use Rattle.acct_machine.specs.declared.checks.Access.TheVariants.{Passed, Unknown, WrongKind, Denied}
 use Rattle.acct_machine.specs.declared.entry.Verdict.{Verdict}
@@ -12,62 +13,35 @@ use Rattle.acct_machine.specs.declared.entry.Verdict.TheVariants.{Ran, NoMemory}
 use Rattle.acct_machine.specs.declared.entry.Entry.{Entry}
 use Rattle.acct_machine.specs.declared.entry.Entry.TheVariants.{Opened, Called, Gone}
 use Rattle.acct_machine.specs.declared.state.Conn.{Conn}
-use Rattle.acct_machine.specs.declared.state.Object.TheVariants.{Server}
-use Rattle.acct_machine.specs.Codes.{samr_close_handle, samr_connect2, status_success, status_no_memory, status_access_denied, status_object_type_mismatch, fault_context_mismatch}
-use Rattle.acct_machine.specs.State.{State, last_serial, number_of, zero_handle, without_handle, without_conn}
-use Rattle.acct_machine.specs.Opening.{grant_of}
-use Rattle.acct_machine.specs.Calls.{desired_access}
-use Rattle.acct_machine.specs.Checks.{access}
+use Rattle.acct_machine.specs.State.{State, Start, first, without_conn}
+use Rattle.acct_machine.specs.Calls.{operation_of}
+use Rattle.acct_machine.specs.Access.{access}
+use Rattle.acct_machine.specs.Outcome.{refused, outcome}
 
-abbrev pub done_with : ℕ → Handle → Reply
-done_with status handle = Done status (outs.Handle handle)
+-- ---- calls
 
--- The handle of a refusal: the one that SamrCloseHandle brought in comes back as it was given, an opening gives the zero handle.
-abbrev pub refused_handle : Call → Handle
-refused_handle call = if call.opnum == samr_close_handle then call.handle else zero_handle
+-- what a call that ran does, by the check of its handle
+abbrev pub by_access : Operation → State → ℕ → Call → Access → State × Reply
+by_access o s conn call Passed = outcome o s conn call
+by_access o s conn call Unknown = (s, Fault fault_context_mismatch)
+by_access o s conn call WrongKind = refused s call status_object_type_mismatch
+by_access o s conn call Denied = refused s call status_access_denied
 
--- a refusal, which leaves the state as it was
-abbrev pub refused : State → Call → ℕ → State × Reply
-refused s call status = (s, done_with status (refused_handle call))
+-- what a call of an operation does, by its verdict
+abbrev pub by_verdict : Operation → State → ℕ → Call → Verdict → State × Reply
+by_verdict o s conn call Ran = by_access o s conn call (access o s conn call)
+by_verdict o s conn call NoMemory = refused s call status_no_memory
 
--- the connection was given one more serial
-abbrev pub serial_set : ℕ → ℕ → Conn → Conn
-serial_set conn serial c = if c.number == conn then record c { serial = serial } else c
+-- a call that is none of an operation changes nothing; a legal history has none
+abbrev pub by_operation : Option Operation → State → ℕ → Call → Verdict → State × Reply
+by_operation None s conn call verdict = (s, Fault fault_operation_range)
+by_operation (Some o) s conn call verdict = by_verdict o s conn call verdict
 
--- SamrConnect2 with what its opening grants: a handle to the server, with the connection's next serial
-abbrev pub connected : State → ℕ → Call → Option ℕ → State × Reply
-connected s conn call None = refused s call status_access_denied
-connected s conn call (Some granted) =
-    let serial = last_serial conn s.conns + 1 in (
-      record s {
-        conns = map (serial_set conn serial) s.conns;
-        handles = s.handles ++ record { conn = conn; serial = serial; object = Server; granted = granted } ∷ [];
-      },
-      done_with status_success (record { number = number_of conn serial }),
-    )
-
--- SamrCloseHandle: the handle goes
-abbrev pub closed : State → ℕ → ℕ → State × Reply
-closed s conn number = (record s { handles = without_handle conn number s.handles }, done_with status_success zero_handle)
-
--- what a call does whose handle passed the check
-abbrev pub outcome : State → ℕ → Call → State × Reply
-outcome s conn call =
-    if call.opnum == samr_connect2
-    then connected s conn call (grant_of s conn Server (desired_access call.args))
-    else closed s conn call.handle.number
-
--- what a call does by the check of its handle
-abbrev pub ran : State → ℕ → Call → Access → State × Reply
-ran s conn call Passed = outcome s conn call
-ran s conn call Unknown = (s, Fault fault_context_mismatch)
-ran s conn call WrongKind = refused s call status_object_type_mismatch
-ran s conn call Denied = refused s call status_access_denied
-
--- what a call does by its verdict
+-- what a call does, and its reply
 abbrev pub acted : State → ℕ → Call → Verdict → State × Reply
-acted s conn call Ran = ran s conn call (access s conn call)
-acted s conn call NoMemory = refused s call status_no_memory
+acted s conn call verdict = by_operation (operation_of call) s conn call verdict
+
+-- ---- events
 
 -- a connection that was just opened
 abbrev pub new_conn : ℕ → ℕ → Conn
@@ -86,3 +60,7 @@ step s (Gone conn) = record s { conns = map (live_ended conn) s.conns; handles =
 abbrev pub state_after : State → List Entry → State
 state_after s [] = s
 state_after s (e ∷ es) = state_after (step s e) es
+
+-- the state after a history
+abbrev pub state_at : Start → List Entry → State
+state_at start history = state_after (first start) history

@@ -1,11 +1,10 @@
 // The check of a call's handle.
 ghost use Rattle.std.specs.Prelude.{◌≡◌};
-ghost use Rattle.acct_machine.specs.Checks.{takes, needed_bits, has_bits, access_by, access_among};
-ghost use Rattle.acct_machine.specs.Calls.{desired_access};
+ghost use Rattle.std.specs.Option.{option_copied};
+ghost use Rattle.acct_machine.specs.Access.{object_of, has_bits, access_by, access_with};
 
-use crate::codes::SAMR_CONNECT2;
-use crate::lists::find_handle;
-use crate::{Args, Call, Held, Object};
+use crate::{Held, Object};
+use acct_rules::{Brings, Kinds};
 
 /// What the check of a call's handle answers.
 #[derive(Clone, Copy, Debug, PartialEq, Eq)]
@@ -19,18 +18,14 @@ pub enum Access {
     Denied,
 }
 
-fn takes(_call: &Call, object: Object) -> bool
-    ensures { result ≡ takes _call.now object }
+/// The object of the handle that was found.
+pub fn object_of(found: Option<&Held>) -> Object
+    ensures { result ≡ object_of (option_copied found.entry) }
 {
-    match object {
-        Object::Server => true,
+    match found {
+        Some(held) => held.object,
+        None => Object::Server,
     }
-}
-
-fn needed_bits(_call: &Call) -> u32
-    ensures { result ≡ needed_bits _call.now }
-{
-    0
 }
 
 /// Whether a mask has each of the bits.
@@ -40,39 +35,28 @@ fn has_bits(mask: u32, bits: u32) -> bool
     mask & bits == bits
 }
 
-fn access_by(call: &Call, found: Option<Held>) -> Access
-    ensures { result ≡ access_by call.now found }
+fn access_by(kinds: Kinds, bits: u32, found: Option<&Held>) -> Access
+    ensures { result ≡ access_by kinds bits (option_copied found.entry) }
 {
     let Some(held) = found else {
         return Access::Unknown;
     };
-    if !takes(call, held.object) {
+    if !kinds.takes(held.object.kind()) {
         return Access::WrongKind;
     }
-    if has_bits(held.granted, needed_bits(call)) {
+    if has_bits(held.granted, bits) {
         Access::Passed
     } else {
         Access::Denied
     }
 }
 
-/// The check of a call's handle among the handles that are open.
-pub fn access_of(handles: &[Held], conn: u32, call: &Call) -> Access
-    ensures { result ≡ access_among handles.now conn call.now }
+/// The check of the handle that was found, by what the operation brings and the bits that it needs.
+pub fn access_with(brings: Brings, bits: u32, found: Option<&Held>) -> Access
+    ensures { result ≡ access_with brings bits (option_copied found.entry) }
 {
-    if call.opnum == SAMR_CONNECT2 {
-        Access::Passed
-    } else {
-        access_by(call, find_handle(handles, conn, call.handle.number))
-    }
-}
-
-/// The access that an opening asks for.
-pub fn desired_access(args: &Args) -> u32
-    ensures { result ≡ desired_access args.now }
-{
-    match args {
-        Args::Access(desired) => *desired,
-        _ => 0,
+    match brings {
+        Brings::Nothing => Access::Passed,
+        Brings::Handle(kinds) => access_by(kinds, bits, found),
     }
 }

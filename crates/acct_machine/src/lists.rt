@@ -1,9 +1,12 @@
 // The lists of connections and handles.
 ghost use Rattle.std.specs.Prelude.{◌≡◌, ◌+◌, ◌*◌, ◌^◌, map};
-ghost use Rattle.acct_machine.specs.State.{find_conn, last_serial, number_of, is_handle, find_handle, without_handle, without_conn};
-ghost use Rattle.acct_machine.specs.Step.{serial_set, live_ended};
+ghost use Rattle.std.specs.Option.{option_copied};
+ghost use Rattle.acct_machine.specs.State.{find_conn, serial_of, number_of, is_handle, find_handle};
+ghost use Rattle.acct_machine.specs.State.{without_handle, without_conn, without_object};
+ghost use Rattle.acct_machine.specs.Outcome.{serial_set};
+ghost use Rattle.acct_machine.specs.Step.{live_ended};
 
-use crate::{Conn, Held};
+use crate::{Conn, Held, Object};
 
 /// The connection of a number.
 pub fn find_conn(conns: &[Conn], conn: u32) -> Option<Conn>
@@ -18,10 +21,10 @@ pub fn find_conn(conns: &[Conn], conn: u32) -> Option<Conn>
 }
 
 /// The serial of the last handle that a connection was given.
-pub fn last_serial(conns: &[Conn], conn: u32) -> u64
-    ensures { result ≡ last_serial conn conns.now }
+pub fn serial_of(found: Option<Conn>) -> u64
+    ensures { result ≡ serial_of found }
 {
-    match find_conn(conns, conn) {
+    match found {
         Some(c) => c.serial,
         None => 0,
     }
@@ -79,12 +82,12 @@ fn is_handle(held: &Held, conn: u32, number: u128) -> bool
 }
 
 /// The handle of a connection with a number.
-pub fn find_handle(handles: &[Held], conn: u32, number: u128) -> Option<Held>
-    ensures { result ≡ find_handle conn number handles.now }
+pub fn find_handle(handles: &[Held], conn: u32, number: u128) -> Option<&Held>
+    ensures { option_copied result ≡ find_handle conn number handles.now }
 {
     for held in handles {
         if is_handle(held, conn, number) {
-            return Some(*held);
+            return Some(held);
         }
     }
     None
@@ -102,4 +105,11 @@ pub fn drop_conn(handles: &mut Vec<Held>, conn: u32)
     ensures { handles.new.items ≡ without_conn conn handles.old.items }
 {
     handles.retain(|held| held.conn != conn);
+}
+
+/// Drops every handle to an object.
+pub fn drop_object(handles: &mut Vec<Held>, object: Object)
+    ensures { handles.new.items ≡ without_object object handles.old.items }
+{
+    handles.retain(|held| !held.object.same(object));
 }

@@ -1,15 +1,20 @@
 // The machine: one history, and the state after it.
-ghost use Rattle.std.specs.Prelude.{◌≡◌, ◌<◌, true, [], length};
+ghost use Rattle.std.specs.Prelude.{◌≡◌, ◌<◌, true, [], length, IfOk};
 ghost use Rattle.acct_config.specs.Right.{IsRight};
+ghost use Rattle.acct_rows.specs.Sound.{IsSoundRows};
 ghost use Rattle.acct_machine.specs.State.{is_live};
 ghost use Rattle.acct_machine.specs.Calls.{IsCall};
 ghost use Rattle.acct_machine.specs.Legal.{Legal};
-ghost use Rattle.acct_machine.specs.Machine.{state_of, Opens, OpensLive, Acts, ActsCalls, SameLive, SameCalls, Ends, OneLessLive, Shaped};
+ghost use Rattle.acct_machine.specs.Sound.{IsSound};
+ghost use Rattle.acct_machine.specs.Machine.{state_of, Opens, OpensFresh, OpensLive, Acts, ActsCalls, SameLive};
+ghost use Rattle.acct_machine.specs.Machine.{SameCalls, Ends, OneLessLive, Shaped};
 
-use crate::laws::kept_states_are_sound;
-use crate::lists::{drop_conn, end_live};
-use crate::running::run;
-use crate::{Call, Config, Conn, Entry, Held, Reply};
+use crate::laws::{
+    connections_are_numbered, connections_are_opened_once, kept_states_are_sound,
+    replies_are_shaped,
+};
+use crate::store::Store;
+use crate::{Call, Config, Entry, NoMemory, Reply, Rows};
 use std::alloc::Global;
 use std::marker::Model;
 
@@ -27,78 +32,102 @@ pub enum Acted {
     NoMemory,
 }
 
-/// The machine. It shows its configuration, which is right, and its history, and keeps the connections and handles that
-/// are the state after the history, and room in the history for the end of each live connection.
+/// The machine. It shows where its history began, which was with a right configuration and sound rows, and its history,
+/// and keeps the state after the history, and room in the history for the end of each live connection.
 #[derive(Drop)]
 pub struct Machine {
-    config: Config,
+    alloc: Global,
+    opening: Rows,
     history: Vec<Entry>,
-    conns: Vec<Conn>,
-    handles: Vec<Held>,
+    store: Store,
     live: u32,
 }
 
 impl Model for Machine {
     ghost use Rattle.std.specs.Vec.{vec_capacity};
-    ghost use Rattle.acct_machine.specs.Shown.{Shown, IsKept};
+    ghost use Rattle.acct_machine.specs.Shown.{Shown, IsKept, begins};
 
     ghost Value = { Shown };
 
-    ghost view = { λ m. record { config = m.config; history = m.history.items } };
+    ghost view = { λ m. record { start = begins m.store m.opening.lists; history = m.history.items } };
 
-    ghost invariant = { λ m. IsKept m.config m.history.items m.conns.items m.handles.items m.live (vec_capacity m.history) };
+    ghost invariant = { λ m.
+        IsKept (begins m.store m.opening.lists) m.history.items m.store m.live (vec_capacity m.history) };
 }
 
 impl Machine {
-    /// A machine to which nothing has happened. It takes no memory.
-    pub fn new(alloc: Global, config: Config) -> Self
-        requires { IsRight config }
-        ensures { result ≡ record { config = config; history = [] } }
+    /// A machine to which nothing has happened, under a copy of the configuration, from these rows, of which it keeps a
+    /// copy as well.
+    pub fn new(alloc: Global, config: &Config, rows: Rows) -> Result<Machine, NoMemory>
+        requires right { IsRight config.now }
+        requires sound { IsSoundRows rows.lists }
+        ensures { IfOk result (λ machine. machine ≡ record {
+          start = record { config = config.now; rows = rows.lists };
+          history = [];
+        }) }
     {
-        Machine {
-            config,
+        let opening = rows.copy(alloc)?;
+        let config = config.copy(alloc)?;
+        Ok(Machine {
+            alloc,
+            opening,
             history: Vec::new(alloc),
-            conns: Vec::new(alloc),
-            handles: Vec::new(alloc),
+            store: Store::new(alloc, config, rows),
             live: 0,
-        }
+        })
     }
 
     /// The configuration.
     pub fn config(&self) -> &Config
-        ensures all { result.now ≡ self.now.config }
+        ensures all { result.now ≡ self.now.start.config }
         ensures right { IsRight result.now }
     {
-        &self.config
+        self.store.config()
+    }
+
+    /// The rows of the state after the history, which is sound.
+    pub fn rows(&self) -> &Rows
+        ensures all { result.now.lists ≡ (state_of self.now).rows }
+        ensures sound { IsSound self.now.start.config (state_of self.now) }
+    {
+        kept_states_are_sound();
+        self.store.rows()
     }
 
     /// What happened, in order.
     pub fn history(&self) -> &[Entry]
         ensures all { result.now ≡ self.now.history }
-        ensures legal { Legal self.now.config result.now }
+        ensures legal { Legal self.now.start result.now }
     {
         &self.history
     }
 
-    /// What happened, in order.
-    pub fn into_history(self) -> Vec<Entry>
-        ensures all { result.items ≡ self.history }
-        ensures legal { Legal self.config result.items }
+    /// The rows where the history began, what happened in order, and the rows of the state after it, which is sound. It
+    /// takes no memory.
+    pub fn into_parts(self) -> (Rows, Vec<Entry>, Rows)
+        ensures opening { result.0.lists ≡ self.start.rows }
+        ensures history { result.1.items ≡ self.history }
+        ensures rows { result.2.lists ≡ (state_of self).rows }
+        ensures legal { Legal self.start result.1.items }
+        ensures sound { IsSound self.start.config (state_of self) }
     {
-        self.history
+        kept_states_are_sound();
+        (self.opening, self.history, self.store.into_rows())
     }
 
     /// Opens a connection at a listener of the configuration, by its place there from 0. After NoMemory, which it also
     /// answers at 2^32 - 1 connections, nothing has changed.
     pub fn open_conn(&mut self, listener: u32) -> Opened
-        requires configured { listener < length self.old.config.listeners }
+        requires configured { listener < length self.old.start.config.listeners }
         ensures opens { Opens self.old listener result self.new }
+        ensures fresh { OpensFresh self.old result }
         ensures live { OpensLive self.old result self.new }
         ensures calls { SameCalls self.old self.new }
-        ensures legal { Legal self.new.config self.new.history }
+        ensures legal { Legal self.new.start self.new.history }
     {
-        kept_states_are_sound();
-        let count = self.conns.len();
+        connections_are_numbered();
+        connections_are_opened_once();
+        let count = self.store.count();
         if count >= u32::MAX as usize {
             return Opened::NoMemory;
         }
@@ -106,13 +135,7 @@ impl Machine {
             return Opened::NoMemory;
         }
         let conn = count as u32 + 1;
-        let new = Conn {
-            number: conn,
-            listener,
-            serial: 0,
-            live: true,
-        };
-        if self.conns.push(new).is_err() {
+        if self.store.add_conn(conn, listener).is_err() {
             return Opened::NoMemory;
         }
         match self.history.push(Entry::Opened { conn, listener }) {
@@ -125,26 +148,23 @@ impl Machine {
     }
 
     /// Makes a call of a live connection, whose stub had so many bytes. After NoMemory nothing has changed: there was
-    /// no room to enter the call. A call that is entered may still be answered that memory wanted for its handle.
+    /// no room to enter the call. A call that is entered may still be answered that memory wanted, where its operation
+    /// may want it.
     pub fn act(&mut self, conn: u32, call: Call, bytes: u32) -> Acted
         requires live { is_live conn (state_of self.old).conns ≡ true }
         requires spelled { IsCall call }
         ensures acts { Acts self.old conn call bytes result self.new }
         ensures live { SameLive (state_of self.old) (state_of self.new) }
         ensures calls { ActsCalls self.old conn call bytes result self.new }
-        ensures shaped { Shaped call.opnum result }
-        ensures legal { Legal self.new.config self.new.history }
+        ensures shaped { Shaped call result }
+        ensures legal { Legal self.new.start self.new.history }
     {
+        replies_are_shaped();
+        self.store.rows().has_few_rows();
         if self.history.reserve(self.live as usize + 1).is_err() {
             return Acted::NoMemory;
         }
-        let (verdict, reply) = run(
-            &self.config,
-            &mut self.conns,
-            &mut self.handles,
-            conn,
-            &call,
-        );
+        let (verdict, reply) = self.store.run(self.alloc, conn, &call);
         match self.history.push(Entry::Called {
             conn,
             call,
@@ -162,12 +182,11 @@ impl Machine {
         ensures ends { Ends self.old conn self.new }
         ensures live { OneLessLive (state_of self.old) (state_of self.new) conn }
         ensures calls { SameCalls self.old self.new }
-        ensures legal { Legal self.new.config self.new.history }
+        ensures legal { Legal self.new.start self.new.history }
     {
         match self.history.push(Entry::Gone { conn }) {
             Ok(()) => {
-                end_live(&mut self.conns, conn);
-                drop_conn(&mut self.handles, conn);
+                self.store.end_conn(conn);
                 self.live -= 1;
             }
             Err(_) => unreachable!(),

@@ -1,9 +1,8 @@
 // What an opening of an object grants.
-ghost use Rattle.std.specs.Prelude.{◌≡◌, [], option_map};
+ghost use Rattle.std.specs.Prelude.{◌≡◌, option_map};
 ghost use Rattle.acct_config.specs.Right.{IsRight};
-ghost use Rattle.acct_machine.specs.Opening.{listener_of, grant_of};
+ghost use Rattle.acct_machine.specs.Opening.{listener_of, granted_to};
 
-use crate::lists::find_conn;
 use crate::{Config, Conn, Listener, Object};
 use dtyp_access::opening;
 
@@ -14,19 +13,13 @@ fn listener_of<'a>(config: &'a Config, conn: Option<Conn>) -> Option<&'a Listene
     config.listeners.as_slice().get(conn?.listener as usize)
 }
 
-/// What the opening of an object grants a connection that asks for the desired access: what the access check gives
-/// over the descriptor of the object and the token of the connection's listener. It takes no memory.
-pub fn grant_of(
-    config: &Config,
-    conns: &[Conn],
-    conn: u32,
-    object: Object,
-    desired: u32,
-) -> Option<u32>
+/// What the opening of an object grants a connection that asks for the desired access: what the access check gives over
+/// the descriptor of the object and the token of the connection's listener. It takes no memory.
+pub fn granted(config: &Config, conn: Option<Conn>, object: Object, desired: u32) -> Option<u32>
     requires { IsRight config.now }
-    ensures { result ≡ grant_of (record { config = config.now; conns = conns.now; handles = [] }) conn object desired }
+    ensures { result ≡ granted_to config.now conn object desired }
 {
     let kind = object.kind();
-    let listener = listener_of(config, find_conn(conns, conn))?;
+    let listener = listener_of(config, conn)?;
     opening(kind, config.descriptor(kind), &listener.token, desired)
 }

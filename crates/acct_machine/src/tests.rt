@@ -1,17 +1,19 @@
-// Openings under configurations whose descriptor of the server denies before it allows, and handles.
-ghost use Rattle.std.specs.Prelude.{◌≡◌, ◌<◌, true, length, IfOk};
+// Calls of two connections: openings under configurations whose descriptor of the server denies before it allows, and
+// handles of both interfaces.
+ghost use Rattle.std.specs.Prelude.{◌≡◌, true, length, IfOk};
 ghost use Rattle.acct_config.specs.Right.{IsRight};
 ghost use Rattle.acct_machine.specs.State.{is_live};
-ghost use Rattle.acct_machine.specs.Calls.{IsCall, is_built};
+ghost use Rattle.acct_machine.specs.Calls.{IsCall};
 ghost use Rattle.acct_machine.specs.Machine.{state_of};
 
-use crate::opening::grant_of;
+use crate::checks::access_with;
+use crate::opening::granted;
 use crate::{
-    Acted, Call, Config, ConfigError, Conn, Entry, Machine, Object, Opened, Outs, Reply, Verdict,
-    read_config,
+    Access, Acted, Args, Call, Config, ConfigError, Conn, Entry, Face, Handle, Held, Machine,
+    Object, Opened, Outs, Reply, Verdict, read_config, seed_rows,
 };
-use samr_wire::laws::calls_are_spelled;
-use samr_wire::read_call;
+use acct_codes::Kind;
+use acct_rules::{Brings, Kinds};
 use std::alloc::Global;
 use std::process::Abort;
 use std::test::Fail;
@@ -60,35 +62,107 @@ fn restricted(rt: &impl Abort, alloc: Global, first: &str, second: &str) -> Resu
     Ok(configured(rt, alloc, document.as_str()))
 }
 
-/// The call that a stub spells.
-fn called(rt: &impl Abort, alloc: Global, opnum: u16, stub: &[u8]) -> Call
-    requires { is_built opnum ≡ true }
+/// A machine with connection 1 at the first listener and connection 2 at the second.
+fn started(rt: &impl Abort, alloc: Global, config: &Config) -> Result<Machine, Fail>
+    requires right { IsRight config.now }
+    requires listeners { length config.now.listeners ≡ 2 }
+    ensures first { IfOk result (λ machine. is_live 1 (state_of machine).conns ≡ true) }
+    ensures second { IfOk result (λ machine. is_live 2 (state_of machine).conns ≡ true) }
+{
+    let mut machine = Machine::new(alloc, config, seed_rows(alloc, config)?)?;
+    assert_eq!(rt; machine.open_conn(0), Opened::Conn(1));
+    assert_eq!(rt; machine.open_conn(1), Opened::Conn(2));
+    Ok(machine)
+}
+
+/// A call of each operation.
+#[derive(Clone, Copy, Debug)]
+enum Ask {
+    Connect2(u32),
+    Connect4(u32),
+    Connect5(u32),
+    OpenPolicy2 { rooted: bool, access: u32 },
+    SamrClose(u128),
+    LsarClose(u128),
+}
+
+fn connect2(access: u32) -> Call
     ensures { IsCall result }
 {
-    calls_are_spelled();
-    match read_call(alloc, opnum, stub) {
-        Ok(call) => call,
-        Err(_) => panic!(rt; "no call"),
+    Call {
+        face: Face::Samr,
+        opnum: 57,
+        handle: Handle { number: 0 },
+        args: Args::Access(access),
     }
 }
 
-/// SamrConnect2 without a server name.
-fn connect(rt: &impl Abort, alloc: Global, access: u32) -> Call
+fn connect4(access: u32) -> Call
     ensures { IsCall result }
 {
-    let access = access.to_le_bytes();
-    let stub = [0, 0, 0, 0, access[0], access[1], access[2], access[3]];
-    called(rt, alloc, 57, &stub)
+    Call {
+        face: Face::Samr,
+        opnum: 62,
+        handle: Handle { number: 0 },
+        args: Args::Access(access),
+    }
 }
 
-/// SamrCloseHandle of a connection's handle of a serial.
-fn close(rt: &impl Abort, alloc: Global, conn: u8, serial: u8) -> Call
+fn connect5(access: u32) -> Call
     ensures { IsCall result }
 {
-    let stub = [
-        0, 0, 0, 0, 0, 0, 0, 0, 0, 0, conn, 0, 0, 0, 0, 0, 0, 0, 0, serial,
-    ];
-    called(rt, alloc, 1, &stub)
+    Call {
+        face: Face::Samr,
+        opnum: 64,
+        handle: Handle { number: 0 },
+        args: Args::Access(access),
+    }
+}
+
+fn open_policy2(rooted: bool, access: u32) -> Call
+    ensures { IsCall result }
+{
+    Call {
+        face: Face::Lsa,
+        opnum: 44,
+        handle: Handle { number: 0 },
+        args: Args::Policy { rooted, access },
+    }
+}
+
+fn samr_close(number: u128) -> Call
+    ensures { IsCall result }
+{
+    Call {
+        face: Face::Samr,
+        opnum: 1,
+        handle: Handle { number },
+        args: Args::Nothing,
+    }
+}
+
+fn lsar_close(number: u128) -> Call
+    ensures { IsCall result }
+{
+    Call {
+        face: Face::Lsa,
+        opnum: 0,
+        handle: Handle { number },
+        args: Args::Nothing,
+    }
+}
+
+fn call_of(ask: Ask) -> Call
+    ensures { IsCall result }
+{
+    match ask {
+        Ask::Connect2(access) => connect2(access),
+        Ask::Connect4(access) => connect4(access),
+        Ask::Connect5(access) => connect5(access),
+        Ask::OpenPolicy2 { rooted, access } => open_policy2(rooted, access),
+        Ask::SamrClose(number) => samr_close(number),
+        Ask::LsarClose(number) => lsar_close(number),
+    }
 }
 
 /// What a call was answered.
@@ -113,176 +187,157 @@ fn answer_of(acted: &Acted) -> Answer {
     }
 }
 
-/// What connection 1 is answered.
-fn ask(machine: &mut Machine, call: Call) -> Answer
-    requires live { is_live 1 (state_of machine.old).conns ≡ true }
-    requires spelled { IsCall call }
-    ensures { is_live 1 (state_of machine.new).conns ≡ true }
-{
-    answer_of(&machine.act(1, call, 22))
-}
-
-const UNKNOWN: Answer = Answer::Fault(0x1C00001A);
-
-const DENIED: Answer = Answer::Handle(0xC0000022, 0);
-
-#[test]
-fn handles_are_opened_and_closed(rt: HostRuntime) -> Result<(), Fail> {
-    let alloc = rt.alloc();
-    let mut machine = Machine::new(alloc, configured(&rt, alloc, PLAIN));
-    assert_eq!(rt; machine.config().listeners.as_slice().len(), 2);
-    assert_eq!(rt; machine.open_conn(0), Opened::Conn(1));
-    let all = connect(&rt, alloc, 0x02000000);
-    assert_eq!(rt; ask(&mut machine, all), Answer::Handle(0, FIRST));
-    let second = connect(&rt, alloc, 0x20);
-    assert_eq!(rt; ask(&mut machine, second), Answer::Handle(0, FIRST + 1));
-    let closing = close(&rt, alloc, 1, 1);
-    assert_eq!(rt; ask(&mut machine, closing), Answer::Handle(0, 0));
-    let again = close(&rt, alloc, 1, 1);
-    assert_eq!(rt; ask(&mut machine, again), UNKNOWN);
-    let third = connect(&rt, alloc, 0x20);
-    assert_eq!(rt; ask(&mut machine, third), Answer::Handle(0, FIRST + 2));
-    machine.gone(1);
-    assert_eq!(rt; machine.history().len(), 7);
-    let history = machine.into_history();
-    assert!(rt;
-        matches!(
-            history[0],
-            Entry::Opened {
-                conn: 1,
-                listener: 0
-            }
-        )
-    );
-    assert!(rt;
-        matches!(
-            history[5],
-            Entry::Called {
-                conn: 1,
-                call: Call { opnum: 57, .. },
-                verdict: Verdict::Ran,
-                bytes: 22,
-            }
-        )
-    );
-    assert!(rt; matches!(history[6], Entry::Gone { conn: 1 }));
-    Ok(())
-}
-
-#[test]
-fn openings_are_refused(rt: HostRuntime) -> Result<(), Fail> {
-    let alloc = rt.alloc();
-    for (access, wanted) in [
-        (0x40, DENIED),
-        (0x01000000, DENIED),
-        (0x02000040, DENIED),
-        (0xF0000000, Answer::Handle(0, FIRST)),
-        (0, Answer::Handle(0, FIRST)),
-    ] {
-        let config = configured(&rt, alloc, PLAIN);
-        assert_eq!(rt; first_answer(&rt, alloc, config, 0, access), wanted);
-    }
-    Ok(())
-}
-
-/// What one of two connections is answered.
-fn ask_one(machine: &mut Machine, conn: u32, call: Call) -> Answer
-    requires live { is_live conn (state_of machine.old).conns ≡ true }
+/// What the first or the second connection is answered.
+fn answered(machine: &mut Machine, first: bool, ask: Ask) -> Answer
     requires first { is_live 1 (state_of machine.old).conns ≡ true }
     requires second { is_live 2 (state_of machine.old).conns ≡ true }
-    requires spelled { IsCall call }
     ensures first { is_live 1 (state_of machine.new).conns ≡ true }
     ensures second { is_live 2 (state_of machine.new).conns ≡ true }
 {
-    answer_of(&machine.act(conn, call, 22))
+    let call = call_of(ask);
+    if first {
+        answer_of(&machine.act(1, call, 22))
+    } else {
+        answer_of(&machine.act(2, call, 22))
+    }
 }
 
-/// Ends connection 1.
-fn end_first(machine: &mut Machine)
+/// Asks in order, each on the first or the second connection.
+fn ask_all(rt: &impl Abort, machine: &mut Machine, script: &[(bool, Ask, Answer)])
     requires first { is_live 1 (state_of machine.old).conns ≡ true }
     requires second { is_live 2 (state_of machine.old).conns ≡ true }
-    ensures { is_live 2 (state_of machine.new).conns ≡ true }
 {
-    machine.gone(1);
+    for (first, ask, wanted) in script {
+        assert_eq!(rt; answered(machine, *first, *ask), *wanted, "{ask:?}");
+    }
 }
 
-#[test]
-fn handles_belong_to_one_connection(rt: HostRuntime) -> Result<(), Fail> {
-    let alloc = rt.alloc();
-    let mut machine = Machine::new(alloc, configured(&rt, alloc, PLAIN));
-    assert_eq!(rt; machine.open_conn(0), Opened::Conn(1));
-    assert_eq!(rt; machine.open_conn(0), Opened::Conn(2));
-    let opening = connect(&rt, alloc, 0x20);
-    assert_eq!(rt; ask_one(&mut machine, 1, opening), Answer::Handle(0, FIRST));
-    let opening = connect(&rt, alloc, 0x20);
-    assert_eq!(rt;
-        ask_one(&mut machine, 2, opening),
-        Answer::Handle(0, SECOND)
-    );
-    let closing = close(&rt, alloc, 1, 1);
-    assert_eq!(rt; ask_one(&mut machine, 2, closing), UNKNOWN);
-    end_first(&mut machine);
-    let closing = close(&rt, alloc, 2, 1);
-    assert_eq!(rt;
-        answer_of(&machine.act(2, closing, 20)),
-        Answer::Handle(0, 0)
-    );
+/// What a new machine answers.
+fn told(
+    rt: &impl Abort,
+    alloc: Global,
+    config: &Config,
+    script: &[(bool, Ask, Answer)],
+) -> Result<(), Fail>
+    requires right { IsRight config.now }
+    requires listeners { length config.now.listeners ≡ 2 }
+{
+    let mut machine = started(rt, alloc, config)?;
+    ask_all(rt, &mut machine, script);
     Ok(())
 }
 
-/// The reply to the first opening of the server on the first connection, which is at a listener.
-fn first_answer(
-    rt: &impl Abort,
-    alloc: Global,
-    config: Config,
-    listener: u32,
-    access: u32,
-) -> Answer
-    requires right { IsRight config }
-    requires configured { listener < length config.listeners }
-{
-    let mut machine = Machine::new(alloc, config);
-    assert_eq!(rt; machine.open_conn(listener), Opened::Conn(1));
-    let opening = connect(rt, alloc, access);
-    ask(&mut machine, opening)
-}
+/// nca_s_fault_context_mismatch.
+const UNKNOWN: Answer = Answer::Fault(0x1C00001A);
+
+/// STATUS_ACCESS_DENIED.
+const DENIED: Answer = Answer::Handle(0xC0000022, 0);
+
+/// STATUS_INVALID_PARAMETER.
+const INVALID: Answer = Answer::Handle(0xC000000D, 0);
+
+/// STATUS_OBJECT_TYPE_MISMATCH.
+const MISMATCH: u32 = 0xC0000024;
+
+/// MAXIMUM_ALLOWED.
+const MAXIMUM: u32 = 0x02000000;
 
 /// The first handle of the first connection, and that of the second.
 const FIRST: u128 = (1 << 64) + 1;
 
 const SECOND: u128 = (2 << 64) + 1;
 
+const OPENING: Ask = Ask::OpenPolicy2 {
+    rooted: false,
+    access: 1,
+};
+
+const ROOTED: Ask = Ask::OpenPolicy2 {
+    rooted: true,
+    access: 1,
+};
+
+#[test]
+fn handles_are_opened_and_closed(rt: HostRuntime) -> Result<(), Fail> {
+    let alloc = rt.alloc();
+    let config = configured(&rt, alloc, PLAIN);
+    let script = [
+        (true, Ask::Connect2(MAXIMUM), Answer::Handle(0, FIRST)),
+        (true, Ask::Connect4(0x20), Answer::Handle(0, FIRST + 1)),
+        (true, Ask::Connect5(0x20), Answer::Handle(0, FIRST + 2)),
+        (true, Ask::SamrClose(FIRST), Answer::Handle(0, 0)),
+        (true, Ask::SamrClose(FIRST), UNKNOWN),
+        (true, Ask::Connect2(0x20), Answer::Handle(0, FIRST + 3)),
+        // A handle belongs to one connection.
+        (false, Ask::SamrClose(FIRST + 1), UNKNOWN),
+        (false, Ask::Connect2(0x20), Answer::Handle(0, SECOND)),
+        (true, Ask::SamrClose(SECOND), UNKNOWN),
+        (false, Ask::SamrClose(SECOND), Answer::Handle(0, 0)),
+        (true, Ask::SamrClose(FIRST + 1), Answer::Handle(0, 0)),
+    ];
+    told(&rt, alloc, &config, &script)
+}
+
+#[test]
+fn interfaces_are_apart(rt: HostRuntime) -> Result<(), Fail> {
+    let alloc = rt.alloc();
+    let config = configured(&rt, alloc, PLAIN);
+    let script = [
+        (true, Ask::Connect2(0x20), Answer::Handle(0, FIRST)),
+        (true, ROOTED, INVALID),
+        (true, OPENING, Answer::Handle(0, FIRST + 1)),
+        // Each interface closes handles to its own objects, and gives back another that it is sent.
+        (true, Ask::LsarClose(FIRST), Answer::Handle(MISMATCH, FIRST)),
+        (
+            true,
+            Ask::SamrClose(FIRST + 1),
+            Answer::Handle(MISMATCH, FIRST + 1),
+        ),
+        (false, Ask::LsarClose(FIRST + 1), UNKNOWN),
+        (true, Ask::LsarClose(FIRST + 1), Answer::Handle(0, 0)),
+        (true, Ask::LsarClose(FIRST + 1), UNKNOWN),
+        (true, Ask::SamrClose(FIRST), Answer::Handle(0, 0)),
+    ];
+    told(&rt, alloc, &config, &script)
+}
+
+#[test]
+fn openings_are_refused(rt: HostRuntime) -> Result<(), Fail> {
+    let alloc = rt.alloc();
+    let config = configured(&rt, alloc, PLAIN);
+    let script = [
+        (true, Ask::Connect2(0x40), DENIED),
+        (true, Ask::Connect4(0x01000000), DENIED),
+        (true, Ask::Connect5(0x02000040), DENIED),
+        (true, Ask::Connect2(0xF0000000), Answer::Handle(0, FIRST)),
+        (true, Ask::Connect2(0), Answer::Handle(0, FIRST + 1)),
+    ];
+    told(&rt, alloc, &config, &script)
+}
+
 #[test]
 fn deny_before_allow(rt: HostRuntime) -> Result<(), Fail> {
     let alloc = rt.alloc();
-    for (access, wanted) in [
-        (0x10, DENIED),
-        (0x20, Answer::Handle(0, FIRST)),
-        (0x02000000, Answer::Handle(0, FIRST)),
-        (0x02000010, DENIED),
-        (0x80000000, DENIED),
-    ] {
-        let config = restricted(&rt, alloc, DENY, ALLOW)?;
-        assert_eq!(rt; first_answer(&rt, alloc, config, 1, access), wanted);
-    }
-    Ok(())
-}
-
-#[test]
-fn others_are_not_denied(rt: HostRuntime) -> Result<(), Fail> {
-    let alloc = rt.alloc();
-    let allowed = Answer::Handle(0, FIRST);
-    // Whoever connects at the first listener is no user.
     let config = restricted(&rt, alloc, DENY, ALLOW)?;
-    assert_eq!(rt; first_answer(&rt, alloc, config, 0, 0x10), allowed);
+    let script = [
+        (false, Ask::Connect2(0x10), DENIED),
+        (false, Ask::Connect5(0x10), DENIED),
+        (false, Ask::Connect2(0x20), Answer::Handle(0, SECOND)),
+        (false, Ask::Connect2(MAXIMUM), Answer::Handle(0, SECOND + 1)),
+        (false, Ask::Connect2(0x02000010), DENIED),
+        (false, Ask::Connect2(0x80000000), DENIED),
+        // Whoever connects at the first listener is no user.
+        (true, Ask::Connect2(0x10), Answer::Handle(0, FIRST)),
+    ];
+    told(&rt, alloc, &config, &script)?;
     // With the entries exchanged, the first that speaks of the right allows it.
-    let config = restricted(&rt, alloc, ALLOW, DENY)?;
-    assert_eq!(rt; first_answer(&rt, alloc, config, 1, 0x10), allowed);
-    Ok(())
+    let exchanged = restricted(&rt, alloc, ALLOW, DENY)?;
+    let script = [(false, Ask::Connect2(0x10), Answer::Handle(0, SECOND))];
+    told(&rt, alloc, &exchanged, &script)
 }
 
-/// What an opening of the server grants connection 1 at a listener.
-fn granted(config: &Config, listener: u32, desired: u32) -> Option<u32>
+/// What an opening of the server grants a connection at a listener.
+fn granted_at(config: &Config, listener: u32, desired: u32) -> Option<u32>
     requires { IsRight config.now }
 {
     let conn = Conn {
@@ -291,20 +346,87 @@ fn granted(config: &Config, listener: u32, desired: u32) -> Option<u32>
         serial: 0,
         live: true,
     };
-    grant_of(config, &[conn], 1, Object::Server, desired)
+    granted(config, Some(conn), Object::Server, desired)
 }
 
 #[test]
 fn grants_of_openings(rt: HostRuntime) -> Result<(), Fail> {
     let alloc = rt.alloc();
     let config = restricted(&rt, alloc, DENY, ALLOW)?;
-    assert_eq!(rt; granted(&config, 1, 0x10), None);
-    assert_eq!(rt; granted(&config, 1, 0x20), Some(0x20));
-    assert_eq!(rt; granted(&config, 1, 0x02000000), Some(0x000F002F));
-    assert_eq!(rt; granted(&config, 0, 0x02000000), Some(0x000F003F));
-    let exchanged = restricted(&rt, alloc, ALLOW, DENY)?;
-    assert_eq!(rt; granted(&exchanged, 1, 0x10), Some(0x10));
-    let plain = configured(&rt, alloc, PLAIN);
-    assert_eq!(rt; granted(&plain, 1, 0x02000000), Some(0x000F003F));
+    assert_eq!(rt; granted_at(&config, 1, 0x10), None);
+    assert_eq!(rt; granted_at(&config, 1, 0x20), Some(0x20));
+    assert_eq!(rt; granted_at(&config, 1, MAXIMUM), Some(0x000F002F));
+    assert_eq!(rt; granted_at(&config, 0, MAXIMUM), Some(0x000F003F));
+    Ok(())
+}
+
+/// The check of a handle to the account domain with a grant of 0x300, by the kinds that are taken.
+fn checked(kinds: Kinds, bits: u32) -> Access {
+    let held = Held {
+        conn: 1,
+        serial: 1,
+        object: Object::Domain(0),
+        granted: 0x300,
+    };
+    access_with(Brings::Handle(kinds), bits, Some(&held))
+}
+
+#[test]
+fn handles_are_checked(rt: HostRuntime) {
+    let domain = Kinds::Only(Kind::Domain);
+    assert_eq!(rt; checked(domain, 0x200), Access::Passed);
+    assert_eq!(rt; checked(domain, 0x600), Access::Denied);
+    assert_eq!(rt; checked(Kinds::Only(Kind::User), 0x600), Access::WrongKind);
+    assert_eq!(rt; checked(Kinds::Samr, 0), Access::Passed);
+    assert_eq!(rt; checked(Kinds::Lsa, 0), Access::WrongKind);
+    assert_eq!(rt;
+        access_with(Brings::Handle(domain), 0, None),
+        Access::Unknown
+    );
+    assert_eq!(rt; access_with(Brings::Nothing, 0x200, None), Access::Passed);
+}
+
+#[test]
+fn histories_are_handed_out(rt: HostRuntime) -> Result<(), Fail> {
+    let alloc = rt.alloc();
+    let config = configured(&rt, alloc, PLAIN);
+    let mut machine = started(&rt, alloc, &config)?;
+    assert_eq!(rt; machine.config().listeners.as_slice().len(), 2);
+    assert_eq!(rt;
+        answered(&mut machine, true, OPENING),
+        Answer::Handle(0, FIRST)
+    );
+    machine.gone(1);
+    assert_eq!(rt; machine.history().len(), 4);
+    assert_eq!(rt; machine.rows().accounts().len(), 8);
+    let (opening, history, rows) = machine.into_parts();
+    assert_eq!(rt; opening.accounts().len(), 8);
+    assert_eq!(rt; rows.accounts().len(), 8);
+    assert!(rt;
+        matches!(
+            history.as_slice(),
+            [
+                Entry::Opened {
+                    conn: 1,
+                    listener: 0,
+                },
+                Entry::Opened {
+                    conn: 2,
+                    listener: 1,
+                },
+                Entry::Called {
+                    conn: 1,
+                    call: Call {
+                        face: Face::Lsa,
+                        opnum: 44,
+                        ..
+                    },
+                    verdict: Verdict::Ran,
+                    bytes: 22,
+                },
+                Entry::Gone { conn: 1 },
+            ]
+        )
+    );
     Ok(())
 }

@@ -1,4 +1,5 @@
-use Rattle.std.proofs.Common.{◌≡◌, ℕ, zero, suc, ◌<◌, Bool, true, false, cond, ◌==◌, List, [], ◌∷◌, length, Option, Some, refl, sym, ap, subst, arith}
+use Rattle.std.proofs.Common.{◌≡◌, ℕ, zero, suc, ◌<◌, Bool, true, false, cond, ◌==◌, List, [], ◌∷◌, length, Option}
+use Rattle.std.proofs.Common.{Some, refl, sym, ap, subst, arith}
 use Rattle.std.specs.List.{All, slice_get}
 use Rattle.acct_codes.specs.declared.kind.Kind.{Kind}
 use Rattle.dtyp_access.specs.declared.descriptor.Descriptor.{Descriptor}
@@ -8,12 +9,13 @@ use Rattle.acct_config.specs.declared.config.Listener.{Listener}
 use Rattle.acct_config.specs.Kinds.{kind_place}
 use Rattle.acct_config.specs.Right.{IsRight}
 use Rattle.acct_machine.specs.declared.state.Conn.{Conn}
-use Rattle.acct_machine.specs.declared.state.Object.{Object}
-use Rattle.acct_machine.specs.declared.state.Object.TheVariants.{Server}
-use Rattle.acct_machine.specs.State.{State, nothing_open, find_conn}
-use Rattle.acct_machine.specs.Opening.{kind_of, descriptor_of, listener_of, checked, grant_of}
-use Rattle.acct_machine.specs.Step.{state_after}
-use Rattle.acct_machine.specs.Sound.{IsSound}
+use Rattle.acct_rows.specs.declared.object.Object.{Object}
+use Rattle.acct_rows.specs.Objects.{kind_of}
+use Rattle.acct_codes.specs.declared.kind.Kind.TheVariants as kind
+use Rattle.acct_machine.specs.State.{State, find_conn}
+use Rattle.acct_machine.specs.Opening.{descriptor_of, listener_of, checked, grant_of}
+use Rattle.acct_machine.specs.Step.{state_at}
+use Rattle.acct_machine.specs.Sound.{AreConnected}
 use Rattle.acct_machine.specs.Decided.{IsDecided}
 use Rattle.acct_machine.proofs.laws.openings_are_decided.Goals as goal
 
@@ -24,28 +26,45 @@ there (x ∷ xs) zero lt = (x, refl)
 there (x ∷ xs) (suc i) lt = there xs i (omega (arith, lt))
 
 -- a connection that is found is at a listener of the configuration
-found-at : (here : Bool) (n : ℕ) (d c : Conn) (rest : Option Conn) → d.listener < n → (rest ≡ Some c → c.listener < n) → cond here (Some d) rest ≡ Some c → c.listener < n
+found-at : (here : Bool) (n : ℕ) (d c : Conn) (rest : Option Conn) → d.listener < n → (rest ≡ Some c → c.listener < n)
+    → cond here (Some d) rest ≡ Some c → c.listener < n
 found-at true n d c rest first later is = let same : d ≡ c = cc in subst (λ (x : Conn). x.listener < n) same first
 found-at false n d c rest first later is = later is
 
-found-configured : (conn n : ℕ) (conns : List Conn) (c : Conn) → All (λ (d : Conn). d.listener < n) conns → find_conn conn conns ≡ Some c → c.listener < n
+found-configured : (conn n : ℕ) (conns : List Conn) (c : Conn) → All (λ (d : Conn). d.listener < n) conns
+    → find_conn conn conns ≡ Some c → c.listener < n
 found-configured conn n [] c all is = cc
 found-configured conn n (d ∷ ds) c all is =
-    found-at (d.number == conn) n d c (find_conn conn ds) (all 0 d (omega arith)) (found-configured conn n ds c (λ k e lt. all (suc k) e (omega (arith, lt)))) is
+    found-at (d.number == conn) n d c (find_conn conn ds) (all 0 d (omega arith))
+    (found-configured conn n ds c (λ k e lt. all (suc k) e (omega (arith, lt)))) is
+
+place-small : (k : Kind) → kind_place k < 7
+place-small kind.Server = omega arith
+place-small kind.Domain = omega arith
+place-small kind.Group = omega arith
+place-small kind.Alias = omega arith
+place-small kind.User = omega arith
+place-small kind.Policy = omega arith
+place-small kind.Account = omega arith
 
 placed : (config : Config) (object : Object) → IsRight config → kind_place (kind_of object) < length config.descriptors
-placed config Server right = omega (arith, right.descriptor_count)
+placed config object right = omega (arith, place-small (kind_of object), right.descriptor_count)
 
-checked-at : (k : Kind) (o : Option Descriptor) (p : Option Listener) (descriptor : Descriptor) (listener : Listener) (desired : ℕ) → o ≡ Some descriptor → p ≡ Some listener
+checked-at : (k : Kind) (o : Option Descriptor) (p : Option Listener) (descriptor : Descriptor) (listener : Listener)
+    (desired : ℕ)
+    → o ≡ Some descriptor → p ≡ Some listener
     → checked k o p desired ≡ opened k descriptor listener.token desired
 checked-at k o p descriptor listener desired of at = rw of (rw at refl)
 
-decided : (config : Config) (s : State) (conn : ℕ) (object : Object) (c : Conn) → IsRight config → IsSound config s → find_conn conn s.conns ≡ Some c
+decided : (config : Config) (s : State) (conn : ℕ) (object : Object) (c : Conn) → IsRight config → AreConnected config s
+    → find_conn conn s.conns ≡ Some c
     → IsDecided config s conn object c
 decided config s conn object c right sound found =
     let d = there config.descriptors (kind_place (kind_of object)) (placed config object right) in
-    let l = there config.listeners c.listener (found-configured conn (length config.listeners) s.conns c sound.configured found) in
-    let of : descriptor_of s.config (kind_of object) ≡ Some d.0 = subst (λ (x : Config). descriptor_of x (kind_of object) ≡ Some d.0) (sym sound.configuration) d.1 in
+    let l = there config.listeners c.listener
+    (found-configured conn (length config.listeners) s.conns c sound.configured found) in
+    let of : descriptor_of s.config (kind_of object) ≡ Some d.0 =
+    subst (λ (x : Config). descriptor_of x (kind_of object) ≡ Some d.0) (sym sound.configuration) d.1 in
     let at : listener_of s.config (find_conn conn s.conns) ≡ Some l.0 =
     rw found (subst (λ (x : Config). slice_get x.listeners c.listener ≡ Some l.0) (sym sound.configuration) l.1) in
     record {
@@ -53,9 +72,11 @@ decided config s conn object c right sound found =
       listener = l.0;
       configured = d.1;
       connected = l.1;
-      grants = λ desired. checked-at (kind_of object) (descriptor_of s.config (kind_of object)) (listener_of s.config (find_conn conn s.conns)) d.0 l.0 desired of at;
+      grants = λ desired. checked-at (kind_of object) (descriptor_of s.config (kind_of object))
+          (listener_of s.config (find_conn conn s.conns)) d.0 l.0 desired of at;
     }
 
 pub returns : goal.returns
-returns c = λ config history conn object d right legal found.
-    decided config (state_after (nothing_open config) history) conn object d right (c.kept_states_are_sound.ensures config history legal) found
+returns c = λ start history conn object d right legal found.
+    decided start.config (state_at start history) conn object d right
+    (c.connections_are_numbered.ensures.state start history legal) found

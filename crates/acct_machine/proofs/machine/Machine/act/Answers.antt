@@ -1,60 +1,148 @@
-use Rattle.std.proofs.Common.{◌≡◌, ◌+◌, ◌≤◌, List, [], ◌∷◌, ◌++◌, true, sym, ◌∙◌, ap, subst, arith, length}
+use Rattle.std.proofs.Common.{◌≡◌, ℕ, ◌+◌, ◌^◌, ◌<◌, ◌≤◌, List, [], ◌∷◌, ◌++◌, true, sym, ◌∙◌, ap, subst, arith, length}
 use Rattle.std.specs.Vec.{vec_capacity}
 use Rattle.std.proofs.lemmas.Grind.{common_steps}
+use Rattle.acct_calls.specs.declared.calls.Call.{Call}
 use Rattle.acct_calls.specs.declared.replies.Reply.{Reply}
+use Rattle.acct_rows.specs.Rows.{Lists, HasRoom}
+use Rattle.acct_machine.specs.declared.entry.Verdict.{Verdict}
 use Rattle.acct_machine.specs.declared.entry.Entry.{Entry}
 use Rattle.acct_machine.specs.declared.entry.Entry.TheVariants.{Called}
-use Rattle.acct_machine.specs.State.{State, nothing_open, is_live}
-use Rattle.acct_machine.specs.Step.{acted, state_after}
-use Rattle.acct_machine.specs.Legal.{MayHave}
-use Rattle.acct_machine.specs.Shown.{Shown, live_count}
-use Rattle.acct_machine.specs.Machine.{state_of, SameLive, OneMoreCall}
-use Rattle.acct_machine.proofs.Kept.{IsKept-push, last_serial-le, same_live-acted, live_count-acted, same_live-push, one_more_call}
+use Rattle.acct_machine.specs.State.{State, Start, is_live, last_serial}
+use Rattle.acct_machine.proofs.Serials.{serial-at}
+use Rattle.acct_machine.specs.Step.{acted, state_at}
+use Rattle.acct_machine.specs.Calls.{IsCall}
+use Rattle.acct_machine.specs.Legal.{MayHave, May}
+use Rattle.acct_machine.specs.Shapes.{IsAnswer}
+use Rattle.acct_machine.specs.Shown.{Shown, IsKept, begins, live_count}
+use Rattle.acct_machine.specs.Machine.{state_of, with_entry, SameLive, OneMoreCall}
+use Rattle.acct_machine.proofs.Lives.{same_live-acted, live_count-acted}
+use Rattle.acct_machine.proofs.Kept.{may-called, shown, same_live-push, one_more_call, shown-more, kept-more}
+use Rattle.acct_machine.proofs.Kept.{state-shown}
 use Rattle.acct_machine.proofs.machine.Machine.act.Goals as goal
 
 pub run-verdict-requires : goal.run-verdict-requires
-run-verdict-requires c = record {
-  right = c.self.invariant.right;
-  fits = omega (arith, last_serial-le c.args.conn (length c.self.inside.history.items) c.self.inside.conns.items c.self.invariant.serials);
-}
+run-verdict-requires c =
+    let start : Start = begins c.self.inside.store c.self.inside.opening.lists in
+    let history : List Entry = c.self.inside.history.items in
+    let serial : last_serial c.args.conn c.self.inside.store.conns ≤ length history =
+    subst (λ (x : State). last_serial c.args.conn x.conns ≤ length history) c.self.invariant.state
+    (serial-at start history c.args.conn) in
+    omega (arith, serial)
+
+-- the call may come after the history
+may-be-entered : (old : Shown) (s : State) (rows : Lists) (history : List Entry) (live capacity conn bytes : ℕ)
+    (call : Call) (verdict : Verdict)
+    → shown s rows history ≡ old → IsKept (begins s rows) history s live capacity
+    → is_live conn (state_of old).conns ≡ true → IsCall call
+    → bytes < 2 ^ 32 → MayHave s conn call verdict → May (begins s rows) history (Called conn call verdict bytes)
+may-be-entered old s rows history live capacity conn bytes call verdict view kept alive spelled small may =
+    let inside : is_live conn s.conns ≡ true =
+    subst (λ (x : State). is_live conn x.conns ≡ true) (state-shown old s rows history live capacity view kept) alive in
+    may-called (begins s rows) history s conn call verdict bytes kept.state inside spelled small may
 
 pub invariant_of-self-2 : goal.invariant_of-self-2
 invariant_of-self-2 c =
     let verdict = c.run-verdict.result.0 in
-    let e = Called c.args.conn c.args.call verdict c.args.bytes in
-    let old : State = record { config = c.self.inside.config; conns = c.self.inside.conns.items; handles = c.self.inside.handles.items } in
-    let new : State = record { config = c.self.inside.config; conns = c.run-verdict.new.conns.items; handles = c.run-verdict.new.handles.items } in
-    let history : c.push.new.self.items ≡ c.self.inside.history.items ++ e ∷ [] = grind (arith, common_steps) in
-    let live : is_live c.args.conn (state_after (nothing_open c.self.inside.config) c.self.inside.history.items).conns ≡ true =
-    subst (λ (m : Shown). is_live c.args.conn (state_of m).conns ≡ true) (sym c.self.view_is) c.requires.live in
-    let may : MayHave (state_after (nothing_open c.self.inside.config) c.self.inside.history.items) c.args.conn c.args.call verdict =
-    subst (λ (s : State). MayHave s c.args.conn c.args.call verdict) (sym c.self.invariant.state) c.run-verdict.ensures.verdict in
-    let counts : live_count c.run-verdict.new.conns.items ≡ live_count c.self.inside.conns.items =
-    ap (λ (s : State). live_count s.conns) c.run-verdict.ensures.state ∙ live_count-acted old c.args.conn c.args.call verdict in
-    let lengths : length c.run-verdict.new.conns.items ≡ length c.self.inside.conns.items =
-    ap (λ (s : State). length s.conns) c.run-verdict.ensures.state ∙ (same_live-acted old c.args.conn c.args.call verdict).count in
-    let counted : live_count c.run-verdict.new.conns.items ≤ c.self.inside.live = omega (arith, counts, c.self.invariant.counted) in
-    let bounded : c.self.inside.live ≤ length c.run-verdict.new.conns.items = omega (arith, lengths, c.self.invariant.bounded) in
-    let room : length c.self.inside.history.items + 1 + c.self.inside.live ≤ vec_capacity c.push.new.self = grind (arith, common_steps) in
-    rw history (IsKept-push c.self.inside.config c.self.inside.history.items c.self.inside.conns.items c.self.inside.handles.items c.self.inside.live _ e _ _ c.self.inside.live _ c.self.invariant (live, c.requires.spelled, c.ranges.bytes.fits, may) (sym c.run-verdict.ensures.state) counted bounded room)
+    let s : State = c.self.inside.store in
+    let new : State = c.run-verdict.new.self in
+    let history : c.push.new.self.items ≡ c.self.inside.history.items ++ Called c.args.conn c.args.call verdict
+    c.args.bytes ∷ [] =
+    grind (arith, common_steps) in
+    let may = may-be-entered c.args.self.now s c.self.inside.opening.lists c.self.inside.history.items _ _ c.args.conn
+    c.args.bytes c.args.call
+    verdict c.self.view_is c.self.invariant c.requires.live c.requires.spelled c.ranges.bytes.fits
+    c.run-verdict.ensures.verdict in
+    let counts : live_count new.conns ≡ live_count s.conns =
+    ap (λ (x : State). live_count x.conns) c.run-verdict.ensures.state ∙ live_count-acted s c.args.conn c.args.call
+    verdict in
+    let lengths : length new.conns ≡ length s.conns =
+    ap (λ (x : State). length x.conns) c.run-verdict.ensures.state
+    ∙ (same_live-acted s c.args.conn c.args.call verdict).count in
+    let counted : live_count new.conns ≤ c.self.inside.live = omega (arith, counts, c.self.invariant.counted) in
+    let bounded : c.self.inside.live ≤ length new.conns = omega (arith, lengths, c.self.invariant.bounded) in
+    let room : length c.self.inside.history.items + 1 + c.self.inside.live ≤ vec_capacity c.push.new.self =
+    grind (arith, common_steps) in
+    kept-more s new c.self.inside.opening.lists c.self.inside.history.items _ _ _ _ _ _ c.self.invariant may
+    c.run-verdict.ensures.state history
+    counted bounded room
+
+-- with room for more rows there is room for none
+room-less : (lists : Lists) (more : ℕ) → HasRoom lists more → HasRoom lists 0
+room-less lists more room = record {
+  domains = omega (arith, room.domains);
+  accounts = omega (arith, room.accounts);
+  members = omega (arith, room.members);
+  aliases = omega (arith, room.aliases);
+  lsa = omega (arith, room.lsa);
+}
+
+pub returns-clause-shaped : goal.returns-clause-shaped
+returns-clause-shaped c =
+    let verdict = c.run-verdict.result.0 in
+    let s : State = c.self.inside.store in
+    let start : Start = begins s c.self.inside.opening.lists in
+    let entries : List Entry = c.self.inside.history.items in
+    let may : May start entries (Called c.args.conn c.args.call verdict c.args.bytes) =
+    may-be-entered c.args.self.now s c.self.inside.opening.lists entries _ _ c.args.conn c.args.bytes c.args.call
+    verdict c.self.view_is c.self.invariant c.requires.live c.requires.spelled c.ranges.bytes.fits
+    c.run-verdict.ensures.verdict in
+    let here : HasRoom s.rows 0 =
+    subst (λ (lists : Lists). HasRoom lists 0) c.rows.ensures
+    (room-less c.rows.result.now.lists c.rows.result.now.spare c.has_few_rows.ensures) in
+    let few : HasRoom (state_at start entries).rows 0 =
+    subst (λ (x : State). HasRoom x.rows 0) (sym c.self.invariant.state) here in
+    let short : length entries < 2 ^ 64 = omega arith in
+    let answer : IsAnswer c.args.call (acted (state_at start entries) c.args.conn c.args.call verdict).1 =
+    c.replies_are_shaped.ensures start entries c.args.conn c.args.call verdict c.args.bytes c.self.invariant.rows
+    c.self.invariant.legal may short few in
+    let reply : (acted (state_at start entries) c.args.conn c.args.call verdict).1 ≡ c.run-verdict.result.1 =
+    ap (λ (x : State). (acted x c.args.conn c.args.call verdict).1) c.self.invariant.state ∙ sym
+    c.run-verdict.ensures.reply in
+    subst (λ (r : Reply). IsAnswer c.args.call r) reply answer
+
+pub returns-clause-acts : goal.returns-clause-acts
+returns-clause-acts c =
+    let verdict = c.run-verdict.result.0 in
+    let s : State = c.self.inside.store in
+    let history : c.push.new.self.items ≡ c.self.inside.history.items ++ Called c.args.conn c.args.call verdict
+    c.args.bytes ∷ [] = grind (arith, common_steps) in
+    let is_here : state_of c.args.self.now ≡ s =
+    state-shown c.args.self.now s c.self.inside.opening.lists c.self.inside.history.items _ _ c.self.view_is
+    c.self.invariant in (
+      verdict,
+      sym (shown-more c.args.self.now s c.run-verdict.new.self c.self.inside.opening.lists _ _ _ c.self.view_is
+          c.run-verdict.ensures.state history),
+      c.run-verdict.ensures.reply ∙ ap (λ (x : State). (acted x c.args.conn c.args.call verdict).1) (sym is_here),
+    )
 
 pub returns-clause-live : goal.returns-clause-live
 returns-clause-live c =
     let verdict = c.run-verdict.result.0 in
-    let history : c.push.new.self.items ≡ c.self.inside.history.items ++ Called c.args.conn c.args.call verdict c.args.bytes ∷ [] = grind (arith, common_steps) in
-    subst (λ (m : Shown). SameLive (state_of m) (state_after (nothing_open c.self.inside.config) c.push.new.self.items)) c.self.view_is
-    (rw history (same_live-push c.self.inside.config c.self.inside.history.items c.args.conn c.args.call verdict c.args.bytes))
+    let history : c.push.new.self.items ≡ c.self.inside.history.items ++ Called c.args.conn c.args.call verdict
+    c.args.bytes ∷ [] = grind (arith, common_steps) in
+    subst (λ (m : Shown). SameLive (state_of c.args.self.now) (state_of m))
+    (shown-more c.args.self.now c.self.inside.store c.run-verdict.new.self c.self.inside.opening.lists _ _ _
+    c.self.view_is c.run-verdict.ensures.state history)
+    (same_live-push c.args.self.now.start c.args.self.now.history c.args.conn c.args.call verdict c.args.bytes)
 
 pub returns-clause-calls : goal.returns-clause-calls
 returns-clause-calls c =
     let verdict = c.run-verdict.result.0 in
-    let history : c.push.new.self.items ≡ c.self.inside.history.items ++ Called c.args.conn c.args.call verdict c.args.bytes ∷ [] = grind (arith, common_steps) in
-    let new : List Entry → Shown = λ es. record { config = c.self.inside.config; history = es } in
-    let reply : (acted (state_after (nothing_open c.self.inside.config) c.self.inside.history.items) c.args.conn c.args.call verdict).1 ≡ c.run-verdict.result.1 =
-    ap (λ (s : State). (acted s c.args.conn c.args.call verdict).1) c.self.invariant.state ∙ sym c.run-verdict.ensures.reply in
-    subst (λ (m : Shown). OneMoreCall m (new c.push.new.self.items) c.args.conn c.args.call c.args.bytes c.run-verdict.result.1) c.self.view_is
-    (rw history (subst (λ (r : Reply). OneMoreCall (new c.self.inside.history.items) (new (c.self.inside.history.items ++ Called c.args.conn c.args.call verdict c.args.bytes ∷ [])) c.args.conn c.args.call c.args.bytes r) reply
-    (one_more_call c.self.inside.config c.self.inside.history.items c.args.conn c.args.call verdict c.args.bytes)))
+    let s : State = c.self.inside.store in
+    let history : c.push.new.self.items ≡ c.self.inside.history.items ++ Called c.args.conn c.args.call verdict
+    c.args.bytes ∷ [] = grind (arith, common_steps) in
+    let is_here : state_of c.args.self.now ≡ s =
+    state-shown c.args.self.now s c.self.inside.opening.lists c.self.inside.history.items _ _ c.self.view_is
+    c.self.invariant in
+    let reply : (acted (state_of c.args.self.now) c.args.conn c.args.call verdict).1 ≡ c.run-verdict.result.1 =
+    ap (λ (x : State). (acted x c.args.conn c.args.call verdict).1) is_here ∙ sym c.run-verdict.ensures.reply in
+    subst (λ (m : Shown). OneMoreCall c.args.self.now m c.args.conn c.args.call c.args.bytes c.run-verdict.result.1)
+    (shown-more c.args.self.now s c.run-verdict.new.self c.self.inside.opening.lists _ _ _ c.self.view_is
+    c.run-verdict.ensures.state history)
+    (subst (λ (r : Reply). OneMoreCall c.args.self.now
+    (with_entry c.args.self.now (Called c.args.conn c.args.call verdict c.args.bytes)) c.args.conn c.args.call
+    c.args.bytes r) reply
+    (one_more_call c.args.self.now.start c.args.self.now.history c.args.conn c.args.call verdict c.args.bytes))
 
 pub returns-clause-legal : goal.returns-clause-legal
 returns-clause-legal c = (invariant_of-self-2 c).legal

@@ -1,0 +1,7 @@
+use Rattle.std.proofs.Common.{◌≡◌, true}
+use Rattle.acct_machine.specs.State.{is_live}
+use Rattle.acct_machine.specs.Machine.{state_of}
+use Rattle.acct_machine.proofs.tests.ask_all.Given as goal
+
+abbrev pub invariant-loop-first : goal.invariant-loop-first
+invariant-loop-first g l = (is_live 1 (state_of l.machine).conns ≡ true) × (is_live 2 (state_of l.machine).conns ≡ true)

@@ -1,0 +1,41 @@
+-- What the entries of other connections leave as it was, and which connections entries have.
+use Rattle.std.specs.Prelude.{◌≡◌, ◌≢◌, ℕ, ◌≤◌, List, [], ◌∷◌, ◌++◌, length, ⊤, All}
+use Rattle.acct_machine.specs.declared.entry.Entry.{Entry}
+use Rattle.acct_machine.specs.declared.entry.Entry.TheVariants.{Opened, Called, Gone}
+use Rattle.acct_machine.specs.State.{State, Start, is_live}
+use Rattle.acct_machine.specs.Step.{state_at}
+use Rattle.acct_machine.specs.Legal.{Legal, calls_of, replies}
+
+-- the connection of an entry
+abbrev pub conn_of : Entry → ℕ
+conn_of (Opened conn listener) = conn
+conn_of (Called conn call verdict bytes) = conn
+conn_of (Gone conn) = conn
+
+-- no entry is of the connection
+abbrev pub AreOfOthers : ℕ → List Entry → Type 0
+AreOfOthers k [] = ⊤
+AreOfOthers k (e ∷ es) = (conn_of e ≢ k) × AreOfOthers k es
+
+-- The history went on, and whatever is said of the connection is as it was.
+pub record Passes (start : Start) (k : ℕ) (before after : List Entry) : Type 0 where
+  pub calls : calls_of k after ≡ calls_of k before
+  pub replies : replies start k after ≡ replies start k before
+  pub live : is_live k (state_at start after).conns ≡ is_live k (state_at start before).conns
+
+-- entries of other connections change nothing that is said of a connection
+abbrev pub OthersChangeNothing : Type 0
+OthersChangeNothing =
+    (start : Start) (k : ℕ) (before rest : List Entry) → AreOfOthers k rest → Passes start k before (before ++ rest)
+
+-- each entry of a legal history is of one of its connections, which are numbered from 1
+abbrev pub EntriesAreNumbered : Type 0
+EntriesAreNumbered =
+    (start : Start) (history : List Entry) → Legal start history
+    → All (λ (e : Entry). (1 ≤ conn_of e) × (conn_of e ≤ length (state_at start history).conns)) history
+
+-- each connection is opened once: every entry before its opening is of another
+abbrev pub OpenedOnce : Type 0
+OpenedOnce =
+    (start : Start) (k listener : ℕ) (before after : List Entry) → Legal start (before ++ Opened k listener ∷ after)
+    → AreOfOthers k before
