@@ -1,0 +1,16 @@
+use Rattle.std.proofs.Common.{◌≤◌, ◌-◌, vec_len}
+use Rattle.std.specs.Io.KnownBytes.{Consumes}
+use Rattle.acct_streams.specs.Whole.{most_bytes}
+use Rattle.acct_streams.proofs.whole.read_whole.Given as goal
+
+abbrev pub invariant-loop-whole : goal.invariant-loop-whole
+invariant-loop-whole g l =
+    let s = g.S.Source in
+    record {
+      bytes : Consumes (s.left l.initial.source) (s.left l.source) l.whole.items;
+      within : vec_len l.whole ≤ most_bytes;
+      later : s.faults l.initial.source ≤ s.faults l.source;
+    }
+
+abbrev pub decreases-loop-whole : goal.decreases-loop-whole
+decreases-loop-whole g l = most_bytes - vec_len l.whole

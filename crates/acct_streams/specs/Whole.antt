@@ -1,0 +1,21 @@
+-- What reading a source to its end gives.
+use Rattle.std.specs.Prelude.{◌≡◌, ℕ, ◌<◌, ◌≤◌, List, length, IfSome}
+use Rattle.std.specs.declared.option.Option.{Option}
+use Rattle.acct_streams.specs.declared.whole.WholeError.{WholeError}
+use Rattle.acct_streams.specs.declared.whole.WholeError.TheVariants.{Fault, TooLong, Memory}
+use Rattle.acct_streams.specs.Causes.{Rose}
+
+-- how many bytes a configuration or an event file may have
+abbrev pub most_bytes : ℕ
+most_bytes = 1048576
+
+-- why a source wasn't read to its end
+abbrev pub WholeCause : Option (List ℕ) → ℕ → ℕ → WholeError → Type 0
+WholeCause left before now Fault = Rose before now
+WholeCause left before now TooLong = IfSome left (λ bytes. most_bytes < length bytes)
+WholeCause left before now Memory = Unit {0}
+
+-- all the bytes that were left, and no more than a source may have
+pub record IsWhole (left : Option (List ℕ)) (whole : List ℕ) : Type 0 where
+  pub within : length whole ≤ most_bytes
+  pub all : IfSome left (λ bytes. whole ≡ bytes)
