@@ -3,8 +3,8 @@ use Rattle.std.proofs.Common.{◌≡◌, ℕ, zero, suc, ◌+◌, ◌<◌, ◌�
 use Rattle.std.proofs.lemmas.List.{map-append}
 use Rattle.acct_machine.specs.declared.entry.Entry.{Entry}
 use Rattle.acct_machine.specs.declared.entry.Entry.TheVariants.{Gone}
-use Rattle.acct_server.specs.declared.peers.Peer.{Peer}
-use Rattle.acct_server.specs.declared.peers.Peer.TheVariants.{Ended}
+use Rattle.acct_server.specs.declared.connections.Peer.{Peer}
+use Rattle.acct_server.specs.declared.connections.Peer.TheVariants.{Ended}
 use Rattle.acct_server.specs.Replayed.{number_of, served_from, peer_of, with_peer}
 
 first_open : (i n : ℕ) (peers : List Peer) → i < length peers → served_from n (drop i peers) ≡ number_of n (slice_get peers i) ++ served_from (n + 1) (drop (suc i) peers)

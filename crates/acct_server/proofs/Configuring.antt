@@ -1,9 +1,8 @@
 -- A replay under the configuration that its document spells.
-use Rattle.std.proofs.Common.{◌≡◌, ℕ, ◌<◌, ◌≤◌, ◌⊎◌, inl, inr, Bool, true, false, cond, List, length, Option, Some, None, refl, sym, ◌∙◌, ap, subst, arith, IfSome}
+use Rattle.std.proofs.Common.{◌≡◌, ℕ, ◌<◌, ◌≤◌, inl, inr, Bool, true, false, cond, List, [], length, Option, Some, None, refl, sym, ◌∙◌, ap, subst, arith, IfSome}
 use Rattle.std.proofs.lemmas.Bool.Decides.{nat_tests}
 use Rattle.std.specs.Prelude.{nat_lt}
 use Rattle.acct_config.specs.declared.config.Config.{Config}
-use Rattle.acct_config.specs.Right.{IsRight}
 use Rattle.acct_config.specs.declared.errors.ConfigError.{ConfigError}
 use Rattle.acct_config.specs.declared.errors.ConfigError.TheVariants as refusal
 use Rattle.acct_config.specs.Errors.{IsFirst}
@@ -13,30 +12,20 @@ use Rattle.acct_config.specs.Words.{is_within}
 use Rattle.acct_machine.specs.declared.entry.Entry.{Entry}
 use Rattle.acct_server.specs.declared.status.Status.{Status}
 use Rattle.acct_server.specs.declared.status.Status.TheVariants.{Done, NoMemory, Usage, Config as ConfigBroken, ReadFault, WriteFault, EventLine, InputTooLong}
-use Rattle.acct_server.specs.declared.whole.WholeError.{WholeError}
-use Rattle.acct_server.specs.declared.whole.WholeError.TheVariants.{Fault, TooLong, Memory}
-use Rattle.acct_server.specs.Causes.{Rose, NotRisen}
-use Rattle.acct_server.specs.Whole.{most_bytes, WholeCause}
-use Rattle.acct_server.specs.Configured.{BreaksNone, IsConfigured, Under, refused_status}
-use Rattle.acct_server.specs.Leaves.{IsRunThrough, IsRun, IsOfReplay, IsOfRun, Unread, unread_status, unless_broken, asked_status, IsAsked}
+use Rattle.acct_streams.specs.declared.whole.WholeError.{WholeError}
+use Rattle.acct_streams.specs.declared.whole.WholeError.TheVariants.{Fault, TooLong, Memory}
+use Rattle.acct_streams.specs.Causes.{Rose, NotRisen}
+use Rattle.acct_streams.specs.Whole.{most_bytes, WholeCause, IsWhole}
+use Rattle.acct_server.specs.Begun.{begun}
+use Rattle.acct_server.specs.Configured.{BreaksNone, IsConfigured, refused_status}
+use Rattle.acct_server.specs.Leaves.{IsRunThrough, IsOfRun, ConfigCause, EventsCause, unread_status, unless_broken, asked_status, IsAsked}
+use Rattle.acct_server.specs.Replaying.{Telling, Parts, RunsLines, HasRunLines, IsReplay}
 use Rattle.acct_server.specs.Replayed.{replayed}
 
--- what holds under the configuration of a run holds under the one that the document spells
-pub under : (left : Option (List ℕ)) (config : Config) (P : Config → Type 0) → IsConfigured left config → P config → Under left P
-under None config P configured p = (config, configured.right, p)
-under (Some document) config P configured p = subst P configured.told.value p
-
+-- a configuration that is taken breaks no rule
 pub breaks_none : (left : Option (List ℕ)) (config : Config) → IsConfigured left config → BreaksNone left
 breaks_none None config configured = tt
 breaks_none (Some document) config configured = configured.told.kept_all
-
--- a fact of a run, by the bytes that were read and the history that was handed out
-pub carried : (P : Config → List ℕ → List Entry → Type 0) (built config : Config) (left : Option (List ℕ)) (bytes given : List ℕ) (history handed : List Entry)
-    → P built given history → built ≡ config → given ≡ bytes → IfSome left (λ told. bytes ≡ told) → handed ≡ history → IfSome left (λ told. P config told handed)
-carried P built config None bytes given history handed fact configured same is hands = tt
-carried P built config (Some told) bytes given history handed fact configured same is hands =
-    subst (λ (c : Config). P c told handed) configured
-    (subst (λ (bs : List ℕ). P built bs handed) (same ∙ is) (subst (λ (h : List Entry). P built given h) (sym hands) fact))
 
 -- so many listeners as a right configuration may have
 pub few_listeners : (n : ℕ) → is_within 1 16 n ≡ true → n ≤ 16
@@ -54,14 +43,14 @@ asked-by : (l : Bool) (o : Option ℕ) (m : Bool) (status : Status) → l ≡ fa
 asked-by l o m status short kept few = rw short (rw kept (rw few refl))
 
 asked-through : (document bytes : List ℕ) (history : List Entry) (config : Config) (status : Status) → length document ≤ most_bytes → IsSpelledBy document config → length bytes ≤ most_bytes
-    → status ≡ (replayed config bytes history).status → status ≡ asked_status document bytes history
+    → status ≡ (replayed (begun config) bytes history).status → status ≡ asked_status document bytes history
 asked-through document bytes history config status short spells few ends =
     ends
-    ∙ ap (λ (c : Config). (replayed c bytes history).status) spells.value
+    ∙ ap (λ (c : Config). (replayed (begun c) bytes history).status) spells.value
     ∙ sym (asked-by (nat_lt most_bytes (length document)) (first_broken document) (nat_lt most_bytes (length bytes)) _ (not_long document short) spells.kept_all (not_long bytes few))
 
 asked-run : (document bytes : List ℕ) (history : List Entry) (config : Config) (status : Status) → length document ≤ most_bytes → IsSpelledBy document config → length bytes ≤ most_bytes
-    → IsOfRun status → (status ≡ WriteFault → ⊥) → (IsRunThrough status → status ≡ (replayed config bytes history).status) → IsAsked document bytes history status
+    → IsOfRun status → (status ≡ WriteFault → ⊥) → (IsRunThrough status → status ≡ (replayed (begun config) bytes history).status) → IsAsked document bytes history status
 asked-run document bytes history config Done short spells few of_run none through = inl (asked-through document bytes history config Done short spells few (through tt))
 asked-run document bytes history config NoMemory short spells few of_run none through = inr refl
 asked-run document bytes history config Usage short spells few of_run none through = absurd of_run
@@ -70,21 +59,6 @@ asked-run document bytes history config ReadFault short spells few of_run none t
 asked-run document bytes history config WriteFault short spells few of_run none through = absurd (none refl)
 asked-run document bytes history config (EventLine n) short spells few of_run none through = inl (asked-through document bytes history config (EventLine n) short spells few (through tt))
 asked-run document bytes history config InputTooLong short spells few of_run none through = absurd of_run
-
--- a run asks for its status, where the sources tell
-pub run-asked : (left events : Option (List ℕ)) (config built : Config) (whole given : List ℕ) (history handed : List Entry) (status : Status) → IsConfigured left config
-    → IfSome left (λ document. length document ≤ most_bytes) → length whole ≤ most_bytes → IfSome events (λ told. whole ≡ told) → given ≡ whole → built ≡ config → handed ≡ history
-    → IsOfRun status → (status ≡ WriteFault → ⊥) → (IsRunThrough status → status ≡ (replayed built given history).status)
-    → IfSome left (λ document. IfSome events (λ bytes. IsAsked document bytes handed status))
-run-asked None events config built whole given history handed status configured short few all same built_is hands of_run none through = tt
-run-asked (Some document) None config built whole given history handed status configured short few all same built_is hands of_run none through = tt
-run-asked (Some document) (Some bytes) config built whole given history handed status configured short few all same built_is hands of_run none through =
-    asked-run document bytes handed config status short configured.told (subst (λ (bs : List ℕ). length bs ≤ most_bytes) all few) of_run none
-    (λ ran.
-    through ran
-    ∙ ap (λ (c : Config). (replayed c given history).status) built_is
-    ∙ ap (λ (bs : List ℕ). (replayed config bs history).status) (same ∙ all)
-    ∙ ap (λ (h : List Entry). (replayed config bytes h).status) (sym hands))
 
 -- ---- what was read of the sources
 
@@ -97,25 +71,25 @@ pub told-short : (left : Option (List ℕ)) (whole : List ℕ) → IfSome left (
 told-short None whole is few = tt
 told-short (Some document) whole is few = subst (λ (bs : List ℕ). length bs ≤ most_bytes) is few
 
--- why the lines aren't run
-pub unread-whole : (left events : Option (List ℕ)) (before now earlier later : ℕ) (e : WholeError) → WholeCause left before now e → Unread left events before now earlier later (unread_status e)
-unread-whole left events before now earlier later Fault cause = inl cause
-unread-whole left events before now earlier later TooLong cause = inl cause
-unread-whole left events before now earlier later Memory cause = tt
+-- why the configuration isn't taken, or the events aren't
+pub config-whole : (left : Option (List ℕ)) (before now : ℕ) (e : WholeError) → WholeCause left before now e → ConfigCause left before now (unread_status e)
+config-whole left before now Fault cause = cause
+config-whole left before now TooLong cause = cause
+config-whole left before now Memory cause = tt
 
-pub unread-rule : (left events : Option (List ℕ)) (before now earlier later : ℕ) (whole given : List ℕ) (error : ConfigError) → IfSome left (λ bytes. whole ≡ bytes) → length whole ≤ most_bytes → given ≡ whole
-    → IsFirst (first_broken given) error → Unread left events before now earlier later (refused_status error)
-unread-rule None events before now earlier later whole given (refusal.Rule n) is few same first = tt
-unread-rule (Some document) events before now earlier later whole given (refusal.Rule n) is few same first =
+pub events-whole : (left : Option (List ℕ)) (before now : ℕ) (e : WholeError) → WholeCause left before now e → EventsCause left before now (unread_status e)
+events-whole left before now Fault cause = cause
+events-whole left before now TooLong cause = cause
+events-whole left before now Memory cause = tt
+
+pub config-rule : (left : Option (List ℕ)) (before now : ℕ) (whole given : List ℕ) (error : ConfigError) → IfSome left (λ bytes. whole ≡ bytes) → length whole ≤ most_bytes → given ≡ whole
+    → IsFirst (first_broken given) error → ConfigCause left before now (refused_status error)
+config-rule None before now whole given (refusal.Rule n) is few same first = tt
+config-rule (Some document) before now whole given (refusal.Rule n) is few same first =
     (subst (λ (bs : List ℕ). first_broken bs ≡ Some n) (same ∙ is) first, subst (λ (bs : List ℕ). length bs ≤ most_bytes) is few)
-unread-rule left events before now earlier later whole given refusal.Memory is few same first = tt
+config-rule left before now whole given refusal.Memory is few same first = tt
 
-pub unread-events : (left events : Option (List ℕ)) (before now earlier later : ℕ) (e : WholeError) → BreaksNone left → WholeCause events earlier later e → Unread left events before now earlier later (unread_status e)
-unread-events left events before now earlier later Fault none cause = inr (none, cause)
-unread-events left events before now earlier later TooLong none cause = inr (none, cause)
-unread-events left events before now earlier later Memory none cause = tt
-
--- ---- where they aren't run, the status is the one that is asked for
+-- ---- where no count rose, the status is the one that is asked for
 
 not_risen : (before now : ℕ) → NotRisen before now → Rose before now → ⊥
 not_risen before now still rose = omega (arith, still.0, still.1, rose)
@@ -130,56 +104,85 @@ asked-first l o status is = rw is refl
 asked-rule : (l : Bool) (o : Option ℕ) (n : ℕ) (status : Status) → l ≡ false → o ≡ Some n → cond l InputTooLong (unless_broken o status) ≡ ConfigBroken n
 asked-rule l o n status short broken = rw short (rw broken refl)
 
-asked-unread : (document bytes : List ℕ) (before now earlier later : ℕ) (history : List Entry) (status : Status) → Unread (Some document) (Some bytes) before now earlier later status
-    → NotRisen before now → NotRisen earlier later → IsAsked document bytes history status
-asked-unread document bytes before now earlier later history Done cause still quiet = absurd cause
-asked-unread document bytes before now earlier later history NoMemory cause still quiet = inr refl
-asked-unread document bytes before now earlier later history (ConfigBroken n) cause still quiet =
+-- the configuration wasn't taken
+config-asked : (document bytes : List ℕ) (before now : ℕ) (history : List Entry) (status : Status) → ConfigCause (Some document) before now status → NotRisen before now → IsAsked document bytes history status
+config-asked document bytes before now history Done cause still = absurd cause
+config-asked document bytes before now history NoMemory cause still = inr refl
+config-asked document bytes before now history Usage cause still = absurd cause
+config-asked document bytes before now history (ConfigBroken n) cause still =
     inl (sym (asked-rule (nat_lt most_bytes (length document)) (first_broken document) n _ (not_long document cause.1) cause.0))
-asked-unread document bytes before now earlier later history ReadFault (inl rose) still quiet = absurd (not_risen before now still rose)
-asked-unread document bytes before now earlier later history ReadFault (inr cause) still quiet = absurd (not_risen earlier later quiet cause.1)
-asked-unread document bytes before now earlier later history InputTooLong (inl more) still quiet =
-    inl (sym (asked-first (nat_lt most_bytes (length document)) (first_broken document) _ (long document more)))
-asked-unread document bytes before now earlier later history InputTooLong (inr cause) still quiet =
-    inl (sym (asked-long (nat_lt most_bytes (length document)) (first_broken document) (nat_lt most_bytes (length bytes)) _ cause.0 (long bytes cause.1)))
-asked-unread document bytes before now earlier later history Usage cause still quiet = absurd cause
-asked-unread document bytes before now earlier later history WriteFault cause still quiet = absurd cause
-asked-unread document bytes before now earlier later history (EventLine n) cause still quiet = absurd cause
+config-asked document bytes before now history ReadFault cause still = absurd (not_risen before now still cause)
+config-asked document bytes before now history WriteFault cause still = absurd cause
+config-asked document bytes before now history (EventLine n) cause still = absurd cause
+config-asked document bytes before now history InputTooLong cause still =
+    inl (sym (asked-first (nat_lt most_bytes (length document)) (first_broken document) _ (long document cause)))
 
-pub unread-asked : (left events : Option (List ℕ)) (before now earlier later : ℕ) (history : List Entry) (status : Status) → Unread left events before now earlier later status
-    → NotRisen before now → NotRisen earlier later → IfSome left (λ document. IfSome events (λ bytes. IsAsked document bytes history status))
-unread-asked None events before now earlier later history status cause still quiet = tt
-unread-asked (Some document) None before now earlier later history status cause still quiet = tt
-unread-asked (Some document) (Some bytes) before now earlier later history status cause still quiet = asked-unread document bytes before now earlier later history status cause still quiet
+-- the events weren't
+events-asked : (document bytes : List ℕ) (before now : ℕ) (history : List Entry) (status : Status) → first_broken document ≡ None → EventsCause (Some bytes) before now status → NotRisen before now → IsAsked document bytes history status
+events-asked document bytes before now history Done none cause still = absurd cause
+events-asked document bytes before now history NoMemory none cause still = inr refl
+events-asked document bytes before now history Usage none cause still = absurd cause
+events-asked document bytes before now history (ConfigBroken n) none cause still = absurd cause
+events-asked document bytes before now history ReadFault none cause still = absurd (not_risen before now still cause)
+events-asked document bytes before now history WriteFault none cause still = absurd cause
+events-asked document bytes before now history (EventLine n) none cause still = absurd cause
+events-asked document bytes before now history InputTooLong none cause still =
+    inl (sym (asked-long (nat_lt most_bytes (length document)) (first_broken document) (nat_lt most_bytes (length bytes)) _ none (long bytes cause)))
 
--- ---- what a status is not, where the lines aren't run
+abbrev Asks : Option (List ℕ) → Option (List ℕ) → List Entry → Status → Type 0
+Asks left events history status = IfSome left (λ document. IfSome events (λ bytes. IsAsked document bytes history status))
 
-pub unread-not-through : (left events : Option (List ℕ)) (before now earlier later : ℕ) (status : Status) → Unread left events before now earlier later status → IsRunThrough status → ⊥
-unread-not-through left events before now earlier later Done cause run = cause
-unread-not-through left events before now earlier later NoMemory cause run = run
-unread-not-through left events before now earlier later Usage cause run = run
-unread-not-through left events before now earlier later (ConfigBroken n) cause run = run
-unread-not-through left events before now earlier later ReadFault cause run = run
-unread-not-through left events before now earlier later WriteFault cause run = run
-unread-not-through left events before now earlier later (EventLine n) cause run = cause
-unread-not-through left events before now earlier later InputTooLong cause run = run
+config-complete : (left events : Option (List ℕ)) (before now : ℕ) (history : List Entry) (status : Status) → ConfigCause left before now status → NotRisen before now → Asks left events history status
+config-complete None events before now history status cause still = tt
+config-complete (Some document) None before now history status cause still = tt
+config-complete (Some document) (Some bytes) before now history status cause still = config-asked document bytes before now history status cause still
 
-pub unread-not-run : (left events : Option (List ℕ)) (before now earlier later : ℕ) (status : Status) → Unread left events before now earlier later status → IsRun status → ⊥
-unread-not-run left events before now earlier later Done cause run = cause
-unread-not-run left events before now earlier later NoMemory cause run = run
-unread-not-run left events before now earlier later Usage cause run = run
-unread-not-run left events before now earlier later (ConfigBroken n) cause run = run
-unread-not-run left events before now earlier later ReadFault cause run = run
-unread-not-run left events before now earlier later WriteFault cause run = cause
-unread-not-run left events before now earlier later (EventLine n) cause run = cause
-unread-not-run left events before now earlier later InputTooLong cause run = run
+events-complete : (left events : Option (List ℕ)) (before now : ℕ) (history : List Entry) (status : Status) → BreaksNone left → EventsCause events before now status → NotRisen before now → Asks left events history status
+events-complete None events before now history status none cause still = tt
+events-complete (Some document) None before now history status none cause still = tt
+events-complete (Some document) (Some bytes) before now history status none cause still = events-asked document bytes before now history status none cause still
 
-pub unread-of-replay : (left events : Option (List ℕ)) (before now earlier later : ℕ) (status : Status) → Unread left events before now earlier later status → IsOfReplay status
-unread-of-replay left events before now earlier later Done cause = tt
-unread-of-replay left events before now earlier later NoMemory cause = tt
-unread-of-replay left events before now earlier later Usage cause = cause
-unread-of-replay left events before now earlier later (ConfigBroken n) cause = tt
-unread-of-replay left events before now earlier later ReadFault cause = tt
-unread-of-replay left events before now earlier later WriteFault cause = tt
-unread-of-replay left events before now earlier later (EventLine n) cause = tt
-unread-of-replay left events before now earlier later InputTooLong cause = tt
+run-complete : (left told : Option (List ℕ)) (config : Config) (events : List ℕ) (held now : Option (List ℕ)) (before after : ℕ) (status : Status) (history : List Entry) → IsConfigured left config
+    → IfSome left (λ document. length document ≤ most_bytes) → IsWhole told events → RunsLines (begun config) events held now before after status history → NotRisen before after → Asks left told history status
+run-complete None told config events held now before after status history configured short whole runs still = tt
+run-complete (Some document) None config events held now before after status history configured short whole runs still = tt
+run-complete (Some document) (Some bytes) config events held now before after status history configured short whole runs still =
+    subst (λ (bs : List ℕ). IsAsked document bs history status) whole.all
+    (asked-run document events history config status short configured.told whole.within runs.possible (λ fault. not_risen before after still (runs.write fault)) (λ ran. (runs.through ran).ends))
+
+-- ---- a replay, by what it came to
+
+-- a count that is as it was has not fallen
+same-later : (m n : ℕ) → n ≡ m → m ≤ n
+same-later m n same = omega (arith, same)
+
+pub config-not-taken : {S T : Type 0} (told : Telling S T) (old new : Parts S T) (status : Status) (history : List Entry) → history ≡ [] → new.out ≡ old.out → new.events ≡ old.events
+    → ConfigCause (told.left old.config) (told.read_faults old.config) (told.read_faults new.config) status → told.read_faults old.config ≤ told.read_faults new.config → IsReplay told old new status history
+config-not-taken told old new status history nothing out events cause later = record {
+  leaves = inl (record { nothing = nothing; out = out; cause = inl (cause, events) });
+  complete = λ quiet. config-complete (told.left old.config) (told.left old.events) (told.read_faults old.config) (told.read_faults new.config) history status cause quiet.config;
+  config_later = later;
+  events_later = same-later (told.read_faults old.events) (told.read_faults new.events) (ap told.read_faults events);
+  out_later = same-later (told.write_faults old.out) (told.write_faults new.out) (ap told.write_faults out);
+}
+
+pub events-not-taken : {S T : Type 0} (told : Telling S T) (old new : Parts S T) (status : Status) (history : List Entry) → history ≡ [] → new.out ≡ old.out → BreaksNone (told.left old.config)
+    → EventsCause (told.left old.events) (told.read_faults old.events) (told.read_faults new.events) status → told.read_faults old.config ≤ told.read_faults new.config → told.read_faults old.events ≤ told.read_faults new.events
+    → IsReplay told old new status history
+events-not-taken told old new status history nothing out none cause config_later events_later = record {
+  leaves = inl (record { nothing = nothing; out = out; cause = inr (none, cause) });
+  complete = λ quiet. events-complete (told.left old.config) (told.left old.events) (told.read_faults old.events) (told.read_faults new.events) history status none cause quiet.events;
+  config_later = config_later;
+  events_later = events_later;
+  out_later = same-later (told.write_faults old.out) (told.write_faults new.out) (ap told.write_faults out);
+}
+
+pub lines-run : {S T : Type 0} (told : Telling S T) (old new : Parts S T) (status : Status) (history : List Entry) → HasRunLines told old new status history → told.read_faults old.config ≤ told.read_faults new.config
+    → told.read_faults old.events ≤ told.read_faults new.events → told.write_faults old.out ≤ told.write_faults new.out → IsReplay told old new status history
+lines-run told old new status history has config_later events_later out_later = record {
+  leaves = inr has;
+  complete = λ quiet. run-complete (told.left old.config) (told.left old.events) has.config has.events (told.held old.out) (told.held new.out) (told.write_faults old.out) (told.write_faults new.out) status history has.configured has.short has.whole has.runs quiet.out;
+  config_later = config_later;
+  events_later = events_later;
+  out_later = out_later;
+}

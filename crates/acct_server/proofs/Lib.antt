@@ -7,3 +7,6 @@ pub mod Configuring
 pub mod Placing
 pub mod Heard
 pub mod Transcribing
+pub mod Denying
+pub mod Requesting
+pub mod Seeding

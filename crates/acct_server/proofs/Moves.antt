@@ -1,30 +1,32 @@
 -- What a run does is the move of its line.
-use Rattle.std.proofs.Common.{◌≡◌, ℕ, ◌+◌, ◌==◌, ◌&&◌, true, List, [], ◌∷◌, ◌++◌, length, map, Option, Some, Result, Ok, Err, refl, sym, ◌∙◌, ap, subst, arith, append_assoc, slice_get, IfOk, inr}
+use Rattle.std.proofs.Common.{◌≡◌, ℕ, ◌+◌, ◌==◌, ◌&&◌, true, List, [], ◌∷◌, ◌++◌, length, map, Option, Some, Result, Ok, Err, refl, sym, ◌∙◌, ap, subst, arith, append_assoc, slice_get, IfOk, inl, inr}
 use Rattle.std.proofs.lemmas.Bool.Decides.{nat_tests}
 use Rattle.std.proofs.lemmas.List.{append-nil}
 use Rattle.std.proofs.lemmas.List.Concat.{flat_map-append}
 use Rattle.std.specs.List.{flat_map}
-use Rattle.acct_config.specs.declared.config.Config.{Config}
+use Rattle.acct_machine.specs.State.{Start}
 use Rattle.acct_calls.specs.declared.calls.Call.{Call}
-use Rattle.acct_calls.specs.declared.replies.Reply.{Reply}
 use Rattle.acct_machine.specs.declared.entry.Entry.{Entry}
 use Rattle.acct_machine.specs.declared.entry.Entry.TheVariants.{Opened, Called, Gone}
 use Rattle.acct_machine.specs.declared.entry.Verdict.{Verdict}
-use Rattle.acct_machine.specs.Machine.{with_entry, state_of}
+use Rattle.acct_machine.specs.Machine.{with_entry, SameLive}
+use Rattle.acct_machine.specs.State.{State}
 use Rattle.acct_machine.specs.Shown.{Shown}
-use Rattle.acct_machine.specs.Step.{acted}
+use Rattle.acct_machine.specs.Step.{acted, state_at}
 use Rattle.rpc_session.specs.declared.sessions.Act.{Act}
 use Rattle.rpc_session.specs.declared.sessions.Act.TheVariants as act
 use Rattle.rpc_session.specs.declared.hearing.Hearing.{Hearing}
 use Rattle.rpc_session.specs.Hearings.{on}
 use Rattle.acct_server.specs.declared.events.Event.{Event}
 use Rattle.acct_server.specs.declared.events.Event.TheVariants as event
-use Rattle.acct_server.specs.declared.peers.Peer.{Peer}
-use Rattle.acct_server.specs.declared.peers.Peer.TheVariants.{Open, Ended}
-use Rattle.samr_wire.specs.declared.errors.WireError.{WireError}
+use Rattle.acct_server.specs.declared.connections.Peer.{Peer}
+use Rattle.acct_server.specs.declared.connections.Peer.TheVariants.{Open, Ended}
+use Rattle.acct_stubs.specs.declared.errors.WireError.{WireError}
+use Rattle.acct_server.specs.declared.requests.Asked.{Asked}
 use Rattle.acct_server.specs.Transcript.{answer_bytes, undecoded_bytes}
+use Rattle.acct_server.specs.Answering.{Enters, AnswersCall, AnswersRequest, BeginsRequest}
 use Rattle.acct_server.specs.Replayed.{Standing, Move, Doing, Verdicts, Printed, Out, IsClosed, IsGone, on_listener, on_open, listener_from, nothing_heard, gone, number_of, peer_of, with_peer, line_bytes, on_end, on_event, quiet, on_heard, on_data, on_act, on_acts, on_request, on_call, prints_only, both, verdict_in, verdict_of}
-use Rattle.acct_server.specs.Running.{Running, standing, Acts, Began, Hears, Does, Refuses, MayStop}
+use Rattle.acct_server.specs.Running.{Running, standing, Ties, Acts, Began, Hears, Does, Refuses, MayStop}
 
 -- the move of an opening
 abbrev opening : Standing → ℕ → ℕ → Move
@@ -35,14 +37,14 @@ opens s conn listener found is none first =
     let passes : (length s.peers == 0) && (conn == length s.peers + 1) ≡ true = grind (arith, nat_tests) in
     rw (is, passes) refl
 
-pub open-does : (old new : Running) (conn given listener : ℕ) (name output : List ℕ) → listener_from 0 name old.machine.config.listeners ≡ Some listener → length old.peers ≡ 0 → conn ≡ 1 → given ≡ conn
+pub open-does : (old new : Running) (conn given listener : ℕ) (name output : List ℕ) → listener_from 0 name old.machine.start.config.listeners ≡ Some listener → length old.peers ≡ 0 → conn ≡ 1 → given ≡ conn
     → new.machine ≡ with_entry old.machine (Opened given listener) → new.peers ≡ old.peers ++ Open (nothing_heard conn) ∷ [] → output ≡ [] → Does (λ verdicts. on_open (standing old) conn name) old output new
 open-does old new conn given listener name output found none first same machine peers printed = record {
   move = opening (standing old) conn listener;
-  is = λ later. opens (standing old) conn listener (listener_from 0 name old.machine.config.listeners) found none first;
+  is = λ later. opens (standing old) conn listener (listener_from 0 name old.machine.start.config.listeners) found none first;
   history = ap (λ (m : Shown). m.history) machine ∙ ap (λ (n : ℕ). old.machine.history ++ Opened n listener ∷ []) same;
   peers = peers;
-  config = ap (λ (m : Shown). m.config) machine;
+  start = ap (λ (m : Shown). m.start) machine;
   prints = printed;
 }
 
@@ -59,20 +61,20 @@ prints-act what before now lines old_lines new_lines is same printed = record {
 }
 
 -- a request that is no decoded call was answered
-pub undecoded-acts : (config : Config) (before : List Entry) (conn id context size stub_size : ℕ) (r : Result Call WireError) (e : WireError) (old_lines new_lines : List ℕ) → r ≡ Err e → new_lines ≡ old_lines ++ line_bytes (Out conn (undecoded_bytes id context e))
-    → Acts (λ verdicts. on_request config verdicts before conn id context size stub_size r) before before old_lines new_lines
-undecoded-acts config before conn id context size stub_size r e old_lines new_lines is printed =
-    prints-act (λ verdicts. on_request config verdicts before conn id context size stub_size r) before before (Out conn (undecoded_bytes id context e) ∷ []) old_lines new_lines
-    (λ verdicts. ap (λ (x : Result Call WireError). on_request config verdicts before conn id context size stub_size x) is) refl (printed ∙ ap (λ (bs : List ℕ). old_lines ++ bs) (sym (append-nil _)))
+undecoded-acts : (start : Start) (before now : List Entry) (conn : ℕ) (asked : Asked) (stub_size : ℕ) (e : WireError) (old_lines new_lines : List ℕ) → now ≡ before → new_lines ≡ old_lines ++ line_bytes (Out conn (undecoded_bytes asked e))
+    → Acts (λ verdicts. on_request start verdicts before conn asked stub_size (Err e)) before now old_lines new_lines
+undecoded-acts start before now conn asked stub_size e old_lines new_lines same printed =
+    prints-act (λ verdicts. on_request start verdicts before conn asked stub_size (Err e)) before now (Out conn (undecoded_bytes asked e) ∷ []) old_lines new_lines
+    (λ verdicts. refl) same (printed ∙ ap (λ (bs : List ℕ). old_lines ++ bs) (sym (append-nil _)))
 
 -- bytes were answered without a call
-pub answered-acts : (config : Config) (before : List Entry) (conn : ℕ) (bytes old_lines new_lines : List ℕ) → new_lines ≡ old_lines ++ line_bytes (Out conn bytes) → Acts (λ verdicts. on_act config verdicts before conn (act.Answered bytes)) before before old_lines new_lines
-answered-acts config before conn bytes old_lines new_lines printed =
-    prints-act (λ verdicts. on_act config verdicts before conn (act.Answered bytes)) before before (Out conn bytes ∷ []) old_lines new_lines (λ verdicts. refl) refl (printed ∙ ap (λ (bs : List ℕ). old_lines ++ bs) (sym (append-nil _)))
+pub answered-acts : (start : Start) (before : List Entry) (conn : ℕ) (bytes old_lines new_lines : List ℕ) → new_lines ≡ old_lines ++ line_bytes (Out conn bytes) → Acts (λ verdicts. on_act start verdicts before conn (act.Answered bytes)) before before old_lines new_lines
+answered-acts start before conn bytes old_lines new_lines printed =
+    prints-act (λ verdicts. on_act start verdicts before conn (act.Answered bytes)) before before (Out conn bytes ∷ []) old_lines new_lines (λ verdicts. refl) refl (printed ∙ ap (λ (bs : List ℕ). old_lines ++ bs) (sym (append-nil _)))
 
 -- no act was done yet
-pub none-done : (config : Config) (conn : ℕ) (before : List Entry) (lines : List ℕ) → lines ≡ [] → Acts (λ verdicts. on_acts config verdicts before conn []) before before [] lines
-none-done config conn before lines none = record { doing = prints_only []; is = λ later. refl; history = sym (append-nil before); prints = none }
+pub none-done : (start : Start) (conn : ℕ) (before : List Entry) (lines : List ℕ) → lines ≡ [] → Acts (λ verdicts. on_acts start verdicts before conn []) before before [] lines
+none-done start conn before lines none = record { doing = prints_only []; is = λ later. refl; history = sym (append-nil before); prints = none }
 
 -- memory was wanted before any entry
 pub begins-none : (what : Verdicts → Doing) (before now : List Entry) → now ≡ before → Began what before now
@@ -89,39 +91,87 @@ slice_get-here [] later e = refl
 slice_get-here (a ∷ history) later e = slice_get-here history later e
 
 -- what a call does that was entered
-call-is : (config : Config) (before now later : List Entry) (conn id context size stub_size : ℕ) (call : Call) (verdict : Verdict) → now ≡ before ++ Called conn call verdict stub_size ∷ []
-    → on_request config (verdict_in (now ++ later)) before conn id context size stub_size (Ok call) ≡ on_call config before conn id context size stub_size call verdict
-call-is config before now later conn id context size stub_size call verdict is =
+call-is : (start : Start) (before now later : List Entry) (conn : ℕ) (asked : Asked) (stub_size : ℕ) (call : Call) (verdict : Verdict) → now ≡ before ++ Called conn call verdict stub_size ∷ []
+    → on_request start (verdict_in (now ++ later)) before conn asked stub_size (Ok call) ≡ on_call start before conn asked stub_size call verdict
+call-is start before now later conn asked stub_size call verdict is =
     let at : verdict_in (now ++ later) (length before) ≡ verdict =
     ap (λ (h : List Entry). verdict_in (h ++ later) (length before)) is ∙ ap (λ (o : Option Entry). verdict_of o) (slice_get-here before later (Called conn call verdict stub_size)) in
-    ap (λ (v : Verdict). on_call config before conn id context size stub_size call v) at
+    ap (λ (v : Verdict). on_call start before conn asked stub_size call v) at
+
+-- the machine as a gate finds just its history
+abbrev pub Only : List Entry → List Entry → Type 0
+Only before found = found ≡ before
 
 -- the entry of a call stands
-pub call-began : (old now : Shown) (conn id context size stub_size : ℕ) (call : Call) (verdict : Verdict) → now ≡ with_entry old (Called conn call verdict stub_size)
-    → Began (λ verdicts. on_request old.config verdicts old.history conn id context size stub_size (Ok call)) old.history now.history
-call-began old now conn id context size stub_size call verdict is =
-    let history : now.history ≡ old.history ++ Called conn call verdict stub_size ∷ [] = ap (λ (m : Shown). m.history) is in record {
-      front = Called conn call verdict stub_size ∷ [];
+enters-here : (start : Start) (before now : List Entry) (conn : ℕ) (call : Call) (stub_size : ℕ) → (enters : Enters start conn (Only before) now call stub_size) → now ≡ before ++ Called conn call enters.verdict stub_size ∷ []
+enters-here start before now conn call stub_size enters = enters.entered ∙ ap (λ (h : List Entry). h ++ Called conn call enters.verdict stub_size ∷ []) enters.finds_it
+
+call-began : (start : Start) (before now : List Entry) (conn : ℕ) (asked : Asked) (stub_size : ℕ) (call : Call) → Enters start conn (Only before) now call stub_size
+    → Began (λ verdicts. on_request start verdicts before conn asked stub_size (Ok call)) before now
+call-began start before now conn asked stub_size call enters =
+    let history = enters-here start before now conn call stub_size enters in record {
+      front = Called conn call enters.verdict stub_size ∷ [];
       history = history;
       others = λ later. [];
-      begins = λ later. ap (λ (d : Doing). d.entries) (call-is old.config old.history now.history later conn id context size stub_size call verdict history);
+      begins = λ later. ap (λ (d : Doing). d.entries) (call-is start before now later conn asked stub_size call enters.verdict history);
     }
 
+-- a request was begun on the machine
+pub request-began : (start : Start) (before now : List Entry) (conn : ℕ) (asked : Asked) (stub_size : ℕ) (r : Result Call WireError) → BeginsRequest start conn (Only before) before now stub_size r
+    → Began (λ verdicts. on_request start verdicts before conn asked stub_size r) before now
+request-began start before now conn asked stub_size (Err e) same = begins-none (λ verdicts. on_request start verdicts before conn asked stub_size (Err e)) before now same
+request-began start before now conn asked stub_size (Ok call) (inl same) = begins-none (λ verdicts. on_request start verdicts before conn asked stub_size (Ok call)) before now same
+request-began start before now conn asked stub_size (Ok call) (inr (inl same)) = begins-none (λ verdicts. on_request start verdicts before conn asked stub_size (Ok call)) before now same
+request-began start before now conn asked stub_size (Ok call) (inr (inr enters)) = call-began start before now conn asked stub_size call enters
+
+-- one that was answered has begun
+pub answered-began : (start : Start) (before now : List Entry) (conn : ℕ) (asked : Asked) (stub_size : ℕ) (r : Result Call WireError) (bytes : List ℕ) → AnswersRequest start conn (Only before) before now asked stub_size r bytes
+    → BeginsRequest start conn (Only before) before now stub_size r
+answered-began start before now conn asked stub_size (Err e) bytes answers = answers.0
+answered-began start before now conn asked stub_size (Ok call) bytes answers = inr (inr answers.enters)
+
 -- a call was answered
-pub call-acts : (old now : Shown) (conn id context size stub_size : ℕ) (call : Call) (verdict : Verdict) (reply : Reply) (answer old_lines new_lines : List ℕ) → now ≡ with_entry old (Called conn call verdict stub_size)
-    → reply ≡ (acted (state_of old) conn call verdict).1 → answer ≡ answer_bytes id context size call.opnum reply → new_lines ≡ old_lines ++ line_bytes (Out conn answer)
-    → Acts (λ verdicts. on_request old.config verdicts old.history conn id context size stub_size (Ok call)) old.history now.history old_lines new_lines
-call-acts old now conn id context size stub_size call verdict reply answer old_lines new_lines is replied answered printed =
-    let history : now.history ≡ old.history ++ Called conn call verdict stub_size ∷ [] = ap (λ (m : Shown). m.history) is in record {
-      doing = on_call old.config old.history conn id context size stub_size call verdict;
-      is = λ later. call-is old.config old.history now.history later conn id context size stub_size call verdict history;
+call-acts : (start : Start) (before now : List Entry) (conn : ℕ) (asked : Asked) (stub_size : ℕ) (call : Call) (bytes old_lines new_lines : List ℕ) → AnswersCall start conn (Only before) now asked stub_size call bytes → new_lines ≡ old_lines ++ line_bytes (Out conn bytes)
+    → Acts (λ verdicts. on_request start verdicts before conn asked stub_size (Ok call)) before now old_lines new_lines
+call-acts start before now conn asked stub_size call bytes old_lines new_lines answers printed =
+    let enters = answers.enters in
+    let history = enters-here start before now conn call stub_size enters in record {
+      doing = on_call start before conn asked stub_size call enters.verdict;
+      is = λ later. call-is start before now later conn asked stub_size call enters.verdict history;
       history = history;
-      prints = printed ∙ ap (λ (bs : List ℕ). old_lines ++ line_bytes (Out conn bs)) (answered ∙ ap (λ (r : Reply). answer_bytes id context size call.opnum r) replied) ∙ ap (λ (bs : List ℕ). old_lines ++ bs) (sym (append-nil _));
+      prints =
+          printed
+          ∙ ap (λ (bs : List ℕ). old_lines ++ line_bytes (Out conn bs)) (answers.bytes_are ∙ ap (λ (h : List Entry). answer_bytes asked call.opnum (acted (state_at start h) conn call enters.verdict).1) enters.finds_it)
+          ∙ ap (λ (bs : List ℕ). old_lines ++ bs) (sym (append-nil _));
     }
+
+-- a request was answered on the machine
+pub request-acts : (start : Start) (before now : List Entry) (conn : ℕ) (asked : Asked) (stub_size : ℕ) (r : Result Call WireError) (bytes old_lines new_lines : List ℕ) → AnswersRequest start conn (Only before) before now asked stub_size r bytes
+    → new_lines ≡ old_lines ++ line_bytes (Out conn bytes) → Acts (λ verdicts. on_request start verdicts before conn asked stub_size r) before now old_lines new_lines
+request-acts start before now conn asked stub_size (Err e) bytes old_lines new_lines answers printed =
+    undecoded-acts start before now conn asked stub_size e old_lines new_lines answers.0 (printed ∙ ap (λ (bs : List ℕ). old_lines ++ line_bytes (Out conn bs)) answers.1)
+request-acts start before now conn asked stub_size (Ok call) bytes old_lines new_lines answers printed = call-acts start before now conn asked stub_size call bytes old_lines new_lines answers printed
+
+-- the same connections are live after it
+same-live : (start : Start) (before now : List Entry) → now ≡ before → SameLive (state_at start before) (state_at start now)
+same-live start before now same = subst (λ (h : List Entry). SameLive (state_at start before) (state_at start h)) (sym same) (record { lives = λ k. refl; count = refl })
+
+pub request-live : (start : Start) (before now : List Entry) (conn stub_size : ℕ) (r : Result Call WireError) → BeginsRequest start conn (Only before) before now stub_size r → SameLive (state_at start before) (state_at start now)
+request-live start before now conn stub_size (Err e) same = same-live start before now same
+request-live start before now conn stub_size (Ok call) (inl same) = same-live start before now same
+request-live start before now conn stub_size (Ok call) (inr (inl same)) = same-live start before now same
+request-live start before now conn stub_size (Ok call) (inr (inr enters)) = subst (λ (h : List Entry). SameLive (state_at start h) (state_at start now)) enters.finds_it enters.live
+
+pub ties-live : (peers : List Peer) (old new : State) → Ties peers old → SameLive old new → Ties peers new
+ties-live peers old new ties live = record {
+  count = live.count ∙ ties.count;
+  bounded = ties.bounded;
+  lives = λ conn served. live.lives conn ∙ ties.lives conn served;
+}
 
 -- a refusal was answered
 pub close-acts : (old now : Shown) (conn place cause : ℕ) (bytes old_lines new_lines : List ℕ) → now ≡ with_entry old (Gone conn) → new_lines ≡ old_lines ++ (line_bytes (Out conn bytes) ++ line_bytes (IsClosed conn place cause))
-    → Acts (λ verdicts. on_act old.config verdicts old.history conn (act.Closed place cause bytes)) old.history now.history old_lines new_lines
+    → Acts (λ verdicts. on_act old.start verdicts old.history conn (act.Closed place cause bytes)) old.history now.history old_lines new_lines
 close-acts old now conn place cause bytes old_lines new_lines is printed = record {
   doing = record { entries = Gone conn ∷ []; prints = Out conn bytes ∷ IsClosed conn place cause ∷ [] };
   is = λ later. refl;
@@ -130,43 +180,43 @@ close-acts old now conn place cause bytes old_lines new_lines is printed = recor
 }
 
 -- what acts do one after the other, and then one more
-acts-both : (config : Config) (verdicts : Verdicts) (conn : ℕ) (first : List Act) (history : List Entry) (second : List Act)
-    → on_acts config verdicts history conn (first ++ second) ≡ both (on_acts config verdicts history conn first) (on_acts config verdicts (history ++ (on_acts config verdicts history conn first).entries) conn second)
-acts-both config verdicts conn [] history second = ap (λ (h : List Entry). on_acts config verdicts h conn second) (sym (append-nil history))
-acts-both config verdicts conn (a ∷ first) history second =
-    let one = on_act config verdicts history conn a in
+acts-both : (start : Start) (verdicts : Verdicts) (conn : ℕ) (first : List Act) (history : List Entry) (second : List Act)
+    → on_acts start verdicts history conn (first ++ second) ≡ both (on_acts start verdicts history conn first) (on_acts start verdicts (history ++ (on_acts start verdicts history conn first).entries) conn second)
+acts-both start verdicts conn [] history second = ap (λ (h : List Entry). on_acts start verdicts h conn second) (sym (append-nil history))
+acts-both start verdicts conn (a ∷ first) history second =
+    let one = on_act start verdicts history conn a in
     let now = history ++ one.entries in
-    let others = on_acts config verdicts now conn first in
-    let last = λ (h : List Entry). on_acts config verdicts h conn second in
-    ap (λ (d : Doing). both one d) (acts-both config verdicts conn first now second)
+    let others = on_acts start verdicts now conn first in
+    let last = λ (h : List Entry). on_acts start verdicts h conn second in
+    ap (λ (d : Doing). both one d) (acts-both start verdicts conn first now second)
     ∙ ap (λ (h : List Entry). both one (both others (last h))) (append_assoc history one.entries others.entries)
     ∙ both-assoc one others (last (history ++ (one.entries ++ others.entries)))
   where
     both-assoc : (x y z : Doing) → both x (both y z) ≡ both (both x y) z
     both-assoc x y z = λ i. record { entries = sym (append_assoc x.entries y.entries z.entries) i; prints = sym (append_assoc x.prints y.prints z.prints) i }
 
-one-act : (config : Config) (verdicts : Verdicts) (history : List Entry) (conn : ℕ) (a : Act) → on_acts config verdicts history conn (a ∷ []) ≡ on_act config verdicts history conn a
-one-act config verdicts history conn a =
-    let d = on_act config verdicts history conn a in λ i. record { entries = append-nil d.entries i; prints = append-nil d.prints i }
+one-act : (start : Start) (verdicts : Verdicts) (history : List Entry) (conn : ℕ) (a : Act) → on_acts start verdicts history conn (a ∷ []) ≡ on_act start verdicts history conn a
+one-act start verdicts history conn a =
+    let d = on_act start verdicts history conn a in λ i. record { entries = append-nil d.entries i; prints = append-nil d.prints i }
 
 -- what the acts before do, by whatever entries the history goes on, and one act more
-next-is : (config : Config) (conn : ℕ) (first : List Act) (a : Act) (before mid now : List Entry) (d e : Doing) → ((later : List Entry) → on_acts config (verdict_in (mid ++ later)) before conn first ≡ d) → mid ≡ before ++ d.entries → (more : List Entry) → now ≡ mid ++ more
-    → (later : List Entry) → on_act config (verdict_in (now ++ later)) mid conn a ≡ e → on_acts config (verdict_in (now ++ later)) before conn (first ++ a ∷ []) ≡ both d e
-next-is config conn first a before mid now d e is stands more longer later last =
+next-is : (start : Start) (conn : ℕ) (first : List Act) (a : Act) (before mid now : List Entry) (d e : Doing) → ((later : List Entry) → on_acts start (verdict_in (mid ++ later)) before conn first ≡ d) → mid ≡ before ++ d.entries → (more : List Entry) → now ≡ mid ++ more
+    → (later : List Entry) → on_act start (verdict_in (now ++ later)) mid conn a ≡ e → on_acts start (verdict_in (now ++ later)) before conn (first ++ a ∷ []) ≡ both d e
+next-is start conn first a before mid now d e is stands more longer later last =
     let v = verdict_in (now ++ later) in
-    let earlier : on_acts config v before conn first ≡ d =
-    subst (λ (h : List Entry). on_acts config (verdict_in h) before conn first ≡ d) (sym (ap (λ (h : List Entry). h ++ later) longer ∙ append_assoc mid more later)) (is (more ++ later)) in
-    let from_mid : before ++ (on_acts config v before conn first).entries ≡ mid = ap (λ (x : Doing). before ++ x.entries) earlier ∙ sym stands in
-    acts-both config v conn first before (a ∷ [])
-    ∙ ap (λ (h : List Entry). both (on_acts config v before conn first) (on_acts config v h conn (a ∷ []))) from_mid
-    ∙ ap (λ (x : Doing). both x (on_acts config v mid conn (a ∷ []))) earlier
-    ∙ ap (λ (x : Doing). both d x) (one-act config v mid conn a ∙ last)
+    let earlier : on_acts start v before conn first ≡ d =
+    subst (λ (h : List Entry). on_acts start (verdict_in h) before conn first ≡ d) (sym (ap (λ (h : List Entry). h ++ later) longer ∙ append_assoc mid more later)) (is (more ++ later)) in
+    let from_mid : before ++ (on_acts start v before conn first).entries ≡ mid = ap (λ (x : Doing). before ++ x.entries) earlier ∙ sym stands in
+    acts-both start v conn first before (a ∷ [])
+    ∙ ap (λ (h : List Entry). both (on_acts start v before conn first) (on_acts start v h conn (a ∷ []))) from_mid
+    ∙ ap (λ (x : Doing). both x (on_acts start v mid conn (a ∷ []))) earlier
+    ∙ ap (λ (x : Doing). both d x) (one-act start v mid conn a ∙ last)
 
-pub acts-go-on : (config : Config) (conn : ℕ) (first : List Act) (a : Act) (before mid now : List Entry) (old_lines mid_lines new_lines : List ℕ) → Acts (λ verdicts. on_acts config verdicts before conn first) before mid old_lines mid_lines
-    → Acts (λ verdicts. on_act config verdicts mid conn a) mid now mid_lines new_lines → Acts (λ verdicts. on_acts config verdicts before conn (first ++ a ∷ [])) before now old_lines new_lines
-acts-go-on config conn first a before mid now old_lines mid_lines new_lines done next = record {
+pub acts-go-on : (start : Start) (conn : ℕ) (first : List Act) (a : Act) (before mid now : List Entry) (old_lines mid_lines new_lines : List ℕ) → Acts (λ verdicts. on_acts start verdicts before conn first) before mid old_lines mid_lines
+    → Acts (λ verdicts. on_act start verdicts mid conn a) mid now mid_lines new_lines → Acts (λ verdicts. on_acts start verdicts before conn (first ++ a ∷ [])) before now old_lines new_lines
+acts-go-on start conn first a before mid now old_lines mid_lines new_lines done next = record {
   doing = both done.doing next.doing;
-  is = λ later. next-is config conn first a before mid now done.doing next.doing done.is done.history next.doing.entries next.history later (next.is later);
+  is = λ later. next-is start conn first a before mid now done.doing next.doing done.is done.history next.doing.entries next.history later (next.is later);
   history = next.history ∙ ap (λ (h : List Entry). h ++ next.doing.entries) done.history ∙ append_assoc before done.doing.entries next.doing.entries;
   prints =
       next.prints
@@ -176,18 +226,18 @@ acts-go-on config conn first a before mid now old_lines mid_lines new_lines done
 }
 
 -- memory was wanted at an act behind others, and more acts come behind it
-pub acts-stop : (config : Config) (conn : ℕ) (first : List Act) (a : Act) (rest : List Act) (before mid now : List Entry) (old_lines mid_lines : List ℕ) → Acts (λ verdicts. on_acts config verdicts before conn first) before mid old_lines mid_lines
-    → Began (λ verdicts. on_act config verdicts mid conn a) mid now → Began (λ verdicts. on_acts config verdicts before conn (first ++ a ∷ rest)) before now
-acts-stop config conn first a rest before mid now old_lines mid_lines done began =
+pub acts-stop : (start : Start) (conn : ℕ) (first : List Act) (a : Act) (rest : List Act) (before mid now : List Entry) (old_lines mid_lines : List ℕ) → Acts (λ verdicts. on_acts start verdicts before conn first) before mid old_lines mid_lines
+    → Began (λ verdicts. on_act start verdicts mid conn a) mid now → Began (λ verdicts. on_acts start verdicts before conn (first ++ a ∷ rest)) before now
+acts-stop start conn first a rest before mid now old_lines mid_lines done began =
     let v = λ (later : List Entry). verdict_in (now ++ later) in
-    let last = λ (later : List Entry). on_act config (v later) mid conn a in
+    let last = λ (later : List Entry). on_act start (v later) mid conn a in
     let so_far = λ (later : List Entry). both done.doing (last later) in
-    let behind = λ (later : List Entry). (on_acts config (v later) (before ++ (on_acts config (v later) before conn (first ++ a ∷ [])).entries) conn rest).entries in
-    let all : (later : List Entry) → (on_acts config (v later) before conn (first ++ a ∷ rest)).entries ≡ (done.doing.entries ++ (last later).entries) ++ behind later =
+    let behind = λ (later : List Entry). (on_acts start (v later) (before ++ (on_acts start (v later) before conn (first ++ a ∷ [])).entries) conn rest).entries in
+    let all : (later : List Entry) → (on_acts start (v later) before conn (first ++ a ∷ rest)).entries ≡ (done.doing.entries ++ (last later).entries) ++ behind later =
     λ later.
-    ap (λ (as' : List Act). (on_acts config (v later) before conn as').entries) (sym (append_assoc first (a ∷ []) rest))
-    ∙ ap (λ (d : Doing). d.entries) (acts-both config (v later) conn (first ++ a ∷ []) before rest)
-    ∙ ap (λ (d : Doing). d.entries ++ behind later) (next-is config conn first a before mid now done.doing (last later) done.is done.history began.front began.history later refl) in
+    ap (λ (as' : List Act). (on_acts start (v later) before conn as').entries) (sym (append_assoc first (a ∷ []) rest))
+    ∙ ap (λ (d : Doing). d.entries) (acts-both start (v later) conn (first ++ a ∷ []) before rest)
+    ∙ ap (λ (d : Doing). d.entries ++ behind later) (next-is start conn first a before mid now done.doing (last later) done.is done.history began.front began.history later refl) in
     record {
       front = done.doing.entries ++ began.front;
       history = began.history ∙ ap (λ (h : List Entry). h ++ began.front) done.history ∙ append_assoc before done.doing.entries began.front;
@@ -203,15 +253,15 @@ acts-stop config conn first a rest before mid now old_lines mid_lines done began
 -- ---- lines
 
 -- the move of bytes that were heard, once their acts were done
-pub data-does : (old mid new : Running) (conn : ℕ) (bytes output : List ℕ) (as' : List Act) → Hears conn bytes old as' mid → Acts (λ verdicts. on_acts mid.machine.config verdicts mid.machine.history conn as') mid.machine.history new.machine.history [] output
-    → new.peers ≡ mid.peers → new.machine.config ≡ mid.machine.config → Does (λ verdicts. on_data verdicts (standing old) conn bytes (peer_of conn old.peers)) old output new
-data-does old mid new conn bytes output as' hears done peers config =
+pub data-does : (old mid new : Running) (conn : ℕ) (bytes output : List ℕ) (as' : List Act) → Hears conn bytes old as' mid → Acts (λ verdicts. on_acts mid.machine.start verdicts mid.machine.history conn as') mid.machine.history new.machine.history [] output
+    → new.peers ≡ mid.peers → new.machine.start ≡ mid.machine.start → Does (λ verdicts. on_data verdicts (standing old) conn bytes (peer_of conn old.peers)) old output new
+data-does old mid new conn bytes output as' hears done peers start =
     let heard = on hears.hearing bytes in
     let machine : mid.machine ≡ old.machine = ap (λ (r : Running). r.machine) hears.left in
     let same : mid.machine.history ≡ old.machine.history = ap (λ (m : Shown). m.history) machine in
     let d = done.doing in
-    let is : (later : List Entry) → on_acts old.machine.config (verdict_in (new.machine.history ++ later)) old.machine.history conn heard.acts ≡ d =
-    λ later. ap (λ (m : Shown). on_acts m.config (verdict_in (new.machine.history ++ later)) m.history conn heard.acts) (sym machine) ∙ ap (λ (x : List Act). on_acts mid.machine.config (verdict_in (new.machine.history ++ later)) mid.machine.history conn x) (sym hears.completed) ∙ done.is later in
+    let is : (later : List Entry) → on_acts old.machine.start (verdict_in (new.machine.history ++ later)) old.machine.history conn heard.acts ≡ d =
+    λ later. ap (λ (m : Shown). on_acts m.start (verdict_in (new.machine.history ++ later)) m.history conn heard.acts) (sym machine) ∙ ap (λ (x : List Act). on_acts mid.machine.start (verdict_in (new.machine.history ++ later)) mid.machine.history conn x) (sym hears.completed) ∙ done.is later in
     record {
       move = record { effect = record { entries = d.entries; brings = (conn, bytes) ∷ []; prints = d.prints }; peers = with_peer conn (Open heard.leaves) old.peers };
       is = λ later.
@@ -219,11 +269,11 @@ data-does old mid new conn bytes output as' hears done peers config =
           ∙ ap (λ (x : Doing). Some (record { effect = record { entries = x.entries; brings = (conn, bytes) ∷ []; prints = x.prints }; peers = with_peer conn (Open heard.leaves) old.peers })) (is later);
       history = done.history ∙ ap (λ (h : List Entry). h ++ d.entries) same;
       peers = peers ∙ ap (λ (r : Running). r.peers) hears.left;
-      config = config ∙ ap (λ (r : Running). r.machine.config) hears.left;
+      start = start ∙ ap (λ (r : Running). r.machine.start) hears.left;
       prints = done.prints;
     }
 
-pub data-stops : (old mid new : Running) (conn : ℕ) (bytes : List ℕ) (as' : List Act) → Hears conn bytes old as' mid → Began (λ verdicts. on_acts mid.machine.config verdicts mid.machine.history conn as') mid.machine.history new.machine.history
+pub data-stops : (old mid new : Running) (conn : ℕ) (bytes : List ℕ) (as' : List Act) → Hears conn bytes old as' mid → Began (λ verdicts. on_acts mid.machine.start verdicts mid.machine.history conn as') mid.machine.history new.machine.history
     → MayStop (λ verdicts. on_data verdicts (standing old) conn bytes (peer_of conn old.peers)) old new
 data-stops old mid new conn bytes as' hears began =
     let heard = on hears.hearing bytes in
@@ -236,20 +286,20 @@ data-stops old mid new conn bytes as' hears began =
       is = λ later. ap (λ (p : Option Peer). on_data (verdict_in (new.machine.history ++ later)) (standing old) conn bytes p) hears.stood;
       others = began.others;
       begins = λ later.
-          ap (λ (m : Shown). (on_acts m.config (verdict_in (new.machine.history ++ later)) m.history conn heard.acts).entries) (sym machine)
-          ∙ ap (λ (x : List Act). (on_acts mid.machine.config (verdict_in (new.machine.history ++ later)) mid.machine.history conn x).entries) (sym hears.completed)
+          ap (λ (m : Shown). (on_acts m.start (verdict_in (new.machine.history ++ later)) m.history conn heard.acts).entries) (sym machine)
+          ∙ ap (λ (x : List Act). (on_acts mid.machine.start (verdict_in (new.machine.history ++ later)) mid.machine.history conn x).entries) (sym hears.completed)
           ∙ began.begins later;
     })
 
 -- the move of an end
-pub end-does : (old new : Running) (conn : ℕ) (h : Hearing) (output : List ℕ) → peer_of conn old.peers ≡ Some (Open h) → new.machine.history ≡ old.machine.history ++ map Gone (number_of conn (Some (Open h))) → new.machine.config ≡ old.machine.config
+pub end-does : (old new : Running) (conn : ℕ) (h : Hearing) (output : List ℕ) → peer_of conn old.peers ≡ Some (Open h) → new.machine.history ≡ old.machine.history ++ map Gone (number_of conn (Some (Open h))) → new.machine.start ≡ old.machine.start
     → new.peers ≡ with_peer conn Ended old.peers → output ≡ flat_map line_bytes (map IsGone (number_of conn (Some (Open h)))) → Does (λ verdicts. on_end (standing old) conn (peer_of conn old.peers)) old output new
-end-does old new conn h output stands history config peers printed = record {
+end-does old new conn h output stands history start peers printed = record {
   move = record { effect = gone (number_of conn (Some (Open h))); peers = with_peer conn Ended old.peers };
   is = λ later. ap (λ (o : Option Peer). on_end (standing old) conn o) stands;
   history = history;
   peers = peers;
-  config = config;
+  start = start;
   prints = printed;
 }
 
@@ -260,7 +310,7 @@ nothing-does run e output is printed = record {
   is = λ later. ap (λ (x : Event). on_event (verdict_in (run.machine.history ++ later)) (standing run) (Some x)) is;
   history = sym (append-nil run.machine.history);
   peers = refl;
-  config = refl;
+  start = refl;
   prints = printed;
 }
 

@@ -1,5 +1,5 @@
 -- What is sent on each connection is the transcript of what came.
-use Rattle.std.proofs.Common.{◌≡◌, ◌≢◌, ℕ, zero, suc, ◌+◌, ◌==◌, ◌&&◌, ◌⊎◌, inl, inr, Bool, true, false, cond, List, [], ◌∷◌, ◌++◌, length, map, Option, Some, None, Result, Ok, Err, slice_get, refl, sym, ◌∙◌, ap, subst, arith, append_assoc, length-append, IfSome}
+use Rattle.std.proofs.Common.{◌≡◌, ◌≢◌, ℕ, zero, suc, ◌+◌, ◌==◌, ◌&&◌, ◌⊎◌, inl, inr, Bool, true, false, cond, List, [], ◌∷◌, ◌++◌, length, map, Option, Some, None, Result, Ok, Err, slice_get, refl, sym, ◌∙◌, ap, subst, arith, append_assoc, length-append}
 use Rattle.std.proofs.lemmas.Bool.{cases_eq}
 use Rattle.std.proofs.lemmas.Bool.Decides.{nat_tests}
 use Rattle.std.proofs.lemmas.List.{append-nil, nil_from_length}
@@ -8,11 +8,10 @@ use Rattle.std.specs.List.{flat_map}
 use Rattle.acct_calls.specs.declared.calls.Call.{Call}
 use Rattle.acct_calls.specs.declared.calls.Face.{Face}
 use Rattle.acct_calls.specs.declared.replies.Reply.{Reply}
-use Rattle.acct_config.specs.declared.config.Config.{Config}
 use Rattle.acct_machine.specs.declared.entry.Entry.{Entry}
 use Rattle.acct_machine.specs.declared.entry.Entry.TheVariants.{Opened, Called, Gone}
-use Rattle.acct_machine.specs.State.{State, nothing_open}
-use Rattle.acct_machine.specs.Step.{state_after, step, acted}
+use Rattle.acct_machine.specs.State.{Start, State, first as first_state}
+use Rattle.acct_machine.specs.Step.{state_after, state_at, step, acted}
 use Rattle.acct_machine.specs.Legal.{replies_from, replies, calls_of}
 use Rattle.rpc_session.specs.declared.sessions.Act.{Act}
 use Rattle.rpc_session.specs.declared.sessions.Act.TheVariants as act
@@ -22,16 +21,16 @@ use Rattle.rpc_session.specs.Hearings.{Heard, hear, hear_in, on}
 use Rattle.rpc_session.specs.Acts.{acts, IsCutAnywhere}
 use Rattle.acct_server.specs.declared.events.Event.{Event}
 use Rattle.acct_server.specs.declared.events.Event.TheVariants as event
-use Rattle.acct_server.specs.declared.peers.Peer.{Peer}
-use Rattle.acct_server.specs.declared.peers.Peer.TheVariants.{Open, Ended}
+use Rattle.acct_server.specs.declared.connections.Peer.{Peer}
+use Rattle.acct_server.specs.declared.connections.Peer.TheVariants.{Open, Ended}
 use Rattle.acct_server.specs.declared.status.Status.{Status}
 use Rattle.acct_server.specs.declared.status.Status.TheVariants.{Done, EventLine}
-use Rattle.samr_wire.specs.declared.errors.WireError.{WireError}
+use Rattle.acct_stubs.specs.declared.errors.WireError.{WireError}
+use Rattle.acct_server.specs.declared.requests.Asked.{Asked}
 use Rattle.acct_server.specs.Requests.{call_on}
-use Rattle.acct_server.specs.Transcript.{transcript, answered, answer_bytes, undecoded_bytes, decoded_calls, with_call}
+use Rattle.acct_server.specs.Transcript.{transcript, answered, answer_bytes, undecoded_bytes, asked_by, decoded_calls, with_call}
 use Rattle.acct_server.specs.Events.{event_of, lines_of}
 use Rattle.acct_server.specs.Replayed.{Effect, Move, Doing, Standing, Trace, Verdicts, Printed, Out, IsClosed, IsGone, on_line, on_event, on_listener, listener_from, on_data, on_heard, on_acts, on_act, on_request, on_end, quiet, moved, nothing_heard, gone, peer_of, with_peer, number_of, served_from, follow, ends, ending, trace_from, at_start, verdict_in, replayed, entries_of}
-use Rattle.acct_server.specs.Leaves.{Leaves}
 use Rattle.acct_server.proofs.Placing.{peer-here, peer-there}
 use Rattle.acct_server.specs.Connections.{sent_by_line, brought, sent_in, received, sent, Transcribes, CutsChangeNothing}
 
@@ -92,7 +91,7 @@ none-at-start (suc i) = refl
 -- ---- what the effects of the lines say of one connection
 
 abbrev state_of : Standing → State
-state_of s = state_after (nothing_open s.config) s.history
+state_of s = state_at s.start s.history
 
 state-append : (st : State) (xs ys : List Entry) → state_after st (xs ++ ys) ≡ state_after (state_after st xs) ys
 state-append st [] ys = refl
@@ -135,7 +134,7 @@ silent-law k s m effects waits silent law =
           ap (λ (bs : List ℕ). bs ++ sent k effects) silent.prints
           ∙ law.tells
           ∙ ap (λ (as' : List Act). transcript as' (replies_from (state_of (moved s m)) k rest)) (sym heard_same)
-          ∙ ap (λ (rs : List Reply). transcript (on h (received k effects)).acts rs) (ap (λ (st : State). replies_from st k rest) (state-append (nothing_open s.config) s.history m.effect.entries) ∙ sym (silent.replied (state_of s) rest))
+          ∙ ap (λ (rs : List Reply). transcript (on h (received k effects)).acts rs) (ap (λ (st : State). replies_from st k rest) (state-append (first_state s.start) s.history m.effect.entries) ∙ sym (silent.replied (state_of s) rest))
           ∙ ap (λ (bs : List ℕ). transcript (on h bs).acts (replies_from (state_of s) k (m.effect.entries ++ rest))) (sym same);
       counts =
           ap (λ (bs : List ℕ). decoded_calls (on h bs).acts) same
@@ -170,7 +169,7 @@ speaks-law cut k s m effects speaks law =
     record {
       tells =
           ap (λ (bs : List ℕ). sent_in k m.effect ++ bs) law.tells
-          ∙ ap (λ (st : State). sent_in k m.effect ++ transcript later (replies_from st k rest)) (state-append (nothing_open s.config) s.history m.effect.entries)
+          ∙ ap (λ (st : State). sent_in k m.effect ++ transcript later (replies_from st k rest)) (state-append (first_state s.start) s.history m.effect.entries)
           ∙ sym (speaks.tells later rest)
           ∙ ap (λ (as' : List Act). transcript as' (replies_from (state_of s) k (m.effect.entries ++ rest))) (sym all);
       counts = ap (λ (as' : List Act). decoded_calls as') all ∙ speaks.counts later rest law.counts;
@@ -203,37 +202,37 @@ there c k other = grind (arith, nat_tests)
 abbrev lines_on : ℕ → List Printed → List ℕ
 lines_on k prints = flat_map (sent_by_line k) prints
 
-abbrev after : Config → List Entry → State
-after config history = state_after (nothing_open config) history
+abbrev after : Start → List Entry → State
+after start history = state_at start history
 
 -- what is sent is the transcript of the act, and the entries are its call or none
-record Says (config : Config) (k : ℕ) (history : List Entry) (acts : List Act) (d : Doing) : Type 0 where
-  tells : (later : List Act) (more : List Entry) → transcript (acts ++ later) (replies_from (after config history) k (d.entries ++ more)) ≡ lines_on k d.prints ++ transcript later (replies_from (state_after (after config history) d.entries) k more)
+record Says (start : Start) (k : ℕ) (history : List Entry) (acts : List Act) (d : Doing) : Type 0 where
+  tells : (later : List Act) (more : List Entry) → transcript (acts ++ later) (replies_from (after start history) k (d.entries ++ more)) ≡ lines_on k d.prints ++ transcript later (replies_from (state_after (after start history) d.entries) k more)
   counts : (later : List Act) (more : List Entry) → decoded_calls later ≡ calls_of k more → decoded_calls (acts ++ later) ≡ calls_of k (d.entries ++ more)
 
 sent-here : (k : ℕ) (bytes : List ℕ) → lines_on k (Out k bytes ∷ []) ≡ bytes
 sent-here k bytes = rw (here k) (append-nil bytes)
 
-request-says : (config : Config) (k id context opnum size : ℕ) (verdicts : Verdicts) (history : List Entry) (stub : List ℕ) (face : Face) (r : Result Call WireError) → call_on face opnum stub ≡ r
-    → Says config k history (act.Call id context face opnum size stub ∷ []) (on_request config verdicts history k id context size (length stub) r)
-request-says config k id context opnum size verdicts history stub face (Err e) is = record {
+request-says : (start : Start) (k id context opnum size : ℕ) (verdicts : Verdicts) (history : List Entry) (stub : List ℕ) (face : Face) (r : Result Call WireError) → call_on face opnum stub ≡ r
+    → Says start k history (act.Call id context face opnum size stub ∷ []) (on_request start verdicts history k (asked_by id context face opnum size) (length stub) r)
+request-says start k id context opnum size verdicts history stub face (Err e) is = record {
   tells = λ later more.
-      let rs = replies_from (after config history) k more in
-      ap (λ (r : Result Call WireError). answered id context size r rs (λ others. transcript later others)) is
-      ∙ ap (λ (bs : List ℕ). bs ++ transcript later rs) (sym (sent-here k (undecoded_bytes id context e)));
+      let rs = replies_from (after start history) k more in
+      ap (λ (r : Result Call WireError). answered (asked_by id context face opnum size) r rs (λ others. transcript later others)) is
+      ∙ ap (λ (bs : List ℕ). bs ++ transcript later rs) (sym (sent-here k (undecoded_bytes (asked_by id context face opnum size) e)));
   counts = λ later more same_calls. ap (λ (r : Result Call WireError). with_call r (length stub) (decoded_calls later)) is ∙ same_calls;
 }
-request-says config k id context opnum size verdicts history stub face (Ok call) is =
+request-says start k id context opnum size verdicts history stub face (Ok call) is =
     let verdict = verdicts (length history) in
     let entry = Called k call verdict (length stub) in
-    let reply = (acted (after config history) k call verdict).1 in
+    let reply = (acted (after start history) k call verdict).1 in
     record {
       tells = λ later more.
-          let others = replies_from (state_after (after config history) (entry ∷ [])) k more in
-          let mine : replies_from (after config history) k ((entry ∷ []) ++ more) ≡ reply ∷ others = rw (here k) refl in
+          let others = replies_from (state_after (after start history) (entry ∷ [])) k more in
+          let mine : replies_from (after start history) k ((entry ∷ []) ++ more) ≡ reply ∷ others = rw (here k) refl in
           ap (λ (rs : List Reply). transcript (act.Call id context face opnum size stub ∷ later) rs) mine
-          ∙ ap (λ (r : Result Call WireError). answered id context size r (reply ∷ others) (λ rs. transcript later rs)) is
-          ∙ ap (λ (bs : List ℕ). bs ++ transcript later others) (sym (sent-here k (answer_bytes id context size call.opnum reply)));
+          ∙ ap (λ (r : Result Call WireError). answered (asked_by id context face opnum size) r (reply ∷ others) (λ rs. transcript later rs)) is
+          ∙ ap (λ (bs : List ℕ). bs ++ transcript later others) (sym (sent-here k (answer_bytes (asked_by id context face opnum size) call.opnum reply)));
       counts = λ later more same_calls.
           let mine : calls_of k ((entry ∷ []) ++ more) ≡ (call, length stub) ∷ calls_of k more = rw (here k) refl in
           ap (λ (r : Result Call WireError). with_call r (length stub) (decoded_calls later)) is
@@ -241,41 +240,41 @@ request-says config k id context opnum size verdicts history stub face (Ok call)
           ∙ sym mine;
     }
 
-act-says : (config : Config) (k : ℕ) (verdicts : Verdicts) (history : List Entry) (a : Act) → Says config k history (a ∷ []) (on_act config verdicts history k a)
-act-says config k verdicts history (act.Answered bytes) = record {
-  tells = λ later more. ap (λ (bs : List ℕ). bs ++ transcript later (replies_from (after config history) k more)) (sym (sent-here k bytes));
+act-says : (start : Start) (k : ℕ) (verdicts : Verdicts) (history : List Entry) (a : Act) → Says start k history (a ∷ []) (on_act start verdicts history k a)
+act-says start k verdicts history (act.Answered bytes) = record {
+  tells = λ later more. ap (λ (bs : List ℕ). bs ++ transcript later (replies_from (after start history) k more)) (sym (sent-here k bytes));
   counts = λ later more same_calls. same_calls;
 }
-act-says config k verdicts history (act.Call id context face opnum size stub) = request-says config k id context opnum size verdicts history stub face (call_on face opnum stub) refl
-act-says config k verdicts history (act.Closed place cause bytes) = record {
+act-says start k verdicts history (act.Call id context face opnum size stub) = request-says start k id context opnum size verdicts history stub face (call_on face opnum stub) refl
+act-says start k verdicts history (act.Closed place cause bytes) = record {
   tells = λ later more.
-      let rs = replies_from (state_after (after config history) (Gone k ∷ [])) k more in
+      let rs = replies_from (state_after (after start history) (Gone k ∷ [])) k more in
       let lines : lines_on k (Out k bytes ∷ IsClosed k place cause ∷ []) ≡ bytes = rw (here k) (append-nil bytes) in
       ap (λ (bs : List ℕ). bs ++ transcript later rs) (sym lines);
   counts = λ later more same_calls. same_calls;
 }
 
-acts-say : (config : Config) (k : ℕ) (verdicts : Verdicts) (as' : List Act) (history : List Entry) → Says config k history as' (on_acts config verdicts history k as')
-acts-say config k verdicts [] history = record { tells = λ later more. refl; counts = λ later more same_calls. same_calls }
-acts-say config k verdicts (a ∷ as') history =
-    let first = on_act config verdicts history k a in
+acts-say : (start : Start) (k : ℕ) (verdicts : Verdicts) (as' : List Act) (history : List Entry) → Says start k history as' (on_acts start verdicts history k as')
+acts-say start k verdicts [] history = record { tells = λ later more. refl; counts = λ later more same_calls. same_calls }
+acts-say start k verdicts (a ∷ as') history =
+    let first = on_act start verdicts history k a in
     let now = history ++ first.entries in
-    let others = on_acts config verdicts now k as' in
-    let one = act-says config k verdicts history a in
-    let more_says = acts-say config k verdicts as' now in
-    let stands : after config now ≡ state_after (after config history) first.entries = state-append (nothing_open config) history first.entries in
+    let others = on_acts start verdicts now k as' in
+    let one = act-says start k verdicts history a in
+    let more_says = acts-say start k verdicts as' now in
+    let stands : after start now ≡ state_after (after start history) first.entries = state-append (first_state start) history first.entries in
     record {
       tells = λ later more.
           let joined_entries : (first.entries ++ others.entries) ++ more ≡ first.entries ++ (others.entries ++ more) = append_assoc first.entries others.entries more in
-          let left = replies_from (state_after (state_after (after config history) first.entries) others.entries) k more in
-          ap (λ (es : List Entry). transcript (a ∷ (as' ++ later)) (replies_from (after config history) k es)) joined_entries
+          let left = replies_from (state_after (state_after (after start history) first.entries) others.entries) k more in
+          ap (λ (es : List Entry). transcript (a ∷ (as' ++ later)) (replies_from (after start history) k es)) joined_entries
           ∙ one.tells (as' ++ later) (others.entries ++ more)
           ∙ ap (λ (st : State). lines_on k first.prints ++ transcript (as' ++ later) (replies_from st k (others.entries ++ more))) (sym stands)
           ∙ ap (λ (bs : List ℕ). lines_on k first.prints ++ bs) (more_says.tells later more)
           ∙ ap (λ (st : State). lines_on k first.prints ++ (lines_on k others.prints ++ transcript later (replies_from (state_after st others.entries) k more))) stands
           ∙ sym (append_assoc (lines_on k first.prints) (lines_on k others.prints) (transcript later left))
           ∙ ap (λ (bs : List ℕ). bs ++ transcript later left) (sym (flat_map-append (sent_by_line k) first.prints others.prints))
-          ∙ ap (λ (st : State). lines_on k (first.prints ++ others.prints) ++ transcript later (replies_from st k more)) (sym (state-append (after config history) first.entries others.entries));
+          ∙ ap (λ (st : State). lines_on k (first.prints ++ others.prints) ++ transcript later (replies_from st k more)) (sym (state-append (after start history) first.entries others.entries));
       counts = λ later more same_calls.
           one.counts (as' ++ later) (others.entries ++ more) (more_says.counts later more same_calls)
           ∙ ap (λ (es : List Entry). calls_of k es) (sym (append_assoc first.entries others.entries more));
@@ -288,22 +287,22 @@ record Passes (k : ℕ) (d : Doing) : Type 0 where
   replied : (st : State) (more : List Entry) → replies_from st k (d.entries ++ more) ≡ replies_from (state_after st d.entries) k more
   called : (more : List Entry) → calls_of k (d.entries ++ more) ≡ calls_of k more
 
-request-passes : (config : Config) (k c id context size n : ℕ) (verdicts : Verdicts) (history : List Entry) (r : Result Call WireError) → c ≢ k → Passes k (on_request config verdicts history c id context size n r)
-request-passes config k c id context size n verdicts history (Err e) other = record { prints = rw (there c k other) refl; replied = λ st more. refl; called = λ more. refl }
-request-passes config k c id context size n verdicts history (Ok call) other = record { prints = rw (there c k other) refl; replied = λ st more. rw (there c k other) refl; called = λ more. rw (there c k other) refl }
+request-passes : (start : Start) (k c n : ℕ) (asked : Asked) (verdicts : Verdicts) (history : List Entry) (r : Result Call WireError) → c ≢ k → Passes k (on_request start verdicts history c asked n r)
+request-passes start k c n asked verdicts history (Err e) other = record { prints = rw (there c k other) refl; replied = λ st more. refl; called = λ more. refl }
+request-passes start k c n asked verdicts history (Ok call) other = record { prints = rw (there c k other) refl; replied = λ st more. rw (there c k other) refl; called = λ more. rw (there c k other) refl }
 
-act-passes : (config : Config) (k c : ℕ) (verdicts : Verdicts) (history : List Entry) (a : Act) → c ≢ k → Passes k (on_act config verdicts history c a)
-act-passes config k c verdicts history (act.Answered bytes) other = record { prints = rw (there c k other) refl; replied = λ st more. refl; called = λ more. refl }
-act-passes config k c verdicts history (act.Call id context face opnum size stub) other = request-passes config k c id context size (length stub) verdicts history (call_on face opnum stub) other
-act-passes config k c verdicts history (act.Closed place cause bytes) other = record { prints = rw (there c k other) refl; replied = λ st more. refl; called = λ more. refl }
+act-passes : (start : Start) (k c : ℕ) (verdicts : Verdicts) (history : List Entry) (a : Act) → c ≢ k → Passes k (on_act start verdicts history c a)
+act-passes start k c verdicts history (act.Answered bytes) other = record { prints = rw (there c k other) refl; replied = λ st more. refl; called = λ more. refl }
+act-passes start k c verdicts history (act.Call id context face opnum size stub) other = request-passes start k c (length stub) (asked_by id context face opnum size) verdicts history (call_on face opnum stub) other
+act-passes start k c verdicts history (act.Closed place cause bytes) other = record { prints = rw (there c k other) refl; replied = λ st more. refl; called = λ more. refl }
 
-acts-pass : (config : Config) (k c : ℕ) (verdicts : Verdicts) (as' : List Act) (history : List Entry) → c ≢ k → Passes k (on_acts config verdicts history c as')
-acts-pass config k c verdicts [] history other = record { prints = refl; replied = λ st more. refl; called = λ more. refl }
-acts-pass config k c verdicts (a ∷ as') history other =
-    let first = on_act config verdicts history c a in
-    let others = on_acts config verdicts (history ++ first.entries) c as' in
-    let one = act-passes config k c verdicts history a other in
-    let rest = acts-pass config k c verdicts as' (history ++ first.entries) other in
+acts-pass : (start : Start) (k c : ℕ) (verdicts : Verdicts) (as' : List Act) (history : List Entry) → c ≢ k → Passes k (on_acts start verdicts history c as')
+acts-pass start k c verdicts [] history other = record { prints = refl; replied = λ st more. refl; called = λ more. refl }
+acts-pass start k c verdicts (a ∷ as') history other =
+    let first = on_act start verdicts history c a in
+    let others = on_acts start verdicts (history ++ first.entries) c as' in
+    let one = act-passes start k c verdicts history a other in
+    let rest = acts-pass start k c verdicts as' (history ++ first.entries) other in
     record {
       prints = flat_map-append (sent_by_line k) first.prints others.prints ∙ ap (λ (bs : List ℕ). bs ++ lines_on k others.prints) one.prints ∙ rest.prints;
       replied = λ st more.
@@ -338,7 +337,7 @@ heard-tells k conn verdicts s bytes h stands =
     let left = Open (on h bytes).leaves in
     elim (cases_eq conn k) [
       | inl same ↦ subst (λ (n : ℕ). Tells n s m) same (
-          let says = acts-say s.config conn verdicts (on h bytes).acts s.history in inr (record {
+          let says = acts-say s.start conn verdicts (on h bytes).acts s.history in inr (record {
             hearing = h;
             bytes = bytes;
             stands = stands;
@@ -348,7 +347,7 @@ heard-tells k conn verdicts s bytes h stands =
             counts = says.counts;
           }))
       | inr other ↦
-          let passes = acts-pass s.config k conn verdicts (on h bytes).acts s.history other in inl (record {
+          let passes = acts-pass s.start k conn verdicts (on h bytes).acts s.history other in inl (record {
             brings = rw (there conn k other) refl;
             prints = passes.prints;
             replied = passes.replied;
@@ -420,7 +419,7 @@ ended-tells k conn s (Some (Open h)) m stands is = known k s _ m is (end-tells k
 event-tells : (k : ℕ) (verdicts : Verdicts) (s : Standing) (e : Option Event) (m : Move) → on_event verdicts s e ≡ Some m → Tells k s m
 event-tells k verdicts s None m is = absurd cc
 event-tells k verdicts s (Some event.Nothing) m is = known k s (quiet s.peers) m is (quiet-tells k s)
-event-tells k verdicts s (Some (event.Open conn name)) m is = listener-tells k conn s (listener_from 0 name s.config.listeners) m is
+event-tells k verdicts s (Some (event.Open conn name)) m is = listener-tells k conn s (listener_from 0 name s.start.config.listeners) m is
 event-tells k verdicts s (Some (event.Data conn bytes)) m is = data-tells k conn verdicts s bytes (peer_of conn s.peers) m refl is
 event-tells k verdicts s (Some (event.End conn)) m is = ended-tells k conn s (peer_of conn s.peers) m refl is
 
@@ -454,18 +453,18 @@ law cut k verdicts [] s n waits = ending-law k s Done waits
 law cut k verdicts (line ∷ ls) s n waits =
     follow-law cut k s n (on_line verdicts s line) (λ next. trace_from verdicts next (n + 1) ls) waits (λ m is. line-tells k verdicts s line m is) (λ next still_waits. law cut k verdicts ls next (n + 1) still_waits)
 
-pub transcribing : IsCutAnywhere → (config : Config) (events : List ℕ) (history : List Entry) → history ≡ entries_of (replayed config events history).effects → (k : ℕ) → Transcribes config events history k
-transcribing cut config events history entries k =
-    let effects = (replayed config events history).effects in
+pub transcribing : IsCutAnywhere → (start : Start) (events : List ℕ) (history : List Entry) → history ≡ entries_of (replayed start events history).effects → (k : ℕ) → Transcribes start events history k
+transcribing cut start events history entries k =
+    let effects = (replayed start events history).effects in
     let stream = received k effects in
     let fresh : hearing_of k [] ≡ nothing_heard k = none-at-start k in
-    let all = law cut k (verdict_in history) (lines_of events) (at_start config) 1 (subst (λ (h : Hearing). Quiet h) (sym fresh) (quiet-start k)) in
+    let all = law cut k (verdict_in history) (lines_of events) (at_start start) 1 (subst (λ (h : Hearing). Quiet h) (sym fresh) (quiet-start k)) in
     let heard_all : (on (hearing_of k []) stream).acts ≡ acts k stream = ap (λ (h : Hearing). (on h stream).acts) fresh in
     record {
       transcribed =
           all.tells
-          ∙ ap (λ (as' : List Act). transcript as' (replies_from (nothing_open config) k (entries_of effects))) heard_all
-          ∙ ap (λ (es : List Entry). transcript (acts k stream) (replies_from (nothing_open config) k es)) (sym entries);
+          ∙ ap (λ (as' : List Act). transcript as' (replies_from (first_state start) k (entries_of effects))) heard_all
+          ∙ ap (λ (es : List Entry). transcript (acts k stream) (replies_from (first_state start) k es)) (sym entries);
       decoded =
           ap (λ (as' : List Act). decoded_calls as') (sym heard_all)
           ∙ all.counts
@@ -474,14 +473,14 @@ transcribing cut config events history entries k =
 
 -- however the lines cut what comes
 pub cuts-change-nothing : IsCutAnywhere → CutsChangeNothing
-cuts-change-nothing cut config left right one other k first second same =
-    let l = transcribing cut config left one first k in
-    let r = transcribing cut config right other second k in
-    let heard_same : acts k (received k (replayed config left one).effects) ≡ acts k (received k (replayed config right other).effects) = ap (λ (bs : List ℕ). acts k bs) same in (
+cuts-change-nothing cut start left right one other k first second same =
+    let l = transcribing cut start left one first k in
+    let r = transcribing cut start right other second k in
+    let heard_same : acts k (received k (replayed start left one).effects) ≡ acts k (received k (replayed start right other).effects) = ap (λ (bs : List ℕ). acts k bs) same in (
       sym l.decoded ∙ ap (λ (as' : List Act). decoded_calls as') heard_same ∙ r.decoded,
       λ answered_same.
           l.transcribed
-          ∙ ap (λ (as' : List Act). transcript as' (replies config k one)) heard_same
-          ∙ ap (λ (rs : List Reply). transcript (acts k (received k (replayed config right other).effects)) rs) answered_same
+          ∙ ap (λ (as' : List Act). transcript as' (replies start k one)) heard_same
+          ∙ ap (λ (rs : List Reply). transcript (acts k (received k (replayed start right other).effects)) rs) answered_same
           ∙ sym r.transcribed,
     )

@@ -1,5 +1,5 @@
 -- Under which configuration the lines are run.
-use Rattle.std.specs.Prelude.{◌≡◌, ℕ, List, Option, Some, None, IfSome}
+use Rattle.std.specs.Prelude.{◌≡◌, ℕ, List, Option, None, IfSome}
 use Rattle.acct_config.specs.declared.config.Config.{Config}
 use Rattle.acct_config.specs.declared.errors.ConfigError.{ConfigError}
 use Rattle.acct_config.specs.declared.errors.ConfigError.TheVariants as refusal
@@ -22,11 +22,6 @@ BreaksNone left = IfSome left (λ document. first_broken document ≡ None)
 pub record IsConfigured (left : Option (List ℕ)) (config : Config) : Type 0 where
   pub right : IsRight config
   pub told : IfSome left (λ document. IsSpelledBy document config)
-
--- A fact holds under the configuration that the document spells; where the source doesn't tell the document, under some right one.
-abbrev pub Under : Option (List ℕ) → (Config → Type 0) → Type 0
-Under None P = (config : Config) × IsRight config × P config
-Under (Some document) P = P (spelled document)
 
 -- the status of a document that isn't taken
 abbrev pub refused_status : ConfigError → Status

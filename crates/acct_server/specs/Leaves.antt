@@ -1,16 +1,17 @@
 -- What a replay leaves, by its status.
 use Rattle.std.specs.Prelude.{◌≡◌, ℕ, ◌<◌, ◌≤◌, List, ◌∷◌, ◌++◌, ◌⊎◌, take, length, Option, Some, None, IfSome, if◌then◌else◌, nat_lt}
 use Rattle.std.specs.Io.KnownBytes.{Appends}
-use Rattle.acct_config.specs.declared.config.Config.{Config}
+use Rattle.acct_machine.specs.State.{Start}
 use Rattle.acct_config.specs.Rules.{first_broken}
 use Rattle.acct_machine.specs.declared.entry.Entry.{Entry}
 use Rattle.acct_server.specs.declared.status.Status.{Status}
-use Rattle.acct_server.specs.declared.status.Status.TheVariants.{Done, NoMemory, Usage, Config as ConfigBroken, ReadFault, WriteFault, EventLine, InputTooLong}
-use Rattle.acct_server.specs.declared.whole.WholeError.{WholeError}
-use Rattle.acct_server.specs.declared.whole.WholeError.TheVariants.{Fault, TooLong, Memory}
-use Rattle.acct_server.specs.Causes.{Rose}
-use Rattle.acct_server.specs.Whole.{most_bytes}
-use Rattle.acct_server.specs.Configured.{BreaksNone, spelled}
+use Rattle.acct_server.specs.declared.status.Status.TheVariants.{Done, NoMemory, Config as ConfigBroken, ReadFault, WriteFault, EventLine, InputTooLong}
+use Rattle.acct_streams.specs.declared.whole.WholeError.{WholeError}
+use Rattle.acct_streams.specs.declared.whole.WholeError.TheVariants.{Fault, TooLong, Memory}
+use Rattle.acct_streams.specs.Causes.{Rose}
+use Rattle.acct_streams.specs.Whole.{most_bytes}
+use Rattle.acct_server.specs.Begun.{begun}
+use Rattle.acct_server.specs.Configured.{spelled}
 use Rattle.acct_server.specs.Replayed.{Effect, replayed, ending, entries_of, output_of, line_bytes}
 use Rattle.acct_server.specs.Running.{Running, standing}
 use Rattle.std.specs.List.{flat_map}
@@ -21,25 +22,6 @@ IsRunThrough Done = Unit {0}
 IsRunThrough (EventLine n) = Unit {0}
 IsRunThrough _ = ⊥
 
--- the lines weren't run
-abbrev pub IsBefore : Status → Type 0
-IsBefore (ConfigBroken n) = Unit {0}
-IsBefore ReadFault = Unit {0}
-IsBefore InputTooLong = Unit {0}
-IsBefore _ = ⊥
-
--- the lines were run, perhaps not to their end
-abbrev pub IsRun : Status → Type 0
-IsRun Done = Unit {0}
-IsRun WriteFault = Unit {0}
-IsRun (EventLine n) = Unit {0}
-IsRun _ = ⊥
-
--- a status that a replay may have
-abbrev pub IsOfReplay : Status → Type 0
-IsOfReplay Usage = ⊥
-IsOfReplay _ = Unit {0}
-
 -- a status of the run of the lines
 abbrev pub IsOfRun : Status → Type 0
 IsOfRun Done = Unit {0}
@@ -49,28 +31,28 @@ IsOfRun (EventLine n) = Unit {0}
 IsOfRun _ = ⊥
 
 -- The history, the bytes written and the status are those of the events, with the verdicts of the history.
-pub record Leaves (config : Config) (held now : Option (List ℕ)) (events : List ℕ) (history : List Entry) (status : Status) : Type 0 where
-  pub entries : history ≡ entries_of (replayed config events history).effects
-  pub lines : Appends held now (output_of (replayed config events history).effects)
-  pub ends : status ≡ (replayed config events history).status
+pub record Leaves (start : Start) (held now : Option (List ℕ)) (events : List ℕ) (history : List Entry) (status : Status) : Type 0 where
+  pub entries : history ≡ entries_of (replayed start events history).effects
+  pub lines : Appends held now (output_of (replayed start events history).effects)
+  pub ends : status ≡ (replayed start events history).status
 
 -- The sink failed at the lines of an event or of the end: the history has the entries up to this one's, the lines of the events
 -- before are written whole, and of its own a front.
-pub record Breaks (config : Config) (held now : Option (List ℕ)) (events : List ℕ) (history : List Entry) : Type 0 where
+pub record Breaks (start : Start) (held now : Option (List ℕ)) (events : List ℕ) (history : List Entry) : Type 0 where
   pub done : List Effect
   pub met : Effect
   pub ahead : List Effect
   pub written : ℕ
-  pub splits : (replayed config events history).effects ≡ done ++ met ∷ ahead
+  pub splits : (replayed start events history).effects ≡ done ++ met ∷ ahead
   pub entries : history ≡ entries_of done ++ met.entries
   pub lines : Appends held now (output_of done ++ take written (flat_map line_bytes met.prints))
 
 -- Memory was wanted: the history is a front of the entries, and what is written a front of the lines.
-pub record Stops (config : Config) (held now : Option (List ℕ)) (events : List ℕ) (history : List Entry) : Type 0 where
+pub record Stops (start : Start) (held now : Option (List ℕ)) (events : List ℕ) (history : List Entry) : Type 0 where
   pub later : List Entry
   pub written : ℕ
-  pub entries : entries_of (replayed config events history).effects ≡ history ++ later
-  pub lines : Appends held now (take written (output_of (replayed config events history).effects))
+  pub entries : entries_of (replayed start events history).effects ≡ history ++ later
+  pub lines : Appends held now (take written (output_of (replayed start events history).effects))
 
 -- the connections that were open have been ended, and their lines are written
 pub record Finishes (held now : Option (List ℕ)) (old new : Running) (status answer : Status) : Type 0 where
@@ -89,13 +71,20 @@ pub record FinishBreaks (held now : Option (List ℕ)) (old new : Running) : Typ
 abbrev pub IsLong : Option (List ℕ) → Type 0
 IsLong left = IfSome left (λ bytes. most_bytes < length bytes)
 
--- Why the lines aren't run, by what the sources had left and by their counts before and after. The configuration comes first.
-abbrev pub Unread : Option (List ℕ) → Option (List ℕ) → ℕ → ℕ → ℕ → ℕ → Status → Type 0
-Unread config events before now earlier later (ConfigBroken n) = IfSome config (λ document. (first_broken document ≡ Some n) × (length document ≤ most_bytes))
-Unread config events before now earlier later ReadFault = Rose before now ⊎ (BreaksNone config × Rose earlier later)
-Unread config events before now earlier later InputTooLong = IsLong config ⊎ (BreaksNone config × IsLong events)
-Unread config events before now earlier later NoMemory = Unit {0}
-Unread config events before now earlier later _ = ⊥
+-- why the configuration wasn't taken, by what its source had left and by its counts before and after
+abbrev pub ConfigCause : Option (List ℕ) → ℕ → ℕ → Status → Type 0
+ConfigCause left before now (ConfigBroken n) = IfSome left (λ document. (first_broken document ≡ Some n) × (length document ≤ most_bytes))
+ConfigCause left before now ReadFault = Rose before now
+ConfigCause left before now InputTooLong = IsLong left
+ConfigCause left before now NoMemory = Unit {0}
+ConfigCause left before now _ = ⊥
+
+-- why the events weren't
+abbrev pub EventsCause : Option (List ℕ) → ℕ → ℕ → Status → Type 0
+EventsCause left before now ReadFault = Rose before now
+EventsCause left before now InputTooLong = IsLong left
+EventsCause left before now NoMemory = Unit {0}
+EventsCause left before now _ = ⊥
 
 -- a status, or that of a rule that is broken
 abbrev pub unless_broken : Option ℕ → Status → Status
@@ -108,7 +97,7 @@ asked_status document events history =
     if nat_lt most_bytes (length document) then InputTooLong
     else unless_broken (first_broken document) (
     if nat_lt most_bytes (length events) then InputTooLong
-    else (replayed (spelled document) events history).status)
+    else (replayed (begun (spelled document)) events history).status)
 
 -- it is that one, or memory was wanted
 abbrev pub IsAsked : List ℕ → List ℕ → List Entry → Status → Type 0

@@ -6,29 +6,29 @@ use Rattle.std.specs.Str.{bytes_eq}
 use Rattle.hex.specs.Hex.{encode_lower}
 use Rattle.acct_calls.specs.declared.calls.Call.{Call}
 use Rattle.acct_config.specs.declared.config.Listener.{Listener}
-use Rattle.acct_config.specs.declared.config.Config.{Config}
+use Rattle.acct_machine.specs.State.{Start}
 use Rattle.acct_machine.specs.declared.entry.Verdict.{Verdict}
 use Rattle.acct_machine.specs.declared.entry.Verdict.TheVariants.{Ran}
 use Rattle.acct_machine.specs.declared.entry.Entry.{Entry}
 use Rattle.acct_machine.specs.declared.entry.Entry.TheVariants.{Opened, Called, Gone}
-use Rattle.acct_machine.specs.State.{nothing_open}
-use Rattle.acct_machine.specs.Step.{state_after, acted}
+use Rattle.acct_machine.specs.Step.{state_at, acted}
 use Rattle.rpc_session.specs.declared.sessions.Act.{Act}
 use Rattle.rpc_session.specs.declared.sessions.Act.TheVariants as act
 use Rattle.rpc_session.specs.declared.sessions.Session.TheVariants.{Unbound}
 use Rattle.rpc_session.specs.declared.hearing.Hearing.{Hearing}
 use Rattle.rpc_session.specs.declared.hearing.Hearing.TheVariants.{Going}
 use Rattle.rpc_session.specs.Hearings.{Heard, on, is_going}
-use Rattle.samr_wire.specs.declared.errors.WireError.{WireError}
+use Rattle.acct_stubs.specs.declared.errors.WireError.{WireError}
 use Rattle.acct_server.specs.declared.events.Event.{Event}
 use Rattle.acct_server.specs.declared.events.Event.TheVariants as event
-use Rattle.acct_server.specs.declared.peers.Peer.{Peer}
-use Rattle.acct_server.specs.declared.peers.Peer.TheVariants.{Open, Ended}
+use Rattle.acct_server.specs.declared.connections.Peer.{Peer}
+use Rattle.acct_server.specs.declared.connections.Peer.TheVariants.{Open, Ended}
 use Rattle.acct_server.specs.declared.status.Status.{Status}
 use Rattle.acct_server.specs.declared.status.Status.TheVariants.{Done, EventLine}
 use Rattle.acct_server.specs.Events.{event_of, lines_of}
 use Rattle.acct_server.specs.Requests.{call_on}
-use Rattle.acct_server.specs.Transcript.{answer_bytes, undecoded_bytes}
+use Rattle.acct_server.specs.declared.requests.Asked.{Asked}
+use Rattle.acct_server.specs.Transcript.{answer_bytes, undecoded_bytes, asked_by}
 
 -- ---- lines that are printed
 
@@ -63,7 +63,7 @@ pub record Effect : Type 0 where
 
 -- the configuration, the history so far, and the connections, of which the first has number 1
 pub record Standing : Type 0 where
-  pub config : Config
+  pub start : Start
   pub history : List Entry
   pub peers : List Peer
 
@@ -108,7 +108,7 @@ on_listener s conn (Some listener) =
     else None
 
 abbrev pub on_open : Standing → ℕ → List ℕ → Option Move
-on_open s conn name = on_listener s conn (listener_from 0 name s.config.listeners)
+on_open s conn name = on_listener s conn (listener_from 0 name s.start.config.listeners)
 
 -- ---- what the bytes on a connection do
 
@@ -124,32 +124,32 @@ abbrev pub both : Doing → Doing → Doing
 both first second = record { entries = first.entries ++ second.entries; prints = first.prints ++ second.prints }
 
 -- a call, with its verdict
-abbrev pub on_call : Config → List Entry → ℕ → ℕ → ℕ → ℕ → ℕ → Call → Verdict → Doing
-on_call config history conn id context size stub_size call verdict =
-    let reply = (acted (state_after (nothing_open config) history) conn call verdict).1 in
-    record { entries = Called conn call verdict stub_size ∷ []; prints = Out conn (answer_bytes id context size call.opnum reply) ∷ [] }
+abbrev pub on_call : Start → List Entry → ℕ → Asked → ℕ → Call → Verdict → Doing
+on_call start history conn asked stub_size call verdict =
+    let reply = (acted (state_at start history) conn call verdict).1 in
+    record { entries = Called conn call verdict stub_size ∷ []; prints = Out conn (answer_bytes asked call.opnum reply) ∷ [] }
 
 -- a request that is no decoded call is answered outside the history
-abbrev pub on_request : Config → Verdicts → List Entry → ℕ → ℕ → ℕ → ℕ → ℕ → Result Call WireError → Doing
-on_request config verdicts history conn id context size stub_size (Err e) = prints_only (Out conn (undecoded_bytes id context e) ∷ [])
-on_request config verdicts history conn id context size stub_size (Ok call) = on_call config history conn id context size stub_size call (verdicts (length history))
+abbrev pub on_request : Start → Verdicts → List Entry → ℕ → Asked → ℕ → Result Call WireError → Doing
+on_request start verdicts history conn asked stub_size (Err e) = prints_only (Out conn (undecoded_bytes asked e) ∷ [])
+on_request start verdicts history conn asked stub_size (Ok call) = on_call start history conn asked stub_size call (verdicts (length history))
 
 -- after a refusal the connection is gone
-abbrev pub on_act : Config → Verdicts → List Entry → ℕ → Act → Doing
-on_act config verdicts history conn (act.Answered bytes) = prints_only (Out conn bytes ∷ [])
-on_act config verdicts history conn (act.Call id context face opnum size stub) = on_request config verdicts history conn id context size (length stub) (call_on face opnum stub)
-on_act config verdicts history conn (act.Closed place cause bytes) = record { entries = Gone conn ∷ []; prints = Out conn bytes ∷ IsClosed conn place cause ∷ [] }
+abbrev pub on_act : Start → Verdicts → List Entry → ℕ → Act → Doing
+on_act start verdicts history conn (act.Answered bytes) = prints_only (Out conn bytes ∷ [])
+on_act start verdicts history conn (act.Call id context face opnum size stub) = on_request start verdicts history conn (asked_by id context face opnum size) (length stub) (call_on face opnum stub)
+on_act start verdicts history conn (act.Closed place cause bytes) = record { entries = Gone conn ∷ []; prints = Out conn bytes ∷ IsClosed conn place cause ∷ [] }
 
 -- one act after the other, each with the history that those before it left
-abbrev pub on_acts : Config → Verdicts → List Entry → ℕ → List Act → Doing
-on_acts config verdicts history conn [] = prints_only []
-on_acts config verdicts history conn (a ∷ acts) =
-    let first = on_act config verdicts history conn a in both first (on_acts config verdicts (history ++ first.entries) conn acts)
+abbrev pub on_acts : Start → Verdicts → List Entry → ℕ → List Act → Doing
+on_acts start verdicts history conn [] = prints_only []
+on_acts start verdicts history conn (a ∷ acts) =
+    let first = on_act start verdicts history conn a in both first (on_acts start verdicts (history ++ first.entries) conn acts)
 
 -- the acts that the bytes complete; a connection that the server closed hears nothing more
 abbrev pub on_heard : Verdicts → Standing → ℕ → List ℕ → Heard → Move
 on_heard verdicts s conn bytes heard =
-    let doing = on_acts s.config verdicts s.history conn heard.acts in record {
+    let doing = on_acts s.start verdicts s.history conn heard.acts in record {
       effect = record { entries = doing.entries; brings = (conn, bytes) ∷ []; prints = doing.prints };
       peers = with_peer conn (Open heard.leaves) s.peers;
     }
@@ -227,8 +227,8 @@ trace_from verdicts s n [] = ends s Done
 trace_from verdicts s n (line ∷ lines) =
     follow s n (on_line verdicts s line) (λ after. trace_from verdicts after (n + 1) lines)
 
-abbrev pub at_start : Config → Standing
-at_start config = record { config = config; history = []; peers = [] }
+abbrev pub at_start : Start → Standing
+at_start start = record { start = start; history = []; peers = [] }
 
 -- the verdict of a call, and Ran where there is none
 abbrev pub verdict_of : Option Entry → Verdict
@@ -241,8 +241,8 @@ abbrev pub verdict_in : List Entry → Verdicts
 verdict_in history place = verdict_of (slice_get history place)
 
 -- what a replay of events does, where the calls have the verdicts of a history
-abbrev pub replayed : Config → List ℕ → List Entry → Trace
-replayed config events history = trace_from (verdict_in history) (at_start config) 1 (lines_of events)
+abbrev pub replayed : Start → List ℕ → List Entry → Trace
+replayed start events history = trace_from (verdict_in history) (at_start start) 1 (lines_of events)
 
 abbrev pub entries_of : List Effect → List Entry
 entries_of effects = flat_map (λ e. e.entries) effects

@@ -1,15 +1,19 @@
--- The clauses of a replay, by the sources and the sink before and after it. The functions tell of a source the bytes that it has
--- left and its count of faults, of a sink the bytes that it holds and its count.
-use Rattle.std.specs.Prelude.{◌≡◌, ℕ, ◌⊎◌, List, [], Option, IfSome}
-use Rattle.std.specs.Io.KnownBytes.{Keeps}
+-- The contract of a replay, by the sources and the sink before and after it. The functions tell of a source the bytes that it has left and
+-- its count of faults, of a sink the bytes that it holds and its count.
+use Rattle.std.specs.Prelude.{◌≡◌, ℕ, ◌≤◌, ◌⊎◌, List, [], Option, IfSome, length}
+use Rattle.acct_config.specs.declared.config.Config.{Config}
 use Rattle.acct_machine.specs.declared.entry.Entry.{Entry}
+use Rattle.acct_machine.specs.State.{Start}
 use Rattle.acct_machine.specs.Legal.{Legal}
 use Rattle.acct_server.specs.declared.status.Status.{Status}
 use Rattle.acct_server.specs.declared.status.Status.TheVariants.{WriteFault, NoMemory}
-use Rattle.acct_server.specs.Causes.{Rose, NotRisen}
-use Rattle.acct_server.specs.Configured.{BreaksNone, Under}
-use Rattle.acct_server.specs.Leaves.{Leaves, Breaks, Stops, IsRunThrough, IsRun, IsBefore, IsOfReplay, Unread, IsAsked}
+use Rattle.acct_streams.specs.Causes.{Rose, NotRisen}
+use Rattle.acct_streams.specs.Whole.{most_bytes, IsWhole}
+use Rattle.acct_server.specs.Begun.{begun}
+use Rattle.acct_server.specs.Configured.{BreaksNone, IsConfigured}
+use Rattle.acct_server.specs.Leaves.{Leaves, Breaks, Stops, IsRunThrough, IsOfRun, ConfigCause, EventsCause, IsAsked}
 use Rattle.acct_server.specs.Connections.{Transcribes}
+use Rattle.acct_server.specs.Denied.{DeniesExactlyIn}
 
 -- what the parts of a replay tell
 pub record Telling (S T : Type 0) : Type 0 where
@@ -24,25 +28,50 @@ pub record Parts (S T : Type 0) : Type 0 where
   pub events : S
   pub out : T
 
-pub record IsReplay {S T : Type 0} (told : Telling S T) (old new : Parts S T) (status : Status) (history : List Entry) : Type 0 where
-  -- run to the end, or to a refused line: history, lines and status are those of the events, under the configuration of the document
-  pub through : IsRunThrough status → Under (told.left old.config) (λ config. IfSome (told.left old.events) (λ bytes. Leaves config (told.held old.out) (told.held new.out) bytes history status))
+-- The lines weren't run: nothing has happened and nothing was written. Either the configuration wasn't taken, and the events are
+-- untouched, or it was, and the events weren't.
+pub record HasNotRun {S T : Type 0} (told : Telling S T) (old new : Parts S T) (status : Status) (history : List Entry) : Type 0 where
+  pub nothing : history ≡ []
+  pub out : new.out ≡ old.out
+  pub cause : (ConfigCause (told.left old.config) (told.read_faults old.config) (told.read_faults new.config) status × (new.events ≡ old.events))
+      ⊎ (BreaksNone (told.left old.config) × EventsCause (told.left old.events) (told.read_faults old.events) (told.read_faults new.events) status)
+
+-- Lines were run from one beginning.
+pub record RunsLines (start : Start) (events : List ℕ) (held now : Option (List ℕ)) (before after : ℕ) (status : Status) (history : List Entry) : Type 0 where
+  pub possible : IsOfRun status
+  -- run to the end, or to a refused line: history, lines and status are those of the events, with the verdicts of the history
+  pub through : IsRunThrough status → Leaves start held now events history status
   -- what was sent on each connection is the transcript of the acts of what came, with the replies of its calls
-  pub transcribes : IsRunThrough status → Under (told.left old.config) (λ config. IfSome (told.left old.events) (λ bytes. (k : ℕ) → Transcribes config bytes history k))
-  -- after a fault of the sink
-  pub breaks : status ≡ WriteFault → Under (told.left old.config) (λ config. IfSome (told.left old.events) (λ bytes. Breaks config (told.held old.out) (told.held new.out) bytes history))
-  -- after want of memory, which may have come before any line was run
-  pub stops : status ≡ NoMemory → ((history ≡ []) × Keeps (told.held old.out) (told.held new.out))
-      ⊎ Under (told.left old.config) (λ config. IfSome (told.left old.events) (λ bytes. Stops config (told.held old.out) (told.held new.out) bytes history))
-  -- the lines are run only under a configuration that breaks no rule
-  pub right : IsRun status → BreaksNone (told.left old.config)
-  -- where they aren't run, the status has its cause, and nothing has happened
-  pub unread : IsBefore status → Unread (told.left old.config) (told.left old.events) (told.read_faults old.config) (told.read_faults new.config) (told.read_faults old.events) (told.read_faults new.events) status
-  pub nothing : IsBefore status → (history ≡ []) × Keeps (told.held old.out) (told.held new.out)
-  pub write : status ≡ WriteFault → Rose (told.write_faults old.out) (told.write_faults new.out)
-  pub possible : IsOfReplay status
+  pub transcribes : IsRunThrough status → (k : ℕ) → Transcribes start events history k
+  -- after a fault of the sink, whose count rose: the entries up to the event whose lines met it, and a front of its lines
+  pub breaks : status ≡ WriteFault → Breaks start held now events history
+  pub write : status ≡ WriteFault → Rose before after
+  -- after want of memory: a front of the entries, and a front of the lines
+  pub stops : status ≡ NoMemory → Stops start held now events history
+  -- the history is legal, and access is denied there exactly where a grant or an opening's check lacks a bit
+  pub legal : Legal start history
+  pub denies : DeniesExactlyIn start history
+
+-- The lines were run, from the seed rows, under the one configuration that the document spells and over the bytes of the events; where a
+-- source doesn't tell, under some right one, and over some bytes.
+pub record HasRunLines {S T : Type 0} (told : Telling S T) (old new : Parts S T) (status : Status) (history : List Entry) : Type 0 where
+  pub config : Config
+  pub events : List ℕ
+  pub configured : IsConfigured (told.left old.config) config
+  pub short : IfSome (told.left old.config) (λ document. length document ≤ most_bytes)
+  pub whole : IsWhole (told.left old.events) events
+  pub runs : RunsLines (begun config) events (told.held old.out) (told.held new.out) (told.write_faults old.out) (told.write_faults new.out) status history
+
+-- no count rose
+pub record AllQuiet {S T : Type 0} (told : Telling S T) (old new : Parts S T) : Type 0 where
+  pub config : NotRisen (told.read_faults old.config) (told.read_faults new.config)
+  pub events : NotRisen (told.read_faults old.events) (told.read_faults new.events)
+  pub out : NotRisen (told.write_faults old.out) (told.write_faults new.out)
+
+pub record IsReplay {S T : Type 0} (told : Telling S T) (old new : Parts S T) (status : Status) (history : List Entry) : Type 0 where
+  pub leaves : HasNotRun told old new status history ⊎ HasRunLines told old new status history
   -- where no count rose, the status is the one that the configuration and the events ask for, or memory was wanted
-  pub complete : NotRisen (told.read_faults old.config) (told.read_faults new.config) → NotRisen (told.read_faults old.events) (told.read_faults new.events) → NotRisen (told.write_faults old.out) (told.write_faults new.out)
-      → IfSome (told.left old.config) (λ document. IfSome (told.left old.events) (λ bytes. IsAsked document bytes history status))
-  -- nothing has happened, or what has is legal under the configuration of the document
-  pub legal : (history ≡ []) ⊎ Under (told.left old.config) (λ config. Legal config history)
+  pub complete : AllQuiet told old new → IfSome (told.left old.config) (λ document. IfSome (told.left old.events) (λ bytes. IsAsked document bytes history status))
+  pub config_later : told.read_faults old.config ≤ told.read_faults new.config
+  pub events_later : told.read_faults old.events ≤ told.read_faults new.events
+  pub out_later : told.write_faults old.out ≤ told.write_faults new.out

@@ -4,8 +4,8 @@ use Rattle.std.specs.List.{flat_map}
 use Rattle.acct_machine.specs.declared.entry.Entry.{Entry}
 use Rattle.acct_machine.specs.Shown.{Shown}
 use Rattle.acct_machine.specs.State.{State, is_live}
-use Rattle.acct_server.specs.declared.peers.Peer.{Peer}
-use Rattle.acct_server.specs.declared.peers.Peer.TheVariants.{Open, Ended}
+use Rattle.acct_server.specs.declared.connections.Peer.{Peer}
+use Rattle.acct_server.specs.declared.connections.Peer.TheVariants.{Open, Ended}
 use Rattle.rpc_session.specs.declared.hearing.Hearing.{Hearing}
 use Rattle.rpc_session.specs.declared.sessions.Act.{Act}
 use Rattle.rpc_session.specs.Hearings.{on}
@@ -18,7 +18,7 @@ pub record Running : Type 0 where
   pub peers : List Peer
 
 abbrev pub standing : Running → Standing
-standing run = record { config = run.machine.config; history = run.machine.history; peers = run.peers }
+standing run = record { start = run.machine.start; history = run.machine.history; peers = run.peers }
 
 -- The machine has as many connections, and those that are served are live there.
 pub record Ties (peers : List Peer) (s : State) : Type 0 where
@@ -68,7 +68,7 @@ pub record Does (what : Verdicts → Option Move) (old : Running) (output : List
   pub is : (later : List Entry) → what (verdict_in (new.machine.history ++ later)) ≡ Some move
   pub history : new.machine.history ≡ old.machine.history ++ move.effect.entries
   pub peers : new.peers ≡ move.peers
-  pub config : new.machine.config ≡ old.machine.config
+  pub start : new.machine.start ≡ old.machine.start
   pub prints : output ≡ flat_map line_bytes move.effect.prints
 
 -- the line has no effect, whatever the verdicts, and the run is as it was

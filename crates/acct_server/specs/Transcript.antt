@@ -1,35 +1,42 @@
 -- What is written on a connection: the answers to its acts in order, with the replies of its calls.
 use Rattle.std.specs.Prelude.{ℕ, List, [], ◌∷◌, ◌++◌, length, Result, Ok, Err}
 use Rattle.acct_calls.specs.declared.calls.Call.{Call}
+use Rattle.acct_calls.specs.declared.calls.Face.{Face}
 use Rattle.acct_calls.specs.declared.replies.Reply.{Reply}
 use Rattle.acct_calls.specs.declared.replies.Reply.TheVariants.{Fault, Done}
 use Rattle.rpc_session.specs.declared.sessions.Act.{Act}
 use Rattle.rpc_session.specs.declared.sessions.Act.TheVariants as act
 use Rattle.rpc_session.specs.Replies.{fault_bytes, reply_bytes}
-use Rattle.samr_wire.specs.declared.errors.WireError.{WireError}
-use Rattle.samr_wire.specs.Replies.{spell_reply}
+use Rattle.acct_stubs.specs.declared.errors.WireError.{WireError}
+use Rattle.acct_stubs.specs.Replies.{spell_reply}
+use Rattle.samr_wire.specs.Samr.{samr}
+use Rattle.acct_server.specs.declared.requests.Asked.{Asked}
 use Rattle.acct_server.specs.Requests.{call_on, undecoded_status}
 
 -- the answer to a decoded call of an operation, by its reply
-unfoldable pub answer_bytes : ℕ → ℕ → ℕ → ℕ → Reply → List ℕ
-answer_bytes id context size opnum (Fault status) = fault_bytes id context status
-answer_bytes id context size opnum (Done status outs) = reply_bytes id context size (spell_reply opnum (Done status outs))
+unfoldable pub answer_bytes : Asked → ℕ → Reply → List ℕ
+answer_bytes asked opnum (Fault status) = fault_bytes asked.id asked.context status
+answer_bytes asked opnum (Done status outs) = reply_bytes asked.id asked.context asked.size (spell_reply samr opnum (Done status outs))
 
 -- the answer to a request that is no decoded call
-abbrev pub undecoded_bytes : ℕ → ℕ → WireError → List ℕ
-undecoded_bytes id context error = fault_bytes id context (undecoded_status error)
+abbrev pub undecoded_bytes : Asked → WireError → List ℕ
+undecoded_bytes asked error = fault_bytes asked.id asked.context (undecoded_status error)
 
 -- a decoded call takes the next reply; where there is none, nothing more is written
-abbrev pub answered : ℕ → ℕ → ℕ → Result Call WireError → List Reply → (List Reply → List ℕ) → List ℕ
-answered id context size (Err e) replies later = undecoded_bytes id context e ++ later replies
-answered id context size (Ok call) [] later = []
-answered id context size (Ok call) (reply ∷ replies) later = answer_bytes id context size call.opnum reply ++ later replies
+abbrev pub answered : Asked → Result Call WireError → List Reply → (List Reply → List ℕ) → List ℕ
+answered asked (Err e) replies later = undecoded_bytes asked e ++ later replies
+answered asked (Ok call) [] later = []
+answered asked (Ok call) (reply ∷ replies) later = answer_bytes asked call.opnum reply ++ later replies
+
+-- what a request asks for, and where its answer goes
+abbrev pub asked_by : ℕ → ℕ → Face → ℕ → ℕ → Asked
+asked_by id context face opnum size = record { id = id; context = context; size = size; face = face; opnum = opnum }
 
 abbrev pub transcript : List Act → List Reply → List ℕ
 transcript [] replies = []
 transcript (act.Answered bytes ∷ acts) replies = bytes ++ transcript acts replies
 transcript (act.Call id context face opnum size stub ∷ acts) replies =
-    answered id context size (call_on face opnum stub) replies (λ others. transcript acts others)
+    answered (asked_by id context face opnum size) (call_on face opnum stub) replies (λ others. transcript acts others)
 transcript (act.Closed place cause bytes ∷ acts) replies = bytes ++ transcript acts replies
 
 -- the decoded calls among acts in order, each with the length of its stub

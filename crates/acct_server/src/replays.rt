@@ -1,21 +1,18 @@
 // A replay of event lines.
-ghost use Rattle.std.specs.Prelude.{ℕ, List, Option, ◌≡◌, ◌<◌, ◌≤◌, ◌^◌, ◌⊎◌, [], length, IfSome, IfOk, IfErr, OnOk, OnErr};
-ghost use Rattle.std.specs.Io.KnownBytes.{Keeps};
-ghost use Rattle.acct_machine.specs.Legal.{Legal};
-ghost use Rattle.acct_server.specs.declared.status.Status.TheVariants.{NoMemory, ReadFault, WriteFault, InputTooLong};
-ghost use Rattle.acct_server.specs.Causes.{Rose, NotRisen};
-ghost use Rattle.acct_server.specs.Whole.{most_bytes, IsWhole};
-ghost use Rattle.acct_server.specs.Configured.{BreaksNone, IsConfigured, Under, refused_status};
-ghost use Rattle.acct_server.specs.Connections.{Transcribes};
-ghost use Rattle.acct_server.specs.Leaves.{Leaves, IsRun, IsBefore, IsOfReplay, IsAsked, Unread, unread_status, Breaks, Stops, Finishes, FinishBreaks, IsRunThrough, IsOfRun};
+ghost use Rattle.std.specs.Prelude.{◌≡◌, ◌<◌, ◌≤◌, ◌^◌, [], length, IfSome, IfOk, IfErr, OnOk};
+ghost use Rattle.acct_server.specs.declared.status.Status.TheVariants.{NoMemory, WriteFault};
+ghost use Rattle.acct_streams.specs.Causes.{Rose};
+ghost use Rattle.acct_streams.specs.Whole.{most_bytes};
+ghost use Rattle.acct_server.specs.Configured.{IsConfigured, refused_status};
+ghost use Rattle.acct_server.specs.Leaves.{Leaves, ConfigCause, unread_status, Breaks, Stops, Finishes, FinishBreaks, IsRunThrough, IsOfRun};
+ghost use Rattle.acct_server.specs.Replaying.{IsReplay, RunsLines};
 
 use crate::events::LineError;
 use crate::lines::next_line;
-use crate::session::Run;
-use crate::writing::write_all;
-use crate::{Sink, Source, Status, WholeError, read_whole};
+use crate::running::Run;
+use crate::{Sink, Source, Status, WholeError, read_whole, write_all};
 use acct_base::Seq;
-use acct_machine::{Config, ConfigError, Entry, read_config};
+use acct_machine::{Config, ConfigError, Entry, access_is_denied_exactly, read_config};
 use rpc_session::streams_are_cut_anywhere;
 use std::alloc::Global;
 
@@ -49,8 +46,7 @@ fn refused(error: ConfigError) -> Status
 fn read_configuration<S: Source>(alloc: Global, source: &mut S) -> Result<Config, Status>
     ensures configured { IfOk result (IsConfigured (S.left source.old)) }
     ensures short { OnOk result (IfSome (S.left source.old) (λ document. length document ≤ most_bytes)) }
-    ensures unread { (left : Option (List ℕ)) → (earlier : ℕ) → (later : ℕ) →
-        IfErr result (Unread (S.left source.old) left (S.faults source.old) (S.faults source.new) earlier later) }
+    ensures cause { IfErr result (ConfigCause (S.left source.old) (S.faults source.old) (S.faults source.new)) }
     ensures later { S.faults source.old ≤ S.faults source.new }
 {
     match read_whole(alloc, source) {
@@ -70,7 +66,7 @@ fn finish<T: Sink>(alloc: Global, run: &mut Run, out: &mut T, status: Status) ->
     ensures write { result ≡ WriteFault → Rose (T.faults out.old) (T.faults out.new) }
     ensures memory { result ≡ NoMemory → (run.new ≡ run.old) × (T.held out.new ≡ T.held out.old) }
     ensures later { T.faults out.old ≤ T.faults out.new }
-    ensures config { run.new.machine.config ≡ run.old.machine.config }
+    ensures start { run.new.machine.start ≡ run.old.machine.start }
     ensures status { IsOfRun result }
 {
     match run.finish(alloc) {
@@ -87,12 +83,12 @@ fn run_lines<T: Sink>(alloc: Global, run: &mut Run, bytes: &[u8], out: &mut T) -
     requires history { run.old.machine.history ≡ [] }
     requires peers { run.old.peers ≡ [] }
     requires short { length bytes.now < 2 ^ 32 }
-    ensures through { IsRunThrough result → Leaves run.old.machine.config (T.held out.old) (T.held out.new) bytes.now run.new.machine.history result }
-    ensures breaks { result ≡ WriteFault → Breaks run.old.machine.config (T.held out.old) (T.held out.new) bytes.now run.new.machine.history }
-    ensures stops { result ≡ NoMemory → Stops run.old.machine.config (T.held out.old) (T.held out.new) bytes.now run.new.machine.history }
+    ensures through { IsRunThrough result → Leaves run.old.machine.start (T.held out.old) (T.held out.new) bytes.now run.new.machine.history result }
+    ensures breaks { result ≡ WriteFault → Breaks run.old.machine.start (T.held out.old) (T.held out.new) bytes.now run.new.machine.history }
+    ensures stops { result ≡ NoMemory → Stops run.old.machine.start (T.held out.old) (T.held out.new) bytes.now run.new.machine.history }
     ensures write { result ≡ WriteFault → Rose (T.faults out.old) (T.faults out.new) }
     ensures later { T.faults out.old ≤ T.faults out.new }
-    ensures config { run.new.machine.config ≡ run.old.machine.config }
+    ensures start { run.new.machine.start ≡ run.old.machine.start }
     ensures status { IsOfRun result }
 {
     let mut rest = bytes;
@@ -127,6 +123,23 @@ fn not_run(alloc: Global, status: Status) -> Replayed
     }
 }
 
+// Runs the lines of events from the beginning of a run.
+fn run_events<T: Sink>(alloc: Global, mut run: Run, events: &[u8], out: &mut T) -> Replayed
+    requires history { run.machine.history ≡ [] }
+    requires peers { run.peers ≡ [] }
+    requires short { length events.now < 2 ^ 32 }
+    ensures runs { RunsLines run.machine.start events.now (T.held out.old) (T.held out.new) (T.faults out.old) (T.faults out.new) result.status result.history }
+    ensures later { T.faults out.old ≤ T.faults out.new }
+{
+    let status = run_lines(alloc, &mut run, events, out);
+    streams_are_cut_anywhere();
+    access_is_denied_exactly();
+    Replayed {
+        status,
+        history: Seq::from_vec(run.into_history()),
+    }
+}
+
 /// Replays the lines of an event file on one machine, and writes what each of them prints after it has run. It always
 /// returns. The configuration is read and checked first, then the events are read whole, then the lines are run.
 pub fn replay<S: Source, T: Sink>(
@@ -135,36 +148,8 @@ pub fn replay<S: Source, T: Sink>(
     events: &mut S,
     out: &mut T,
 ) -> Replayed
-    // Where the lines were run to their end or to a refused one, the history, the lines written and the status are
-    // those of the events, with the verdicts of the history, under the configuration that the document spells.
-    ensures through { IsRunThrough result.status → Under (S.left config.old) (λ config. IfSome (S.left events.old) (λ bytes.
-        Leaves config (T.held out.old) (T.held out.new) bytes result.history result.status)) }
-    // On every connection what was sent is the transcript of the acts of its whole stream with the replies of its
-    // calls, and its calls in the history are the decoded calls of these acts, in order.
-    ensures transcribes { IsRunThrough result.status → Under (S.left config.old) (λ config. IfSome (S.left events.old) (λ bytes.
-        (k : ℕ) → Transcribes config bytes result.history k)) }
-    // After a fault of the sink: the entries up to the event whose lines met it, and a front of its lines.
-    ensures breaks { result.status ≡ WriteFault → Under (S.left config.old) (λ config. IfSome (S.left events.old) (λ bytes.
-        Breaks config (T.held out.old) (T.held out.new) bytes result.history)) }
-    // After want of memory: nothing, or a front of the entries, and a front of the lines.
-    ensures stops { result.status ≡ NoMemory → ((result.history ≡ []) × Keeps (T.held out.old) (T.held out.new))
-        ⊎ Under (S.left config.old) (λ config. IfSome (S.left events.old) (λ bytes.
-        Stops config (T.held out.old) (T.held out.new) bytes result.history)) }
-    // The lines are run only under a configuration that breaks no rule.
-    ensures right { IsRun result.status → BreaksNone (S.left config.old) }
-    // Where they aren't, the status has its cause, and nothing has happened.
-    ensures unread { IsBefore result.status →
-        Unread (S.left config.old) (S.left events.old) (S.faults config.old) (S.faults config.new) (S.faults events.old) (S.faults events.new) result.status }
-    ensures nothing { IsBefore result.status → (result.history ≡ []) × Keeps (T.held out.old) (T.held out.new) }
-    ensures write { result.status ≡ WriteFault → Rose (T.faults out.old) (T.faults out.new) }
-    ensures status { IsOfReplay result.status }
-    // Where no count rose, the status is the one that the configuration and the events ask for, or memory was wanted.
-    ensures complete { NotRisen (S.faults config.old) (S.faults config.new) → NotRisen (S.faults events.old) (S.faults events.new) → NotRisen (T.faults out.old) (T.faults out.new) →
-        IfSome (S.left config.old) (λ document. IfSome (S.left events.old) (λ bytes. IsAsked document bytes result.history result.status)) }
-    ensures legal { (result.history ≡ []) ⊎ Under (S.left config.old) (λ config. Legal config result.history) }
-    ensures config_later { S.faults config.old ≤ S.faults config.new }
-    ensures events_later { S.faults events.old ≤ S.faults events.new }
-    ensures out_later { T.faults out.old ≤ T.faults out.new }
+    ensures { IsReplay (record { left = S.left; read_faults = S.faults; held = T.held; write_faults = T.faults })
+        (record { config = config.old; events = events.old; out = out.old }) (record { config = config.new; events = events.new; out = out.new }) result.status result.history }
 {
     let configuration = match read_configuration(alloc, config) {
         Ok(configuration) => configuration,
@@ -174,11 +159,9 @@ pub fn replay<S: Source, T: Sink>(
         Ok(bytes) => bytes,
         Err(e) => return not_run(alloc, unread(e)),
     };
-    let mut run = Run::new(alloc, configuration);
-    let status = run_lines(alloc, &mut run, &bytes, out);
-    streams_are_cut_anywhere();
-    Replayed {
-        status,
-        history: Seq::from_vec(run.into_history()),
-    }
+    let run = match Run::new(alloc, &configuration) {
+        Ok(run) => run,
+        Err(_) => return not_run(alloc, Status::NoMemory),
+    };
+    run_events(alloc, run, &bytes, out)
 }

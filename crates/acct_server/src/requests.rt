@@ -1,32 +1,42 @@
-// Which call a request is.
-ghost use Rattle.std.specs.Prelude.{◌≡◌, OnErr, OnOk, IfOk, Err, Result};
+// Requests: which call each of them is, and its answer over a gate.
+ghost use Rattle.std.specs.Prelude.{◌≡◌, ◌≤◌, OnErr, OnOk, IfOk, Ok, Err, Result, length};
 ghost use Rattle.acct_calls.specs.declared.calls.Call.{Call};
-ghost use Rattle.acct_machine.specs.Calls.{IsCall, is_built};
-ghost use Rattle.samr_wire.specs.declared.errors.WireError.{WireError};
-ghost use Rattle.samr_wire.specs.Calls.{Answers};
+ghost use Rattle.acct_machine.specs.Calls.{IsCall};
+ghost use Rattle.acct_stubs.specs.declared.errors.WireError.{WireError};
+ghost use Rattle.acct_stubs.specs.Calls.{Answers};
 ghost use Rattle.acct_server.specs.Requests.{call_on, undecoded_status};
+ghost use Rattle.acct_server.specs.Transcript.{answer_bytes, undecoded_bytes};
+ghost use Rattle.acct_server.specs.Answering.{AnswersRequest, BeginsRequest, IsAnswerOf};
 
-use acct_machine::{Call, Face};
+use crate::gate::Gate;
+use acct_codes::fault::{NCA_S_OP_RNG_ERROR, RPC_X_BAD_STUB_DATA};
+use acct_machine::{Acted, Call, Face, Reply, has_operation};
+use rpc_session::{fault_bytes, reply_bytes};
 use samr_wire::laws::calls_are_spelled;
-use samr_wire::{WireError, read_call};
+use samr_wire::{WireError, read_call, write_reply};
 use std::alloc::{AllocError, Global};
 
-/// Whether an operation of the account database is built: SamrCloseHandle is 1, SamrConnect2 57.
-fn is_built(opnum: u16) -> bool
-    ensures { result ≡ is_built opnum }
-{
-    matches!(opnum, 1 | 57)
+/// What a request asks for, and where its answer goes: the call id and context that it answers, the size of its
+/// fragments, and the operation.
+#[derive(Clone, Copy)]
+pub struct Asked {
+    pub id: u32,
+    pub context: u16,
+    pub size: u16,
+    pub face: Face,
+    pub opnum: u16,
 }
 
-/// The call of a request on an interface, or why it is none. Of LSARPC no operation is built yet. `Memory` comes only
+/// The call of a request on an interface, or why it is none. Of LSARPC no operation is served yet. `Memory` comes only
 /// where memory is wanted.
 pub fn read_request(alloc: Global, face: Face, opnum: u16, stub: &[u8]) -> Result<Call, WireError>
     ensures value { Answers result (call_on face opnum stub.now) }
     ensures call { IfOk result IsCall }
+    ensures ours { IfOk result (λ call. call.face ≡ Face.Samr) }
 {
     calls_are_spelled();
     match face {
-        Face::Samr if is_built(opnum) => read_call(alloc, opnum, stub),
+        Face::Samr if has_operation(face, opnum) => read_call(alloc, opnum, stub),
         Face::Samr | Face::Lsa => Err(WireError::NotServed(opnum)),
     }
 }
@@ -37,8 +47,91 @@ pub fn undecoded_status(error: WireError) -> Result<u32, AllocError>
     ensures told { OnOk result ((r : Result Call WireError) → Answers (Err error) r → r ≡ Err error) }
 {
     match error {
-        WireError::NotServed(_) => Ok(0x1C010002),
-        WireError::BadStub(_) => Ok(0x000006F7),
+        WireError::NotServed(_) => Ok(NCA_S_OP_RNG_ERROR),
+        WireError::BadStub(_) => Ok(RPC_X_BAD_STUB_DATA),
         WireError::Memory => Err(AllocError),
+    }
+}
+
+// The answer to a call of an operation, by its reply. The reply's stub is copied once, into its fragments.
+#[tactic(auto, unfolding(crate::specs::Transcript::answer_bytes))]
+fn answer_bytes(
+    alloc: Global,
+    asked: Asked,
+    opnum: u16,
+    reply: &Reply,
+) -> Result<Vec<u8>, AllocError>
+    requires low { 1432 ≤ asked.size }
+    requires high { asked.size ≤ 4280 }
+    requires shaped { IsAnswerOf Face.Samr opnum reply.now }
+    ensures { IfOk result (λ bytes. bytes.items ≡ answer_bytes asked opnum reply.now) }
+{
+    match reply {
+        Reply::Fault(status) => fault_bytes(asked.id, asked.context, *status).to_vec(alloc),
+        Reply::Done { .. } => {
+            let stub = write_reply(alloc, opnum, reply)?;
+            reply_bytes(alloc, asked.id, asked.context, asked.size, &stub)
+        }
+    }
+}
+
+// A call is entered, and gets its answer.
+fn make_call<G: Gate>(
+    alloc: Global,
+    gate: &mut G,
+    conn: u32,
+    asked: Asked,
+    call: Call,
+    stub_size: u32,
+) -> Result<Vec<u8>, AllocError>
+    requires serves { G.serves gate.old conn }
+    requires low { 1432 ≤ asked.size }
+    requires high { asked.size ≤ 4280 }
+    requires spelled { IsCall call }
+    requires ours { call.face ≡ Face.Samr }
+    ensures answers { IfOk result (λ bytes. AnswersRequest (G.start gate.old) conn (G.finds gate.old) (G.known gate.old) (G.known gate.new) asked stub_size (Ok call) bytes.items) }
+    ensures begins { OnErr result (BeginsRequest (G.start gate.old) conn (G.finds gate.old) (G.known gate.old) (G.known gate.new) stub_size (Ok call)) }
+    ensures serves { G.serves gate.new conn }
+    ensures moves { G.moves gate.old conn gate.new }
+    ensures start { G.start gate.new ≡ G.start gate.old }
+{
+    let opnum = call.opnum;
+    match gate.act(conn, call, stub_size) {
+        Acted::Reply(reply) => answer_bytes(alloc, asked, opnum, &reply),
+        Acted::NoMemory => Err(AllocError),
+    }
+}
+
+// The fault that answers a request that is no decoded call.
+fn undecoded_bytes(alloc: Global, asked: Asked, error: WireError) -> Result<Vec<u8>, AllocError>
+    ensures bytes { IfOk result (λ bytes. bytes.items ≡ undecoded_bytes asked error) }
+    ensures told { OnOk result ((r : Result Call WireError) → Answers (Err error) r → r ≡ Err error) }
+{
+    let status = undecoded_status(error)?;
+    fault_bytes(asked.id, asked.context, status).to_vec(alloc)
+}
+
+/// Answers a request: one that is a call is entered over the gate, and gets the bytes of its reply; another gets a
+/// fault, and nothing else happens.
+pub fn request<G: Gate>(
+    alloc: Global,
+    gate: &mut G,
+    conn: u32,
+    asked: Asked,
+    stub: &[u8],
+) -> Result<Vec<u8>, AllocError>
+    requires serves { G.serves gate.old conn }
+    requires low { 1432 ≤ asked.size }
+    requires high { asked.size ≤ 4280 }
+    requires short { length stub.now ≤ 1048576 }
+    ensures answers { IfOk result (λ bytes. AnswersRequest (G.start gate.old) conn (G.finds gate.old) (G.known gate.old) (G.known gate.new) asked (length stub.now) (call_on asked.face asked.opnum stub.now) bytes.items) }
+    ensures begins { OnErr result (BeginsRequest (G.start gate.old) conn (G.finds gate.old) (G.known gate.old) (G.known gate.new) (length stub.now) (call_on asked.face asked.opnum stub.now)) }
+    ensures serves { G.serves gate.new conn }
+    ensures moves { G.moves gate.old conn gate.new }
+    ensures start { G.start gate.new ≡ G.start gate.old }
+{
+    match read_request(alloc, asked.face, asked.opnum, stub) {
+        Ok(call) => make_call(alloc, gate, conn, asked, call, stub.len() as u32),
+        Err(error) => undecoded_bytes(alloc, asked, error),
     }
 }

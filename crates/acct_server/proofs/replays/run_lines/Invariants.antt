@@ -7,7 +7,7 @@ abbrev pub invariant-loop-rest : goal.invariant-loop-rest
 invariant-loop-rest g l =
     let t = g.T.Sink in
     record {
-      going : Going l.initial.run.machine.config (t.held l.initial.out) (t.held l.out) l.bytes l.run l.number l.rest;
+      going : Going l.initial.run.machine.start (t.held l.initial.out) (t.held l.out) l.bytes l.run l.number l.rest;
       within : l.number + length l.rest ≤ length l.bytes;
       heard : (n : ℕ) → n + length l.rest ≡ length l.bytes → AllHeard n l.run.peers;
       later : t.faults l.initial.out ≤ t.faults l.out;

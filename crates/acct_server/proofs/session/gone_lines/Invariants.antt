@@ -1,8 +1,0 @@
-use Rattle.std.proofs.Common.{◌≡◌, ◌+◌, ◌++◌, drop, map}
-use Rattle.std.specs.List.{flat_map}
-use Rattle.acct_server.specs.Replayed.{line_bytes, IsGone, served_from}
-use Rattle.acct_server.proofs.session.gone_lines.Given as goal
-
-abbrev pub invariant-loop-i : goal.invariant-loop-i
-invariant-loop-i l =
-    l.lines.items ++ flat_map line_bytes (map IsGone (served_from (l.i + 1) (drop l.i l.peers))) ≡ flat_map line_bytes (map IsGone (served_from 1 l.peers))

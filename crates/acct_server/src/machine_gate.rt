@@ -1,0 +1,43 @@
+// The machine itself as a gate: a turn finds its history.
+ghost use Rattle.std.specs.Prelude.{◌≡◌, true};
+
+use crate::gate::Gate;
+use acct_machine::{Acted, Call, Machine, Opened};
+
+impl Gate for Machine {
+    ghost use Rattle.acct_machine.specs.State.{is_live};
+    ghost use Rattle.acct_machine.specs.Machine.{state_of};
+    ghost use Rattle.acct_server.specs.Turning.{passes-same};
+
+    ghost start = { λ m. m.start };
+
+    ghost known = { λ m. m.history };
+
+    ghost finds = { λ m found. found ≡ m.history };
+
+    ghost serves = { λ m k. is_live k (state_of m).conns ≡ true };
+
+    ghost moves = { λ m k n. Unit {0} };
+
+    ghost ready = { λ m. Unit {0} };
+
+    ghost opens = { λ m answer n. Unit {0} };
+
+    fn open_conn(&mut self, listener: u32) -> Opened {
+        self.open_conn(listener)
+    }
+
+    fn act(&mut self, conn: u32, call: Call, bytes: u32) -> Acted {
+        self.act(conn, call, bytes)
+    }
+
+    fn gone(&mut self, conn: u32) {
+        self.gone(conn)
+    }
+
+    ghost passes = { λ g k found serves same. passes-same g.start k g.history found same };
+
+    ghost stays = { λ g k. tt };
+
+    ghost goes_on = { λ a b c k p q. tt };
+}

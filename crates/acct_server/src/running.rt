@@ -1,0 +1,403 @@
+// A machine with the connections of a replay.
+ghost use Rattle.std.specs.Prelude.{◌≡◌, ◌≢◌, ◌⊎◌, ◌+◌, ◌≤◌, ◌<◌, ◌^◌, ℕ, true, false, [], ◌++◌, ◌∷◌, if◌then◌else◌, length, take, Some, None, Ok, Err, OnOk, OnErr, IfOk, IfSome, IsSome, slice_get, slice_set, map, All, option_map};
+ghost use Rattle.std.specs.List.{flat_map};
+ghost use Rattle.acct_config.specs.Right.{IsRight};
+ghost use Rattle.acct_machine.specs.State.{is_live};
+ghost use Rattle.acct_machine.specs.Machine.{state_of, with_entry};
+ghost use Rattle.acct_machine.specs.Legal.{Legal};
+ghost use Rattle.acct_machine.specs.declared.entry.Entry.TheVariants.{Gone};
+ghost use Rattle.rpc_session.specs.declared.hearing.Hearing.{Hearing};
+ghost use Rattle.rpc_session.specs.Hearings.{HasRoom, on, is_going};
+ghost use Rattle.rpc_session.specs.Acts.{IsFit, is_refusal};
+ghost use Rattle.acct_server.specs.declared.events.LineError.TheVariants.{NoMemory, Refused};
+ghost use Rattle.acct_server.specs.declared.connections.Peer.TheVariants as peer;
+ghost use Rattle.acct_server.specs.Begun.{begun};
+ghost use Rattle.acct_server.specs.Requests.{call_on};
+ghost use Rattle.acct_server.specs.Events.{DataFits};
+ghost use Rattle.acct_server.specs.Replayed.{Out, IsClosed, IsGone, peer_of, with_peer, nothing_heard, is_served, number_of, served_from, ending, line_bytes, listener_from, on_open, on_request, on_act, on_acts, on_data, on_end, on_event, on_line};
+ghost use Rattle.acct_server.specs.Running.{standing, AllHeard, Acts, Began, Hears, IsClosing, Does, Refuses, MayStop, Closes};
+
+use crate::connections::{Peer, heard, is_served, new_peer};
+use crate::events::{Event, LineError, event_of};
+use crate::printing::{closed_line, gone_line, out_line};
+use crate::requests::{Asked, request};
+use acct_base::is_same;
+use acct_machine::{Config, Entry, Listener, Machine, Opened, Rows};
+use rpc_session::{Act, calls_fit, refusals_are_last, room_by_length, streams_are_cut_anywhere};
+use std::alloc::{AllocError, Global};
+use std::marker::Model;
+
+// The place of the listener of a name.
+fn listener_place(listeners: &[Listener], name: &[u8]) -> Option<u32>
+    requires { length listeners.now ≤ 16 }
+    ensures place { result ≡ listener_from 0 name.now listeners.now }
+    ensures within { IfSome result (λ place. place < length listeners.now) }
+{
+    for i in 0..listeners.len() {
+        if is_same(listeners[i].name.as_str().as_bytes(), name) {
+            return Some(i as u32);
+        }
+    }
+    None
+}
+
+// Adds the line that brings bytes sent on a connection.
+fn push_out(lines: &mut Vec<u8>, alloc: Global, conn: u32, bytes: &[u8]) -> Result<(), AllocError>
+    ensures { OnOk result (lines.new.items ≡ lines.old.items ++ line_bytes (Out conn bytes.now)) }
+{
+    lines.extend_from_slice(&out_line(alloc, conn, bytes)?)?;
+    Ok(())
+}
+
+// Adds the lines of a refusal.
+fn push_closed(
+    lines: &mut Vec<u8>,
+    alloc: Global,
+    conn: u32,
+    place: u64,
+    cause: u8,
+    bytes: &[u8],
+) -> Result<(), AllocError>
+    ensures { OnOk result (lines.new.items ≡ lines.old.items ++ (line_bytes (Out conn bytes.now) ++ line_bytes (IsClosed conn place cause))) }
+{
+    push_out(lines, alloc, conn, bytes)?;
+    lines.extend_from_slice(&closed_line(alloc, conn, place, cause)?)?;
+    Ok(())
+}
+
+// The line of a connection, if it is served.
+fn push_gone(lines: &mut Vec<u8>, alloc: Global, conn: u32, served: bool) -> Result<(), AllocError>
+    ensures { OnOk result (lines.new.items ≡ lines.old.items ++ flat_map line_bytes (map IsGone (if served then conn ∷ [] else []))) }
+{
+    if served {
+        lines.extend_from_slice(&gone_line(alloc, conn)?)?;
+    }
+    Ok(())
+}
+
+// The lines of the connections that are served.
+fn gone_lines(alloc: Global, peers: &[Peer]) -> Result<Vec<u8>, AllocError>
+    requires { length peers.now < 2 ^ 32 }
+    ensures { IfOk result (λ lines. lines.items ≡ flat_map line_bytes (map IsGone (served_from 1 peers.now))) }
+{
+    let mut lines = Vec::new(alloc);
+    for i in 0..peers.len() {
+        push_gone(&mut lines, alloc, i as u32 + 1, is_served(&peers[i]))?;
+    }
+    Ok(lines)
+}
+
+/// A machine, and how each connection of the replay stands.
+#[derive(Drop)]
+pub struct Run {
+    machine: Machine,
+    peers: Vec<Peer>,
+}
+
+impl Model for Run {
+    ghost use Rattle.acct_machine.specs.Step.{state_at};
+    ghost use Rattle.acct_server.specs.Running.{Running, Ties};
+
+    ghost Value = { Running };
+
+    ghost view = { λ r. record { machine = r.machine; peers = r.peers.items } };
+
+    ghost invariant = { λ r. Ties r.peers.items (state_at r.machine.start r.machine.history) };
+}
+
+impl Run {
+    /// A run to which nothing has happened, from the seed rows of the configured domain.
+    pub fn new(alloc: Global, config: &Config) -> Result<Run, AllocError>
+        requires { IsRight config.now }
+        ensures { IfOk result (λ run. run ≡ record { machine = record { start = begun config.now; history = [] }; peers = [] }) }
+    {
+        let rows = Rows::seed(alloc, &config.name, config.sid)?;
+        Ok(Run {
+            machine: Machine::new(alloc, config, rows)?,
+            peers: Vec::new(alloc),
+        })
+    }
+
+    /// The history of the machine.
+    pub fn into_history(self) -> Vec<Entry>
+        ensures all { result.items ≡ self.machine.history }
+        ensures legal { Legal self.machine.start result.items }
+    {
+        let (_opening, history, _rows) = self.machine.into_parts();
+        history
+    }
+
+    // How a connection stands, by its number.
+    fn peer(&self, conn: u32) -> Option<&Peer>
+        ensures value { option_map (λ peer. peer.now) result ≡ peer_of conn self.now.peers }
+    {
+        if conn == 0 {
+            return None;
+        }
+        self.peers.get(conn as usize - 1)
+    }
+
+    fn open(&mut self, alloc: Global, conn: u32, name: &[u8]) -> Result<Vec<u8>, LineError>
+        ensures does { IfOk result (λ output. Does (λ verdicts. on_open (standing self.old) conn name.now) self.old output.items self.new) }
+        ensures refused { result ≡ Err Refused → Refuses (λ verdicts. on_open (standing self.old) conn name.now) self.old self.new }
+        ensures start { self.new.machine.start ≡ self.old.machine.start }
+        ensures memory { result ≡ Err NoMemory → self.new.machine.history ≡ self.old.machine.history }
+        ensures hears { (most : ℕ) → AllHeard most self.old.peers → OnOk result (AllHeard most self.new.peers) }
+    {
+        let listeners = self.machine.config().listeners.as_slice();
+        let Some(listener) = listener_place(listeners, name) else {
+            return Err(LineError::Refused);
+        };
+        if !self.peers.is_empty() || conn != 1 {
+            return Err(LineError::Refused);
+        }
+        self.peers.reserve(1)?;
+        match self.machine.open_conn(listener) {
+            Opened::Conn(_) => match self.peers.push(new_peer(alloc, conn)) {
+                Ok(()) => Ok(Vec::new(alloc)),
+                Err(_) => unreachable!(),
+            },
+            Opened::NoMemory => Err(LineError::NoMemory),
+        }
+    }
+
+    // A request. The line of its answer is added to those that were there.
+    fn request(
+        &mut self,
+        alloc: Global,
+        conn: u32,
+        asked: Asked,
+        stub: &[u8],
+        lines: &mut Vec<u8>,
+    ) -> Result<(), AllocError>
+        requires live { is_live conn (state_of self.old.machine).conns ≡ true }
+        requires low { 1432 ≤ asked.size }
+        requires high { asked.size ≤ 4280 }
+        requires short { length stub.now ≤ 1048576 }
+        ensures acts { OnOk result (Acts (λ verdicts. on_request self.old.machine.start verdicts self.old.machine.history conn asked (length stub.now) (call_on asked.face asked.opnum stub.now)) self.old.machine.history self.new.machine.history lines.old.items lines.new.items) }
+        ensures began { OnErr result (Began (λ verdicts. on_request self.old.machine.start verdicts self.old.machine.history conn asked (length stub.now) (call_on asked.face asked.opnum stub.now)) self.old.machine.history self.new.machine.history) }
+        ensures live { is_live conn (state_of self.new.machine).conns ≡ true }
+        ensures peers { self.new.peers ≡ self.old.peers }
+        ensures start { self.new.machine.start ≡ self.old.machine.start }
+    {
+        let answer = request(alloc, &mut self.machine, conn, asked, stub)?;
+        push_out(lines, alloc, conn, &answer)
+    }
+
+    // A refusal: the connection is gone.
+    fn close(
+        &mut self,
+        alloc: Global,
+        conn: u32,
+        place: u64,
+        cause: u8,
+        bytes: &[u8],
+        lines: &mut Vec<u8>,
+    ) -> Result<(), AllocError>
+        requires live { is_live conn (state_of self.old.machine).conns ≡ true }
+        requires closed { is_served (peer_of conn self.old.peers) ≡ false }
+        ensures machine { OnOk result (self.new.machine ≡ with_entry self.old.machine (Gone conn)) }
+        ensures lines { OnOk result (lines.new.items ≡ lines.old.items ++ (line_bytes (Out conn bytes.now) ++ line_bytes (IsClosed conn place cause))) }
+        ensures peers { self.new.peers ≡ self.old.peers }
+        ensures err { OnErr result (self.new ≡ self.old) }
+    {
+        push_closed(lines, alloc, conn, place, cause, bytes)?;
+        self.machine.gone(conn);
+        Ok(())
+    }
+
+    // What an act does. Its lines are added to those that were there.
+    fn act(
+        &mut self,
+        alloc: Global,
+        conn: u32,
+        act: &Act,
+        lines: &mut Vec<u8>,
+    ) -> Result<(), AllocError>
+        requires live { is_live conn (state_of self.old.machine).conns ≡ true }
+        requires fits { IsFit act.now }
+        requires closed { is_refusal act.now ≡ true → is_served (peer_of conn self.old.peers) ≡ false }
+        ensures acts { OnOk result (Acts (λ verdicts. on_act self.old.machine.start verdicts self.old.machine.history conn act.now) self.old.machine.history self.new.machine.history lines.old.items lines.new.items) }
+        ensures began { OnErr result (Began (λ verdicts. on_act self.old.machine.start verdicts self.old.machine.history conn act.now) self.old.machine.history self.new.machine.history) }
+        ensures live { is_refusal act.now ≡ false → is_live conn (state_of self.new.machine).conns ≡ true }
+        ensures peers { self.new.peers ≡ self.old.peers }
+        ensures start { self.new.machine.start ≡ self.old.machine.start }
+    {
+        match act {
+            Act::Answered { bytes } => push_out(lines, alloc, conn, bytes.as_slice()),
+            Act::Call {
+                id,
+                context,
+                face,
+                opnum,
+                size,
+                stub,
+            } => {
+                let asked = Asked {
+                    id: *id,
+                    context: *context,
+                    size: *size,
+                    face: *face,
+                    opnum: *opnum,
+                };
+                self.request(alloc, conn, asked, stub.as_slice(), lines)
+            }
+            Act::Closed {
+                place,
+                cause,
+                bytes,
+            } => self.close(alloc, conn, *place, *cause, bytes.as_slice(), lines),
+        }
+    }
+
+    // What acts do, one after the other.
+    fn act_all(&mut self, alloc: Global, conn: u32, acts: &[Act]) -> Result<Vec<u8>, AllocError>
+        requires live { 0 < length acts.now → is_live conn (state_of self.old.machine).conns ≡ true }
+        requires fits { All IsFit acts.now }
+        requires closed { (i : ℕ) → IsClosing (is_served (peer_of conn self.old.peers)) i (length acts.now) (slice_get acts.now i) }
+        ensures acts { IfOk result (λ lines. Acts (λ verdicts. on_acts self.old.machine.start verdicts self.old.machine.history conn acts.now) self.old.machine.history self.new.machine.history [] lines.items) }
+        ensures began { OnErr result (Began (λ verdicts. on_acts self.old.machine.start verdicts self.old.machine.history conn acts.now) self.old.machine.history self.new.machine.history) }
+        ensures peers { self.new.peers ≡ self.old.peers }
+        ensures start { self.new.machine.start ≡ self.old.machine.start }
+    {
+        let mut lines = Vec::new(alloc);
+        for i in 0..acts.len() {
+            self.act(alloc, conn, &acts[i], &mut lines)?;
+        }
+        Ok(lines)
+    }
+
+    // The acts that bytes complete, or that the connection wasn't opened or was ended.
+    fn hear(&mut self, alloc: Global, conn: u32, bytes: &[u8]) -> Result<Vec<Act>, LineError>
+        requires heard { AllHeard (2 ^ 32) self.old.peers }
+        requires short { length bytes.now ≤ 2 ^ 32 }
+        ensures acts { IfOk result (λ acts. Hears conn bytes.now self.old acts.items self.new) }
+        ensures live { IfOk result (λ acts. 0 < length acts.items → is_live conn (state_of self.new.machine).conns ≡ true) }
+        ensures fits { IfOk result (λ acts. All IsFit acts.items) }
+        ensures closed { IfOk result (λ acts. (i : ℕ) → IsClosing (is_served (peer_of conn self.new.peers)) i (length acts.items) (slice_get acts.items i)) }
+        ensures hears { (most : ℕ) → AllHeard most self.old.peers → OnOk result (AllHeard (most + length bytes.now) self.new.peers) }
+        ensures refused { result ≡ Err Refused → Refuses (λ verdicts. on_data verdicts (standing self.old) conn bytes.now (peer_of conn self.old.peers)) self.old self.new }
+        ensures machine { self.new.machine ≡ self.old.machine }
+    {
+        calls_fit();
+        refusals_are_last();
+        streams_are_cut_anywhere();
+        room_by_length();
+        let Some(Peer::Open(_)) = self.peer(conn) else {
+            return Err(LineError::Refused);
+        };
+        match &mut self.peers[conn as usize - 1] {
+            Peer::Open(stream) => Ok(heard(alloc, stream, bytes)?),
+            Peer::Ended => unreachable!(),
+        }
+    }
+
+    // Bytes that come on a connection.
+    fn data(&mut self, alloc: Global, conn: u32, bytes: &[u8]) -> Result<Vec<u8>, LineError>
+        requires heard { AllHeard (2 ^ 32) self.old.peers }
+        requires short { length bytes.now ≤ 2 ^ 32 }
+        ensures does { IfOk result (λ output. Does (λ verdicts. on_data verdicts (standing self.old) conn bytes.now (peer_of conn self.old.peers)) self.old output.items self.new) }
+        ensures refused { result ≡ Err Refused → Refuses (λ verdicts. on_data verdicts (standing self.old) conn bytes.now (peer_of conn self.old.peers)) self.old self.new }
+        ensures start { self.new.machine.start ≡ self.old.machine.start }
+        ensures memory { result ≡ Err NoMemory → MayStop (λ verdicts. on_data verdicts (standing self.old) conn bytes.now (peer_of conn self.old.peers)) self.old self.new }
+        ensures hears { (most : ℕ) → AllHeard most self.old.peers → OnOk result (AllHeard (most + length bytes.now) self.new.peers) }
+    {
+        let acts = self.hear(alloc, conn, bytes)?;
+        Ok(self.act_all(alloc, conn, &acts)?)
+    }
+
+    // Ends a connection that is served. It takes no memory.
+    fn end_served(&mut self, conn: u32)
+        requires served { is_served (peer_of conn self.old.peers) ≡ true }
+        ensures machine { self.new.machine ≡ with_entry self.old.machine (Gone conn) }
+        ensures peers { self.new.peers ≡ with_peer conn peer.Ended self.old.peers }
+    {
+        self.machine.gone(conn);
+        self.peers[conn as usize - 1] = Peer::Ended;
+    }
+
+    // Ends a connection, if it is served.
+    fn end_if_served(&mut self, conn: u32)
+        ensures history { self.new.machine.history ≡ self.old.machine.history ++ map Gone (number_of conn (peer_of conn self.old.peers)) }
+        ensures start { self.new.machine.start ≡ self.old.machine.start }
+        ensures peers { (self.new.peers ≡ self.old.peers) ⊎ (self.new.peers ≡ with_peer conn peer.Ended self.old.peers) }
+    {
+        if self.peer(conn).is_some_and(|peer| is_served(peer)) {
+            self.end_served(conn);
+        }
+    }
+
+    // Ends a connection that was opened and not ended.
+    fn end(&mut self, alloc: Global, conn: u32) -> Result<Vec<u8>, LineError>
+        ensures does { IfOk result (λ output. Does (λ verdicts. on_end (standing self.old) conn (peer_of conn self.old.peers)) self.old output.items self.new) }
+        ensures refused { result ≡ Err Refused → Refuses (λ verdicts. on_end (standing self.old) conn (peer_of conn self.old.peers)) self.old self.new }
+        ensures start { self.new.machine.start ≡ self.old.machine.start }
+        ensures memory { result ≡ Err NoMemory → self.new.machine.history ≡ self.old.machine.history }
+        ensures hears { (most : ℕ) → AllHeard most self.old.peers → OnOk result (AllHeard most self.new.peers) }
+    {
+        let Some(Peer::Open(stream)) = self.peer(conn) else {
+            return Err(LineError::Refused);
+        };
+        let mut lines = Vec::new(alloc);
+        push_gone(&mut lines, alloc, conn, stream.is_going())?;
+        self.end_if_served(conn);
+        self.peers[conn as usize - 1] = Peer::Ended;
+        Ok(lines)
+    }
+
+    // What a line says.
+    fn event(&mut self, alloc: Global, event: Event) -> Result<Vec<u8>, LineError>
+        requires heard { AllHeard (2 ^ 32) self.old.peers }
+        requires short { DataFits (2 ^ 32) event }
+        ensures does { IfOk result (λ output. Does (λ verdicts. on_event verdicts (standing self.old) (Some event)) self.old output.items self.new) }
+        ensures refused { result ≡ Err Refused → Refuses (λ verdicts. on_event verdicts (standing self.old) (Some event)) self.old self.new }
+        ensures start { self.new.machine.start ≡ self.old.machine.start }
+        ensures memory { result ≡ Err NoMemory → MayStop (λ verdicts. on_event verdicts (standing self.old) (Some event)) self.old self.new }
+        ensures hears { (most : ℕ) → (more : ℕ) → AllHeard most self.old.peers → DataFits more event → OnOk result (AllHeard (most + more) self.new.peers) }
+    {
+        match event {
+            Event::Nothing => Ok(Vec::new(alloc)),
+            Event::Open { conn, listener } => self.open(alloc, conn, listener.as_slice()),
+            Event::Data { conn, bytes } => self.data(alloc, conn, bytes.as_slice()),
+            Event::End { conn } => self.end(alloc, conn),
+        }
+    }
+
+    /// Runs a line of the events, and gives what it prints. A line that is refused changes nothing; after NoMemory the
+    /// first of the entries of the line stand. Each connection has heard at most 2^32 bytes.
+    #[tactic(auto, unfolding(crate::specs::Replayed::on_line))]
+    pub fn line(&mut self, alloc: Global, line: &[u8]) -> Result<Vec<u8>, LineError>
+        requires heard { AllHeard (2 ^ 32) self.old.peers }
+        requires short { length line.now < 2 ^ 32 }
+        ensures does { IfOk result (λ output. Does (λ verdicts. on_line verdicts (standing self.old) line.now) self.old output.items self.new) }
+        ensures refused { result ≡ Err Refused → Refuses (λ verdicts. on_line verdicts (standing self.old) line.now) self.old self.new }
+        ensures start { self.new.machine.start ≡ self.old.machine.start }
+        ensures memory { result ≡ Err NoMemory → MayStop (λ verdicts. on_line verdicts (standing self.old) line.now) self.old self.new }
+        ensures hears { (most : ℕ) → AllHeard most self.old.peers → OnOk result (AllHeard (most + length line.now) self.new.peers) }
+    {
+        let event = event_of(alloc, line)?;
+        self.event(alloc, event)
+    }
+
+    // Ends the connections that are served, in ascending order.
+    fn end_all(&mut self)
+        ensures history { self.new.machine.history ≡ self.old.machine.history ++ (ending (standing self.old)).entries }
+        ensures start { self.new.machine.start ≡ self.old.machine.start }
+    {
+        for i in 0..self.peers.len() {
+            self.end_if_served(i as u32 + 1);
+        }
+    }
+
+    /// Ends the connections that are still served, in ascending order, and gives the lines that say so. After NoMemory
+    /// nothing has changed.
+    pub fn finish(&mut self, alloc: Global) -> Result<Vec<u8>, AllocError>
+        ensures closes { IfOk result (λ output. Closes self.old output.items self.new) }
+        ensures start { self.new.machine.start ≡ self.old.machine.start }
+        ensures memory { OnErr result (self.new ≡ self.old) }
+    {
+        let lines = gone_lines(alloc, &self.peers)?;
+        self.end_all();
+        Ok(lines)
+    }
+}
