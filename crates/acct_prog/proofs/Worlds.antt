@@ -1,16 +1,19 @@
 -- What a world shows over the calls of a command.
-use Rattle.std.proofs.Common.{◌≡◌, ◌≢◌, ℕ, ◌≤◌, ◌⊎◌, inl, inr, Bool, true, false, List, ◌∷◌, [], ◌++◌, Result, Ok, Err, refl, sym, ◌∙◌, ap, subst, arith, MatchResult}
+use Rattle.std.proofs.Common.{◌≡◌, ◌≢◌, ℕ, ◌≤◌, ◌⊎◌, inl, inr, Bool, true, false, List, ◌∷◌, [], ◌++◌, Result, Ok, Err, refl, sym, ◌∙◌, ap, subst, arith, append_assoc, MatchResult}
 use Rattle.std.specs.Str.{bytes_eq}
+use Rattle.std.proofs.lemmas.List.{append-nil}
 use Rattle.std.proofs.lemmas.Slice.Eq.{bytes_eq-Decides}
-use Rattle.acct_server.specs.Causes.{Rose}
+use Rattle.acct_streams.specs.Causes.{Rose}
 use Rattle.acct_server.specs.declared.status.Status.{Status}
 use Rattle.acct_server.specs.declared.status.Status.TheVariants.{NoMemory}
 use Rattle.acct_server.specs.Replaying.{Telling, Parts, IsReplay}
 use Rattle.acct_prog.specs.declared.period.Period.{Period}
 use Rattle.acct_prog.specs.declared.take.TakeError.{TakeError}
 use Rattle.acct_prog.specs.declared.take.TakeError.TheVariants as take
-use Rattle.acct_prog.specs.World.{Seen, TakesSource, GivesSource, TakesSink, GivesSink, KeepsPeriod}
-use Rattle.acct_prog.specs.Commanded.{standard_input, TakeCause, Returned, Commanded, read_status, write_status}
+use Rattle.acct_prog.specs.declared.part.Part.{Part}
+use Rattle.acct_prog.specs.declared.part.Part.TheVariants as part
+use Rattle.acct_prog.specs.World.{Seen, Asks, TakesSource, GivesSource, TakesSink, GivesSink, KeepsPeriod}
+use Rattle.acct_prog.specs.Commanded.{standard_input, wanted, AsksFront, TakeCause, Returned, Commanded, read_status, write_status}
 
 -- what holds of a name and of each other name holds of all
 by_name : (P : List ℕ → Type 0) (name other : List ℕ) → P name → (other ≢ name → P other) → P other
@@ -22,6 +25,30 @@ by_name P name other one others =
       | false ↦ λ is. others (λ same. let clash : true ≡ false = sym (decides.1 same) ∙ is in absurd cc)
     ] in
     split (bytes_eq other name) refl
+
+-- ---- what was asked for
+
+asked-ok : {P : Type 0} (p : Part) (old new : List Part) (x : P) (answer : Result P TakeError) → answer ≡ Ok x → Asks p old new answer → new ≡ old ++ p ∷ []
+asked-ok p old new x answer is (inl asks) = asks
+asked-ok p old new x answer is (inr none) = absurd cc
+
+asked-front : {P : Type 0} (front others : List Part) (p : Part) (start old new : List Part) (answer : Result P TakeError) → old ≡ start ++ front → Asks p old new answer → AsksFront (front ++ p ∷ others) start new
+asked-front front others p start old new answer so_far (inl asks) = record {
+  done = front ++ p ∷ [];
+  others = others;
+  splits = sym (append_assoc front (p ∷ []) others);
+  asked = asks ∙ ap (λ (ps : List Part). ps ++ p ∷ []) so_far ∙ append_assoc start front (p ∷ []);
+}
+asked-front front others p start old new answer so_far (inr none) = record { done = front; others = p ∷ others; splits = refl; asked = none.1 ∙ so_far }
+
+front-kept : (parts start old new : List Part) → new ≡ old → AsksFront parts start old → AsksFront parts start new
+front-kept parts start old new same front = subst (λ (ps : List Part). AsksFront parts start ps) (sym same) front
+
+-- one part more was asked for
+asked-more : (start old new : List Part) (front : List Part) (p : Part) → old ≡ start ++ front → new ≡ old ++ p ∷ [] → new ≡ start ++ (front ++ p ∷ [])
+asked-more start old new front p so_far asks = asks ∙ ap (λ (ps : List Part). ps ++ p ∷ []) so_far ∙ append_assoc start front (p ∷ [])
+
+-- ---- the command
 
 abbrev Answers : {S T : Type 0} → Seen S T → Seen S T → Period → Status → Status → Type 0
 Answers old new period ended status = ((status ≡ ended) × (old.tells ≡ true → new.periods ≡ old.periods ++ period ∷ [])) ⊎ ((status ≡ NoMemory) × (new.periods ≡ old.periods))
@@ -47,6 +74,7 @@ returned told name before after w3 w4 w5 w6 w7 period ended status answer differ
       gave_config = λ tells knows. config.holds (tells6 ∙ tells) (ap (λ (f : List ℕ → Bool). f name) knows6 ∙ knows);
       gave_events = λ tells knows. config.others standard_input (λ same. differs (sym same)) ∙ events.holds (tells5 ∙ tells) (ap (λ (f : List ℕ → Bool). f standard_input) knows5 ∙ knows);
       gave_sink = λ tells. config.sink ∙ events.sink ∙ sink.holds (keeps.tells ∙ tells);
+      asked = config.asked ∙ events.asked ∙ sink.asked ∙ keeps.asked;
       answers = answers w3 w4 w7 period ended status answer keeps (config.periods ∙ events.periods ∙ sink.periods) is;
     }
 
@@ -62,10 +90,19 @@ write_cause old mid new take.NoMemory rose = tt
 rose_within : (a b c d : ℕ) → a ≤ b → Rose b c → c ≡ d → Rose a d
 rose_within a b c d le rose same = omega (arith, le, rose, same)
 
+pub config-not-handed-out : {S T : Type 0} (told : Telling S T) (name : List ℕ) (w0 w1 : Seen S T) (e : TakeError) (status : Status) → TakesSource w0 w1 name (Err e) → status ≡ read_status e → Commanded told name w0 w1 status
+config-not-handed-out told name w0 w1 e status fails is = inl (record {
+  cause = subst (λ (s : Status). TakeCause w0 w1 s) (sym is) (read_cause w0 w0 w1 e (λ failed. fails.cause (ap (λ (x : TakeError). Err x) failed)));
+  sources = λ tells other. ap (λ (s : Seen _ _). s.source other) fails.kept;
+  sink = λ tells. fails.sink;
+  periods = fails.periods;
+  asked = λ tells. asked-front [] (part.Source standard_input ∷ part.Sink ∷ []) (part.Source name) w0.asked w0.asked w1.asked (Err e) (sym (append-nil w0.asked)) (fails.asked tells);
+})
+
 pub events-not-handed-out : {S T : Type 0} (told : Telling S T) (name : List ℕ) (w0 w1 w2 w3 : Seen S T) (config : S) (e : TakeError) (status : Status) → name ≢ standard_input → TakesSource w0 w1 name (Ok config)
     → TakesSource w1 w2 standard_input (Err e) → GivesSource w2 w3 name config → status ≡ read_status e → Commanded told name w0 w3 status
 events-not-handed-out told name w0 w1 w2 w3 config e status differs takes fails gives is =
-    let same : w2 ≡ record w1 { source_faults = w2.source_faults } = fails.kept in
+    let same : w2 ≡ record w1 { asked = w2.asked; source_faults = w2.source_faults } = fails.kept in
     inl (record {
       cause = subst (λ (s : Status). TakeCause w0 w3 s) (sym is) (read_cause w0 w1 w3 e (λ failed. rose_within w0.source_faults w1.source_faults w2.source_faults w3.source_faults takes.later (fails.cause (ap (λ (x : TakeError). Err x) failed)) (sym gives.source_count)));
       sources = λ tells other.
@@ -74,6 +111,10 @@ events-not-handed-out told name w0 w1 w2 w3 config e status differs takes fails 
           (λ differ. gives.others other differ ∙ ap (λ (s : Seen _ _). s.source other) same ∙ takes.others other differ);
       sink = λ tells. gives.sink ∙ fails.sink ∙ takes.sink;
       periods = gives.periods ∙ fails.periods ∙ takes.periods;
+      asked = λ tells.
+          let first = asked-ok (part.Source name) w0.asked w1.asked config (Ok config) refl (takes.asked tells) in
+          front-kept (wanted name) w0.asked w2.asked w3.asked gives.asked
+          (asked-front (part.Source name ∷ []) (part.Sink ∷ []) (part.Source standard_input) w0.asked w1.asked w2.asked (Err e) first (fails.asked (takes.tells ∙ tells)));
     })
 
 pub sink-not-handed-out : {S T : Type 0} (told : Telling S T) (name : List ℕ) (w0 w1 w2 w3 w4 w5 : Seen S T) (config events : S) (e : TakeError) (status : Status) → name ≢ standard_input → TakesSource w0 w1 name (Ok config)
@@ -96,6 +137,12 @@ sink-not-handed-out told name w0 w1 w2 w3 w4 w5 config events e status differs t
           (λ not_input d. given.others other d ∙ gives.others other not_input ∙ fails.sources other ∙ taken.others other not_input ∙ takes.others other d) differ);
       sink = λ tells. given.sink ∙ gives.sink ∙ ap (λ (s : Seen _ _). s.sink) fails.kept ∙ taken.sink ∙ takes.sink;
       periods = given.periods ∙ gives.periods ∙ fails.periods ∙ taken.periods ∙ takes.periods;
+      asked = λ tells.
+          let first = asked-ok (part.Source name) w0.asked w1.asked config (Ok config) refl (takes.asked tells) in
+          let second = asked-ok (part.Source standard_input) w1.asked w2.asked events (Ok events) refl (taken.asked (takes.tells ∙ tells)) in
+          front-kept (wanted name) w0.asked w3.asked w5.asked (given.asked ∙ gives.asked)
+          (asked-front (part.Source name ∷ part.Source standard_input ∷ []) [] part.Sink w0.asked w2.asked w3.asked (Err e)
+          (asked-more w0.asked w1.asked w2.asked (part.Source name ∷ []) (part.Source standard_input) first second) (fails.asked (taken.tells ∙ takes.tells ∙ tells)));
     })
 
 pub has-run : {S T : Type 0} (told : Telling S T) (name : List ℕ) (w0 w1 w2 w3 w7 : Seen S T) (config events : S) (out : T) (status : Status) → name ≢ standard_input → TakesSource w0 w1 name (Ok config)
@@ -117,6 +164,13 @@ has-run told name w0 w1 w2 w3 w7 config events out status differs takes taken si
       gave_config = λ tells. back.gave_config (tells3 ∙ tells) (knows3 name ∙ knows1 name ∙ (takes.part tells).1);
       gave_events = λ tells. back.gave_events (tells3 ∙ tells) (knows3 standard_input ∙ (taken.part (takes.tells ∙ tells)).1);
       gave_sink = λ tells. back.gave_sink (tells3 ∙ tells);
+      asked = λ tells.
+          let first = asked-ok (part.Source name) w0.asked w1.asked config (Ok config) refl (takes.asked tells) in
+          let second = asked-ok (part.Source standard_input) w1.asked w2.asked events (Ok events) refl (taken.asked (takes.tells ∙ tells)) in
+          let third = asked-ok part.Sink w2.asked w3.asked out (Ok out) refl (sink.asked (taken.tells ∙ takes.tells ∙ tells)) in
+          back.asked
+          ∙ asked-more w0.asked w2.asked w3.asked (part.Source name ∷ part.Source standard_input ∷ []) part.Sink
+          (asked-more w0.asked w1.asked w2.asked (part.Source name ∷ []) (part.Source standard_input) first second) third;
       answers = elim back.answers [
         | inl is ↦ inl (is.0, λ tells. is.1 (tells3 ∙ tells) ∙ ap (λ (ps : List Period). ps ++ back.period ∷ []) periods3)
         | inr is ↦ inr (is.0, is.1 ∙ periods3)

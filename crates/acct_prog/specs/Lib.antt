@@ -3,3 +3,4 @@ pub mod World
 pub mod Memory
 pub mod Commanded
 pub mod Statuses
+pub mod Host

@@ -10,3 +10,7 @@ begins_with_dash (b ∷ word) = b == 45
 abbrev pub form_of : List (List ℕ) → Option (List ℕ)
 form_of (command ∷ name ∷ []) = if bytes_eq command (codes "replay") then (if begins_with_dash name then None else Some name) else None
 form_of _ = None
+
+-- the character that no word of a command line has
+abbrev pub nul : ℕ
+nul = 0

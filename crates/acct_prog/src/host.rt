@@ -1,6 +1,7 @@
 // The real world: files, the standard streams, and no word on what they hold.
 ghost use Rattle.std.specs.Prelude.{◌≡◌, None, false, []};
 
+use crate::opened::Opened;
 use crate::period::Period;
 use crate::take::TakeError;
 use crate::world::World;
@@ -10,13 +11,7 @@ use std::fs::File;
 use std::io::{self, Input, Print, Printer, Read, Write};
 use std::rt::Files;
 
-#[derive(Drop)]
-enum Opened<I> {
-    Standard(I),
-    Disk(File),
-}
-
-/// The standard input or a file. It tells nothing of what it has left.
+/// The standard input or a file. It tells what is left where its reader tells it: over the system's it doesn't.
 #[derive(Drop)]
 pub struct HostSource<I: Read + Drop> {
     opened: Opened<I>,
@@ -24,8 +19,23 @@ pub struct HostSource<I: Read + Drop> {
     fault_count: u64,
 }
 
+impl<I: Read + Drop> HostSource<I> {
+    /// A source of which nothing was read.
+    pub fn new(opened: Opened<I>) -> Self
+        ensures { result ≡ record { opened = opened; has_ended = false; fault_count = 0 } }
+    {
+        HostSource {
+            opened,
+            has_ended: false,
+            fault_count: 0,
+        }
+    }
+}
+
 impl<I: Read + Drop> Source for HostSource<I> {
-    ghost left = { λ _. None };
+    ghost use Rattle.acct_prog.specs.Host.{left_of};
+
+    ghost left = { λ s. left_of I.remaining s.opened };
 
     ghost ended = { λ s. s.has_ended };
 
@@ -49,15 +59,28 @@ impl<I: Read + Drop> Source for HostSource<I> {
     }
 }
 
-/// The standard output. A write that takes nothing of a piece is a fault.
+/// The standard output. A write that takes nothing of a piece is a fault. It tells what its writer tells: over the
+/// system's that is nothing.
 #[derive(Drop)]
 pub struct HostSink<W: Write + Drop> {
     output: W,
     fault_count: u64,
 }
 
+impl<W: Write + Drop> HostSink<W> {
+    /// A sink to which nothing was written.
+    pub fn new(output: W) -> Self
+        ensures { result ≡ record { output = output; fault_count = 0 } }
+    {
+        HostSink {
+            output,
+            fault_count: 0,
+        }
+    }
+}
+
 impl<W: Write + Drop> Sink for HostSink<W> {
-    ghost held = { λ _. None };
+    ghost held = { λ s. W.contents s.output };
 
     ghost faults = { λ s. s.fault_count };
 
@@ -99,7 +122,7 @@ impl<'a, R: Files<File = File> + Input + Print> World for HostWorld<'a, R> {
 
     type T = HostSink<Printer<'a, R>>;
 
-    ghost seen = { λ w. record { tells = false; knows = λ _. false; source = λ _. None; sink = None; periods = []; source_faults = w.source_faults; sink_faults = 0 } };
+    ghost seen = { λ w. record { tells = false; knows = λ _. false; source = λ _. None; sink = None; periods = []; asked = []; source_faults = w.source_faults; sink_faults = 0 } };
 
     fn take_source(&mut self, name: &str) -> Result<HostSource<R::Reader>, TakeError> {
         let opened = if name == "-" {
@@ -113,11 +136,7 @@ impl<'a, R: Files<File = File> + Input + Print> World for HostWorld<'a, R> {
                 }
             }
         };
-        Ok(HostSource {
-            opened,
-            has_ended: false,
-            fault_count: 0,
-        })
+        Ok(HostSource::new(opened))
     }
 
     fn give_source(&mut self, _name: &str, part: HostSource<R::Reader>) {
@@ -125,10 +144,7 @@ impl<'a, R: Files<File = File> + Input + Print> World for HostWorld<'a, R> {
     }
 
     fn take_sink(&mut self) -> Result<HostSink<Printer<'a, R>>, TakeError> {
-        Ok(HostSink {
-            output: io::writer(self.rt),
-            fault_count: 0,
-        })
+        Ok(HostSink::new(io::writer(self.rt)))
     }
 
     fn give_sink(&mut self, part: HostSink<Printer<'a, R>>) {

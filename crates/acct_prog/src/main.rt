@@ -11,18 +11,22 @@ ghost use Rattle.acct_prog.specs.Statuses.{code_of, word_of};
 mod command;
 mod host;
 mod memory;
+mod opened;
+mod part;
 mod period;
 mod take;
+mod words;
 mod world;
 
 use acct_server::Status;
 pub use command::account;
 pub use host::{HostSink, HostSource, HostWorld};
 pub use memory::MemoryWorld;
+pub use part::Part;
 pub use period::Period;
 use std::process::ExitCode;
-use std::{env, io};
 pub use take::TakeError;
+use words::words;
 pub use world::World;
 
 /// The exit code of a status.
@@ -57,18 +61,22 @@ fn word_of(status: Status) -> &'static str
     }
 }
 
-fn main(rt: HostRuntime) -> io::Result<ExitCode> {
-    let mut words = Vec::new(rt.alloc());
-    for word in env::args(&rt)?.skip(1) {
-        words.push(word)?;
+/// The status of the words of the command line, over the real world.
+fn run(rt: &HostRuntime) -> Status {
+    match words(rt, rt.alloc()) {
+        Ok(words) => account(rt.alloc(), &words, &mut HostWorld::new(rt)),
+        Err(_) => Status::NoMemory,
     }
-    let mut world = HostWorld::new(&rt);
-    let status = account(rt.alloc(), &words, &mut world);
+}
+
+/// It only prints and exits: where the line can't be printed, the code says it alone.
+fn main(rt: HostRuntime) -> ExitCode {
+    let status = run(&rt);
     let code = code_of(status);
     if code != 0 {
-        eprintln!(rt; "account: {code} {}", word_of(status))?;
+        let _ = eprintln!(rt; "account: {code} {}", word_of(status));
     }
-    Ok(ExitCode::from(code))
+    ExitCode::from(code)
 }
 
 #[cfg(test)]

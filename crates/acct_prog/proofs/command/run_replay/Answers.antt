@@ -1,5 +1,15 @@
-use Rattle.acct_prog.proofs.Worlds.{events-not-handed-out, sink-not-handed-out, has-run}
+use Rattle.acct_prog.proofs.Worlds.{config-not-handed-out, events-not-handed-out, sink-not-handed-out, has-run}
 use Rattle.acct_prog.proofs.command.run_replay.Goals as goal
+
+pub returns-in-Err : goal.returns-in-Err
+returns-in-Err g c =
+    let s = g.W.S.Source in
+    let t = g.W.T.Sink in
+    let w = g.W.World in
+    record {
+      commanded = config-not-handed-out (record { left = s.left; read_faults = s.faults; held = t.held; write_faults = t.faults }) c.args.name.now (w.seen c.args.world.now) (w.seen c.take_source.new.self)
+          c.in-Err.e c.read_status.result c.in-Err.ensures.takes c.read_status.ensures;
+    }
 
 pub returns-in-Err-take_source : goal.returns-in-Err-take_source
 returns-in-Err-take_source g c =
