@@ -428,7 +428,9 @@ fn sizes_answered(alloc: Global, xmit: u16, recv: u16) -> Result<String, Fail> {
     let mut stream = bytes_of(alloc, &["05000b03 10000000 48000000 01000000"])?;
     stream.extend_from_slice(&xmit.to_le_bytes())?;
     stream.extend_from_slice(&recv.to_le_bytes())?;
-    stream.extend_from_slice(&bytes_of(alloc, &[BIND])?[20..])?;
+    let element =
+        "00000000 01000000 00000100 78573412 3412cdab ef000123 456789ac 01000000 045d888a eb1cc911 9fe80800 2b104860 02000000";
+    stream.extend_from_slice(&bytes_of(alloc, &[element])?)?;
     let acts = heard_by_bytes(alloc, &stream)?;
     match acts.as_slice() {
         [Act::Answered { bytes }] => hex_of(
