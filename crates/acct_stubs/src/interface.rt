@@ -1,7 +1,8 @@
 // What an interface adds to the stubs of both.
-ghost use Rattle.std.specs.Prelude.{◌≡◌, OnOk};
+ghost use Rattle.std.specs.Prelude.{◌≡◌, true, OnOk};
 ghost use Rattle.ndr_types.specs.Outcomes.{Yields};
 ghost use Rattle.acct_stubs.specs.Lawful.{IsLawful};
+ghost use Rattle.acct_stubs.specs.Shared.{own_outputs};
 ghost use Rattle.acct_stubs.specs.Wire.{Wire};
 
 use crate::NoMemory;
@@ -28,8 +29,9 @@ pub trait Interface {
     fn read_reply(alloc: Global, from: &mut In<'_>, outputs: Outputs) -> Result<Reply, NdrError>
         ensures { Yields result from.new ((wire.replies outputs).read from.old) };
 
+    /// An interface that has no such outputs may be asked, and writes nothing.
     fn write_reply(to: &mut Out, outputs: Outputs, reply: &Reply) -> Result<(), NoMemory>
-        requires { (wire.replies outputs).Fits reply.now }
+        requires { own_outputs wire.face outputs ≡ true → (wire.replies outputs).Fits reply.now }
         ensures { OnOk result (to.new ≡ (wire.replies outputs).write reply.now to.old) };
 
     /// What is owed for them.

@@ -34,7 +34,10 @@ impl Interface for Lsa {
     }
 
     fn write_reply(to: &mut Out, outputs: Outputs, reply: &Reply) -> Result<(), NoMemory> {
-        outputs::write_own(to, outputs, reply)
+        match outputs {
+            Outputs::Policy(_) | Outputs::Translation(_) => outputs::write_own(to, outputs, reply),
+            _ => Ok(()),
+        }
     }
 
     ghost lawful = { lsa_lawful };

@@ -46,6 +46,6 @@ impl Interface for Samr {
     }
 
     fn write_reply(_to: &mut Out, _outputs: Outputs, _reply: &Reply) -> Result<(), NoMemory> {
-        unreachable!()
+        Ok(())
     }
 }
