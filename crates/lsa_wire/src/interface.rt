@@ -33,10 +33,11 @@ impl Interface for Lsa {
         outputs::read_own(alloc, from, outputs)
     }
 
+    #[tactic(auto, unfolding(crate::specs::Outputs::own_replies))]
     fn write_reply(to: &mut Out, outputs: Outputs, reply: &Reply) -> Result<(), NoMemory> {
         match outputs {
             Outputs::Policy(_) | Outputs::Translation(_) => outputs::write_own(to, outputs, reply),
-            _ => Ok(()),
+            Outputs::Plain(_) | Outputs::Listed(_) | Outputs::Shown(_) => Ok(()),
         }
     }
 
