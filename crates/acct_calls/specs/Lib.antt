@@ -1,3 +1,4 @@
 pub mod CodePoints
+pub mod Domains
 pub mod Folding
 pub mod Validity

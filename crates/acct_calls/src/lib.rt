@@ -6,11 +6,12 @@
 //! case folding of `unicode`, of whose table `ucd_case` and `ucd_table` have the lemmas that the proofs cite. The
 //! layers above use that a contract sees a `Name` as the list of its units, and each other list as the list of its
 //! elements, that `same` is equality of the folded code points and an equivalence, and that `is_valid` is the rules
-//! for names of accounts.
+//! for names of accounts; and which names and SIDs the account domain may have (`domain`).
 #![tactic(auto)]
 
 mod calls;
 mod code_points;
+pub mod domain;
 mod folding;
 mod handle;
 mod info;

@@ -13,34 +13,35 @@ fn are_same(alloc: Global, left: &str, right: &str) -> Result<(bool, bool), NoMe
 }
 
 /// Pairs of texts, of which each is the other in another case.
-const SAME: &str = "Administrator aDMINISTRATOR
-ÄÖÉñ äöéÑ
-ΟΔΥΣΣΕΥΣ οδυσσευς
-οδυσσευς οδυσσευσ
-STRAẞE straße
-\u{212A}elvin kELVIN
-\u{10400}x \u{10428}X
-\u{1FD3} \u{0390}";
+const SAME: &str = "Administrator|aDMINISTRATOR
+ÄÖÉñ|äöéÑ
+ΟΔΥΣΣΕΥΣ|οδυσσευς
+οδυσσευς|οδυσσευσ
+STRAẞE|straße
+\u{212A}elvin|kELVIN
+\u{10400}x|\u{10428}X
+\u{1FD3}|\u{0390}
+\u{1DF95}x|ßx
+|";
 
 /// Pairs of texts that no case folding of single code points makes equal.
-const DIFFERENT: &str = "alice alicia
-alice al
-straße strasse
-İ i
-ı I
-É E\u{0301}
-\u{10400} \u{10429}";
+const DIFFERENT: &str = "alice|alicia
+alice|al
+straße|strasse
+İ|i
+ı|I
+É|E\u{0301}
+\u{10400}|\u{10429}
+|a";
 
 #[test]
 fn names_differ_in_case_alone(rt: HostRuntime) -> Result<(), Fail> {
     for (pairs, same) in [(SAME, true), (DIFFERENT, false)] {
         for pair in pairs.lines() {
-            let (left, right) = pair.split_once(' ').unwrap_or(("", pair));
+            let (left, right) = pair.split_once('|').ok_or("no pair")?;
             assert_eq!(rt; are_same(rt.alloc(), left, right)?, (same, same), "{pair}");
         }
     }
-    assert_eq!(rt; are_same(rt.alloc(), "", "")?, (true, true));
-    assert_eq!(rt; are_same(rt.alloc(), "", "a")?, (false, false));
     Ok(())
 }
 
@@ -48,32 +49,58 @@ fn name_of(alloc: Global, units: &[u16]) -> Result<Name, NoMemory> {
     Ok(Name::from_units(units.to_vec(alloc)?))
 }
 
+/// Whether a name folds to these units, and is the same as what it folds to.
+fn folds_to(alloc: Global, units: &[u16], folded: &[u16]) -> Result<bool, NoMemory> {
+    let name = name_of(alloc, units)?;
+    let other = name.fold(alloc)?;
+    Ok(other.units() == folded && name.same(&other))
+}
+
+/// The number of units may change, and unpaired surrogates are themselves.
 #[test]
-fn folding_can_change_the_number_of_units(rt: HostRuntime) -> Result<(), Fail> {
-    let capital = Name::from_text(rt.alloc(), "\u{1DF95}x")?;
-    assert_eq!(rt; capital.units(), [0xD837, 0xDF95, 0x78].as_slice());
-    let small = Name::from_text(rt.alloc(), "ßx")?;
-    assert!(rt; capital.same(&small));
-    assert_eq!(rt; capital.fold(rt.alloc())?.units(), [0xDF, 0x78].as_slice());
+fn names_are_folded_by_code_points(rt: HostRuntime) -> Result<(), Fail> {
+    for (units, folded) in [
+        ([0xD837, 0xDF95, 0x78].as_slice(), [0xDF, 0x78].as_slice()),
+        (
+            &[0xDC00, 0xD801, 0x41, 0xD801],
+            &[0xDC00, 0xD801, 0x61, 0xD801],
+        ),
+        (&[0xD801, 0xD801, 0xDC00], &[0xD801, 0xD801, 0xDC28]),
+    ] {
+        assert!(rt; folds_to(rt.alloc(), units, folded)?);
+    }
     Ok(())
 }
 
+fn are_same_units(alloc: Global, left: &[u16], right: &[u16]) -> Result<bool, NoMemory> {
+    Ok(name_of(alloc, left)?.same(&name_of(alloc, right)?))
+}
+
 #[test]
-fn unpaired_surrogates_are_themselves(rt: HostRuntime) -> Result<(), Fail> {
-    let alloc = rt.alloc();
-    let name = name_of(alloc, &[0xDC00, 0xD801, 0x41, 0xD801])?;
-    assert_eq!(rt;
-        name.fold(alloc)?.units(),
-        [0xDC00, 0xD801, 0x61, 0xD801].as_slice()
-    );
-    assert!(rt; name.same(&name_of(alloc, &[0xDC00, 0xD801, 0x61, 0xD801])?));
-    assert!(rt; !name.same(&name_of(alloc, &[0xDC00, 0xD801, 0x61, 0xD802])?));
-    assert!(rt; !name_of(alloc, &[0xD801])?.same(&name_of(alloc, &[0xD801, 0xDC00])?));
-    let pair = name_of(alloc, &[0xD801, 0xD801, 0xDC00])?;
-    assert_eq!(rt;
-        pair.fold(alloc)?.units(),
-        [0xD801, 0xD801, 0xDC28].as_slice()
-    );
+fn unpaired_surrogates_differ(rt: HostRuntime) -> Result<(), Fail> {
+    for (left, right) in [
+        (
+            [0xDC00, 0xD801, 0x61, 0xD801].as_slice(),
+            [0xDC00, 0xD801, 0x61, 0xD802].as_slice(),
+        ),
+        (&[0xD801], &[0xD801, 0xDC00]),
+    ] {
+        assert!(rt; !are_same_units(rt.alloc(), left, right)?);
+        assert!(rt; are_same_units(rt.alloc(), left, left)?);
+    }
+    Ok(())
+}
+
+/// Code points beyond the first 65,536 take two units.
+#[test]
+fn texts_are_spelled_in_units(rt: HostRuntime) -> Result<(), Fail> {
+    for (text, units) in [
+        ("\u{1DF95}x", [0xD837, 0xDF95, 0x78].as_slice()),
+        ("aé", &[0x61, 0xE9]),
+    ] {
+        let name = Name::from_text(rt.alloc(), text)?;
+        assert_eq!(rt; name.into_units().as_slice(), units);
+    }
     Ok(())
 }
 
@@ -132,88 +159,95 @@ fn foldings_are_those_of_perl(rt: HostRuntime) -> Result<(), Fail> {
     Ok(())
 }
 
-/// Whether a user, a group and an alias may have the name that a character and some text behind it make.
-fn validity(alloc: Global, c: char, behind: &str) -> Result<(bool, bool, bool), NoMemory> {
-    let mut units = Name::from_text(alloc, behind)?.into_units();
+/// Whether users, groups and aliases alike may or may not have a name.
+fn has_validity(name: &Name, valid: bool) -> bool {
+    name.is_valid(Kind::User) == valid
+        && name.is_valid(Kind::Group) == valid
+        && name.is_valid(Kind::Alias) == valid
+}
+
+/// Whether the name that a character and some text before it make is valid, or isn't.
+fn is_judged(alloc: Global, before: &str, c: char, valid: bool) -> Result<bool, NoMemory> {
+    let mut units = Name::from_text(alloc, before)?.into_units();
     let mut own = [0; 2];
     units.extend_from_slice(c.encode_utf16(&mut own))?;
-    let name = Name::from_units(units);
-    Ok((
-        name.is_valid(Kind::User),
-        name.is_valid(Kind::Group),
-        name.is_valid(Kind::Alias),
-    ))
+    Ok(has_validity(&Name::from_units(units), valid))
 }
+
+const ALLOWED: &str = "a$#'@()!%^_-\u{7F}ß\u{10400}\u{E000}\u{D7FF}";
 
 #[test]
 fn names_are_valid_by_their_characters(rt: HostRuntime) -> Result<(), Fail> {
-    let alloc = rt.alloc();
-    for c in "a$#'@()!%^_-\u{7F}ß\u{10400}\u{E000}\u{D7FF}".chars() {
-        for others in ["", ". ", "a"] {
-            assert_eq!(rt; validity(alloc, c, others)?, (true, true, true), "{c}");
+    for (chars, before, valid) in [
+        (ALLOWED, "", true),
+        (ALLOWED, ". ", true),
+        (ALLOWED, "a", true),
+        ("\"/\\[]:;|=,+*?<>\u{1F}\n\u{0}", "a", false),
+        (". ", ". .", false),
+        (". ", "a", true),
+    ] {
+        for c in chars.chars() {
+            assert!(rt; is_judged(rt.alloc(), before, c, valid)?, "{c}");
         }
     }
-    for c in "\"/\\[]:;|=,+*?<>\u{1F}\n\u{0}".chars() {
-        assert_eq!(rt; validity(alloc, c, "a")?, (false, false, false), "{c}");
-    }
-    for c in ". ".chars() {
-        assert_eq!(rt; validity(alloc, c, ". .")?, (false, false, false), "{c}");
-        assert_eq!(rt; validity(alloc, c, "a")?, (true, true, true), "{c}");
-    }
+    Ok(())
+}
+
+#[test]
+fn unpaired_surrogates_are_not_valid(rt: HostRuntime) -> Result<(), Fail> {
     for units in [
         [0xD800, 0x61],
         [0xDFFF, 0x61],
         [0x61, 0xDBFF],
         [0xDC00, 0xD800],
     ] {
-        assert!(rt; !name_of(alloc, &units)?.is_valid(Kind::Group));
+        assert!(rt; has_validity(&name_of(rt.alloc(), &units)?, false));
     }
     Ok(())
 }
 
-#[test]
-fn other_objects_have_no_names(rt: HostRuntime) -> Result<(), Fail> {
-    let name = Name::from_text(rt.alloc(), "a")?;
-    for kind in [Kind::Server, Kind::Domain, Kind::Policy, Kind::Account] {
-        assert!(rt; !name.is_valid(kind));
-    }
-    Ok(())
-}
-
-fn repeated(alloc: Global, unit: u16, count: usize) -> Result<Name, NoMemory> {
-    Ok(Name::from_units(vec![in alloc; unit; count]?))
-}
-
+/// The longest names of a user and of a group or an alias, from both sides; other objects have no names.
 #[test]
 fn names_are_valid_by_their_lengths(rt: HostRuntime) -> Result<(), Fail> {
-    let alloc = rt.alloc();
-    assert!(rt; repeated(alloc, 0x61, 20)?.is_valid(Kind::User));
-    assert!(rt; !repeated(alloc, 0x61, 21)?.is_valid(Kind::User));
-    assert!(rt; !repeated(alloc, 0x61, 0)?.is_valid(Kind::User));
-    for kind in [Kind::Group, Kind::Alias] {
-        assert!(rt; repeated(alloc, 0x61, 256)?.is_valid(kind));
-        assert!(rt; !repeated(alloc, 0x61, 257)?.is_valid(kind));
+    for (kind, count, valid) in [
+        (Kind::User, 0, false),
+        (Kind::User, 20, true),
+        (Kind::User, 21, false),
+        (Kind::Group, 256, true),
+        (Kind::Group, 257, false),
+        (Kind::Alias, 256, true),
+        (Kind::Alias, 257, false),
+        (Kind::Server, 1, false),
+        (Kind::Domain, 1, false),
+        (Kind::Policy, 1, false),
+        (Kind::Account, 1, false),
+    ] {
+        let name = Name::from_units(vec![in rt.alloc(); 0x61; count]?);
+        assert_eq!(rt; name.is_valid(kind), valid, "{count}");
     }
     Ok(())
+}
+
+/// A thousand names of 256 units and an empty one.
+fn many_names(alloc: Global) -> Result<Names, NoMemory> {
+    let mut names = Names::new(alloc);
+    names.push(Name::from_units(Vec::new(alloc)))?;
+    for _ in 0..1000 {
+        names.push(Name::from_units(vec![in alloc; 0x61; 256]?))?;
+    }
+    Ok(names)
 }
 
 #[test]
 fn names_are_listed_and_copied(rt: HostRuntime) -> Result<(), Fail> {
-    let alloc = rt.alloc();
-    let mut names = Names::new(alloc);
-    names.push(Name::from_text(alloc, "alice")?)?;
-    names.push(Name::from_units(Vec::new(alloc)))?;
-    let copy = Names::from_vec(names.copy(alloc)?.into_vec());
+    let names = many_names(rt.alloc())?;
+    let copy = Names::from_vec(names.copy(rt.alloc())?.into_vec());
     assert_eq!(rt; copy, names);
-    assert_eq!(rt; copy.as_slice().len(), 2);
+    assert_eq!(rt; copy.as_slice().len(), 1001);
     for name in copy.as_slice() {
-        assert_eq!(rt; &name.copy(alloc)?, name);
+        assert_eq!(rt; &name.copy(rt.alloc())?, name);
         name.has_units();
     }
-    assert_eq!(rt;
-        Name::from_text(alloc, "aé")?.into_units().as_slice(),
-        [0x61, 0xE9].as_slice()
-    );
     Ok(())
 }
 

@@ -1,8 +1,13 @@
 pub mod Causes
 pub mod Faults
+pub mod GroupAttributes
 pub mod Limits
 pub mod Mappings
 pub mod Opnums
+pub mod Privileges
+pub mod Rids
 pub mod Rights
 pub mod Statuses
+pub mod SystemAccess
 pub mod UserControl
+pub mod Uses

@@ -1,4 +1,4 @@
--- The limits of connections: sizes of fragments (C706 12.6.3.1) and this project's own.
+-- The limits of connections and of rows: sizes of fragments (C706 12.6.3.1) and this project's own.
 use Rattle.std.specs.Prelude.{ℕ}
 
 -- MUST_RECV_FRAG_SIZE: the size of fragment that every receiver takes (C706 12.6.3.1)
@@ -16,3 +16,23 @@ most_stub = 1_048_576
 -- the most presentation contexts that a connection has accepted
 abbrev pub most_contexts : ℕ
 most_contexts = 16
+
+-- the most units of the account domain's name, those of a NetBIOS name
+abbrev pub most_domain_name : ℕ
+most_domain_name = 15
+
+-- the most units of a full name, a comment and OEM information
+abbrev pub most_text : ℕ
+most_text = 256
+
+-- the most sub-authorities of a domain's SID: an account's has one more
+abbrev pub most_domain_subs : ℕ
+most_domain_subs = 14
+
+-- what an entry of a page costs of the preferred length, besides the bytes of its name or SID
+abbrev pub page_entry_cost : ℕ
+page_entry_cost = 12
+
+-- the most that a page costs, whatever length is preferred
+abbrev pub most_page : ℕ
+most_page = 65_536

@@ -1,5 +1,6 @@
 //! The numbers of the account server: access rights of each kind of object, statuses, faults, a user's control bits,
-//! operation numbers, the causes of a refused PDU and the limits of connections.
+//! a group's attributes, system access, privileges, well-known RIDs, operation numbers, the causes of a refused PDU and
+//! the limits of connections and rows.
 //!
 //! It stands on nothing of ours. In specs/ each number stands once, in the table of its subject, by its name in the
 //! standards; every other definition cites it there. Each constant of the code has the standard's spelling and stands
@@ -13,15 +14,20 @@ pub mod alias_rights;
 pub mod cause;
 pub mod domain_rights;
 pub mod fault;
+pub mod group_attribute;
 pub mod group_rights;
 mod kind;
 pub mod limit;
 pub mod lsa_opnum;
 pub mod policy_rights;
+pub mod privilege;
+pub mod rid;
 pub mod samr_opnum;
 pub mod server_rights;
+pub mod sid_use;
 pub mod standard_rights;
 pub mod status;
+pub mod system_access;
 pub mod user_control;
 pub mod user_rights;
 

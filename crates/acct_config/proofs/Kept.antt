@@ -14,7 +14,8 @@ use Rattle.acct_config.specs.Right.{IsRight, is_right_listener, is_right_list, i
 use Rattle.acct_config.specs.Rules.{first_broken_from, kept, domain_sid, listeners, listener_name, have_names, has_address, sid_of, is_sid, token_texts, has_token, is_number_within, workers, links, has_counts, descriptor_table, is_ace, ace_texts, has_aces, aces_are_entries}
 use Rattle.acct_config.specs.Shape.{found}
 use Rattle.acct_config.specs.Spelled.{count_of, listener_of, ace_at, acl_of, descriptor_of, config_of}
-use Rattle.acct_config.specs.Values.{is_domain_sid, administrators, is_listener_name, are_distinct}
+use Rattle.acct_calls.specs.Domains.{is_domain_sid}
+use Rattle.acct_config.specs.Values.{administrators, is_listener_name, are_distinct}
 use Rattle.acct_config.specs.Words.{is_within}
 
 -- where no rule is broken, each is kept

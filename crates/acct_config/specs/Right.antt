@@ -8,7 +8,8 @@ use Rattle.acct_config.specs.declared.config.Listener.{Listener}
 use Rattle.acct_config.specs.declared.limits.Limits.{Limits}
 use Rattle.acct_config.specs.Address.{is_address}
 use Rattle.acct_config.specs.Kinds.{kinds}
-use Rattle.acct_config.specs.Values.{is_domain_name, is_domain_sid, is_listener_name, are_distinct}
+use Rattle.acct_calls.specs.Domains.{is_domain_name, is_domain_sid}
+use Rattle.acct_config.specs.Values.{is_listener_name, are_distinct}
 use Rattle.acct_config.specs.Words.{is_within}
 
 -- a listener has a name and an address, a token of 1 to 64 SIDs, 1 to 64 workers, and a number of links of 32 bits

@@ -12,7 +12,8 @@ use Rattle.acct_config.specs.Document.{document, whole, get_in, text_of, number_
 use Rattle.acct_config.specs.Entries.{ace_of_text}
 use Rattle.acct_config.specs.Kinds.{kinds, kind_name}
 use Rattle.acct_config.specs.Shape.{is_document, found}
-use Rattle.acct_config.specs.Values.{name_of_text, is_domain_name, is_domain_sid, is_listener_name, are_distinct}
+use Rattle.acct_calls.specs.Domains.{name_of_text, is_domain_name, is_domain_sid}
+use Rattle.acct_config.specs.Values.{is_listener_name, are_distinct}
 use Rattle.acct_config.specs.Words.{is_within}
 
 -- the account domain

@@ -11,7 +11,8 @@ use Rattle.acct_config.specs.Document.{whole, text_of, elements}
 use Rattle.acct_config.specs.Entries.{ace_of_text}
 use Rattle.acct_config.specs.Kinds.{kinds}
 use Rattle.acct_config.specs.Rules.{kept, first_broken_from, first_broken, domain_name, domain_sid, listeners, listener_name, listener_address, sid_of, token_texts, workers, links, descriptor_table, owner}
-use Rattle.acct_config.specs.Values.{name_of_text, administrators}
+use Rattle.acct_calls.specs.Domains.{name_of_text}
+use Rattle.acct_config.specs.Values.{administrators}
 
 -- a number up to the highest, and else 0
 abbrev pub count_of : ℕ → ℤ → ℕ

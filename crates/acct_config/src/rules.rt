@@ -11,7 +11,9 @@ use crate::document::{elements_of, get_in, number_of, text_of};
 use crate::entries::{ace_of_text, sid_of_text};
 use crate::kinds::{KINDS, kind_name};
 use crate::shape::is_document;
-use crate::values::{is_domain_name, is_domain_sid, is_listener_name, name_of_text};
+use crate::values::is_listener_name;
+use acct_calls::Name;
+use acct_calls::domain::{is_domain_name, is_domain_sid};
 use acct_codes::Kind;
 use dtyp_sid::Sid;
 use std::alloc::{AllocError, Global};
@@ -34,7 +36,7 @@ pub fn domain_sid(document: &Value) -> Option<Sid>
 fn has_domain_name(alloc: Global, document: &Value) -> Result<bool, AllocError>
     ensures { IfOk result (λ kept. kept ≡ has_domain_name (view document.now)) }
 {
-    let name = name_of_text(alloc, domain_name(document))?;
+    let name = Name::from_text(alloc, domain_name(document))?;
     is_domain_name(alloc, &name)
 }
 

@@ -13,9 +13,10 @@ use crate::rules::{
     descriptor_table, domain_name, domain_sid, links, listener_address, listener_name, listeners,
     owner, sid_of, workers,
 };
-use crate::values::{administrators, name_of_text};
+use crate::values::administrators;
 use crate::{Config, Listener, Text};
 use acct_base::Seq;
+use acct_calls::Name;
 use acct_codes::Kind;
 use dtyp_access::{Ace, Acl, Descriptor, Token};
 use dtyp_sid::Sid;
@@ -122,7 +123,7 @@ pub fn config_of(alloc: Global, document: &Value) -> Result<Config, AllocError>
     ensures { IfOk result (λ config. config ≡ config_of (view document.now)) }
 {
     Ok(Config {
-        name: name_of_text(alloc, domain_name(document))?,
+        name: Name::from_text(alloc, domain_name(document))?,
         sid: domain_sid(document).unwrap_or(administrators()),
         listeners: listeners_of(alloc, listeners(document))?,
         descriptors: descriptors_of(alloc, document, &KINDS)?,

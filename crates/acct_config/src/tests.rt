@@ -1,10 +1,9 @@
 // Documents and the rule that each breaks, and what the documents that break none spell.
-use crate::{Config, ConfigError, Limits, Text, laws, read_config};
+use crate::{Config, ConfigError, Listener, Text, laws, read_config};
 use acct_codes::Kind;
 use dtyp_access::{Ace, AceKind, Descriptor, make_token, opening};
 use dtyp_sid::{Sid, parse_text};
 use std::alloc::Global;
-use std::process::Abort;
 use std::test::Fail;
 
 const PLAIN: &str = r#"[domain]
@@ -17,8 +16,8 @@ token = ["S-1-5-21-1-2-3-500", "S-1-1-0", "S-1-5-32-544"]
 "#;
 
 /// In each line a rule, a part of the plain document, and what stands in its place in a document of which that rule is
-/// the first that is broken. A semicolon stands for a line end.
-const BROKEN: &str = r#"0|[domain]|[domain
+/// the first that is broken. Those with a dash break none. A semicolon stands for a line end.
+const RULES: &str = r#"0|[domain]|[domain
 0|[domain]|[domain];name = "X"
 0|[[listener]]|[domain];[[listener]]
 0|"CORP"|CORP
@@ -103,49 +102,176 @@ const BROKEN: &str = r#"0|[domain]|[domain
 9|[[listener]]|[descriptor.user];owner = "S-1-5-18";aces = ["allow 0X00000010 0 S-1-1-0"];[[listener]]
 9|[[listener]]|[descriptor.user];owner = "S-1-5-18";aces = ["Allow 0x00000010 0 S-1-1-0"];[[listener]]
 9|[[listener]]|[descriptor.user];owner = "S-1-5-18";aces = ["allow 0x00000010 0 S-1-1-0 "];[[listener]]
-9|[[listener]]|[descriptor.user];owner = "S-1-5-18";aces = ["allow 0x00000010 0"];[[listener]]"#;
+9|[[listener]]|[descriptor.user];owner = "S-1-5-18";aces = ["allow 0x00000010 0"];[[listener]]
+-|[domain]|# a comment;[domain]
+-|[domain];name = "CORP";sid = "S-1-5-21-1-2-3"|domain = { name = "CORP", sid = "S-1-5-21-1-2-3" }
+-|[domain];name = "CORP";sid|domain.name = "\u0043ORP";domain.sid
+-|CORP|ABCDEFGHIJKLMNO
+-|CORP|Ä. b
+-|"S-1-5-21-1-2-3"|"S-1-5-1-2-3-4-5-6-7-8-9-10-11-12-13-14"
+-|"S-1-5-21-1-2-3"|"S-1-5-33"
+-|"S-1-5-21-1-2-3"|"S-1-6-32"
+-|"S-1-5-21-1-2-3"|"S-1-0x00000000000A-32"
+-|name = "a"|name = "abcdefghijklmnopqrstuvwxyz012345"
+-|4045|1
+-|4045|65535
+-|tcp:127.0.0.1:4045|unix:s
+-|name = "a"|name = "a";workers = 64;links = 4294967295
+-|name = "a"|name = "a";workers = 1;links = 0
+-|name = "a";|workers = 0x10;name = 'a';
+-|[[listener]]|[descriptor];[[listener]]
+-|[[listener]]|[descriptor.alias];owner = "S-1-1-0";aces = [];[[listener]]
+-|[[listener]]|[descriptor.user];owner = "S-1-1-0";aces = ["deny 0xFFFFffff 255 S-1-1-0"];[[listener]]"#;
 
-/// In each line a part of the plain document, and what stands in its place in a document that breaks no rule.
-const KEPT: &str = r#"[domain]|# a comment;[domain]
-[domain];name = "CORP";sid = "S-1-5-21-1-2-3"|domain = { name = "CORP", sid = "S-1-5-21-1-2-3" }
-[domain];name = "CORP";sid|domain.name = "\u0043ORP";domain.sid
-CORP|ABCDEFGHIJKLMNO
-CORP|Ä. b
-"S-1-5-21-1-2-3"|"S-1-5-1-2-3-4-5-6-7-8-9-10-11-12-13-14"
-"S-1-5-21-1-2-3"|"S-1-5-33"
-"S-1-5-21-1-2-3"|"S-1-6-32"
-"S-1-5-21-1-2-3"|"S-1-0x00000000000A-32"
-name = "a"|name = "abcdefghijklmnopqrstuvwxyz012345"
-4045|1
-4045|65535
-tcp:127.0.0.1:4045|unix:s
-name = "a"|name = "a";workers = 64;links = 4294967295
-name = "a"|name = "a";workers = 1;links = 0
-name = "a";|workers = 0x10;name = 'a';
-[[listener]]|[descriptor];[[listener]]
-[[listener]]|[descriptor.alias];owner = "S-1-1-0";aces = [];[[listener]]
-[[listener]]|[descriptor.user];owner = "S-1-1-0";aces = ["deny 0xFFFFffff 255 S-1-1-0"];[[listener]]"#;
+/// Documents with many of the same. In each line a rule or a dash, a part of the plain document, and what stands in its
+/// place: a front, so many times a text, in which `@` stands for the number, and a back.
+const MANY: &str =
+    r#"-|[[listener]]||15|[[listener]];name = "n@";address = "unix:s";token = ["S-1-1-0"];|[[listener]]
+4|[[listener]]||16|[[listener]];name = "n@";address = "unix:s";token = ["S-1-1-0"];|[[listener]]
+4|[[listener]]||3|[[listener]];name = "b";address = "unix:s";token = ["S-1-1-0"];|[[listener]]
+-|"S-1-1-0",||62|"S-1-1-0",|
+6|"S-1-1-0",||63|"S-1-1-0",|
+-|[[listener]]|[descriptor.user];owner = "S-1-1-0";aces = [|800|"allow 0x00000010 0 S-1-1-0",|];[[listener]]
+9|[[listener]]|[descriptor.user];owner = "S-1-1-0";aces = [|801|"allow 0x00000010 0 S-1-1-0",|];[[listener]]
+-|[domain]||16384|# One of 16,384 lines of 64 bytes, which make a mebibyte of text.;|[domain]"#;
 
-/// The plain document with another text in the place of a part.
-fn changed(alloc: Global, part: &str, text: &str) -> Result<String, Fail> {
-    let (before, behind) = PLAIN.split_once(part).ok_or("no such part")?;
+/// Two bars cut a text into a front, a middle and a back.
+fn cut(line: &str) -> Result<(&str, &str, &str), Fail> {
+    let (front, others) = line.split_once('|').ok_or("one part alone")?;
+    let (middle, back) = others.split_once('|').ok_or("two parts alone")?;
+    Ok((front, middle, back))
+}
+
+/// A document with another text in the place of a part.
+fn replaced(alloc: Global, document: &str, part: &str, text: &str) -> Result<String, Fail> {
+    let (before, behind) = document.split_once(part).ok_or("no such part")?;
     Ok(format!(in alloc; "{before}{text}{behind}")?)
 }
 
-/// The plain document, changed as a line says.
-fn changed_as(alloc: Global, line: &str) -> Result<String, Fail> {
+/// A document changed as a line says, which has a part and what stands in its place.
+fn changed(alloc: Global, document: &str, line: &str) -> Result<String, Fail> {
     let lines = line.replace(alloc, ";", "\n")?;
     let (part, text) = lines.as_str().split_once('|').ok_or("no text")?;
-    changed(alloc, part, text)
+    replaced(alloc, document, part, text)
 }
 
-/// The first rule that is broken.
-fn broken(alloc: Global, bytes: &[u8]) -> Result<Option<u32>, Fail> {
-    match read_config(alloc, bytes) {
-        Ok(_) => Ok(None),
-        Err(ConfigError::Rule(rule)) => Ok(Some(rule)),
-        Err(ConfigError::Memory) => Err(Fail::from("memory")),
+/// Whether a document breaks a rule first, or none where the word is no number.
+fn breaks(alloc: Global, bytes: &[u8], rule: &str) -> Result<bool, Fail> {
+    let broken = match read_config(alloc, bytes) {
+        Ok(_) => None,
+        Err(ConfigError::Rule(rule)) => Some(rule),
+        Err(ConfigError::Memory) => return Err(Fail::from("memory")),
+    };
+    Ok(broken == rule.parse::<u32>().ok())
+}
+
+/// Whether the document of a line of [`RULES`] breaks what the line says.
+fn is_ruled(alloc: Global, line: &str) -> Result<bool, Fail> {
+    let (rule, change) = line.split_once('|').ok_or("no rule")?;
+    let document = changed(alloc, PLAIN, change)?;
+    breaks(alloc, document.as_bytes(), rule)
+}
+
+#[test]
+fn each_document_breaks_its_rule_first(rt: HostRuntime) -> Result<(), Fail> {
+    for line in RULES.lines() {
+        assert!(rt; is_ruled(rt.alloc(), line)?, "{line}");
     }
+    Ok(())
+}
+
+/// So many times a text, with the number in the place of `@`.
+fn numbered(alloc: Global, count: u32, text: &str) -> Result<String, Fail> {
+    let mut all = String::new(alloc);
+    for number in 0..count {
+        match text.split_once('@') {
+            Some((before, behind)) => write!(all, "{before}{number}{behind}")?,
+            None => all.push_str(text)?,
+        }
+    }
+    Ok(all)
+}
+
+/// The plain document with the front, the texts and the back of a line of [`MANY`] in the place of a part.
+fn filled(alloc: Global, line: &str) -> Result<String, Fail> {
+    let (part, front, others) = cut(line)?;
+    let (count, text, back) = cut(others)?;
+    let count = count.parse::<u32>().ok().ok_or("no number")?;
+    let texts = numbered(alloc, count, text)?;
+    let change = format!(in alloc; "{part}|{front}{}{back}", texts.as_str())?;
+    changed(alloc, PLAIN, change.as_str())
+}
+
+#[test]
+fn documents_with_many_of_the_same(rt: HostRuntime) -> Result<(), Fail> {
+    for line in MANY.lines() {
+        let (rule, others) = line.split_once('|').ok_or("no rule")?;
+        let document = filled(rt.alloc(), others)?;
+        assert!(rt; breaks(rt.alloc(), document.as_bytes(), rule)?, "{line}");
+    }
+    Ok(())
+}
+
+/// A document whose last listener is the plain one, and in which a later rule is broken by what stands before it.
+const LAST_BROKEN: &str = r#"[[listener]]|[descriptor.user]
+owner = "S-1-1-0"
+aces = [""]
+[descriptor.alias]
+owner = "S-1-1-1"
+[[listener]]
+name = "b"
+address = "unix:s"
+token = ["S-1-1-0"]
+[[listener]]"#;
+
+/// One change after the other, each of which breaks an earlier rule than those before it.
+const EARLIER: &str = r#"9|CORP|CORP
+8|S-1-1-1|
+7|name = "b"|name = "b";links = -1
+6|"S-1-5-21-1-2-3-500"|"S-1"
+5|4045|0
+4|name = "a"|name = ""
+3|sid = "S-1-5-21-1-2-3"|sid = ""
+2|CORP|
+1|[domain]|[limits];[domain]
+0|[domain]|[domain"#;
+
+/// Each rule is asked of all listeners and tables before the next one.
+#[test]
+fn the_first_of_several_rules_counts(rt: HostRuntime) -> Result<(), Fail> {
+    let mut document = changed(rt.alloc(), PLAIN, LAST_BROKEN)?;
+    for line in EARLIER.lines() {
+        let (rule, change) = line.split_once('|').ok_or("no rule")?;
+        let next = changed(rt.alloc(), document.as_str(), change)?;
+        assert!(rt; breaks(rt.alloc(), next.as_bytes(), rule)?, "{line}");
+        document = next;
+    }
+    Ok(())
+}
+
+const NO_LISTENER: &[u8] = b"listener = []\n[domain]\nname = \"CORP\"\nsid = \"S-1-5-21\"";
+
+const RETURNS: &[u8] =
+    b"[domain]\r\nname = \"CORP\"\r\nsid = \"S-1-5-21-1-2-3\"\r\n[[listener]]\r\nname = \"a\"\r\n\
+    address = \"tcp:127.0.0.1:4045\"\r\ntoken = [\"S-1-1-0\"]";
+
+const RETURNS_ALONE: &[u8] = b"[domain]\rname = \"CORP\"\rsid = \"S-1-5-21-1-2-3\"\r";
+
+#[test]
+fn whole_texts_and_bytes_that_are_none(rt: HostRuntime) -> Result<(), Fail> {
+    for (bytes, rule) in [
+        (b"# \xFF\n".as_slice(), "0"),
+        (b"\xC0\x80", "0"),
+        (b"# \xED\xA0\x80\n", "0"),
+        (b"", "1"),
+        (b"\xEF\xBB\xBF# no more", "1"),
+        (NO_LISTENER, "4"),
+        (RETURNS, "-"),
+        (RETURNS_ALONE, "0"),
+    ] {
+        assert!(rt; breaks(rt.alloc(), bytes, rule)?);
+    }
+    Ok(())
 }
 
 /// The configuration of a document.
@@ -157,212 +283,95 @@ fn config_of(alloc: Global, text: &str) -> Result<Config, Fail> {
     }
 }
 
-fn sid_of(rt: &impl Abort, text: &str) -> Sid {
-    match parse_text(text) {
-        Ok(sid) => sid,
-        Err(bad) => panic!(rt; "no SID at {}", bad.place),
+/// Each unit of a name and the SID of the domain.
+fn shown_domain(alloc: Global, config: &Config) -> Result<String, Fail> {
+    let mut text = String::new(alloc);
+    for unit in config.name.units() {
+        write!(text, "{unit:x} ")?;
     }
+    write!(text, "{}", config.sid.text(alloc)?)?;
+    Ok(text)
 }
 
-#[test]
-fn each_document_breaks_its_rule_first(rt: HostRuntime) -> Result<(), Fail> {
-    for line in BROKEN.lines() {
-        let (rule, change) = line.split_once('|').ok_or("no rule")?;
-        let document = changed_as(rt.alloc(), change)?;
-        let wanted = rule.parse::<u32>().ok();
-        assert_eq!(rt; broken(rt.alloc(), document.as_bytes())?, wanted, "{line}");
+/// Name, address, workers, links and the SIDs of the token.
+fn shown_listener(alloc: Global, listener: &Listener) -> Result<String, Fail> {
+    let name = listener.name.as_str();
+    let address = listener.address.as_str();
+    let mut text = format!(in alloc; "{name} {address} {} {}", listener.workers, listener.links)?;
+    for sid in listener.token.sids() {
+        write!(text, " {}", sid.text(alloc)?)?;
     }
-    Ok(())
+    Ok(text)
 }
 
-#[test]
-fn these_documents_break_no_rule(rt: HostRuntime) -> Result<(), Fail> {
-    for line in KEPT.lines() {
-        let document = changed_as(rt.alloc(), line)?;
-        assert_eq!(rt; broken(rt.alloc(), document.as_bytes())?, None, "{line}");
+fn shown_listeners(alloc: Global, listeners: &[Listener]) -> Result<String, Fail> {
+    let mut text = String::new(alloc);
+    for listener in listeners {
+        write!(text, "({})", shown_listener(alloc, listener)?)?;
     }
-    assert_eq!(rt; broken(rt.alloc(), PLAIN.as_bytes())?, None);
-    let unended = PLAIN.strip_suffix("\n").ok_or("no line end")?;
-    assert_eq!(rt; broken(rt.alloc(), unended.as_bytes())?, None);
-    let returned = PLAIN.replace(rt.alloc(), "\n", "\r\n")?;
-    assert_eq!(rt; broken(rt.alloc(), returned.as_bytes())?, None);
-    let without_lines = PLAIN.replace(rt.alloc(), "\n", "\r")?;
-    assert_eq!(rt; broken(rt.alloc(), without_lines.as_bytes())?, Some(0));
-    Ok(())
+    Ok(text)
 }
 
-/// The plain document with listeners of these names before its own, each table with more lines.
-fn with_listeners(alloc: Global, names: &[&str], more: &str) -> Result<String, Fail> {
-    let mut tables = String::new(alloc);
-    for name in names {
-        write!(
-            tables,
-            "[[listener]]\nname = \"{name}\"\naddress = \"unix:s\"\ntoken = [\"S-1-1-0\"]\n{more}\n"
-        )?;
+fn shown_ace(alloc: Global, ace: &Ace) -> Result<String, Fail> {
+    let kind = match ace.kind {
+        AceKind::Allow => "allow",
+        AceKind::Deny => "deny",
+    };
+    Ok(format!(in alloc;
+        "{kind} {} {:x} {}",
+        ace.flags,
+        ace.mask,
+        ace.sid.text(alloc)?
+    )?)
+}
+
+/// The owner, whether there is a group, and the entries, or that there is no list.
+fn shown_descriptor(alloc: Global, descriptor: &Descriptor) -> Result<String, Fail> {
+    let mut text = descriptor.owner.text(alloc)?;
+    if descriptor.group.is_some() {
+        text.push_str(" group")?;
     }
-    write!(tables, "[[listener]]")?;
-    changed(alloc, "[[listener]]", tables.as_str())
-}
-
-/// So many times the same text in a list.
-fn repeated(alloc: Global, count: u32, text: &str) -> Result<String, Fail> {
-    let mut list = String::from_str(alloc, "[")?;
-    for _ in 0..count {
-        write!(list, "\"{text}\", ")?;
+    match &descriptor.acl {
+        None => text.push_str(" open")?,
+        Some(acl) => {
+            for ace in acl.aces() {
+                write!(text, ", {}", shown_ace(alloc, ace)?)?;
+            }
+        }
     }
-    list.push_str("]")?;
-    Ok(list)
+    Ok(text)
 }
 
-const FIFTEEN: [&str; 15] = [
-    "b", "c", "d", "e", "f", "g", "h", "i", "j", "k", "l", "m", "n", "o", "p",
-];
-
-#[test]
-fn counts_of_listeners_sids_and_entries(rt: HostRuntime) -> Result<(), Fail> {
-    let alloc = rt.alloc();
-    let sixteen = with_listeners(alloc, &FIFTEEN, "")?;
-    assert_eq!(rt; broken(alloc, sixteen.as_bytes())?, None);
-    let twice = with_listeners(alloc, &["b", "c", "b"], "")?;
-    assert_eq!(rt; broken(alloc, twice.as_bytes())?, Some(4));
-    let none = b"listener = []\n[domain]\nname = \"CORP\"\nsid = \"S-1-5-21\"";
-    assert_eq!(rt; broken(alloc, none)?, Some(4));
-    let plain = "[\"S-1-5-21-1-2-3-500\", \"S-1-1-0\", \"S-1-5-32-544\"]";
-    for (count, rule) in [(64, None), (65, Some(6))] {
-        let sids = repeated(alloc, count, "S-1-1-0")?;
-        let document = changed(alloc, plain, sids.as_str())?;
-        assert_eq!(rt; broken(alloc, document.as_bytes())?, rule, "{count}");
-    }
-    for (count, rule) in [(800, None), (801, Some(9))] {
-        let aces = repeated(alloc, count, "allow 0x00000010 0 S-1-1-0")?;
-        let table = format!(in alloc;
-            "[descriptor.user]\nowner = \"S-1-1-0\"\naces = {}\n[[listener]]",
-            aces.as_str()
-        )?;
-        let document = changed(alloc, "[[listener]]", table.as_str())?;
-        assert_eq!(rt; broken(alloc, document.as_bytes())?, rule, "{count}");
-    }
-    Ok(())
-}
-
-#[test]
-fn seventeen_listeners_are_too_many(rt: HostRuntime) -> Result<(), Fail> {
-    let sixteen = with_listeners(rt.alloc(), &FIFTEEN, "")?;
-    let more = sixteen.as_str().strip_suffix("\n").ok_or("no line end")?;
-    let document = format!(in rt.alloc();
-        "{more}\n[[listener]]\nname = \"q\"\naddress = \"unix:s\"\ntoken = [\"S-1-1-0\"]\n"
-    )?;
-    assert_eq!(rt; broken(rt.alloc(), document.as_bytes())?, Some(4));
-    Ok(())
-}
-
-/// A document of which the last listener is the plain one, and a later rule is broken by what stands before it.
-const LAST_BROKEN: &str = r#"[descriptor.user]
-owner = "S-1-1-0"
-aces = [""]
-[descriptor.alias]
-owner = "S-1-1-1"
-[[listener]]
-name = "b"
-address = "unix:s"
-token = ["S-1-1-0"]
-[[listener]]"#;
-
-/// Documents that break several rules, with the first of them. Each rule is asked of all listeners and tables before
-/// the next one.
-#[test]
-fn the_first_of_several_rules_counts(rt: HostRuntime) -> Result<(), Fail> {
-    let alloc = rt.alloc();
-    let mut document = changed(alloc, "[[listener]]", LAST_BROKEN)?;
-    assert_eq!(rt; broken(alloc, document.as_bytes())?, Some(9));
-    for (rule, part, text) in [
-        (8, "S-1-1-1", ""),
-        (7, "name = \"b\"", "name = \"b\"\nlinks = -1"),
-        (6, "\"S-1-5-21-1-2-3-500\"", "\"S-1\""),
-        (5, "4045", "0"),
-        (4, "name = \"a\"", "name = \"\""),
-        (3, "sid = \"S-1-5-21-1-2-3\"", "sid = \"\""),
-        (2, "CORP", ""),
-        (1, "[domain]", "[limits]\n[domain]"),
-        (0, "[domain]", "[domain"),
-    ] {
-        let (before, behind) = document.as_str().split_once(part).ok_or("no such part")?;
-        let next = format!(in alloc; "{before}{text}{behind}")?;
-        document = next;
-        assert_eq!(rt; broken(alloc, document.as_bytes())?, Some(rule), "{part}");
-    }
-    Ok(())
-}
-
-#[test]
-fn bytes_that_are_no_text(rt: HostRuntime) -> Result<(), Fail> {
-    assert_eq!(rt; broken(rt.alloc(), b"# \xFF\n")?, Some(0));
-    assert_eq!(rt; broken(rt.alloc(), b"\xC0\x80")?, Some(0));
-    assert_eq!(rt; broken(rt.alloc(), b"# \xED\xA0\x80\n")?, Some(0));
-    assert_eq!(rt; broken(rt.alloc(), b"")?, Some(1));
-    assert_eq!(rt; broken(rt.alloc(), b"\xEF\xBB\xBF# no more")?, Some(1));
-    Ok(())
-}
-
-/// Whether no list restricts the objects of the kinds, and the administrators own them.
-fn are_open(rt: &impl Abort, descriptors: &[Descriptor]) -> bool {
-    let administrators = sid_of(rt, "S-1-5-32-544");
+fn shown_descriptors(alloc: Global, descriptors: &[Descriptor]) -> Result<String, Fail> {
+    let mut text = String::new(alloc);
     for descriptor in descriptors {
-        if descriptor.owner != administrators
-            || descriptor.group.is_some()
-            || descriptor.acl.is_some()
-        {
-            return false;
-        }
+        write!(text, "({})", shown_descriptor(alloc, descriptor)?)?;
     }
-    true
+    Ok(text)
 }
 
-#[test]
-fn the_plain_configuration(rt: HostRuntime) -> Result<(), Fail> {
-    let read = config_of(rt.alloc(), PLAIN)?;
-    for config in [&read, &read.copy(rt.alloc())?] {
-        assert_eq!(rt; config.name.units(), [0x43, 0x4F, 0x52, 0x50].as_slice());
-        assert_eq!(rt; config.sid, sid_of(&rt, "S-1-5-21-1-2-3"));
-        assert_eq!(rt; config.listeners.as_slice().len(), 1);
-        for listener in config.listeners.as_slice() {
-            assert_eq!(rt; listener.name.as_str(), "a");
-            assert_eq!(rt; listener.address.as_str(), "tcp:127.0.0.1:4045");
-            let sids = [
-                sid_of(&rt, "S-1-5-21-1-2-3-500"),
-                sid_of(&rt, "S-1-1-0"),
-                sid_of(&rt, "S-1-5-32-544"),
-            ];
-            assert_eq!(rt; listener.token.sids(), sids.as_slice());
-            assert_eq!(rt; (listener.workers, listener.links), (1, 0));
-        }
-        assert_eq!(rt; config.descriptors.as_slice().len(), 7);
-        assert!(rt; are_open(&rt, config.descriptors.as_slice()));
-        let limits = Limits {
-            max_calls: 65_536,
-            max_bytes: 67_108_864,
-            max_conns: 1_024,
-            max_read: 4_294_967_296,
-            max_periods: 1,
-        };
-        assert_eq!(rt; config.limits, limits);
+/// One part of a configuration as text.
+fn shown(alloc: Global, config: &Config, part: &str) -> Result<String, Fail> {
+    match part {
+        "domain" => shown_domain(alloc, config),
+        "listeners" => shown_listeners(alloc, config.listeners.as_slice()),
+        "descriptors" => shown_descriptors(alloc, config.descriptors.as_slice()),
+        _ => Ok(format!(in alloc; "{:?}", config.limits)?),
     }
-    Ok(())
 }
 
-#[test]
-fn what_a_listener_says(rt: HostRuntime) -> Result<(), Fail> {
-    let alloc = rt.alloc();
-    let document = with_listeners(alloc, &["b2"], "workers = 64\nlinks = 4294967295")?;
-    let config = config_of(alloc, document.as_str())?;
-    let first = config.listeners.as_slice().first().ok_or("no listener")?;
-    assert_eq!(rt; first.name.as_str(), "b2");
-    assert_eq!(rt; first.address.as_str(), "unix:s");
-    assert_eq!(rt; (first.workers, first.links), (64, 4_294_967_295));
-    let accented = config_of(alloc, changed(alloc, "CORP", "Ä\u{10400}")?.as_str())?;
-    assert_eq!(rt; accented.name.units(), [0xC4, 0xD801, 0xDC00].as_slice());
-    Ok(())
+/// Whether a document's configuration and its copy show what a line says, which has a part and its text.
+fn says(alloc: Global, document: &str, line: &str) -> Result<bool, Fail> {
+    let (part, text) = line.split_once('|').ok_or("no text")?;
+    let config = config_of(alloc, document)?;
+    let copy = config.copy(alloc)?;
+    Ok(shown(alloc, &config, part)?.as_str() == text && shown(alloc, &copy, part)?.as_str() == text)
 }
+
+const PLAIN_SAYS: &str = r#"domain|43 4f 52 50 S-1-5-21-1-2-3
+listeners|(a tcp:127.0.0.1:4045 1 0 S-1-5-21-1-2-3-500 S-1-1-0 S-1-5-32-544)
+descriptors|~~~~~~~
+limits|Limits { max_calls: 65536, max_bytes: 67108864, max_conns: 1024, max_read: 4294967296, max_periods: 1 }"#;
 
 /// A configuration with all that may stand in one.
 const WHOLE: &str = r#"# The account domain: its name and SID.
@@ -389,93 +398,103 @@ owner = "S-1-5-18"
 aces = ["deny 0x00000010 0 S-1-5-32-545", "allow 0x000F003F 0 S-1-1-0"]
 "#;
 
-#[test]
-fn a_whole_configuration(rt: HostRuntime) -> Result<(), Fail> {
-    let config = config_of(rt.alloc(), WHOLE)?;
-    let listeners = config.listeners.as_slice();
-    let first = listeners.first().ok_or("no listener")?;
-    assert_eq!(rt; (first.workers, first.links), (4, 0));
-    let second = listeners.get(1).ok_or("no second listener")?;
-    assert_eq!(rt; (second.workers, second.links), (1, 0));
-    assert_eq!(rt; second.name.as_str(), "local");
-    assert_eq!(rt; second.address.as_str(), "unix:/run/accounts");
-    assert_eq!(rt; second.token.sids(), [sid_of(&rt, "S-1-1-0")].as_slice());
-    Ok(())
-}
+const WHOLE_SAYS: &str = r#"domain|43 4f 52 50 S-1-5-21-1-2-3
+listeners|(a tcp:127.0.0.1:4045 4 0 S-1-5-21-1-2-3-500 S-1-1-0 S-1-5-32-544)(local unix:/run/accounts 1 0 S-1-1-0)
+descriptors|(S-1-5-18, deny 0 10 S-1-5-32-545, allow 0 f003f S-1-1-0)~~~~~~"#;
 
-/// The tables of two descriptors, of which that of the server denies before it allows.
-const DENIED: &str = r#"[descriptor.server]
+/// A listener with all its fields, a name beyond ASCII, and the tables of two descriptors, of which that of the server
+/// denies before it allows.
+const OTHER: &str = r#"[domain]
+name = "Ä𐐀"
+sid = "S-1-5-21-1-2-3"
+[[listener]]
+name = "b2"
+address = "unix:s"
+token = ["S-1-1-0"]
+workers = 64
+links = 4294967295
+[descriptor.server]
 owner = "S-1-5-18"
 aces = ["deny 0x00000010 0 S-1-5-32-545", "allow 0x000F003F 0 S-1-1-0"]
 [descriptor.account]
 owner = "S-1-1-0"
 aces = ["allow 0xfedcBA98 7 S-1-5-32-544"]
-[[listener]]"#;
+"#;
+
+const OTHER_SAYS: &str = r#"domain|c4 d801 dc00 S-1-5-21-1-2-3
+listeners|(b2 unix:s 64 4294967295 S-1-1-0)
+descriptors|(S-1-5-18, deny 0 10 S-1-5-32-545, allow 0 f003f S-1-1-0)~~~~~(S-1-1-0, allow 7 fedcba98 S-1-5-32-544)"#;
+
+/// A tilde stands for the descriptor of the administrators without a list.
+#[test]
+fn configurations_say_these_values(rt: HostRuntime) -> Result<(), Fail> {
+    let alloc = rt.alloc();
+    for (document, lines) in [
+        (PLAIN, PLAIN_SAYS),
+        (WHOLE, WHOLE_SAYS),
+        (OTHER, OTHER_SAYS),
+    ] {
+        let open = lines.replace(alloc, "~", "(S-1-5-32-544 open)")?;
+        for line in open.as_str().lines() {
+            assert!(rt; says(alloc, document, line)?, "{line}");
+        }
+    }
+    Ok(())
+}
+
+/// What the descriptor of a kind shows, in a configuration that breaks no rule.
+fn shown_of_kind(alloc: Global, document: &str, kind: Kind) -> Result<String, Fail> {
+    match read_config(alloc, document.as_bytes()) {
+        Ok(config) => shown_descriptor(alloc, config.descriptor(kind)),
+        Err(_) => Err(Fail::from("no configuration")),
+    }
+}
 
 #[test]
 fn descriptors_stand_by_their_kinds(rt: HostRuntime) -> Result<(), Fail> {
-    let alloc = rt.alloc();
-    let document = changed(alloc, "[[listener]]", DENIED)?;
-    let read = config_of(alloc, document.as_str())?;
-    for config in [&read, &read.copy(alloc)?] {
-        let descriptors = config.descriptors.as_slice();
-        assert!(rt; are_open(&rt, descriptors.get(1..6).ok_or("too few")?));
-        let server = descriptors.first().ok_or("no server")?;
-        assert_eq!(rt; server.owner, sid_of(&rt, "S-1-5-18"));
-        let deny = Ace {
-            kind: AceKind::Deny,
-            flags: 0,
-            mask: 0x10,
-            sid: sid_of(&rt, "S-1-5-32-545"),
-        };
-        let allow = Ace {
-            kind: AceKind::Allow,
-            flags: 0,
-            mask: 0x000F_003F,
-            sid: sid_of(&rt, "S-1-1-0"),
-        };
-        let acl = server.acl.as_ref().ok_or("no list")?;
-        assert_eq!(rt; acl.aces(), [deny, allow].as_slice());
-        let account = descriptors.get(6).ok_or("no account")?;
-        assert_eq!(rt; account.owner, sid_of(&rt, "S-1-1-0"));
-        let other = Ace {
-            kind: AceKind::Allow,
-            flags: 7,
-            mask: 0xFEDC_BA98,
-            sid: sid_of(&rt, "S-1-5-32-544"),
-        };
-        let acl = account.acl.as_ref().ok_or("no list")?;
-        assert_eq!(rt; acl.aces(), [other].as_slice());
+    for (kind, text) in [
+        (
+            Kind::Server,
+            "S-1-5-18, deny 0 10 S-1-5-32-545, allow 0 f003f S-1-1-0",
+        ),
+        (Kind::Policy, "S-1-5-32-544 open"),
+        (Kind::Account, "S-1-1-0, allow 7 fedcba98 S-1-5-32-544"),
+    ] {
+        assert_eq!(rt; shown_of_kind(rt.alloc(), OTHER, kind)?.as_str(), text);
     }
     Ok(())
+}
+
+fn sid_of(text: &str) -> Result<Sid, Fail> {
+    match parse_text(text) {
+        Ok(sid) => Ok(sid),
+        Err(_) => Err(Fail::from("no SID")),
+    }
+}
+
+/// What a user is granted at the server of a document.
+fn granted(alloc: Global, document: &str, asked: u32) -> Result<Option<u32>, Fail> {
+    let token = make_token(alloc, &[sid_of("S-1-1-0")?, sid_of("S-1-5-32-545")?])?;
+    match read_config(alloc, document.as_bytes()) {
+        Ok(config) => {
+            let server = config.descriptor(Kind::Server);
+            Ok(opening(Kind::Server, server, &token, asked))
+        }
+        Err(_) => Err(Fail::from("no configuration")),
+    }
 }
 
 /// The access check over the configured descriptor of the server: MS-DTYP 2.5.3 decides by the first entry that speaks
 /// of a right.
 #[test]
 fn deny_before_allow(rt: HostRuntime) -> Result<(), Fail> {
-    let alloc = rt.alloc();
-    let document = changed(alloc, "[[listener]]", DENIED)?;
-    let config = match read_config(alloc, document.as_bytes()) {
-        Ok(config) => config,
-        Err(_) => return Err(Fail::from("no configuration")),
-    };
-    let server = config.descriptor(Kind::Server);
-    let token = make_token(
-        alloc,
-        &[sid_of(&rt, "S-1-1-0"), sid_of(&rt, "S-1-5-32-545")],
-    )?;
-    assert_eq!(rt; opening(Kind::Server, server, &token, 0x10), None);
-    assert_eq!(rt; opening(Kind::Server, server, &token, 0x20), Some(0x20));
-    assert_eq!(rt;
-        opening(Kind::Server, server, &token, 0x0200_0000),
-        Some(0x000F_002F)
-    );
-    assert_eq!(rt;
-        config.descriptor(Kind::Account).owner,
-        sid_of(&rt, "S-1-1-0")
-    );
-    assert!(rt; config.descriptor(Kind::Policy).acl.is_none());
+    for (asked, wanted) in [
+        (0x10, None),
+        (0x20, Some(0x20)),
+        (0x0200_0000, Some(0x000F_002F)),
+    ] {
+        assert_eq!(rt; granted(rt.alloc(), OTHER, asked)?, wanted);
+    }
     Ok(())
 }
 

@@ -1,304 +1,324 @@
 // Descriptors as Samba 4.17 packs them (revision 2 set on their lists), and accesses as MS-DTYP 2.5.3 decides them.
+// SIDs and entries are written as in the SDDL, but for the order of an entry's fields.
 use crate::{
     Ace, AceKind, Acl, DescError, Descriptor, Token, has_few_aces, is_granted, laws, make_acl,
     make_token, opening, read_descriptor, write_descriptor,
 };
 use acct_codes::Kind;
 use acct_codes::standard_rights::{
-    ACCESS_SYSTEM_SECURITY, DELETE, GENERIC_ALL, GENERIC_READ, MAXIMUM_ALLOWED, READ_CONTROL,
-    WRITE_DAC,
+    ACCESS_SYSTEM_SECURITY, DELETE, GENERIC_ALL, READ_CONTROL, WRITE_DAC,
 };
 use dtyp_sid::{Sid, parse_text};
 use std::alloc::Global;
-use std::process::Abort;
 use std::test::Fail;
 
-fn sid_of(rt: &impl Abort, text: &str) -> Sid {
+fn sid_of(word: &str) -> Result<Sid, Fail> {
+    let text = match word {
+        "WD" => "S-1-1-0",
+        "SY" => "S-1-5-18",
+        "BA" => "S-1-5-32-544",
+        "BU" => "S-1-5-32-545",
+        other => other,
+    };
     match parse_text(text) {
-        Ok(sid) => sid,
-        Err(bad) => panic!(rt; "no SID at {}", bad.place),
+        Ok(sid) => Ok(sid),
+        Err(_) => Err(Fail::from("no SID")),
     }
 }
 
-fn ace_of(rt: &impl Abort, kind: AceKind, flags: u8, mask: u32, text: &str) -> Ace {
-    Ace {
+fn hexadecimal(word: &str) -> Result<u32, Fail> {
+    let number = u32::from_str_radix(word, 16).ok().ok_or("no number")?;
+    Ok(number)
+}
+
+/// An entry, as kind, flags, mask and SID.
+fn ace_of(text: &str) -> Result<Ace, Fail> {
+    let (kind, others) = text.split_once(';').ok_or("no flags")?;
+    let (flags, others) = others.split_once(';').ok_or("no mask")?;
+    let (mask, sid) = others.split_once(';').ok_or("no SID")?;
+    let kind = if kind == "A" {
+        AceKind::Allow
+    } else {
+        AceKind::Deny
+    };
+    Ok(Ace {
         kind,
-        flags,
-        mask,
-        sid: sid_of(rt, text),
-    }
-}
-
-/// A descriptor of the system with a list.
-fn listed(rt: &impl Abort, alloc: Global, aces: &[Ace]) -> Result<Descriptor, Fail> {
-    Ok(Descriptor {
-        owner: sid_of(rt, "S-1-5-18"),
-        group: None,
-        acl: Some(make_acl(alloc, aces)?),
+        flags: flags.parse::<u8>().ok().ok_or("no flags")?,
+        mask: hexadecimal(mask)?,
+        sid: sid_of(sid)?,
     })
 }
 
-fn is_only(aces: &[Ace], ace: Ace) -> bool {
-    aces.len() == 1 && aces[0] == ace
+/// A list of entries, or none for a dash.
+fn acl_of(alloc: Global, text: &str) -> Result<Option<Acl>, Fail> {
+    if text == "-" {
+        return Ok(None);
+    }
+    let mut aces = Vec::new(alloc);
+    for word in text.split_ascii_whitespace() {
+        aces.push(ace_of(word)?)?;
+    }
+    Ok(Some(make_acl(alloc, &aces)?))
 }
 
-fn everyone_and_users(rt: &impl Abort, alloc: Global) -> Result<Token, Fail> {
-    let sids = [sid_of(rt, "S-1-1-0"), sid_of(rt, "S-1-5-32-545")];
+/// A descriptor, as owner, group and entries.
+fn descriptor_of(alloc: Global, text: &str) -> Result<Descriptor, Fail> {
+    let (owner, others) = text.split_once('|').ok_or("no group")?;
+    let (group, aces) = others.split_once('|').ok_or("no entries")?;
+    let group = if group == "-" {
+        None
+    } else {
+        Some(sid_of(group)?)
+    };
+    Ok(Descriptor {
+        owner: sid_of(owner)?,
+        group,
+        acl: acl_of(alloc, aces)?,
+    })
+}
+
+fn token_of(alloc: Global, text: &str) -> Result<Token, Fail> {
+    let mut sids = Vec::new(alloc);
+    for word in text.split_ascii_whitespace() {
+        sids.push(sid_of(word)?)?;
+    }
     Ok(make_token(alloc, &sids)?)
 }
 
-#[test]
-fn deny_before_allow(rt: HostRuntime) -> Result<(), Fail> {
-    let alloc = rt.alloc();
-    let token = everyone_and_users(&rt, alloc)?;
-    let deny = ace_of(&rt, AceKind::Deny, 0, 0x0000_0010, "S-1-5-32-545");
-    let allow = ace_of(&rt, AceKind::Allow, 0, 0x000F_003F, "S-1-1-0");
-    let d = listed(&rt, alloc, &[deny, allow])?;
-    assert_eq!(rt; opening(Kind::Server, &d, &token, 0x10), None);
-    assert_eq!(rt; opening(Kind::Server, &d, &token, 0x20), Some(0x20));
-    assert_eq!(rt;
-        opening(Kind::Server, &d, &token, MAXIMUM_ALLOWED),
-        Some(0x000F_002F)
-    );
-    assert_eq!(rt;
-        opening(Kind::Server, &d, &token, MAXIMUM_ALLOWED | 0x10),
-        None
-    );
-    assert_eq!(rt; opening(Kind::Server, &d, &token, 0), Some(0));
-    let first = ace_of(&rt, AceKind::Allow, 0, 0x000F_003F, "S-1-1-0");
-    let second = ace_of(&rt, AceKind::Deny, 0, 0x0000_0010, "S-1-5-32-545");
-    let turned = listed(&rt, alloc, &[first, second])?;
-    assert_eq!(rt; opening(Kind::Server, &turned, &token, 0x10), Some(0x10));
-    assert_eq!(rt;
-        opening(Kind::Server, &turned, &token, GENERIC_READ),
-        Some(0x0002_0010)
-    );
-    assert_eq!(rt;
-        opening(Kind::Server, &turned, &token, GENERIC_ALL),
-        Some(0x000F_003F)
-    );
-    // The server has no bit 0x40, and nobody is granted the auditing list.
-    assert_eq!(rt; opening(Kind::Server, &turned, &token, 0x40), None);
-    assert_eq!(rt;
-        opening(Kind::Server, &turned, &token, ACCESS_SYSTEM_SECURITY),
-        None
-    );
-    Ok(())
+fn kind_of(word: &str) -> Kind {
+    match word {
+        "server" => Kind::Server,
+        "domain" => Kind::Domain,
+        "group" => Kind::Group,
+        "policy" => Kind::Policy,
+        _ => Kind::User,
+    }
+}
+
+/// In each line what is asked and what is granted, in hexadecimal digits, the kind of the object, the SIDs of the
+/// token, and the descriptor. A dash is a refusal.
+///
+/// Deny before allow, and allow before deny (the server has no bit 0x40, and nobody is granted the auditing list);
+/// entries that name nothing; an empty list and none; and what each generic bit, as the standard prints it, stands for
+/// at a domain.
+const OPENINGS: &str = "\
+10 -|server|WD BU|SY|-|D;0;10;BU A;0;F003F;WD
+20 20|server|WD BU|SY|-|D;0;10;BU A;0;F003F;WD
+2000000 F002F|server|WD BU|SY|-|D;0;10;BU A;0;F003F;WD
+2000010 -|server|WD BU|SY|-|D;0;10;BU A;0;F003F;WD
+0 0|server|WD BU|SY|-|D;0;10;BU A;0;F003F;WD
+10 10|server|WD BU|SY|-|A;0;F003F;WD D;0;10;BU
+80000000 20010|server|WD BU|SY|-|A;0;F003F;WD D;0;10;BU
+10000000 F003F|server|WD BU|SY|-|A;0;F003F;WD D;0;10;BU
+40 -|server|WD BU|SY|-|A;0;F003F;WD D;0;10;BU
+1000000 -|server|WD BU|SY|-|A;0;F003F;WD D;0;10;BU
+2000000 0|group|WD BU|SY|-|A;8;1;WD A;0;12000000;WD A;0;2;BA
+2000000 60000|user|SY|SY|-|
+2000000 F07FF|user|SY|WD|-|-
+10000000 F07FF|domain|SY|WD|-|-
+20000000 20301|domain|SY|WD|-|-
+40000000 2047A|domain|SY|WD|-|-
+80000000 20084|domain|SY|WD|-|-";
+
+/// Whether the first two words are what an opening of the others asks for and is granted.
+fn is_opened(alloc: Global, line: &str) -> Result<bool, Fail> {
+    let (masks, others) = line.split_once('|').ok_or("no kind")?;
+    let (kind, others) = others.split_once('|').ok_or("no token")?;
+    let (sids, text) = others.split_once('|').ok_or("no descriptor")?;
+    let (asked, granted) = masks.split_once(' ').ok_or("no answer")?;
+    let token = token_of(alloc, sids)?;
+    let d = descriptor_of(alloc, text)?;
+    let opened = opening(kind_of(kind), &d, &token, hexadecimal(asked)?);
+    Ok(opened == u32::from_str_radix(granted, 16).ok())
 }
 
 #[test]
-fn entries_that_name_nothing(rt: HostRuntime) -> Result<(), Fail> {
-    let alloc = rt.alloc();
-    let token = everyone_and_users(&rt, alloc)?;
-    let inherited = ace_of(&rt, AceKind::Allow, 0x08, 0x1, "S-1-1-0");
-    let generic = ace_of(
-        &rt,
-        AceKind::Allow,
-        0,
-        GENERIC_ALL | MAXIMUM_ALLOWED,
-        "S-1-1-0",
-    );
-    let other = ace_of(&rt, AceKind::Allow, 0, 0x2, "S-1-5-32-544");
-    let d = listed(&rt, alloc, &[inherited, generic, other])?;
-    assert_eq!(rt; opening(Kind::Group, &d, &token, MAXIMUM_ALLOWED), Some(0));
-    assert!(rt; !is_granted(&token, &d, GENERIC_ALL));
-    assert!(rt; !is_granted(&token, &d, DELETE));
+fn objects_are_opened(rt: HostRuntime) -> Result<(), Fail> {
+    for line in OPENINGS.lines() {
+        assert!(rt; is_opened(rt.alloc(), line)?, "{line}");
+    }
     Ok(())
 }
 
-#[test]
-fn the_owner_and_the_absent_list(rt: HostRuntime) -> Result<(), Fail> {
-    let alloc = rt.alloc();
-    let system = make_token(alloc, &[sid_of(&rt, "S-1-5-18")])?;
-    let deny = ace_of(&rt, AceKind::Deny, 0, 0xFFFF_FFFF, "S-1-5-18");
-    let d = listed(&rt, alloc, &[deny])?;
-    assert!(rt; is_granted(&system, &d, READ_CONTROL));
-    assert!(rt; is_granted(&system, &d, WRITE_DAC));
-    assert!(rt; !is_granted(&system, &d, DELETE));
-    let empty = listed(&rt, alloc, &[])?;
-    assert_eq!(rt;
-        opening(Kind::User, &empty, &system, MAXIMUM_ALLOWED),
-        Some(0x0006_0000)
-    );
-    let open = Descriptor {
-        owner: sid_of(&rt, "S-1-1-0"),
-        group: None,
-        acl: None,
-    };
-    assert_eq!(rt;
-        opening(Kind::User, &open, &system, MAXIMUM_ALLOWED),
-        Some(0x000F_07FF)
-    );
-    assert!(rt; !is_granted(&system, &open, ACCESS_SYSTEM_SECURITY));
-    Ok(())
+/// Which of five rights are granted.
+fn rights(token: &Token, d: &Descriptor) -> [bool; 5] {
+    [
+        is_granted(token, d, GENERIC_ALL),
+        is_granted(token, d, DELETE),
+        is_granted(token, d, READ_CONTROL),
+        is_granted(token, d, WRITE_DAC),
+        is_granted(token, d, ACCESS_SYSTEM_SECURITY),
+    ]
 }
 
-/// What each generic bit, as the standard prints it, stands for at a domain.
+fn rights_of(alloc: Global, sids: &str, text: &str) -> Result<[bool; 5], Fail> {
+    let token = token_of(alloc, sids)?;
+    let d = descriptor_of(alloc, text)?;
+    Ok(rights(&token, &d))
+}
+
+/// Entries that name nothing; the owner, who reads and changes the descriptor whatever it denies; and no list, which
+/// grants all but the auditing list (MS-DTYP 2.5.3.2).
 #[test]
-fn generic_bits_one_by_one(rt: HostRuntime) -> Result<(), Fail> {
-    let token = make_token(rt.alloc(), &[sid_of(&rt, "S-1-5-18")])?;
-    let open = Descriptor {
-        owner: sid_of(&rt, "S-1-1-0"),
-        group: None,
-        acl: None,
-    };
-    for (generic, stands_for) in [
-        (0x1000_0000, 0x000F_07FF),
-        (0x2000_0000, 0x0002_0301),
-        (0x4000_0000, 0x0002_047A),
-        (0x8000_0000, 0x0002_0084),
+fn rights_are_granted(rt: HostRuntime) -> Result<(), Fail> {
+    for (sids, text, granted) in [
+        (
+            "WD BU",
+            "SY|-|A;8;1;WD A;0;12000000;WD A;0;2;BA",
+            [false; 5],
+        ),
+        (
+            "SY",
+            "SY|-|D;0;FFFFFFFF;SY",
+            [false, false, true, true, false],
+        ),
+        ("SY", "WD|-|-", [true, true, true, true, false]),
     ] {
-        assert_eq!(rt;
-            opening(Kind::Domain, &open, &token, generic),
-            Some(stands_for)
-        );
+        assert_eq!(rt; rights_of(rt.alloc(), sids, text)?, granted, "{text}");
     }
     Ok(())
 }
 
-#[test]
-fn one_entry_is_written_and_read(rt: HostRuntime) -> Result<(), Fail> {
-    let alloc = rt.alloc();
-    let packed =
-        b"\x01\x00\x04\x80\x14\x00\x00\x00\x00\x00\x00\x00\x00\x00\x00\x00\x20\x00\x00\x00\x01\x01\x00\x00\x00\x00\x00\x05\x12\x00\x00\x00\x02\x00\x1c\x00\x01\x00\x00\x00\x00\x00\x14\x00\x10\x00\x00\x00\x01\x01\x00\x00\x00\x00\x00\x01\x00\x00\x00\x00";
-    let d = listed(
-        &rt,
-        alloc,
-        &[ace_of(&rt, AceKind::Allow, 0, 0x10, "S-1-1-0")],
-    )?;
-    assert!(rt; has_few_aces(&d));
-    let written = write_descriptor(alloc, &d)?;
-    assert_eq!(rt; written.as_slice(), packed.as_slice());
-    match read_descriptor(alloc, packed) {
-        Ok(read) => {
-            assert_eq!(rt; read.owner, d.owner);
-            assert_eq!(rt; read.group, None);
-            match &read.acl {
-                Some(acl) => assert!(rt;
-                    is_only(acl.aces(), ace_of(&rt, AceKind::Allow, 0, 0x10, "S-1-1-0"))
-                ),
-                None => panic!(rt; "no list"),
+/// The bytes in hexadecimal digits.
+fn bytes_of(alloc: Global, text: &str) -> Result<Vec<u8>, Fail> {
+    let mut bytes = Vec::new(alloc);
+    let mut high: Option<u8> = None;
+    for letter in text.bytes() {
+        let digit = match letter {
+            b'0'..=b'9' => letter - b'0',
+            b'a'..=b'f' => letter - b'a' + 10,
+            _ => continue,
+        };
+        match high {
+            None => high = Some(digit),
+            Some(first) => {
+                bytes.push(first.wrapping_mul(16) | digit)?;
+                high = None;
             }
         }
-        Err(_) => panic!(rt; "refused"),
     }
-    Ok(())
+    Ok(bytes)
 }
 
-#[test]
-fn three_entries_and_a_group(rt: HostRuntime) -> Result<(), Fail> {
-    let alloc = rt.alloc();
-    // O:BAG:SYD:(D;;0x10;;;BU)(A;;0x000F003F;;;WD)(A;IO;0x2;;;SY)
-    let packed =
-        b"\x01\x00\x04\x80\x14\x00\x00\x00\x24\x00\x00\x00\x00\x00\x00\x00\x30\x00\x00\x00\x01\x02\x00\x00\x00\x00\x00\x05\x20\x00\x00\x00\x20\x02\x00\x00\x01\x01\x00\x00\x00\x00\x00\x05\x12\x00\x00\x00\x02\x00\x48\x00\x03\x00\x00\x00\x01\x00\x18\x00\x10\x00\x00\x00\x01\x02\x00\x00\x00\x00\x00\x05\x20\x00\x00\x00\x21\x02\x00\x00\x00\x00\x14\x00\x3f\x00\x0f\x00\x01\x01\x00\x00\x00\x00\x00\x01\x00\x00\x00\x00\x00\x08\x14\x00\x02\x00\x00\x00\x01\x01\x00\x00\x00\x00\x00\x05\x12\x00\x00\x00";
-    let deny = ace_of(&rt, AceKind::Deny, 0, 0x10, "S-1-5-32-545");
-    let allow = ace_of(&rt, AceKind::Allow, 0, 0x000F_003F, "S-1-1-0");
-    let inherited = ace_of(&rt, AceKind::Allow, 0x08, 0x2, "S-1-5-18");
-    let d = Descriptor {
-        owner: sid_of(&rt, "S-1-5-32-544"),
-        group: Some(sid_of(&rt, "S-1-5-18")),
-        acl: Some(make_acl(alloc, &[deny, allow, inherited])?),
+const ONE: &str =
+    "01000480 14000000 00000000 00000000 20000000 01010000 00000005 12000000 02001c00 01000000 00001400 10000000 \
+    01010000 00000001 00000000";
+
+const THREE: &str =
+    "01000480 14000000 24000000 00000000 30000000 01020000 00000005 20000000 20020000 01010000 00000005 12000000 \
+    02004800 03000000 01001800 10000000 01020000 00000005 20000000 21020000 00001400 3f000f00 01010000 00000001 \
+    00000000 00081400 02000000 01010000 00000005 12000000";
+
+/// The same with a group, for which the owner's SID stands too.
+const SHARED: &str =
+    "01000480 14000000 14000000 00000000 20000000 01010000 00000005 12000000 02001c00 01000000 \
+    00001400 10000000 01010000 00000001 00000000";
+
+/// `O:SYD:(A;CIOI;GA;;;BA)S:(AU;SA;WD;;;WD)`, whose auditing list has revision 4 and stands before the other.
+const AUDITED: &str =
+    "01001480 14000000 00000000 20000000 3c000000 01010000 00000005 12000000 04001c00 01000000 02401400 00000400 \
+    01010000 00000001 00000000 02002000 01000000 00031800 00000010 01020000 00000005 20000000 20020000";
+
+/// `O:SY`.
+const NO_LIST: &str = "01000080 14000000 00000000 00000000 00000000 01010000 00000005 12000000";
+
+fn are_equal(left: &Descriptor, right: &Descriptor) -> bool {
+    let lists = match (&left.acl, &right.acl) {
+        (None, None) => true,
+        (Some(left), Some(right)) => left.aces() == right.aces(),
+        _ => false,
     };
-    let copy = d.copy(alloc)?;
-    assert!(rt; has_few_aces(&copy));
-    let written = write_descriptor(alloc, &copy)?;
-    assert_eq!(rt; written.as_slice(), packed.as_slice());
-    match read_descriptor(alloc, packed) {
-        Ok(read) => {
-            assert!(rt; has_few_aces(&read));
-            let again = write_descriptor(alloc, &read)?;
-            assert_eq!(rt; again.as_slice(), packed.as_slice());
-        }
-        Err(_) => panic!(rt; "refused"),
+    left.owner == right.owner && left.group == right.group && lists
+}
+
+fn is_read(alloc: Global, bytes: &[u8], text: &str) -> Result<bool, Fail> {
+    let d = descriptor_of(alloc, text)?;
+    match read_descriptor(alloc, bytes) {
+        Ok(read) => Ok(are_equal(&read, &d)),
+        Err(_) => Ok(false),
     }
-    Ok(())
+}
+
+fn is_written(alloc: Global, bytes: &[u8], text: &str) -> Result<bool, Fail> {
+    let d = descriptor_of(alloc, text)?.copy(alloc)?;
+    if !has_few_aces(&d) {
+        return Ok(false);
+    }
+    Ok(write_descriptor(alloc, &d)?.as_slice() == bytes)
 }
 
 #[test]
-fn an_auditing_list_is_not_looked_at(rt: HostRuntime) -> Result<(), Fail> {
-    let alloc = rt.alloc();
-    // O:SYD:(A;CIOI;GA;;;BA)S:(AU;SA;WD;;;WD), whose auditing list has revision 4 and stands before the other
-    let packed =
-        b"\x01\x00\x14\x80\x14\x00\x00\x00\x00\x00\x00\x00\x20\x00\x00\x00\x3c\x00\x00\x00\x01\x01\x00\x00\x00\x00\x00\x05\x12\x00\x00\x00\x04\x00\x1c\x00\x01\x00\x00\x00\x02\x40\x14\x00\x00\x00\x04\x00\x01\x01\x00\x00\x00\x00\x00\x01\x00\x00\x00\x00\x02\x00\x20\x00\x01\x00\x00\x00\x00\x03\x18\x00\x00\x00\x00\x10\x01\x02\x00\x00\x00\x00\x00\x05\x20\x00\x00\x00\x20\x02\x00\x00";
-    let allow = ace_of(&rt, AceKind::Allow, 3, GENERIC_ALL, "S-1-5-32-544");
-    match read_descriptor(alloc, packed) {
-        Ok(read) => {
-            assert_eq!(rt; read.owner, sid_of(&rt, "S-1-5-18"));
-            match &read.acl {
-                Some(acl) => assert!(rt; is_only(acl.aces(), allow)),
-                None => panic!(rt; "no list"),
-            }
-        }
-        Err(_) => panic!(rt; "refused"),
-    }
-    Ok(())
-}
-
-#[test]
-fn without_a_list(rt: HostRuntime) -> Result<(), Fail> {
-    let alloc = rt.alloc();
-    // O:SY
-    let packed =
-        b"\x01\x00\x00\x80\x14\x00\x00\x00\x00\x00\x00\x00\x00\x00\x00\x00\x00\x00\x00\x00\x01\x01\x00\x00\x00\x00\x00\x05\x12\x00\x00\x00";
-    match read_descriptor(alloc, packed) {
-        Ok(read) => {
-            assert!(rt; read.acl.is_none());
-            assert!(rt; has_few_aces(&read));
-            let again = write_descriptor(alloc, &read)?;
-            assert_eq!(rt; again.as_slice(), packed.as_slice());
-        }
-        Err(_) => panic!(rt; "refused"),
+fn descriptors_are_written_and_read(rt: HostRuntime) -> Result<(), Fail> {
+    for (packed, text, same) in [
+        (ONE, "SY|-|A;0;10;WD", true),
+        (THREE, "BA|SY|D;0;10;BU A;0;F003F;WD A;8;2;SY", true),
+        (SHARED, "SY|SY|A;0;10;WD", false),
+        (AUDITED, "SY|-|A;3;10000000;BA", false),
+        (NO_LIST, "SY|-|-", true),
+    ] {
+        let bytes = bytes_of(rt.alloc(), packed)?;
+        assert!(rt; is_read(rt.alloc(), &bytes, text)?, "{text}");
+        assert_eq!(rt; is_written(rt.alloc(), &bytes, text)?, same, "{text}");
     }
     Ok(())
 }
 
 /// Whether the bytes of one entry, with a byte changed and cut to a length, are refused so.
-fn is_refused(alloc: Global, place: usize, byte: u8, length: usize, why: DescError) -> bool {
-    let mut bytes =
-        *b"\x01\x00\x04\x80\x14\x00\x00\x00\x14\x00\x00\x00\x00\x00\x00\x00\x20\x00\x00\x00\x01\x01\x00\x00\x00\x00\x00\x05\x12\x00\x00\x00\x02\x00\x1c\x00\x01\x00\x00\x00\x00\x00\x14\x00\x10\x00\x00\x00\x01\x01\x00\x00\x00\x00\x00\x01\x00\x00\x00\x00";
-    if place < 60 && length <= 60 {
-        bytes[place] = byte;
-        match read_descriptor(alloc, &bytes[..length]) {
-            Ok(_) => false,
-            Err(refusal) => refusal == why,
-        }
-    } else {
-        false
+fn is_refused(
+    alloc: Global,
+    place: usize,
+    byte: u8,
+    length: usize,
+    why: DescError,
+) -> Result<bool, Fail> {
+    let mut bytes = bytes_of(alloc, SHARED)?;
+    if let Some(at) = bytes.get_mut(place) {
+        *at = byte;
+    }
+    match read_descriptor(alloc, bytes.get(..length).unwrap_or_default()) {
+        Ok(_) => Ok(false),
+        Err(refusal) => Ok(refusal == why),
     }
 }
 
+/// An offset at the end is not past it, but no SID stands there. A list whose size is below its own header is taken
+/// where it has no entry.
 #[test]
-fn each_refusal_has_its_place(rt: HostRuntime) {
-    let alloc = rt.alloc();
-    assert!(rt; is_refused(alloc, 0, 1, 19, DescError::Short(0)));
-    assert!(rt; is_refused(alloc, 0, 2, 60, DescError::Revision(0)));
-    assert!(rt; is_refused(alloc, 3, 0, 60, DescError::Offset(2)));
-    assert!(rt; is_refused(alloc, 4, 19, 60, DescError::Offset(4)));
-    assert!(rt; is_refused(alloc, 4, 61, 60, DescError::Offset(4)));
-    // An offset at the end is not past it, but no SID stands there.
-    assert!(rt; is_refused(alloc, 4, 60, 60, DescError::Sid(60)));
-    assert!(rt; is_refused(alloc, 20, 2, 60, DescError::Sid(20)));
-    assert!(rt; is_refused(alloc, 8, 1, 60, DescError::Offset(8)));
-    assert!(rt; is_refused(alloc, 8, 33, 60, DescError::Sid(33)));
-    assert!(rt; is_refused(alloc, 16, 61, 60, DescError::Offset(16)));
-    assert!(rt; is_refused(alloc, 16, 60, 60, DescError::Short(60)));
-    assert!(rt; is_refused(alloc, 34, 29, 60, DescError::Short(32)));
-    assert!(rt; is_refused(alloc, 32, 4, 60, DescError::Revision(32)));
-    assert!(rt; is_refused(alloc, 36, 2, 60, DescError::Short(60)));
-    assert!(rt; is_refused(alloc, 42, 15, 60, DescError::Short(40)));
-    assert!(rt; is_refused(alloc, 42, 21, 60, DescError::Short(40)));
-    assert!(rt; is_refused(alloc, 40, 2, 60, DescError::AceType(40)));
-    assert!(rt; is_refused(alloc, 49, 2, 60, DescError::Sid(48)));
-    // A list whose size is below its own header is taken where it has no entry.
-    assert!(rt; is_refused(alloc, 34, 7, 60, DescError::Short(40)));
+fn each_refusal_has_its_place(rt: HostRuntime) -> Result<(), Fail> {
+    for (place, byte, length, why) in [
+        (0, 1, 19, DescError::Short(0)),
+        (0, 2, 60, DescError::Revision(0)),
+        (3, 0, 60, DescError::Offset(2)),
+        (4, 19, 60, DescError::Offset(4)),
+        (4, 61, 60, DescError::Offset(4)),
+        (4, 60, 60, DescError::Sid(60)),
+        (20, 2, 60, DescError::Sid(20)),
+        (8, 1, 60, DescError::Offset(8)),
+        (8, 33, 60, DescError::Sid(33)),
+        (16, 61, 60, DescError::Offset(16)),
+        (16, 60, 60, DescError::Short(60)),
+        (34, 29, 60, DescError::Short(32)),
+        (32, 4, 60, DescError::Revision(32)),
+        (36, 2, 60, DescError::Short(60)),
+        (42, 15, 60, DescError::Short(40)),
+        (42, 21, 60, DescError::Short(40)),
+        (40, 2, 60, DescError::AceType(40)),
+        (49, 2, 60, DescError::Sid(48)),
+        (34, 7, 60, DescError::Short(40)),
+    ] {
+        assert!(rt;
+            is_refused(rt.alloc(), place, byte, length, why)?,
+            "{place}"
+        );
+    }
+    Ok(())
 }
 
-#[test]
-fn eight_hundred_entries(rt: HostRuntime) -> Result<(), Fail> {
-    let alloc = rt.alloc();
-    let full = sid_of(&rt, "S-1-5-1-2-3-4-5-6-7-8-9-10-11-12-13-14-15");
+/// A descriptor whose owner and entries are of a SID of 15 sub-authorities; the entries allow 0, 1, 2 and so on.
+fn long_list(alloc: Global, count: u32) -> Result<Descriptor, Fail> {
+    let full = sid_of("S-1-5-1-2-3-4-5-6-7-8-9-10-11-12-13-14-15")?;
     let mut aces = Vec::new(alloc);
-    for mask in 0..800u32 {
+    for mask in 0..count {
         aces.push(Ace {
             kind: AceKind::Allow,
             flags: 0,
@@ -306,61 +326,43 @@ fn eight_hundred_entries(rt: HostRuntime) -> Result<(), Fail> {
             sid: full,
         })?;
     }
-    let d = Descriptor {
+    Ok(Descriptor {
         owner: full,
         group: None,
         acl: Some(Acl::from_vec(aces)),
-    };
-    assert!(rt; has_few_aces(&d));
-    let written = write_descriptor(alloc, &d)?;
-    assert_eq!(rt; written.len(), 20 + 68 + 8 + 800 * 76);
-    match read_descriptor(alloc, &written) {
-        Ok(read) => match &read.acl {
-            Some(acl) => {
-                assert_eq!(rt; acl.aces().len(), 800);
-                assert_eq!(rt; acl.aces()[799].mask, 799);
-            }
-            None => panic!(rt; "no list"),
-        },
-        Err(_) => panic!(rt; "refused"),
+    })
+}
+
+/// The number of bytes that the descriptor is written in, where it is read back.
+fn written_length(alloc: Global, d: &Descriptor) -> Result<usize, Fail> {
+    if !has_few_aces(d) {
+        return Ok(0);
     }
-    let token = make_token(alloc, &[full])?;
-    assert_eq!(rt;
-        opening(Kind::Policy, &d, &token, MAXIMUM_ALLOWED),
-        Some(0x0006_03FF)
-    );
+    let bytes = write_descriptor(alloc, d)?;
+    match read_descriptor(alloc, &bytes) {
+        Ok(read) => Ok(if are_equal(&read, d) { bytes.len() } else { 0 }),
+        Err(_) => Ok(0),
+    }
+}
+
+/// The limit of 800 entries from both sides.
+#[test]
+fn as_many_entries_as_fit(rt: HostRuntime) -> Result<(), Fail> {
+    for (count, length) in [(800, 20 + 68 + 8 + 800 * 76), (801, 0)] {
+        let d = long_list(rt.alloc(), count)?;
+        assert_eq!(rt; written_length(rt.alloc(), &d)?, length);
+        let token = token_of(rt.alloc(), "S-1-5-1-2-3-4-5-6-7-8-9-10-11-12-13-14-15")?;
+        let opened = opening(Kind::Policy, &d, &token, 0x0200_0000);
+        assert_eq!(rt; opened, Some(0x0006_03FF));
+    }
     Ok(())
 }
 
 #[test]
-fn more_entries_than_fit(rt: HostRuntime) -> Result<(), Fail> {
-    let alloc = rt.alloc();
-    let allow = ace_of(&rt, AceKind::Allow, 0, 1, "S-1-1-0");
-    let aces = vec![in alloc; allow; 801]?;
-    let d = Descriptor {
-        owner: sid_of(&rt, "S-1-5-18"),
-        group: None,
-        acl: Some(Acl::from_vec(aces)),
-    };
-    assert!(rt; !has_few_aces(&d));
-    Ok(())
-}
-
-#[test]
-fn copies_are_equal(rt: HostRuntime) -> Result<(), Fail> {
-    let alloc = rt.alloc();
-    let token = everyone_and_users(&rt, alloc)?;
-    let copy = token.copy(alloc)?;
-    assert_eq!(rt; copy.sids(), token.sids());
-    let open = Descriptor {
-        owner: sid_of(&rt, "S-1-1-0"),
-        group: None,
-        acl: None,
-    };
-    let copy = open.copy(alloc)?;
-    assert_eq!(rt; copy.owner, open.owner);
-    assert_eq!(rt; copy.group, None);
-    assert!(rt; copy.acl.is_none());
+fn tokens_are_copied(rt: HostRuntime) -> Result<(), Fail> {
+    let token = token_of(rt.alloc(), "WD BU")?;
+    assert_eq!(rt; token.copy(rt.alloc())?.sids(), token.sids());
+    assert_eq!(rt; token.sids().len(), 2);
     Ok(())
 }
 
