@@ -14,7 +14,8 @@ chosen true x y z e = inl (refl, e)
 chosen false x y z e = inr (refl, e)
 
 pub least_16 : (kind : Kind) (flags : ℕ) → 16 ≤ least_length kind flags
-least_16 Request flags = elim (has_object flags) as (λ b. 16 ≤ cond b 40 24) [ true ↦ omega arith | false ↦ omega arith ]
+least_16 Request flags =
+    elim (has_object flags) as (λ b. 16 ≤ cond b 40 24) [ true ↦ omega arith | false ↦ omega arith ]
 least_16 Response flags = omega arith
 least_16 Fault flags = omega arith
 least_16 Bind flags = omega arith
@@ -42,7 +43,8 @@ pub record IsSized (head : List ℕ) (known : Option Kind) (is : Kind) (size : �
   pub verifier : u16_at head 10 ≡ 0
   pub size_is : u16_at head 8 ≡ size
 
-sized_long : (head : List ℕ) (known : Option Kind) (is : Kind) (size : ℕ) → sized head known ≡ Long is size → IsSized head known is size
+sized_long : (head : List ℕ) (known : Option Kind) (is : Kind) (size : ℕ) → sized head known ≡ Long is size
+    → IsSized head known is size
 sized_long head None is size e = absurd cc
 sized_long head (Some k) is size e =
     elim (chosen (ltb (u16_at head 8) (least_length k (get_or head 3 0))) _ _ _ e) [
@@ -53,12 +55,18 @@ sized_long head (Some k) is size e =
             let same : k ≡ is = cc in
             let size_same : u16_at head 8 ≡ size = cc in
             let le : least_length k (get_or head 3 0) ≤ u16_at head 8 = ltb-false _ _ p.0 in
-            record { known_is = ap (λ (x : Kind). Some x) same; enough = rw (sym same) le; verifier = eqb-true _ _ q.0; size_is = size_same }
+            record {
+              known_is = ap (λ (x : Kind). Some x) same;
+              enough = rw (sym same) le;
+              verifier = eqb-true _ _ q.0;
+              size_is = size_same;
+            }
         | inr q ↦ let r = q.1 in absurd cc
       ]
     ]
 
-pub header_long : (side : Side) (head : List ℕ) (kind : Kind) (size : ℕ) → header_of side head ≡ Long kind size → IsLong side head kind size
+pub header_long : (side : Side) (head : List ℕ) (kind : Kind) (size : ℕ) → header_of side head ≡ Long kind size
+    → IsLong side head kind size
 unfolding header_of
 header_long side head kind size e =
     elim (chosen (not ((get_or head 0 0 == 5) && leb (get_or head 1 0) 1)) _ _ _ e) [
@@ -69,11 +77,22 @@ header_long side head kind size e =
             let s = sized_long head (kind_of side (get_or head 2 0)) kind size q.1 in
             let versions = and_parts _ _ (not-false _ p.0) in
             let formats = and_parts _ _ (not-false _ q.0) in
-            record { version = eqb-true _ _ versions.0; minor = leb-true _ _ versions.1; integers = eqb-true _ _ formats.0; floats = eqb-true _ _ formats.1; known = s.known_is; enough = s.enough; verifier = s.verifier; size_is = s.size_is }
+            record {
+              version = eqb-true _ _ versions.0;
+              minor = leb-true _ _ versions.1;
+              integers = eqb-true _ _ formats.0;
+              floats = eqb-true _ _ formats.1;
+              known = s.known_is;
+              enough =
+                  s.enough;
+              verifier = s.verifier;
+              size_is = s.size_is;
+            }
       ]
     ]
 
-pub long_header : (side : Side) (head : List ℕ) (kind : Kind) (size : ℕ) → IsLong side head kind size → header_of side head ≡ Long kind size
+pub long_header : (side : Side) (head : List ℕ) (kind : Kind) (size : ℕ) → IsLong side head kind size
+    → header_of side head ≡ Long kind size
 unfolding header_of
 long_header side head kind size h =
     let version : (get_or head 0 0 == 5) ≡ true = eq-eqb _ _ h.version in
@@ -100,18 +119,27 @@ IsEarly (Long known size) = Unit {0}
 sized_early : (head : List ℕ) (known : Option Kind) → IsEarly (sized head known)
 sized_early head None = omega arith
 sized_early head (Some known) =
-    elim (ltb (u16_at head 8) (least_length known (get_or head 3 0))) as (λ b. IsEarly (cond b (Bad 8 4) (cond (u16_at head 10 == 0) (Long known (u16_at head 8)) (Bad 10 5)))) [
+    elim (ltb (u16_at head 8) (least_length known (get_or head 3 0))) as
+    (λ b. IsEarly (cond b (Bad 8 4) (cond (u16_at head 10 == 0) (Long known (u16_at head 8)) (Bad 10 5)))) [
       | true ↦ omega arith
-      | false ↦ elim (u16_at head 10 == 0) as (λ b. IsEarly (cond b (Long known (u16_at head 8)) (Bad 10 5))) [ true ↦ tt | false ↦ omega arith ]
+      | false ↦ elim (u16_at head 10 == 0) as
+          (λ b. IsEarly (cond b (Long known (u16_at head 8)) (Bad 10 5))) [ true ↦ tt | false ↦ omega arith ]
     ]
 
 pub header_early : (side : Side) (head : List ℕ) → IsEarly (header_of side head)
 unfolding header_of
 header_early side head =
     let rest = sized head (kind_of side (get_or head 2 0)) in
-    elim (not ((get_or head 0 0 == 5) && leb (get_or head 1 0) 1)) as (λ b. IsEarly (cond b (Bad 0 1) (cond (not ((get_or head 4 0 == 0x10) && (get_or head 5 0 == 0))) (Bad 4 2) rest))) [
+    elim (not ((get_or head 0 0 == 5) && leb (get_or head 1 0) 1)) as
+    (λ b. IsEarly
+    (cond b (Bad 0 1) (cond (not ((get_or head 4 0 == 0x10) && (get_or head 5 0 == 0))) (Bad 4 2) rest))) [
       | true ↦ omega arith
-      | false ↦ elim (not ((get_or head 4 0 == 0x10) && (get_or head 5 0 == 0))) as (λ b. IsEarly (cond b (Bad 4 2) rest)) [ true ↦ omega arith | false ↦ sized_early head (kind_of side (get_or head 2 0)) ]
+      | false ↦ elim (not ((get_or head 4 0 == 0x10) && (get_or head 5 0 == 0))) as
+          (λ b. IsEarly (cond b (Bad 4 2) rest)) [
+            | true ↦ omega arith
+            | false ↦ sized_early head
+                (kind_of side (get_or head 2 0))
+          ]
     ]
 
 pub bad_early : (side : Side) (head : List ℕ) (place cause : ℕ) → header_of side head ≡ Bad place cause → place ≤ 10

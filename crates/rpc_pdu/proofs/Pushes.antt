@@ -8,9 +8,12 @@ use Rattle.std.proofs.lemmas.List.Elements.{All-more}
 abbrev pub Pushed : {X : Type 0} → (X → List ℕ) → (X → Type 0) → List ℕ → List ℕ → List X → ℕ → Type 0
 Pushed f P before now xs i = (now ≡ before ++ flat_map f (take i xs)) × All P (take i xs)
 
-pub pushed_more : {X : Type 0} (f : X → List ℕ) (P : X → Type 0) (before now after : List ℕ) (xs : List X) (i : ℕ) (x : X) → i < length xs → x ≡ get_or xs i x → after ≡ now ++ f x → P x
+pub pushed_more : {X : Type 0} (f : X → List ℕ) (P : X → Type 0) (before now after : List ℕ) (xs : List X) (i : ℕ)
+    (x : X) → i < length xs → x ≡ get_or xs i x → after ≡ now ++ f x → P x
     → Pushed f P before now xs i → Pushed f P before after xs (i + 1)
 pushed_more {X = X} f P before now after xs i x lt is put holds h =
-    let one : take (i + 1) xs ≡ take i xs ++ x ∷ [] = take_more xs i x lt ∙ ap (λ (y : X). take i xs ++ y ∷ []) (sym is) in
-    let joined : after ≡ before ++ flat_map f (take i xs ++ x ∷ []) = put ∙ ap (λ (y : List ℕ). y ++ f x) h.0 ∙ flat_map_more f before (take i xs) x in
+    let one : take (i + 1) xs ≡ take i xs ++ x ∷ [] = take_more xs i x lt
+    ∙ ap (λ (y : X). take i xs ++ y ∷ []) (sym is) in
+    let joined : after ≡ before ++ flat_map f (take i xs ++ x ∷ []) = put ∙ ap (λ (y : List ℕ). y ++ f x) h.0
+    ∙ flat_map_more f before (take i xs) x in
     (joined ∙ ap (λ (y : List X). before ++ flat_map f y) (sym one), All-more P xs i x lt h.1 (subst P is holds))

@@ -58,34 +58,45 @@ long_enough (AlterResp id xmit recv group outcomes) lacks = omega arith
 long_enough (Cancel id) lacks = omega arith
 long_enough (Orphaned id) lacks = omega arith
 
-many_whole : {A : Type 0} (one : Reader A) (bytes_of : A → List ℕ) (P : A → Type 0) → ((x : A) → P x → (rest : List ℕ) → one (bytes_of x ++ rest) ≡ Some (x, rest))
+many_whole : {A : Type 0} (one : Reader A) (bytes_of : A → List ℕ) (P : A → Type 0)
+    → ((x : A) → P x → (rest : List ℕ) → one (bytes_of x ++ rest) ≡ Some (x, rest))
     → (xs : List A) → All P xs → many one (length xs) (flat_map bytes_of xs) ≡ Some (xs, [])
-many_whole one bytes_of P back xs all = ap (λ (bytes : List ℕ). many one (length xs) bytes) (sym (append-nil (flat_map bytes_of xs))) ∙ many_back one bytes_of P back xs all []
+many_whole one bytes_of P back xs all =
+    ap (λ (bytes : List ℕ). many one (length xs) bytes) (sym (append-nil (flat_map bytes_of xs)))
+    ∙ many_back one bytes_of P back xs all []
 
-elements_whole : (elements : List Element) → All IsWholeElement elements → many element_at (length elements) (flat_map element_bytes elements) ≡ Some (elements, [])
+elements_whole : (elements : List Element) → All IsWholeElement elements
+    → many element_at (length elements) (flat_map element_bytes elements) ≡ Some (elements, [])
 elements_whole elements whole = many_whole element_at element_bytes IsWholeElement element_back elements whole
 
-outcomes_whole : (outcomes : List Outcome) → All IsWholeOutcome outcomes → many outcome_at (length outcomes) (flat_map outcome_bytes outcomes) ≡ Some (outcomes, [])
+outcomes_whole : (outcomes : List Outcome) → All IsWholeOutcome outcomes
+    → many outcome_at (length outcomes) (flat_map outcome_bytes outcomes) ≡ Some (outcomes, [])
 outcomes_whole outcomes whole = many_whole outcome_at outcome_bytes IsWholeOutcome outcome_back outcomes whole
 
 body_back : (pdu : Pdu) → HasWholeIds pdu → LacksObject pdu → body_of (kind_of_pdu pdu) (written pdu) ≡ Some pdu
 unfolding body_of bind_of alter_of outcomes_in bind_ack_of alter_resp_of written body_bytes
-body_back (Request id flags context opnum stub) whole lacks = rw (lacks, u32_back id, u16_back context, u16_back opnum) refl
+body_back (Request id flags context opnum stub) whole lacks =
+    rw (lacks, u32_back id, u16_back context, u16_back opnum) refl
 body_back (Response id flags context hint stub) whole lacks = rw (u32_back id, u16_back context, u32_back hint) refl
 body_back (Fault id context status) whole lacks = rw (u32_back id, u16_back context, u32_back status) refl
-body_back (Bind id xmit recv group elements) whole lacks = rw (elements_whole elements whole, u32_back id, u16_back xmit, u16_back recv, u32_back group) refl
+body_back (Bind id xmit recv group elements) whole lacks =
+    rw (elements_whole elements whole, u32_back id, u16_back xmit, u16_back recv, u32_back group) refl
 body_back (BindAck id xmit recv group outcomes) whole lacks =
-    let enough : ltb (length (written (BindAck id xmit recv group outcomes))) 32 ≡ false = le-ltb _ _ (let l = length-written (BindAck id xmit recv group outcomes) in omega (arith, l)) in
+    let enough : ltb (length (written (BindAck id xmit recv group outcomes))) 32 ≡ false =
+    le-ltb _ _ (let l = length-written (BindAck id xmit recv group outcomes) in omega (arith, l)) in
     rw (enough, outcomes_whole outcomes whole, u32_back id, u16_back xmit, u16_back recv, u32_back group) refl
 body_back (BindNak id reason) whole lacks = rw (u32_back id, u16_back reason) refl
-body_back (Alter id xmit recv group elements) whole lacks = rw (elements_whole elements whole, u32_back id, u16_back xmit, u16_back recv, u32_back group) refl
+body_back (Alter id xmit recv group elements) whole lacks =
+    rw (elements_whole elements whole, u32_back id, u16_back xmit, u16_back recv, u32_back group) refl
 body_back (AlterResp id xmit recv group outcomes) whole lacks =
-    let enough : ltb (length (written (AlterResp id xmit recv group outcomes))) 32 ≡ false = le-ltb _ _ (let l = length-written (AlterResp id xmit recv group outcomes) in omega (arith, l)) in
+    let enough : ltb (length (written (AlterResp id xmit recv group outcomes))) 32 ≡ false =
+    le-ltb _ _ (let l = length-written (AlterResp id xmit recv group outcomes) in omega (arith, l)) in
     rw (enough, outcomes_whole outcomes whole, u32_back id, u16_back xmit, u16_back recv, u32_back group) refl
 body_back (Cancel id) whole lacks = rw (u32_back id) refl
 body_back (Orphaned id) whole lacks = rw (u32_back id) refl
 
-header_back : (pdu : Pdu) (more : List ℕ) → LacksObject pdu → IsLong (reader_of pdu) (take 16 (written pdu ++ more)) (kind_of_pdu pdu) (size_of pdu)
+header_back : (pdu : Pdu) (more : List ℕ) → LacksObject pdu
+    → IsLong (reader_of pdu) (take 16 (written pdu ++ more)) (kind_of_pdu pdu) (size_of pdu)
 unfolding written
 header_back pdu more lacks =
     record {
@@ -99,15 +110,18 @@ header_back pdu more lacks =
       size_is = u16_back (size_of pdu);
     }
 
-pub written_front : (pdu : Pdu) → HasWholeIds pdu → LacksObject pdu → (more : List ℕ) → front (reader_of pdu) (written pdu ++ more) ≡ Whole pdu (size_of pdu)
+pub written_front : (pdu : Pdu) → HasWholeIds pdu → LacksObject pdu → (more : List ℕ)
+    → front (reader_of pdu) (written pdu ++ more) ≡ Whole pdu (size_of pdu)
 written_front pdu whole lacks more =
     let size = length-written pdu in
-    let first : take (size_of pdu) (written pdu ++ more) ≡ written pdu = ap (λ (n : ℕ). take n (written pdu ++ more)) (sym size) ∙ take-append_seam (written pdu) more in
+    let first : take (size_of pdu) (written pdu ++ more) ≡ written pdu =
+    ap (λ (n : ℕ). take n (written pdu ++ more)) (sym size) ∙ take-append_seam (written pdu) more in
     let enough = long_enough pdu lacks in
     let low = least_16 (kind_of_pdu pdu) (flags_of pdu) in
     has_front (reader_of pdu) (written pdu ++ more) pdu (size_of pdu) (record {
       kind = kind_of_pdu pdu;
-      header = long_header (reader_of pdu) (take 16 (written pdu ++ more)) (kind_of_pdu pdu) (size_of pdu) (header_back pdu more lacks);
+      header = long_header (reader_of pdu) (take 16 (written pdu ++ more)) (kind_of_pdu pdu) (size_of pdu)
+          (header_back pdu more lacks);
       sixteen = omega (arith, enough, low);
       there = let joined = length-append (written pdu) more in omega (arith, joined, size);
       body = ap (λ (bytes : List ℕ). body_of (kind_of_pdu pdu) bytes) first ∙ body_back pdu whole lacks;

@@ -39,7 +39,8 @@ pub length-element_bytes : (element : Element) → length (element_bytes element
 unfolding element_bytes syntax_bytes
 length-element_bytes element = let more = length-syntaxes element.transfers in omega (arith, more)
 
-pub length-elements : (elements : List Element) → length (flat_map element_bytes elements) ≡ sum_by element_size elements
+pub length-elements : (elements : List Element)
+    → length (flat_map element_bytes elements) ≡ sum_by element_size elements
 length-elements [] = refl
 length-elements (e ∷ elements) =
     let more = length-elements elements in

@@ -14,14 +14,15 @@ use Rattle.rpc_pdu.specs.Reading.{◌>>=◌, many}
 use Rattle.rpc_pdu.specs.Headers.{header_of}
 use Rattle.rpc_pdu.specs.Bodies.{body_of, bind_of, alter_of, bind_ack_of, alter_resp_of, outcomes_in, takes_memory}
 use Rattle.rpc_pdu.specs.Front.{front_of_body, front}
-use Rattle.rpc_pdu.specs.Reads.{TakesMemory, MayWant}
+use Rattle.rpc_pdu.specs.ReadPdu.{TakesMemory, MayWant}
 
 -- a PDU that takes memory, or none
 abbrev Wants : Option Pdu → Type 0
 Wants None = Unit {0}
 Wants (Some pdu) = TakesMemory pdu
 
-after : {A : Type 0} (o : Option A) (pdu : A → Pdu) → ((x : A) → TakesMemory (pdu x)) → Wants (o >>= (λ x. Some (pdu x)))
+after : {A : Type 0} (o : Option A) (pdu : A → Pdu) → ((x : A) → TakesMemory (pdu x))
+    → Wants (o >>= (λ x. Some (pdu x)))
 after None pdu h = tt
 after (Some x) pdu h = h x
 
@@ -32,10 +33,22 @@ wants_body : (kind : Kind) (bytes : List ℕ) → takes_memory kind ≡ true →
 unfolding body_of bind_of alter_of bind_ack_of alter_resp_of
 wants_body Request bytes is = tt
 wants_body Response bytes is = tt
-wants_body Bind bytes is = after (elements_of bytes) (λ elements. pdus.Bind (u32_at bytes 12) (u16_at bytes 16) (u16_at bytes 18) (u32_at bytes 20) elements.0) (λ x. tt {0})
-wants_body BindAck bytes is = after (outcomes_in bytes) (λ outcomes. pdus.BindAck (u32_at bytes 12) (u16_at bytes 16) (u16_at bytes 18) (u32_at bytes 20) outcomes) (λ x. tt {0})
-wants_body Alter bytes is = after (elements_of bytes) (λ elements. pdus.Alter (u32_at bytes 12) (u16_at bytes 16) (u16_at bytes 18) (u32_at bytes 20) elements.0) (λ x. tt {0})
-wants_body AlterResp bytes is = after (outcomes_in bytes) (λ outcomes. pdus.AlterResp (u32_at bytes 12) (u16_at bytes 16) (u16_at bytes 18) (u32_at bytes 20) outcomes) (λ x. tt {0})
+wants_body Bind bytes is =
+    after (elements_of bytes)
+    (λ elements. pdus.Bind (u32_at bytes 12) (u16_at bytes 16) (u16_at bytes 18) (u32_at bytes 20) elements.0)
+    (λ x. tt {0})
+wants_body BindAck bytes is =
+    after (outcomes_in bytes)
+    (λ outcomes. pdus.BindAck (u32_at bytes 12) (u16_at bytes 16) (u16_at bytes 18) (u32_at bytes 20) outcomes)
+    (λ x. tt {0})
+wants_body Alter bytes is =
+    after (elements_of bytes)
+    (λ elements. pdus.Alter (u32_at bytes 12) (u16_at bytes 16) (u16_at bytes 18) (u32_at bytes 20) elements.0)
+    (λ x. tt {0})
+wants_body AlterResp bytes is =
+    after (outcomes_in bytes)
+    (λ outcomes. pdus.AlterResp (u32_at bytes 12) (u16_at bytes 16) (u16_at bytes 18) (u32_at bytes 20) outcomes)
+    (λ x. tt {0})
 wants_body Fault bytes is = absurd cc
 wants_body BindNak bytes is = absurd cc
 wants_body Cancel bytes is = absurd cc
@@ -45,10 +58,12 @@ of_body : (head : List ℕ) (size : ℕ) (o : Option Pdu) → Wants o → MayWan
 of_body head size None h = refl
 of_body head size (Some pdu) h = h
 
-pub wants_front : (side : Side) (bytes : List ℕ) (kind : Kind) (size : ℕ) → 16 ≤ length bytes → header_of side (take 16 bytes) ≡ Long kind size → size ≤ length bytes
+pub wants_front : (side : Side) (bytes : List ℕ) (kind : Kind) (size : ℕ) → 16 ≤ length bytes
+    → header_of side (take 16 bytes) ≡ Long kind size → size ≤ length bytes
     → takes_memory kind ≡ true → MayWant (front side bytes)
 unfolding front
 wants_front side bytes kind size sixteen header there takes =
     let long : nat_lt (length bytes) 16 ≡ false = le-ltb _ _ sixteen in
     let whole : nat_lt (length bytes) size ≡ false = le-ltb _ _ there in
-    rw (long, header, whole) (of_body (take 16 bytes) size (body_of kind (take size bytes)) (wants_body kind (take size bytes) takes))
+    rw (long, header, whole)
+    (of_body (take 16 bytes) size (body_of kind (take size bytes)) (wants_body kind (take size bytes) takes))

@@ -22,7 +22,8 @@ alter_of bytes = do
   elements ← many element_at (slice_index bytes 24) (drop 28 bytes)
   Some (Alter (u32_at bytes 12) (u16_at bytes 16) (u16_at bytes 18) (u32_at bytes 20) elements.0)
 
--- where the number of outcomes stands: at the first multiple of 4 behind the secondary address, whose length stands at 24
+-- where the number of outcomes stands: at the first multiple of 4 behind the secondary address, whose length stands at
+-- 24
 abbrev pub outcomes_place : List ℕ → ℕ
 outcomes_place bytes = (u16_at bytes 24 + 29) / 4 * 4
 
@@ -48,10 +49,13 @@ abbrev pub stub_place : ℕ → ℕ
 stub_place flags = if has_object flags then 40 else 24
 
 abbrev pub request_of : List ℕ → Option Pdu
-request_of bytes = Some (Request (u32_at bytes 12) (slice_index bytes 3) (u16_at bytes 20) (u16_at bytes 22) (drop (stub_place (slice_index bytes 3)) bytes))
+request_of bytes =
+    Some (Request (u32_at bytes 12) (slice_index bytes 3) (u16_at bytes 20) (u16_at bytes 22)
+    (drop (stub_place (slice_index bytes 3)) bytes))
 
 abbrev pub response_of : List ℕ → Option Pdu
-response_of bytes = Some (Response (u32_at bytes 12) (slice_index bytes 3) (u16_at bytes 20) (u32_at bytes 16) (drop 24 bytes))
+response_of bytes =
+    Some (Response (u32_at bytes 12) (slice_index bytes 3) (u16_at bytes 20) (u32_at bytes 16) (drop 24 bytes))
 
 abbrev pub fault_of : List ℕ → Pdu
 fault_of bytes = Fault (u32_at bytes 12) (u16_at bytes 20) (u32_at bytes 24)

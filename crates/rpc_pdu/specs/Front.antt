@@ -1,4 +1,5 @@
--- What stands in front of a stream: a whole PDU with its length, a refusal by the first cause that holds of it, or less than that.
+-- What stands in front of a stream: a whole PDU with its length, a refusal by the first cause that holds of it, or
+-- less than that.
 use Rattle.std.specs.Prelude.{ℕ, List, length, take, Option, Some, None, if◌then◌else◌, nat_lt, slice_index}
 use Rattle.acct_codes.specs.Causes.{cause_body}
 use Rattle.rpc_pdu.specs.declared.pdus.Side.{Side}
@@ -25,7 +26,9 @@ front_of_body head size (Some pdu) = Whole pdu size
 
 abbrev pub front_of_header : List ℕ → List ℕ → Header → Front
 front_of_header head bytes (Bad place cause) = refusal head place cause
-front_of_header head bytes (Long kind size) = if nat_lt (length bytes) size then Rest else front_of_body head size (body_of kind (take size bytes))
+front_of_header head bytes (Long kind size) = if nat_lt (length bytes) size then Rest
+    else front_of_body head size (body_of kind (take size bytes))
 
 unfoldable pub front : Side → List ℕ → Front
-front side bytes = if nat_lt (length bytes) 16 then Rest else front_of_header (take 16 bytes) bytes (header_of side (take 16 bytes))
+front side bytes = if nat_lt (length bytes) 16 then Rest
+    else front_of_header (take 16 bytes) bytes (header_of side (take 16 bytes))

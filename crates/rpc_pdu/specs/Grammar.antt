@@ -1,4 +1,5 @@
--- The PDUs that a side reads, field by field at their places in the bytes of one whole PDU (C706, section 12.6; MS-RPCE, section 2.2.2).
+-- The PDUs that a side reads, field by field at their places in the bytes of one whole PDU (C706, section 12.6;
+-- MS-RPCE, section 2.2.2).
 use Rattle.std.specs.Prelude.{◌≡◌, ℕ, ◌+◌, ◌*◌, ◌/◌, ◌≤◌, true, false, List, [], ◌∷◌, length, take, drop, slice_index}
 use Rattle.uuid.specs.Parts.{swap_fields}
 use Rattle.rpc_pdu.specs.declared.syntaxes.Syntax.{Syntax}
@@ -12,7 +13,8 @@ use Rattle.rpc_pdu.specs.Numbers.{u16_at, u32_at}
 use Rattle.rpc_pdu.specs.Headers.{has_object}
 use Rattle.rpc_pdu.specs.Lists.{element_size}
 
--- a header: version 5.0 or 5.1, the type, integers low byte first with ASCII (0x10) and IEEE floats (0), the PDU's own length, no verifier,
+-- a header: version 5.0 or 5.1, the type, integers low byte first with ASCII (0x10) and IEEE floats (0), the PDU's own
+-- length, no verifier,
 -- the call id. Its flags stand at 3, and bytes 6 and 7 aren't looked at
 pub record IsHeader (bytes : List ℕ) (ptype id : ℕ) : Type 0 where
   pub version : slice_index bytes 0 ≡ 5
@@ -101,14 +103,18 @@ pub record IsBindNak (bytes : List ℕ) (reason : ℕ) : Type 0 where
 
 -- these bytes are exactly one PDU of a type that the side reads, with these fields
 abbrev pub IsPdu : Side → Pdu → List ℕ → Type 0
-IsPdu Server (Request id flags context opnum stub) bytes = IsHeader bytes 0 id × IsRequest bytes flags context opnum stub
+IsPdu Server (Request id flags context opnum stub) bytes = IsHeader bytes 0 id
+    × IsRequest bytes flags context opnum stub
 IsPdu Server (Bind id xmit recv group elements) bytes = IsHeader bytes 11 id × IsBinding bytes xmit recv group elements
 IsPdu Server (Alter id xmit recv group elements) bytes = IsHeader bytes 14 id × IsBinding bytes xmit recv group elements
 IsPdu Server (Cancel id) bytes = IsHeader bytes 18 id × (16 ≤ length bytes)
 IsPdu Server (Orphaned id) bytes = IsHeader bytes 19 id × (16 ≤ length bytes)
-IsPdu Client (Response id flags context hint stub) bytes = IsHeader bytes 2 id × IsResponse bytes flags context hint stub
+IsPdu Client (Response id flags context hint stub) bytes = IsHeader bytes 2 id
+    × IsResponse bytes flags context hint stub
 IsPdu Client (Fault id context status) bytes = IsHeader bytes 3 id × IsFault bytes context status
-IsPdu Client (BindAck id xmit recv group outcomes) bytes = IsHeader bytes 12 id × IsBindingAnswer bytes xmit recv group outcomes
+IsPdu Client (BindAck id xmit recv group outcomes) bytes = IsHeader bytes 12 id
+    × IsBindingAnswer bytes xmit recv group outcomes
 IsPdu Client (BindNak id reason) bytes = IsHeader bytes 13 id × IsBindNak bytes reason
-IsPdu Client (AlterResp id xmit recv group outcomes) bytes = IsHeader bytes 15 id × IsBindingAnswer bytes xmit recv group outcomes
+IsPdu Client (AlterResp id xmit recv group outcomes) bytes = IsHeader bytes 15 id
+    × IsBindingAnswer bytes xmit recv group outcomes
 IsPdu side pdu bytes = ⊥

@@ -1,4 +1,5 @@
--- The header of a PDU (C706, section 12.6.3.1), and which of it is refused: version, representation, packet type, length, verifier, in
+-- The header of a PDU (C706, section 12.6.3.1), and which of it is refused: version, representation, packet type,
+-- length, verifier, in
 -- this order, each with its place.
 use Rattle.std.specs.Prelude.{ℕ, ◌==◌, Bool, List, Option, Some, None, if◌then◌else◌, nat_lt, nat_le, not, ◌&&◌, bit_and, slice_index}
 use Rattle.acct_codes.specs.Causes.{cause_version, cause_representation, cause_packet_type, cause_length, cause_verifier}

@@ -7,5 +7,5 @@ pub mod Bodies
 pub mod Front
 pub mod Grammar
 pub mod Written
-pub mod Reads
+pub mod ReadPdu
 pub mod Laws

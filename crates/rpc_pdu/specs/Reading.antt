@@ -1,4 +1,5 @@
--- Reading fields one after the other: a reader gives a value and the bytes after it, or nothing where bytes are missing.
+-- Reading fields one after the other: a reader gives a value and the bytes after it, or nothing where bytes are
+-- missing.
 use Rattle.std.specs.Prelude.{◌≡◌, ℕ, zero, suc, List, [], ◌∷◌, length, take, drop, Option, Some, None, Result, Ok, Err, if◌then◌else◌, nat_lt}
 use Rattle.rpc_pdu.specs.declared.lists.Lack.{Lack}
 use Rattle.rpc_pdu.specs.declared.lists.Lack.TheVariants.{Memory, Short}
@@ -23,19 +24,21 @@ many one (suc n) bytes = do
   others ← many one n first.1
   Some (first.0 ∷ others.0, others.1)
 
--- what code that reads gives, with the bytes after it, unless memory runs out
-abbrev pub Fails : {Y : Type 0} → Lack → Option Y → Type 0
-Fails Memory read = Unit {0}
-Fails Short read = read ≡ None
+-- Nothing was read: bytes are missing, or memory ran out.
+abbrev pub ReadsNothing : {Y : Type 0} → Lack → Option Y → Type 0
+ReadsNothing Memory read = Unit {0}
+ReadsNothing Short read = read ≡ None
 
-abbrev pub GivesBy : {X A : Type 0} → (X → A) → Result X Lack → List ℕ → Option (A × List ℕ) → Type 0
-GivesBy view (Ok x) after read = read ≡ Some (view x, after)
-GivesBy view (Err e) after read = Fails e read
+-- What code reads, as it is seen, is the value that stands in front, and the bytes after it are left.
+abbrev pub ReadsBy : {X A : Type 0} → (X → A) → Result X Lack → List ℕ → Option (A × List ℕ) → Type 0
+ReadsBy view (Ok x) after read = read ≡ Some (view x, after)
+ReadsBy view (Err e) after read = ReadsNothing e read
 
-abbrev pub Gives : {A : Type 0} → Result A Lack → List ℕ → Option (A × List ℕ) → Type 0
-Gives result after read = GivesBy (λ x. x) result after read
+-- The same of a value that is seen as it is.
+abbrev pub Reads : {A : Type 0} → Result A Lack → List ℕ → Option (A × List ℕ) → Type 0
+Reads result after read = ReadsBy (λ x. x) result after read
 
--- the same of a value alone
-abbrev pub Says : {A : Type 0} → Result A Lack → Option A → Type 0
-Says (Ok x) read = read ≡ Some x
-Says (Err e) read = Fails e read
+-- The same of a whole list of bytes, of which nothing is left to tell.
+abbrev pub ReadsWhole : {A : Type 0} → Result A Lack → Option A → Type 0
+ReadsWhole (Ok x) read = read ≡ Some x
+ReadsWhole (Err e) read = ReadsNothing e read

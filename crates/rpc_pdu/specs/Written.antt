@@ -1,4 +1,5 @@
--- The bytes of a PDU as they are written: version 5.0, reserved bytes zero, one fragment where its value doesn't say otherwise.
+-- The bytes of a PDU as they are written: version 5.0, reserved bytes zero, one fragment where its value doesn't say
+-- otherwise.
 use Rattle.std.specs.Prelude.{◌≡◌, ℕ, ◌+◌, ◌*◌, ◌≤◌, ◌++◌, false, List, [], ◌∷◌, length, All, sum_by}
 use Rattle.std.specs.List.{flat_map}
 use Rattle.rpc_pdu.specs.declared.syntaxes.Syntax.{Syntax}
@@ -70,7 +71,9 @@ header_bytes ptype flags size id = 5 ∷ 0 ∷ ptype ∷ flags ∷ 0x10 ∷ 0 �
 
 -- a context element with its transfer syntaxes
 unfoldable pub element_bytes : Element → List ℕ
-element_bytes element = u16_bytes element.context ++ length element.transfers ∷ 0 ∷ syntax_bytes element.subject ++ flat_map syntax_bytes element.transfers
+element_bytes element =
+    u16_bytes element.context ++ length element.transfers ∷ 0 ∷ syntax_bytes element.subject
+    ++ flat_map syntax_bytes element.transfers
 
 -- the answer to one context element
 unfoldable pub outcome_bytes : Outcome → List ℕ
@@ -86,17 +89,21 @@ elements_bytes elements = length elements ∷ 0 ∷ 0 ∷ 0 ∷ flat_map element
 abbrev pub outcomes_bytes : List Outcome → List ℕ
 outcomes_bytes outcomes = length outcomes ∷ 0 ∷ 0 ∷ 0 ∷ flat_map outcome_bytes outcomes
 
--- what stands behind the header. The secondary address of a bind_ack is the empty text with its zero byte, and is padded to 4;
+-- what stands behind the header. The secondary address of a bind_ack is the empty text with its zero byte, and is
+-- padded to 4;
 -- that of an alter_context_resp is left out. A bind_nak says that version 5.0 is served
 unfoldable pub body_bytes : Pdu → List ℕ
-body_bytes (Request id flags context opnum stub) = u32_bytes (length stub) ++ u16_bytes context ++ u16_bytes opnum ++ stub
+body_bytes (Request id flags context opnum stub) =
+    u32_bytes (length stub) ++ u16_bytes context ++ u16_bytes opnum ++ stub
 body_bytes (Response id flags context hint stub) = u32_bytes hint ++ u16_bytes context ++ 0 ∷ 0 ∷ stub
 body_bytes (Fault id context status) = u32_bytes 0 ++ u16_bytes context ++ 0 ∷ 0 ∷ u32_bytes status ++ u32_bytes 0
 body_bytes (Bind id xmit recv group elements) = sizes_bytes xmit recv group ++ elements_bytes elements
-body_bytes (BindAck id xmit recv group outcomes) = sizes_bytes xmit recv group ++ 1 ∷ 0 ∷ 0 ∷ 0 ∷ outcomes_bytes outcomes
+body_bytes (BindAck id xmit recv group outcomes) =
+    sizes_bytes xmit recv group ++ 1 ∷ 0 ∷ 0 ∷ 0 ∷ outcomes_bytes outcomes
 body_bytes (BindNak id reason) = u16_bytes reason ++ 1 ∷ 5 ∷ 0 ∷ 0 ∷ 0 ∷ 0 ∷ []
 body_bytes (Alter id xmit recv group elements) = sizes_bytes xmit recv group ++ elements_bytes elements
-body_bytes (AlterResp id xmit recv group outcomes) = sizes_bytes xmit recv group ++ 0 ∷ 0 ∷ 0 ∷ 0 ∷ outcomes_bytes outcomes
+body_bytes (AlterResp id xmit recv group outcomes) =
+    sizes_bytes xmit recv group ++ 0 ∷ 0 ∷ 0 ∷ 0 ∷ outcomes_bytes outcomes
 body_bytes (Cancel id) = []
 body_bytes (Orphaned id) = []
 

@@ -1,7 +1,7 @@
 // What a whole PDU says, by its type.
 ghost use Rattle.std.specs.Prelude.{◌≡◌, ◌≤◌, length, slice_index};
 ghost use Rattle.rpc_pdu.specs.Headers.{least_length};
-ghost use Rattle.rpc_pdu.specs.Reading.{Says};
+ghost use Rattle.rpc_pdu.specs.Reading.{ReadsWhole};
 ghost use Rattle.rpc_pdu.specs.Bodies.{stub_place, bind_of, alter_of, request_of, response_of, outcomes_place, outcomes_in, bind_ack_of, alter_resp_of, fault_of, body_of, OnlyWhereTaken};
 
 use crate::headers::{Kind, has_object};
@@ -14,7 +14,7 @@ use std::alloc::Global;
 #[tactic(auto, unfolding(crate::specs::Bodies::bind_of))]
 fn bind_of(alloc: Global, bytes: &[u8]) -> Result<Pdu, Lack>
     requires { 28 ≤ length bytes.now }
-    ensures { Says result (bind_of bytes.now) }
+    ensures { ReadsWhole result (bind_of bytes.now) }
 {
     let elements = Fields::new(rest_of(bytes, 28)).elements(alloc, bytes[24])?;
     Ok(Pdu::Bind {
@@ -29,7 +29,7 @@ fn bind_of(alloc: Global, bytes: &[u8]) -> Result<Pdu, Lack>
 #[tactic(auto, unfolding(crate::specs::Bodies::alter_of))]
 fn alter_of(alloc: Global, bytes: &[u8]) -> Result<Pdu, Lack>
     requires { 28 ≤ length bytes.now }
-    ensures { Says result (alter_of bytes.now) }
+    ensures { ReadsWhole result (alter_of bytes.now) }
 {
     let elements = Fields::new(rest_of(bytes, 28)).elements(alloc, bytes[24])?;
     Ok(Pdu::Alter {
@@ -52,7 +52,7 @@ fn outcomes_place(bytes: &[u8]) -> usize
 #[tactic(auto, unfolding(crate::specs::Bodies::outcomes_in))]
 fn outcomes_in(alloc: Global, bytes: &[u8]) -> Result<Seq<Outcome>, Lack>
     requires { 26 ≤ length bytes.now }
-    ensures { Says result (outcomes_in bytes.now) }
+    ensures { ReadsWhole result (outcomes_in bytes.now) }
 {
     let place = outcomes_place(bytes);
     if bytes.len() < place + 4 {
@@ -64,7 +64,7 @@ fn outcomes_in(alloc: Global, bytes: &[u8]) -> Result<Seq<Outcome>, Lack>
 #[tactic(auto, unfolding(crate::specs::Bodies::bind_ack_of))]
 fn bind_ack_of(alloc: Global, bytes: &[u8]) -> Result<Pdu, Lack>
     requires { 26 ≤ length bytes.now }
-    ensures { Says result (bind_ack_of bytes.now) }
+    ensures { ReadsWhole result (bind_ack_of bytes.now) }
 {
     let outcomes = outcomes_in(alloc, bytes)?;
     Ok(Pdu::BindAck {
@@ -79,7 +79,7 @@ fn bind_ack_of(alloc: Global, bytes: &[u8]) -> Result<Pdu, Lack>
 #[tactic(auto, unfolding(crate::specs::Bodies::alter_resp_of))]
 fn alter_resp_of(alloc: Global, bytes: &[u8]) -> Result<Pdu, Lack>
     requires { 26 ≤ length bytes.now }
-    ensures { Says result (alter_resp_of bytes.now) }
+    ensures { ReadsWhole result (alter_resp_of bytes.now) }
 {
     let outcomes = outcomes_in(alloc, bytes)?;
     Ok(Pdu::AlterResp {
@@ -93,7 +93,7 @@ fn alter_resp_of(alloc: Global, bytes: &[u8]) -> Result<Pdu, Lack>
 
 fn request_of(alloc: Global, bytes: &[u8]) -> Result<Pdu, Lack>
     requires { least_length Kind.Request (slice_index bytes.now 3) ≤ length bytes.now }
-    ensures { Says result (request_of bytes.now) }
+    ensures { ReadsWhole result (request_of bytes.now) }
 {
     let flags = bytes[3];
     let place = if has_object(flags) { 40 } else { 24 };
@@ -108,7 +108,7 @@ fn request_of(alloc: Global, bytes: &[u8]) -> Result<Pdu, Lack>
 
 fn response_of(alloc: Global, bytes: &[u8]) -> Result<Pdu, Lack>
     requires { 24 ≤ length bytes.now }
-    ensures { Says result (response_of bytes.now) }
+    ensures { ReadsWhole result (response_of bytes.now) }
 {
     Ok(Pdu::Response {
         id: u32_at(bytes, 12),
@@ -135,7 +135,7 @@ fn fault_of(bytes: &[u8]) -> Pdu
 pub fn body_of(alloc: Global, kind: Kind, bytes: &[u8]) -> Result<Pdu, Lack>
     requires header { 16 ≤ length bytes.now }
     requires long { least_length kind (slice_index bytes.now 3) ≤ length bytes.now }
-    ensures says { Says result (body_of kind bytes.now) }
+    ensures says { ReadsWhole result (body_of kind bytes.now) }
     ensures wants { OnlyWhereTaken kind result }
 {
     match kind {

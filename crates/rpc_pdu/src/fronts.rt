@@ -1,5 +1,5 @@
 // What stands in front of a stream.
-ghost use Rattle.rpc_pdu.specs.Reads.{IsRead, IsWithin};
+ghost use Rattle.rpc_pdu.specs.ReadPdu.{IsRead, IsWithin};
 
 use crate::bodies::body_of;
 use crate::headers::{Header, header_of};
@@ -12,9 +12,11 @@ use std::alloc::Global;
 /// What stands in front of a stream.
 #[derive(Debug, Drop)]
 pub enum ReadPdu {
-    /// A whole PDU, and the number of its bytes.
+    /// A whole PDU, its type byte and its call id, and the number of its bytes.
     Got {
         pdu: Pdu,
+        ptype: u8,
+        id: u32,
         used: usize,
     },
     /// Bytes are missing, and nothing is refused yet.
@@ -74,7 +76,12 @@ pub fn read_pdu(alloc: Global, side: Side, bytes: &[u8]) -> ReadPdu
                     ptype: head[2],
                     id: u32_at(head, 12),
                 },
-                Ok(pdu) => ReadPdu::Got { pdu, used },
+                Ok(pdu) => ReadPdu::Got {
+                    pdu,
+                    ptype: head[2],
+                    id: u32_at(head, 12),
+                    used,
+                },
             }
         }
     }

@@ -18,6 +18,7 @@ mod writing;
 
 pub use fronts::{ReadPdu, read_pdu};
 pub use laws::{bytes_divide_once, front_is_stable, whole_is_exactly_a_pdu, written_is_read_back};
+pub use numbers::{u16_bytes, u32_bytes};
 pub use pdus::{Element, Outcome, Pdu, Side};
 pub use syntaxes::{Syntax, is_same_syntax, lsarpc, ndr, samr};
 pub use writing::{NoMemory, write_pdu};

@@ -1,7 +1,7 @@
 // The lists in a binding PDU and its answer: context elements, transfer syntaxes, outcomes.
 ghost use Rattle.std.specs.Prelude.{◌≡◌, length, IfOk};
 ghost use Rattle.rpc_pdu.specs.declared.lists.Lack.TheVariants.{Memory};
-ghost use Rattle.rpc_pdu.specs.Reading.{front_at, many, Gives, GivesBy};
+ghost use Rattle.rpc_pdu.specs.Reading.{front_at, many, Reads, ReadsBy};
 ghost use Rattle.rpc_pdu.specs.Lists.{syntax_at, element_at, outcome_at};
 ghost use Rattle.rpc_pdu.specs.Syntaxes.{syntax_of};
 
@@ -53,7 +53,7 @@ impl<'a> Fields<'a> {
 
     /// So many bytes.
     fn take(&mut self, count: usize) -> Result<&'a [u8], Lack>
-        ensures value { GivesBy (λ front. front.now) result self.new (front_at count self.old) }
+        ensures value { ReadsBy (λ front. front.now) result self.new (front_at count self.old) }
         ensures length { IfOk result (λ front. length front.now ≡ count) }
     {
         if self.bytes.len() < count {
@@ -66,14 +66,14 @@ impl<'a> Fields<'a> {
 
     #[tactic(auto, unfolding(crate::specs::Lists::syntax_at))]
     fn syntax(&mut self) -> Result<Syntax, Lack>
-        ensures { Gives result self.new (syntax_at self.old) }
+        ensures { Reads result self.new (syntax_at self.old) }
     {
         let front = self.take(20)?;
         Ok(syntax_of(front))
     }
 
     fn syntaxes(&mut self, alloc: Global, count: u8) -> Result<Seq<Syntax>, Lack>
-        ensures { Gives result self.new (many syntax_at count self.old) }
+        ensures { Reads result self.new (many syntax_at count self.old) }
     {
         let mut syntaxes = Seq::new(alloc);
         for _ in 0..count {
@@ -85,7 +85,7 @@ impl<'a> Fields<'a> {
 
     #[tactic(auto, unfolding(crate::specs::Lists::element_at))]
     fn element(&mut self, alloc: Global) -> Result<Element, Lack>
-        ensures { Gives result self.new (element_at self.old) }
+        ensures { Reads result self.new (element_at self.old) }
     {
         let head = self.take(4)?;
         let subject = self.syntax()?;
@@ -99,7 +99,7 @@ impl<'a> Fields<'a> {
 
     /// So many context elements.
     pub fn elements(&mut self, alloc: Global, count: u8) -> Result<Seq<Element>, Lack>
-        ensures { Gives result self.new (many element_at count self.old) }
+        ensures { Reads result self.new (many element_at count self.old) }
     {
         let mut elements = Seq::new(alloc);
         for _ in 0..count {
@@ -111,7 +111,7 @@ impl<'a> Fields<'a> {
 
     #[tactic(auto, unfolding(crate::specs::Lists::outcome_at))]
     fn outcome(&mut self) -> Result<Outcome, Lack>
-        ensures { Gives result self.new (outcome_at self.old) }
+        ensures { Reads result self.new (outcome_at self.old) }
     {
         let head = self.take(4)?;
         let syntax = self.syntax()?;
@@ -124,7 +124,7 @@ impl<'a> Fields<'a> {
 
     /// So many outcomes.
     pub fn outcomes(&mut self, alloc: Global, count: u8) -> Result<Seq<Outcome>, Lack>
-        ensures { Gives result self.new (many outcome_at count self.old) }
+        ensures { Reads result self.new (many outcome_at count self.old) }
     {
         let mut outcomes = Seq::new(alloc);
         for _ in 0..count {

@@ -18,17 +18,35 @@ pub fn u32_at(bytes: &[u8], place: usize) -> u32
     u16_at(bytes, place) as u32 + 65536 * u16_at(bytes, place + 2) as u32
 }
 
+/// The two bytes of a number.
+pub fn u16_bytes(number: u16) -> [u8; 2]
+    ensures { result ≡ u16_bytes number }
+{
+    [(number % 256) as u8, (number / 256) as u8]
+}
+
+/// The four bytes of a number.
+pub fn u32_bytes(number: u32) -> [u8; 4]
+    ensures { result ≡ u32_bytes number }
+{
+    let low = (number % 65536) as u16;
+    let high = (number / 65536) as u16;
+    [
+        (low % 256) as u8,
+        (low / 256) as u8,
+        (high % 256) as u8,
+        (high / 256) as u8,
+    ]
+}
+
 pub fn push_u16(out: &mut Vec<u8>, number: u16) -> Result<(), AllocError>
     ensures { OnOk result (out.new.items ≡ out.old.items ++ u16_bytes number) }
 {
-    out.push((number % 256) as u8)?;
-    out.push((number / 256) as u8)?;
-    Ok(())
+    out.extend_from_slice(&u16_bytes(number))
 }
 
 pub fn push_u32(out: &mut Vec<u8>, number: u32) -> Result<(), AllocError>
     ensures { OnOk result (out.new.items ≡ out.old.items ++ u32_bytes number) }
 {
-    push_u16(out, (number % 65536) as u16)?;
-    push_u16(out, (number / 65536) as u16)
+    out.extend_from_slice(&u32_bytes(number))
 }

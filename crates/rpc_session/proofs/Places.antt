@@ -19,20 +19,25 @@ HasCome n Ended = Unit {0}
 HasCome n Lost = Unit {0}
 
 next_come : (conn place : ℕ) (bytes : List ℕ) (n : Next) (f : ℕ → Session → List ℕ → Heard)
-    → ((act : Option Act) (t : Session) (size : ℕ) → n ≡ next.Goes act t size → HasCome (place + length bytes) (f (place + size) t (drop size bytes)).leaves)
+    → ((act : Option Act) (t : Session) (size : ℕ) → n ≡ next.Goes act t size
+    → HasCome (place + length bytes) (f (place + size) t (drop size bytes)).leaves)
     → HasCome (place + length bytes) (on_next conn place bytes n f).leaves
 next_come conn place bytes (next.Waits t) f h = refl
 next_come conn place bytes (next.Ends act) f h = tt
 next_come conn place bytes (next.Goes act t size) f h = h act t size refl
 
-come_in : IsStable → (turns conn place : ℕ) (s : Session) (bytes : List ℕ) → HasCome (place + length bytes) (hear_in turns conn place s bytes).leaves
+come_in : IsStable → (turns conn place : ℕ) (s : Session) (bytes : List ℕ)
+    → HasCome (place + length bytes) (hear_in turns conn place s bytes).leaves
 unfolding hear_in
 come_in stable zero conn place s bytes = refl
-come_in stable (suc turns) conn place s bytes = next_come conn place bytes (heard_next conn place s bytes) (λ p t rest. hear_in turns conn p t rest)
+come_in stable (suc turns) conn place s bytes =
+    next_come conn place bytes (heard_next conn place s bytes) (λ p t rest. hear_in turns conn p t rest)
     (λ act t size e.
-    let w = whole_next stable conn place s bytes act t size e in let there = w.there in let len = length-drop size bytes in
+    let w = whole_next stable conn place s bytes act t size e in let there = w.there in let len =
+    length-drop size bytes in
     let total : place + size + length (drop size bytes) ≡ place + length bytes = omega (arith, there, len) in
-    subst (λ (k : ℕ). HasCome k (hear_in turns conn (place + size) t (drop size bytes)).leaves) total (come_in stable turns conn (place + size) t (drop size bytes)))
+    subst (λ (k : ℕ). HasCome k (hear_in turns conn (place + size) t (drop size bytes)).leaves) total
+    (come_in stable turns conn (place + size) t (drop size bytes)))
 
 room_of : (h : Hearing) (n : ℕ) (piece : List ℕ) → HasCome n h → n + length piece < 2 ^ 64 → HasRoom h piece
 room_of (Going conn place s rest) n piece come lt = omega (arith, come, lt)
@@ -42,5 +47,7 @@ room_of Lost n piece come lt = tt
 pub room_by_length_is : IsStable → IsRoomByLength
 unfolding hear
 room_by_length_is stable = λ conn stream hearing acts piece so_far lt.
-    let come : HasCome (0 + length stream) (hear conn 0 Unbound stream).leaves = come_in stable (length stream) conn 0 Unbound stream in
-    room_of hearing (0 + length stream) piece (subst (λ (h : Hearing). HasCome (0 + length stream) h) (sym so_far.stands) come) (omega arith)
+    let come : HasCome (0 + length stream) (hear conn 0 Unbound stream).leaves =
+    come_in stable (length stream) conn 0 Unbound stream in
+    room_of hearing (0 + length stream) piece
+    (subst (λ (h : Hearing). HasCome (0 + length stream) h) (sym so_far.stands) come) (omega arith)

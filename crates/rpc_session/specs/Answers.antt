@@ -27,11 +27,13 @@ bind_answer conn id sizes elements = written (BindAck id sizes.xmit sizes.recv c
 unfoldable pub alter_answer : ℕ → ℕ → Sizes → List Element → List ℕ
 alter_answer conn id sizes elements = written (AlterResp id sizes.xmit sizes.recv conn (map outcome elements))
 
--- The answer to a PDU that is refused: a bind_nak where its type byte is 11, with reason 4 (protocol version not supported)
+-- The answer to a PDU that is refused: a bind_nak where its type byte is 11, with reason 4 (protocol version not
+-- supported)
 -- where the version is refused; otherwise the fault nca_s_proto_error, on context 0.
 unfoldable pub refusal_bytes : ℕ → ℕ → ℕ → List ℕ
 refusal_bytes cause ptype id =
-    if ptype == 11 then written (BindNak id (if cause == cause_version then 4 else 0)) else fault_bytes id 0 fault_protocol_error
+    if ptype == 11 then written (BindNak id (if cause == cause_version then 4 else 0))
+    else fault_bytes id 0 fault_protocol_error
 
 abbrev pub closing : ℕ → ℕ → ℕ → ℕ → Act
 closing place cause ptype id = Closed place cause (refusal_bytes cause ptype id)

@@ -1,4 +1,5 @@
--- Which presentation contexts are accepted, and what is answered to each one that is offered (C706, sections 12.6.3.1 and 12.6.4.4).
+-- Which presentation contexts are accepted, and what is answered to each one that is offered (C706, sections 12.6.3.1
+-- and 12.6.4.4).
 use Rattle.std.specs.Prelude.{ℕ, ◌==◌, Bool, not, List, [], ◌∷◌, ◌++◌, Option, Some, None, if◌then◌else◌}
 use Rattle.std.specs.List.{filter, find, list_any}
 use Rattle.rpc_pdu.specs.declared.pdus.Element.{Element}
@@ -11,7 +12,8 @@ use Rattle.rpc_session.specs.declared.contexts.Context.{Context}
 
 -- the interface with this abstract syntax, where it is served
 unfoldable pub face_of : Syntax → Option Face
-face_of subject = if same_syntax subject samr then Some Samr else (if same_syntax subject lsarpc then Some Lsa else None)
+face_of subject = if same_syntax subject samr then Some Samr
+    else (if same_syntax subject lsarpc then Some Lsa else None)
 
 -- whether NDR is among the transfer syntaxes
 unfoldable pub offers_ndr : List Syntax → Bool
@@ -32,7 +34,8 @@ no_syntax = record { id = 0 ∷ 0 ∷ 0 ∷ 0 ∷ 0 ∷ 0 ∷ 0 ∷ 0 ∷ 0 ∷ 
 -- an acceptance, or a rejection by the provider (2), because of the abstract syntax (1) or the transfer syntaxes (2)
 abbrev pub answered : Option Face → Bool → Outcome
 answered None offered = record { result = 2; reason = 1; syntax = no_syntax }
-answered (Some face) offered = if offered then record { result = 0; reason = 0; syntax = ndr } else record { result = 2; reason = 2; syntax = no_syntax }
+answered (Some face) offered = if offered then record { result = 0; reason = 0; syntax = ndr }
+    else record { result = 2; reason = 2; syntax = no_syntax }
 
 unfoldable pub outcome : Element → Outcome
 outcome e = answered (face_of e.subject) (offers_ndr e.transfers)

@@ -1,4 +1,5 @@
--- What is heard in a stream: the acts of its whole PDUs one after the other, up to the first that is refused, and what is left.
+-- What is heard in a stream: the acts of its whole PDUs one after the other, up to the first that is refused, and what
+-- is left.
 use Rattle.std.specs.Prelude.{◌≡◌, ℕ, zero, suc, ◌+◌, ◌<◌, ◌^◌, Bool, true, false, List, [], ◌∷◌, ◌++◌, length, drop, Option, Some, None}
 use Rattle.rpc_pdu.specs.declared.pdus.Pdu.{Pdu}
 use Rattle.rpc_pdu.specs.declared.pdus.Side.TheVariants.{Server}
@@ -13,7 +14,7 @@ use Rattle.rpc_session.specs.declared.hearing.Next.TheVariants as next
 use Rattle.rpc_session.specs.declared.hearing.Hearing.{Hearing}
 use Rattle.rpc_session.specs.declared.hearing.Hearing.TheVariants.{Going, Ended, Lost}
 use Rattle.rpc_session.specs.Answers.{closing}
-use Rattle.rpc_session.specs.Taking.{taken}
+use Rattle.rpc_session.specs.Sessions.{taken}
 
 -- the acts, and what is left to hear
 pub record Heard : Type 0 where
@@ -50,13 +51,15 @@ ends act = record { acts = act ∷ []; leaves = Ended }
 abbrev pub on_next : ℕ → ℕ → List ℕ → Next → (ℕ → Session → List ℕ → Heard) → Heard
 on_next conn place bytes (next.Waits session) later = waits conn place session bytes
 on_next conn place bytes (next.Ends act) later = ends act
-on_next conn place bytes (next.Goes act session size) later = joined (listed act) (later (place + size) session (drop size bytes))
+on_next conn place bytes (next.Goes act session size) later =
+    joined (listed act) (later (place + size) session (drop size bytes))
 
 -- in at most so many PDUs
 unfoldable pub hear_in : ℕ → ℕ → ℕ → Session → List ℕ → Heard
 hear_in zero conn place session bytes = waits conn place session bytes
 hear_in (suc turns) conn place session bytes =
-    on_next conn place bytes (heard_next conn place session bytes) (λ after later rest. hear_in turns conn after later rest)
+    on_next conn place bytes (heard_next conn place session bytes)
+    (λ after later rest. hear_in turns conn after later rest)
 
 -- each PDU takes a byte and more
 unfoldable pub hear : ℕ → ℕ → Session → List ℕ → Heard

@@ -1,6 +1,6 @@
 pub mod Contexts
 pub mod Replies
 pub mod Answers
-pub mod Taking
+pub mod Sessions
 pub mod Hearings
 pub mod Acts

@@ -25,7 +25,8 @@ unfoldable pub reply_in : ℕ → ℕ → ℕ → ℕ → Bool → List ℕ → 
 reply_in zero id context most first stub = response id context (first_flag first + 2) (length stub) stub
 reply_in (suc turns) id context most first stub =
     if nat_le (length stub) most then response id context (first_flag first + 2) (length stub) stub
-    else response id context (first_flag first) (length stub) (take most stub) ++ reply_in turns id context most false (drop most stub)
+    else response id context (first_flag first) (length stub) (take most stub)
+    ++ reply_in turns id context most false (drop most stub)
 
 unfoldable pub reply_from : ℕ → ℕ → ℕ → Bool → List ℕ → List ℕ
 reply_from id context most first stub = reply_in (length stub) id context most first stub
@@ -34,19 +35,22 @@ reply_from id context most first stub = reply_in (length stub) id context most f
 abbrev pub reply_bytes : ℕ → ℕ → ℕ → List ℕ → List ℕ
 reply_bytes id context size stub = reply_from id context (most_of size) true stub
 
--- The responses that bring the parts of a stub one after the other: FIRST is on the first alone and LAST on the last alone, and each
+-- The responses that bring the parts of a stub one after the other: FIRST is on the first alone and LAST on the last
+-- alone, and each
 -- hint is the number of stub bytes from that response on.
 abbrev pub responses : ℕ → ℕ → Bool → List (List ℕ) → List ℕ
 responses id context first [] = []
 responses id context first (part ∷ []) = response id context (first_flag first + 2) (length part) part
 responses id context first (part ∷ next ∷ parts) =
-    response id context (first_flag first) (length (concat (part ∷ next ∷ parts))) part ++ responses id context false (next ∷ parts)
+    response id context (first_flag first) (length (concat (part ∷ next ∷ parts))) part
+    ++ responses id context false (next ∷ parts)
 
 -- each part but the last has as many bytes as fit, and something is left behind it; the last has at most as many
 abbrev pub AreParts : ℕ → List (List ℕ) → Type 0
 AreParts most [] = ⊥
 AreParts most (last ∷ []) = length last ≤ most
-AreParts most (part ∷ next ∷ parts) = (length part ≡ most) × (0 < length (concat (next ∷ parts))) × AreParts most (next ∷ parts)
+AreParts most (part ∷ next ∷ parts) = (length part ≡ most) × (0 < length (concat (next ∷ parts)))
+    × AreParts most (next ∷ parts)
 
 -- these bytes are responses whose parts, joined, are the stub
 pub record BringsStub (id context most : ℕ) (first : Bool) (stub bytes : List ℕ) : Type 0 where
@@ -57,4 +61,5 @@ pub record BringsStub (id context most : ℕ) (first : Bool) (stub bytes : List 
   pub bytes_are : bytes ≡ responses id context first (part ∷ others)
 
 abbrev pub RepliesBringStubs : Type 0
-RepliesBringStubs = (id context size : ℕ) (stub : List ℕ) → least_fragment ≤ size → BringsStub id context (most_of size) true stub (reply_bytes id context size stub)
+RepliesBringStubs = (id context size : ℕ) (stub : List ℕ) → least_fragment ≤ size
+    → BringsStub id context (most_of size) true stub (reply_bytes id context size stub)

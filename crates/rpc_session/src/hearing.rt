@@ -1,16 +1,14 @@
 // What a connection hears.
 ghost use Rattle.std.specs.Prelude.{◌≡◌, ◌++◌, ◌+◌, ◌^◌, ◌<◌, ◌≤◌, [], length, drop, List, ℕ, OnOk, OnErr, IfOk, IsErr, IsOk};
 ghost use Rattle.rpc_session.specs.declared.hearing.Hearing.TheVariants.{Going, Ended, Lost};
-ghost use Rattle.rpc_pdu.specs.Written.{type_of, call_id, HasFewParts};
-ghost use Rattle.rpc_session.specs.Taking.{taken};
-ghost use Rattle.rpc_session.specs.Hearings.{Heard, stepped, heard_next, joined, listed, hear, is_going, on, Begins, HasRoom};
+ghost use Rattle.rpc_session.specs.Hearings.{Heard, heard_next, joined, listed, hear, is_going, on, Begins, HasRoom};
 ghost use Rattle.rpc_session.specs.Acts.{acts, IsSoFar};
 
 use crate::answers::closing;
 use crate::laws::streams_are_cut_anywhere;
 use crate::sessions::{Act, Session, Step, extended, take_pdu};
 use acct_base::{Seq, rest_of};
-use rpc_pdu::{NoMemory, Pdu, ReadPdu, Side, front_is_stable, read_pdu};
+use rpc_pdu::{NoMemory, ReadPdu, Side, front_is_stable, read_pdu};
 use std::alloc::{AllocError, Global};
 use std::marker::Model;
 use std::mem;
@@ -47,60 +45,6 @@ pub enum Hearing {
     Lost,
 }
 
-fn type_of(pdu: &Pdu) -> u8
-    ensures { result ≡ type_of pdu.now }
-{
-    match pdu {
-        Pdu::Request { .. } => 0,
-        Pdu::Response { .. } => 2,
-        Pdu::Fault { .. } => 3,
-        Pdu::Bind { .. } => 11,
-        Pdu::BindAck { .. } => 12,
-        Pdu::BindNak { .. } => 13,
-        Pdu::Alter { .. } => 14,
-        Pdu::AlterResp { .. } => 15,
-        Pdu::Cancel { .. } => 18,
-        Pdu::Orphaned { .. } => 19,
-    }
-}
-
-fn call_id(pdu: &Pdu) -> u32
-    ensures { result ≡ call_id pdu.now }
-{
-    match pdu {
-        Pdu::Bind { id, .. }
-        | Pdu::Alter { id, .. }
-        | Pdu::Request { id, .. }
-        | Pdu::Cancel { id }
-        | Pdu::Orphaned { id }
-        | Pdu::BindAck { id, .. }
-        | Pdu::AlterResp { id, .. }
-        | Pdu::BindNak { id, .. }
-        | Pdu::Response { id, .. }
-        | Pdu::Fault { id, .. } => *id,
-    }
-}
-
-/// A whole PDU, which begins at a place of the stream.
-fn stepped(
-    alloc: Global,
-    conn: u32,
-    place: u64,
-    session: Session,
-    pdu: Pdu,
-    size: usize,
-) -> Result<Next, NoMemory>
-    requires { HasFewParts pdu }
-    ensures { IfOk result (λ next. next ≡ stepped place pdu size (taken conn session pdu)) }
-{
-    let ptype = type_of(&pdu);
-    let id = call_id(&pdu);
-    match take_pdu(alloc, conn, session, pdu)? {
-        Step::Refuses(cause) => Ok(Next::Ends(closing(alloc, place, cause, ptype, id)?)),
-        Step::Goes { act, session } => Ok(Next::Goes { act, session, size }),
-    }
-}
-
 /// What stands in front of the bytes that are left, the first of which has this place in the stream.
 #[tactic(auto, unfolding(crate::specs::Hearings::heard_next))]
 fn heard_next(
@@ -125,7 +69,15 @@ fn heard_next(
             let act = closing(alloc, place + at as u64, cause, ptype, id)?;
             Ok(Next::Ends(act))
         }
-        ReadPdu::Got { pdu, used } => stepped(alloc, conn, place, session, pdu, used),
+        ReadPdu::Got {
+            pdu,
+            ptype,
+            id,
+            used: size,
+        } => match take_pdu(alloc, conn, session, pdu)? {
+            Step::Refuses(cause) => Ok(Next::Ends(closing(alloc, place, cause, ptype, id)?)),
+            Step::Goes { act, session } => Ok(Next::Goes { act, session, size }),
+        },
     }
 }
 
@@ -164,7 +116,8 @@ fn hear(
     acts: &mut Vec<Act>,
 ) -> Result<Hearing, NoMemory>
     requires { place + length bytes < 2 ^ 64 }
-    ensures ok { IfOk result (λ leaves. record { acts = acts.new.items; leaves = leaves } ≡ joined acts.old.items (hear conn place session bytes)) }
+    ensures ok { IfOk result (λ leaves. record { acts = acts.new.items; leaves = leaves }
+        ≡ joined acts.old.items (hear conn place session bytes)) }
     ensures err { OnErr result (Begins acts.old.items acts.new.items (hear conn place session bytes).acts) }
 {
     front_is_stable();
@@ -243,11 +196,14 @@ impl Bytes2Acts {
     pub fn feed(&mut self, alloc: Global, piece: &[u8], acts: &mut Vec<Act>) -> Result<(), NoMemory>
         requires { HasRoom self.old piece.now }
         // The acts of all pieces are those of the joined stream.
-        ensures stream { (conn : ℕ) → (stream : List ℕ) → IsSoFar conn stream self.old acts.old.items → OnOk result (IsSoFar conn (stream ++ piece.now) self.new acts.new.items) }
+        ensures stream { (conn : ℕ) → (stream : List ℕ) → IsSoFar conn stream self.old acts.old.items
+            → OnOk result (IsSoFar conn (stream ++ piece.now) self.new acts.new.items) }
         // The same of any one piece.
-        ensures ok { OnOk result (record { acts = acts.new.items; leaves = self.new } ≡ joined acts.old.items (on self.old piece.now)) }
+        ensures ok { OnOk result (record { acts = acts.new.items; leaves = self.new }
+            ≡ joined acts.old.items (on self.old piece.now)) }
         // The first of the piece's acts may stand there; nothing more is heard.
-        ensures err { OnErr result ((self.new ≡ Lost) × Begins acts.old.items acts.new.items (on self.old piece.now).acts) }
+        ensures err { OnErr result ((self.new ≡ Lost)
+            × Begins acts.old.items acts.new.items (on self.old piece.now).acts) }
         ensures lost { self.old ≡ Lost → IsErr result }
         // After a refusal a piece is taken, and nothing is added.
         ensures ended { self.old ≡ Ended → IsOk result × (self.new ≡ Ended) × (acts.new.items ≡ acts.old.items) }
@@ -264,8 +220,10 @@ fn fed(
     acts: &mut Vec<Act>,
 ) -> Result<(), NoMemory>
     requires { HasRoom hearing.old piece.now }
-    ensures ok { OnOk result (record { acts = acts.new.items; leaves = hearing.new } ≡ joined acts.old.items (on hearing.old piece.now)) }
-    ensures err { OnErr result ((hearing.new ≡ Lost) × Begins acts.old.items acts.new.items (on hearing.old piece.now).acts) }
+    ensures ok { OnOk result (record { acts = acts.new.items; leaves = hearing.new }
+        ≡ joined acts.old.items (on hearing.old piece.now)) }
+    ensures err { OnErr result ((hearing.new ≡ Lost)
+        × Begins acts.old.items acts.new.items (on hearing.old piece.now).acts) }
     ensures lost { hearing.old ≡ Lost → IsErr result }
     ensures ended { hearing.old ≡ Ended → IsOk result × (hearing.new ≡ Ended) × (acts.new.items ≡ acts.old.items) }
 {

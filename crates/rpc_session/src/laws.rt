@@ -1,8 +1,8 @@
 // The laws of a connection's acts, for the crates above to cite. Each is brought in by a call, which does nothing.
-ghost use Rattle.rpc_session.specs.Acts.{IsCutAnywhere, IsRoomByLength, AllFit, AreRefusalsLast, AreOfPdus};
+ghost use Rattle.rpc_session.specs.Acts.{IsCutAnywhere, IsRoomByLength, AllFit, AreRefusalsLast, AreOfPdus, AreActs};
 ghost use Rattle.rpc_session.specs.Replies.{RepliesBringStubs};
 
-use rpc_pdu::{front_is_stable, whole_is_exactly_a_pdu};
+use rpc_pdu::{bytes_divide_once, front_is_stable, whole_is_exactly_a_pdu};
 
 /// A stream may be cut anywhere.
 pub fn streams_are_cut_anywhere()
@@ -28,12 +28,15 @@ pub fn refusals_are_last()
     ensures { AreRefusalsLast }
 {}
 
-/// The acts of a stream are what its PDUs say one after the other, and the refusal behind them.
+/// The acts of a stream are those of its PDUs one after the other, and then nothing or a refusal. Each stream is
+/// divided into PDUs in one way (`bytes_divide_once` of `rpc_pdu`).
 pub fn acts_are_of_pdus()
-    ensures { AreOfPdus }
+    ensures any { AreOfPdus }
+    ensures each { AreActs }
 {
     front_is_stable();
     whole_is_exactly_a_pdu();
+    bytes_divide_once();
 }
 
 /// The responses of a reply bring its stub: each part but the last has as many bytes as fit, and there is none behind

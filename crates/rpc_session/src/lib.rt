@@ -22,7 +22,7 @@ pub use laws::{
     streams_are_cut_anywhere,
 };
 pub use replies::{fault_bytes, reply_bytes};
-pub use sessions::{Act, Binding, Gathered, Session, Sizes};
+pub use sessions::{Act, Association, PartialRequest, Session, Sizes};
 
 #[cfg(test)]
 mod tests;

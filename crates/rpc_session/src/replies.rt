@@ -1,31 +1,11 @@
 // The bytes that answer a call.
 ghost use Rattle.std.specs.Prelude.{◌≡◌, ◌++◌, ◌≤◌, ◌<◌, ◌^◌, length, take, min, IfOk, OnOk};
 ghost use Rattle.acct_codes.specs.Limits.{least_fragment, most_fragment};
-ghost use Rattle.rpc_pdu.specs.Numbers.{u16_bytes, u32_bytes};
 ghost use Rattle.rpc_session.specs.Replies.{fault_bytes, first_flag, response, reply_bytes};
 
 use acct_base::rest_of;
-use rpc_pdu::NoMemory;
+use rpc_pdu::{NoMemory, u16_bytes, u32_bytes};
 use std::alloc::Global;
-
-fn u16_bytes(number: u16) -> [u8; 2]
-    ensures { result ≡ u16_bytes number }
-{
-    [(number % 256) as u8, (number / 256) as u8]
-}
-
-fn u32_bytes(number: u32) -> [u8; 4]
-    ensures { result ≡ u32_bytes number }
-{
-    let low = (number % 65536) as u16;
-    let high = (number / 65536) as u16;
-    [
-        (low % 256) as u8,
-        (low / 256) as u8,
-        (high % 256) as u8,
-        (high / 256) as u8,
-    ]
-}
 
 /// A fault with a status, on a call and a context. It takes no memory.
 #[tactic(auto, unfolding(crate::specs::Replies::fault_bytes, rpc_pdu::specs::Written::written, rpc_pdu::specs::Written::body_bytes))]

@@ -2,7 +2,7 @@
 ghost use Rattle.std.specs.Prelude.{◌≡◌, ◌==◌, ◌++◌, ◌≤◌, not, bit_and, IfOk, length, Some, None};
 ghost use Rattle.acct_codes.specs.Limits.{most_stub};
 ghost use Rattle.rpc_pdu.specs.Written.{HasFewParts};
-ghost use Rattle.rpc_session.specs.Taking.{binds, asked, gathers, begins, goes_on, requests, without, taken_first, taken_later, taken};
+ghost use Rattle.rpc_session.specs.Sessions.{binds, asked, gathers, begins, goes_on, requests, without, taken_first, taken_later, taken};
 
 use crate::answers::{alter_answer, bind_answer, sizes_for};
 use crate::contexts::{Context, face_at, with_elements};
@@ -55,7 +55,7 @@ pub struct Sizes {
 
 /// A request of which not all fragments have come.
 #[derive(Debug, Drop)]
-pub struct Gathered {
+pub struct PartialRequest {
     pub id: u32,
     pub context: u16,
     pub opnum: u16,
@@ -64,10 +64,10 @@ pub struct Gathered {
 
 /// What a bind made of a connection.
 #[derive(Debug, Drop)]
-pub struct Binding {
+pub struct Association {
     pub sizes: Sizes,
     pub contexts: Seq<Context>,
-    pub gathered: Option<Gathered>,
+    pub partial: Option<PartialRequest>,
 }
 
 /// How a connection stands between two of its PDUs.
@@ -75,7 +75,7 @@ pub struct Binding {
 pub enum Session {
     /// No bind has come.
     Unbound,
-    Bound(Binding),
+    Bound(Association),
 }
 
 /// What a whole PDU does.
@@ -87,7 +87,7 @@ pub enum Step {
     Goes { act: Option<Act>, session: Session },
 }
 
-fn binds(after: Binding, answer: Seq<u8>) -> Step
+fn binds(after: Association, answer: Seq<u8>) -> Step
     ensures { result ≡ binds after answer }
 {
     if after.contexts.as_slice().len() > MOST_CONTEXTS {
@@ -101,7 +101,7 @@ fn binds(after: Binding, answer: Seq<u8>) -> Step
 
 fn asked(
     alloc: Global,
-    request: Gathered,
+    request: PartialRequest,
     size: u16,
     context: Option<Context>,
 ) -> Result<Act, NoMemory>
@@ -138,22 +138,27 @@ fn is_last(flags: u8) -> bool
 }
 
 /// A request with one more fragment: it waits for the others, or is whole.
-fn put(alloc: Global, binding: Binding, flags: u8, request: Gathered) -> Result<Step, NoMemory>
+fn put(
+    alloc: Global,
+    association: Association,
+    flags: u8,
+    request: PartialRequest,
+) -> Result<Step, NoMemory>
     requires { length request.stub ≤ most_stub }
-    ensures { IfOk result (λ step. step ≡ gathers binding flags request) }
+    ensures { IfOk result (λ step. step ≡ gathers association flags request) }
 {
-    let Binding {
+    let Association {
         sizes,
         contexts,
         ..
-    } = binding;
+    } = association;
     if !is_last(flags) {
         return Ok(Step::Goes {
             act: None,
-            session: Session::Bound(Binding {
+            session: Session::Bound(Association {
                 sizes,
                 contexts,
-                gathered: Some(request),
+                partial: Some(request),
             }),
         });
     }
@@ -161,25 +166,30 @@ fn put(alloc: Global, binding: Binding, flags: u8, request: Gathered) -> Result<
     let act = asked(alloc, request, sizes.xmit, context)?;
     Ok(Step::Goes {
         act: Some(act),
-        session: Session::Bound(Binding {
+        session: Session::Bound(Association {
             sizes,
             contexts,
-            gathered: None,
+            partial: None,
         }),
     })
 }
 
 /// The first fragment of a request.
-fn begins(alloc: Global, binding: Binding, flags: u8, request: Gathered) -> Result<Step, NoMemory>
-    ensures { IfOk result (λ step. step ≡ begins binding flags request binding.gathered) }
+fn begins(
+    alloc: Global,
+    association: Association,
+    flags: u8,
+    request: PartialRequest,
+) -> Result<Step, NoMemory>
+    ensures { IfOk result (λ step. step ≡ begins association flags request association.partial) }
 {
-    if binding.gathered.is_some() {
+    if association.partial.is_some() {
         return Ok(Step::Refuses(CAUSE_FIRST_TWICE));
     }
     if request.stub.as_slice().len() > MOST_STUB {
         return Ok(Step::Refuses(CAUSE_STUB_TOO_LONG));
     }
-    put(alloc, binding, flags, request)
+    put(alloc, association, flags, request)
 }
 
 /// The bytes of both. The first grow in place.
@@ -194,13 +204,13 @@ pub fn extended(bytes: Seq<u8>, more: &[u8]) -> Result<Seq<u8>, NoMemory>
 /// A later fragment, for the request gathered so far.
 fn more(
     alloc: Global,
-    binding: Binding,
+    association: Association,
     flags: u8,
-    request: Gathered,
+    request: PartialRequest,
     id: u32,
     stub: &[u8],
 ) -> Result<Step, NoMemory>
-    ensures { IfOk result (λ step. step ≡ goes_on binding flags id stub.now (Some request)) }
+    ensures { IfOk result (λ step. step ≡ goes_on association flags id stub.now (Some request)) }
 {
     if request.id != id {
         return Ok(Step::Refuses(CAUSE_NO_FIRST));
@@ -208,50 +218,50 @@ fn more(
     if stub.len() > MOST_STUB || request.stub.as_slice().len() > MOST_STUB - stub.len() {
         return Ok(Step::Refuses(CAUSE_STUB_TOO_LONG));
     }
-    let request = Gathered {
+    let request = PartialRequest {
         id: request.id,
         context: request.context,
         opnum: request.opnum,
         stub: extended(request.stub, stub)?,
     };
-    put(alloc, binding, flags, request)
+    put(alloc, association, flags, request)
 }
 
 fn goes_on(
     alloc: Global,
-    binding: Binding,
+    association: Association,
     flags: u8,
     id: u32,
     stub: &[u8],
 ) -> Result<Step, NoMemory>
-    ensures { IfOk result (λ step. step ≡ goes_on binding flags id stub.now binding.gathered) }
+    ensures { IfOk result (λ step. step ≡ goes_on association flags id stub.now association.partial) }
 {
-    let Binding {
+    let Association {
         sizes,
         contexts,
-        gathered,
-    } = binding;
-    let binding = Binding {
+        partial,
+    } = association;
+    let association = Association {
         sizes,
         contexts,
-        gathered: None,
+        partial: None,
     };
-    match gathered {
+    match partial {
         None => Ok(Step::Refuses(CAUSE_NO_FIRST)),
-        Some(request) => more(alloc, binding, flags, request, id, stub),
+        Some(request) => more(alloc, association, flags, request, id, stub),
     }
 }
 
 /// A session without the request that is gathered with a call id.
-fn dropped(binding: Binding, id: u32) -> Binding
-    ensures { result ≡ record binding { gathered = without id binding.gathered } }
+fn dropped(association: Association, id: u32) -> Association
+    ensures { result ≡ record association { partial = without id association.partial } }
 {
-    let Binding {
+    let Association {
         sizes,
         contexts,
-        gathered,
-    } = binding;
-    let kept = match gathered {
+        partial,
+    } = association;
+    let kept = match partial {
         None => None,
         Some(request) => {
             if request.id == id {
@@ -261,14 +271,14 @@ fn dropped(binding: Binding, id: u32) -> Binding
             }
         }
     };
-    Binding {
+    Association {
         sizes,
         contexts,
-        gathered: kept,
+        partial: kept,
     }
 }
 
-#[tactic(auto, unfolding(crate::specs::Taking::taken_first))]
+#[tactic(auto, unfolding(crate::specs::Sessions::taken_first))]
 fn taken_first(alloc: Global, conn: u32, pdu: Pdu) -> Result<Step, NoMemory>
     requires { HasFewParts pdu }
     ensures { IfOk result (λ step. step ≡ taken_first conn pdu) }
@@ -283,10 +293,10 @@ fn taken_first(alloc: Global, conn: u32, pdu: Pdu) -> Result<Step, NoMemory>
         } => {
             let sizes = sizes_for(xmit, recv);
             let answer = bind_answer(alloc, conn, id, sizes, elements.as_slice())?;
-            let after = Binding {
+            let after = Association {
                 sizes,
                 contexts: with_elements(Seq::new(alloc), elements.as_slice())?,
-                gathered: None,
+                partial: None,
             };
             Ok(binds(after, answer))
         }
@@ -294,24 +304,29 @@ fn taken_first(alloc: Global, conn: u32, pdu: Pdu) -> Result<Step, NoMemory>
     }
 }
 
-#[tactic(auto, unfolding(crate::specs::Taking::taken_later))]
-fn taken_later(alloc: Global, conn: u32, binding: Binding, pdu: Pdu) -> Result<Step, NoMemory>
+#[tactic(auto, unfolding(crate::specs::Sessions::taken_later))]
+fn taken_later(
+    alloc: Global,
+    conn: u32,
+    association: Association,
+    pdu: Pdu,
+) -> Result<Step, NoMemory>
     requires { HasFewParts pdu }
-    ensures { IfOk result (λ step. step ≡ taken_later conn binding pdu) }
+    ensures { IfOk result (λ step. step ≡ taken_later conn association pdu) }
 {
     match pdu {
         Pdu::Alter { id, elements, .. } => {
-            let sizes = binding.sizes;
+            let sizes = association.sizes;
             let answer = alter_answer(alloc, conn, id, sizes, elements.as_slice())?;
-            let Binding {
+            let Association {
                 contexts,
-                gathered,
+                partial,
                 ..
-            } = binding;
-            let after = Binding {
+            } = association;
+            let after = Association {
                 sizes,
                 contexts: with_elements(contexts, elements.as_slice())?,
-                gathered,
+                partial,
             };
             Ok(binds(after, answer))
         }
@@ -323,23 +338,23 @@ fn taken_later(alloc: Global, conn: u32, binding: Binding, pdu: Pdu) -> Result<S
             stub,
         } => {
             if !is_first(flags) {
-                return goes_on(alloc, binding, flags, id, stub.as_slice());
+                return goes_on(alloc, association, flags, id, stub.as_slice());
             }
-            let request = Gathered {
+            let request = PartialRequest {
                 id,
                 context,
                 opnum,
                 stub,
             };
-            begins(alloc, binding, flags, request)
+            begins(alloc, association, flags, request)
         }
         Pdu::Cancel { .. } => Ok(Step::Goes {
             act: None,
-            session: Session::Bound(binding),
+            session: Session::Bound(association),
         }),
         Pdu::Orphaned { id } => Ok(Step::Goes {
             act: None,
-            session: Session::Bound(dropped(binding, id)),
+            session: Session::Bound(dropped(association, id)),
         }),
         _ => Ok(Step::Refuses(CAUSE_BIND_ORDER)),
     }
@@ -352,6 +367,6 @@ pub fn take_pdu(alloc: Global, conn: u32, session: Session, pdu: Pdu) -> Result<
 {
     match session {
         Session::Unbound => taken_first(alloc, conn, pdu),
-        Session::Bound(binding) => taken_later(alloc, conn, binding, pdu),
+        Session::Bound(association) => taken_later(alloc, conn, association, pdu),
     }
 }

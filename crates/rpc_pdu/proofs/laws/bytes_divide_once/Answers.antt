@@ -1,3 +1,4 @@
+-- The law `bytes_divide_once`.
 use Rattle.rpc_pdu.proofs.Divided.{all_divide_once}
 use Rattle.rpc_pdu.proofs.laws.bytes_divide_once.Goals as goal
 

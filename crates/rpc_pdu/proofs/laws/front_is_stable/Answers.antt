@@ -1,3 +1,4 @@
+-- The law `front_is_stable`.
 use Rattle.rpc_pdu.proofs.Whole.{stable}
 use Rattle.rpc_pdu.proofs.laws.front_is_stable.Goals as goal
 

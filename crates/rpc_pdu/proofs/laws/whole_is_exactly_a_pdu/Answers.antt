@@ -1,3 +1,4 @@
+-- The law `whole_is_exactly_a_pdu`.
 use Rattle.rpc_pdu.proofs.Exact.{exact}
 use Rattle.rpc_pdu.proofs.laws.whole_is_exactly_a_pdu.Goals as goal
 

@@ -1,3 +1,4 @@
+-- The law `written_is_read_back`.
 use Rattle.rpc_pdu.proofs.WrittenPdu.{read_back}
 use Rattle.rpc_pdu.proofs.laws.written_is_read_back.Goals as goal
 

@@ -1,7 +1,11 @@
+-- `push_elements` meets its contract: what the search leaves open.
 use Rattle.rpc_pdu.specs.Written.{element_bytes}
 use Rattle.rpc_pdu.specs.Written.{IsWholeElement}
 use Rattle.rpc_pdu.proofs.Pushes.{pushed_more}
 use Rattle.rpc_pdu.proofs.writing.push_elements.Goals as goal
 
 pub loop-element-preserved : goal.loop-element-preserved
-loop-element-preserved c = pushed_more element_bytes IsWholeElement c.args.out.now.items c.loop-element.out.items c.push_element.new.out.items c.args.elements.now c.loop-element.element-index c.element-item.result c.loop-element-test.true c.element-item.is c.in_ok-push_element.ensures.bytes c.in_ok-push_element.ensures.whole c.loop-element.invariant
+loop-element-preserved c =
+    pushed_more element_bytes IsWholeElement c.args.out.now.items c.loop-element.out.items c.push_element.new.out.items
+    c.args.elements.now c.loop-element.element-index c.element-item.result c.loop-element-test.true c.element-item.is
+    c.in_ok-push_element.ensures.bytes c.in_ok-push_element.ensures.whole c.loop-element.invariant

@@ -1,3 +1,4 @@
+-- What the loop of `push_elements` keeps.
 use Rattle.rpc_pdu.specs.Written.{element_bytes}
 use Rattle.rpc_pdu.specs.Written.{IsWholeElement}
 use Rattle.rpc_pdu.proofs.Pushes.{Pushed}

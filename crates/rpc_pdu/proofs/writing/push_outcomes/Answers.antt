@@ -1,7 +1,11 @@
+-- `push_outcomes` meets its contract: what the search leaves open.
 use Rattle.rpc_pdu.specs.Written.{outcome_bytes}
 use Rattle.rpc_pdu.specs.Written.{IsWholeOutcome}
 use Rattle.rpc_pdu.proofs.Pushes.{pushed_more}
 use Rattle.rpc_pdu.proofs.writing.push_outcomes.Goals as goal
 
 pub loop-outcome-preserved : goal.loop-outcome-preserved
-loop-outcome-preserved c = pushed_more outcome_bytes IsWholeOutcome c.args.out.now.items c.loop-outcome.out.items c.push_outcome.new.out.items c.args.outcomes.now c.loop-outcome.outcome-index c.outcome-item.result c.loop-outcome-test.true c.outcome-item.is c.in_ok-push_outcome.ensures.bytes c.in_ok-push_outcome.ensures.whole c.loop-outcome.invariant
+loop-outcome-preserved c =
+    pushed_more outcome_bytes IsWholeOutcome c.args.out.now.items c.loop-outcome.out.items c.push_outcome.new.out.items
+    c.args.outcomes.now c.loop-outcome.outcome-index c.outcome-item.result c.loop-outcome-test.true c.outcome-item.is
+    c.in_ok-push_outcome.ensures.bytes c.in_ok-push_outcome.ensures.whole c.loop-outcome.invariant

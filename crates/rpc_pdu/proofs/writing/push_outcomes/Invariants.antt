@@ -1,3 +1,4 @@
+-- What the loop of `push_outcomes` keeps.
 use Rattle.rpc_pdu.specs.Written.{outcome_bytes}
 use Rattle.rpc_pdu.specs.Written.{IsWholeOutcome}
 use Rattle.rpc_pdu.proofs.Pushes.{Pushed}

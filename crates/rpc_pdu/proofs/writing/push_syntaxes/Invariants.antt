@@ -1,3 +1,4 @@
+-- What the loop of `push_syntaxes` keeps.
 use Rattle.rpc_pdu.specs.Syntaxes.{syntax_bytes}
 use Rattle.rpc_pdu.specs.Written.{IsWhole}
 use Rattle.rpc_pdu.proofs.Pushes.{Pushed}

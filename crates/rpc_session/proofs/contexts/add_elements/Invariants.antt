@@ -1,3 +1,4 @@
+-- What the loop of `add_elements` keeps.
 use Rattle.rpc_session.proofs.Elements.{IsAdding}
 use Rattle.rpc_session.proofs.contexts.add_elements.Given as goal
 

@@ -1,3 +1,4 @@
+-- `hear` meets its contract: what the search leaves open.
 use Rattle.std.proofs.Common.{◌≡◌, ◌∙◌, sym, ap, arith, drop, length, List, ℕ, ◌+◌}
 use Rattle.rpc_session.specs.declared.sessions.Act.{Act}
 use Rattle.rpc_session.specs.declared.hearing.Next.TheVariants as next
@@ -27,27 +28,35 @@ pub returns-in_err-waiting-clause-err : goal.returns-in_err-waiting-clause-err
 returns-in_err-waiting-clause-err c =
     let all = hear c.args.conn c.args.place c.args.session c.args.bytes in
     on_err c.from_residual.result (Begins c.args.acts.now.items c.loop-bytes.acts.items all.acts)
-    (stopped c.args.acts.now.items c.loop-bytes.acts.items c.args.conn (c.args.place + c.loop-bytes.at) c.loop-bytes.session (drop c.loop-bytes.at c.loop-bytes.bytes) all c.loop-bytes.invariant.hearing)
+    (stopped c.args.acts.now.items c.loop-bytes.acts.items c.args.conn
+    (c.args.place + c.loop-bytes.at) c.loop-bytes.session
+    (drop c.loop-bytes.at c.loop-bytes.bytes) all c.loop-bytes.invariant.hearing)
 
 pub returns-in_err-kept-in-Waits-clause-err : goal.returns-in_err-kept-in-Waits-clause-err
 returns-in_err-kept-in-Waits-clause-err c =
     let all = hear c.args.conn c.args.place c.args.session c.args.bytes in
     on_err c.from_residual-in_err-kept-in-Waits.result (Begins c.args.acts.now.items c.loop-bytes.acts.items all.acts)
-    (stopped c.args.acts.now.items c.loop-bytes.acts.items c.args.conn (c.args.place + c.loop-bytes.at) c.loop-bytes.session (drop c.loop-bytes.at c.loop-bytes.bytes) all c.loop-bytes.invariant.hearing)
+    (stopped c.args.acts.now.items c.loop-bytes.acts.items c.args.conn
+    (c.args.place + c.loop-bytes.at) c.loop-bytes.session
+    (drop c.loop-bytes.at c.loop-bytes.bytes) all c.loop-bytes.invariant.hearing)
 
 pub returns-in_err-push-in-Ends-clause-err : goal.returns-in_err-push-in-Ends-clause-err
 returns-in_err-push-in-Ends-clause-err c =
     let all = hear c.args.conn c.args.place c.args.session c.args.bytes in
     on_err c.from_residual-in_err-push-in-Ends.result (Begins c.args.acts.now.items c.push.new.self.items all.acts)
     (rw c.in_err-push-in-Ends.ensures.items
-    (stopped c.args.acts.now.items c.loop-bytes.acts.items c.args.conn (c.args.place + c.loop-bytes.at) c.loop-bytes.session (drop c.loop-bytes.at c.loop-bytes.bytes) all c.loop-bytes.invariant.hearing))
+    (stopped c.args.acts.now.items c.loop-bytes.acts.items c.args.conn
+    (c.args.place + c.loop-bytes.at) c.loop-bytes.session
+    (drop c.loop-bytes.at c.loop-bytes.bytes) all c.loop-bytes.invariant.hearing))
 
 pub returns-in_err-add-in-Goes-clause-err : goal.returns-in_err-add-in-Goes-clause-err
 returns-in_err-add-in-Goes-clause-err c =
     let all = hear c.args.conn c.args.place c.args.session c.args.bytes in
     on_err c.from_residual-in_err-add-in-Goes.result (Begins c.args.acts.now.items c.add.new.acts.items all.acts)
     (rw c.in_err-add-in-Goes.ensures.err
-    (stopped c.args.acts.now.items c.loop-bytes.acts.items c.args.conn (c.args.place + c.loop-bytes.at) c.loop-bytes.session (drop c.loop-bytes.at c.loop-bytes.bytes) all c.loop-bytes.invariant.hearing))
+    (stopped c.args.acts.now.items c.loop-bytes.acts.items c.args.conn
+    (c.args.place + c.loop-bytes.at) c.loop-bytes.session
+    (drop c.loop-bytes.at c.loop-bytes.bytes) all c.loop-bytes.invariant.hearing))
 
 pub returns-in-Waits-clause-ok : goal.returns-in-Waits-clause-ok
 returns-in-Waits-clause-ok c =
@@ -55,9 +64,14 @@ returns-in-Waits-clause-ok c =
     let here = c.args.place + c.loop-bytes.at in
     let rest = drop c.loop-bytes.at c.loop-bytes.bytes in
     let read : c.rest_of.result.now ≡ rest = c.rest_of.ensures.value ∙ ap (drop c.loop-bytes.at) c.as_slice.ensures in
-    let e : heard_next c.args.conn here c.loop-bytes.session rest ≡ next.Waits c.in-Waits.waiting = sym (c.in_ok-waiting.ensures ∙ ap (heard_next c.args.conn here c.loop-bytes.session) read) ∙ c.in-Waits.is in
-    ap (λ (x : List ℕ). record { acts = c.loop-bytes.acts.items; leaves = Going c.args.conn here c.in-Waits.waiting x }) c.in_ok-kept-in-Waits.ensures
-    ∙ waiting c.front_is_stable.ensures c.args.acts.now.items c.loop-bytes.acts.items c.args.conn here c.loop-bytes.session c.in-Waits.waiting rest all c.loop-bytes.invariant.hearing e
+    let e : heard_next c.args.conn here c.loop-bytes.session rest ≡ next.Waits c.in-Waits.waiting =
+    sym (c.in_ok-waiting.ensures ∙ ap (heard_next c.args.conn here c.loop-bytes.session) read) ∙ c.in-Waits.is in
+    ap (λ (x : List ℕ). record {
+      acts = c.loop-bytes.acts.items;
+      leaves = Going c.args.conn here c.in-Waits.waiting x;
+    }) c.in_ok-kept-in-Waits.ensures
+    ∙ waiting c.front_is_stable.ensures c.args.acts.now.items c.loop-bytes.acts.items c.args.conn here
+    c.loop-bytes.session c.in-Waits.waiting rest all c.loop-bytes.invariant.hearing e
 
 pub returns-in-Ends-clause-ok : goal.returns-in-Ends-clause-ok
 returns-in-Ends-clause-ok c =
@@ -65,17 +79,22 @@ returns-in-Ends-clause-ok c =
     let here = c.args.place + c.loop-bytes.at in
     let rest = drop c.loop-bytes.at c.loop-bytes.bytes in
     let read : c.rest_of.result.now ≡ rest = c.rest_of.ensures.value ∙ ap (drop c.loop-bytes.at) c.as_slice.ensures in
-    let e : heard_next c.args.conn here c.loop-bytes.session rest ≡ next.Ends c.in-Ends.act = sym (c.in_ok-waiting.ensures ∙ ap (heard_next c.args.conn here c.loop-bytes.session) read) ∙ c.in-Ends.is in
+    let e : heard_next c.args.conn here c.loop-bytes.session rest ≡ next.Ends c.in-Ends.act =
+    sym (c.in_ok-waiting.ensures ∙ ap (heard_next c.args.conn here c.loop-bytes.session) read) ∙ c.in-Ends.is in
     ap (λ (x : List Act). record { acts = x; leaves = Ended }) c.in_ok-push-in-Ends.ensures.items
-    ∙ ended c.front_is_stable.ensures c.args.acts.now.items c.loop-bytes.acts.items c.args.conn here c.loop-bytes.session rest all c.in-Ends.act c.loop-bytes.invariant.hearing e
+    ∙ ended c.front_is_stable.ensures c.args.acts.now.items c.loop-bytes.acts.items c.args.conn here
+    c.loop-bytes.session rest all c.in-Ends.act c.loop-bytes.invariant.hearing e
 
 pub overflow_add-at : goal.overflow_add-at
 overflow_add-at c =
     let here = c.args.place + c.loop-bytes.at in
     let rest = drop c.loop-bytes.at c.loop-bytes.bytes in
     let read : c.rest_of.result.now ≡ rest = c.rest_of.ensures.value ∙ ap (drop c.loop-bytes.at) c.as_slice.ensures in
-    let e : heard_next c.args.conn here c.loop-bytes.session rest ≡ next.Goes c.in-Goes.act c.in-Goes.after c.in-Goes.size = sym (c.in_ok-waiting.ensures ∙ ap (heard_next c.args.conn here c.loop-bytes.session) read) ∙ c.in-Goes.is in
-    let whole = whole_next c.front_is_stable.ensures c.args.conn here c.loop-bytes.session rest c.in-Goes.act c.in-Goes.after c.in-Goes.size e in
+    let e : heard_next c.args.conn here c.loop-bytes.session rest
+    ≡ next.Goes c.in-Goes.act c.in-Goes.after c.in-Goes.size =
+    sym (c.in_ok-waiting.ensures ∙ ap (heard_next c.args.conn here c.loop-bytes.session) read) ∙ c.in-Goes.is in
+    let whole = whole_next c.front_is_stable.ensures c.args.conn here c.loop-bytes.session rest c.in-Goes.act
+    c.in-Goes.after c.in-Goes.size e in
     let there = whole.there in
     let left = c.rest_of.ensures.length in
     let long = ap length read in
@@ -89,8 +108,11 @@ loop-bytes-smaller c =
     let here = c.args.place + c.loop-bytes.at in
     let rest = drop c.loop-bytes.at c.loop-bytes.bytes in
     let read : c.rest_of.result.now ≡ rest = c.rest_of.ensures.value ∙ ap (drop c.loop-bytes.at) c.as_slice.ensures in
-    let e : heard_next c.args.conn here c.loop-bytes.session rest ≡ next.Goes c.in-Goes.act c.in-Goes.after c.in-Goes.size = sym (c.in_ok-waiting.ensures ∙ ap (heard_next c.args.conn here c.loop-bytes.session) read) ∙ c.in-Goes.is in
-    let whole = whole_next c.front_is_stable.ensures c.args.conn here c.loop-bytes.session rest c.in-Goes.act c.in-Goes.after c.in-Goes.size e in
+    let e : heard_next c.args.conn here c.loop-bytes.session rest
+    ≡ next.Goes c.in-Goes.act c.in-Goes.after c.in-Goes.size =
+    sym (c.in_ok-waiting.ensures ∙ ap (heard_next c.args.conn here c.loop-bytes.session) read) ∙ c.in-Goes.is in
+    let whole = whole_next c.front_is_stable.ensures c.args.conn here c.loop-bytes.session rest c.in-Goes.act
+    c.in-Goes.after c.in-Goes.size e in
     let low = whole.low in
     let there = whole.there in
     let left = c.rest_of.ensures.length in
@@ -104,16 +126,22 @@ loop-bytes-preserved c =
     let here = c.args.place + c.loop-bytes.at in
     let rest = drop c.loop-bytes.at c.loop-bytes.bytes in
     let read : c.rest_of.result.now ≡ rest = c.rest_of.ensures.value ∙ ap (drop c.loop-bytes.at) c.as_slice.ensures in
-    let e : heard_next c.args.conn here c.loop-bytes.session rest ≡ next.Goes c.in-Goes.act c.in-Goes.after c.in-Goes.size = sym (c.in_ok-waiting.ensures ∙ ap (heard_next c.args.conn here c.loop-bytes.session) read) ∙ c.in-Goes.is in
-    let whole = whole_next c.front_is_stable.ensures c.args.conn here c.loop-bytes.session rest c.in-Goes.act c.in-Goes.after c.in-Goes.size e in
+    let e : heard_next c.args.conn here c.loop-bytes.session rest
+    ≡ next.Goes c.in-Goes.act c.in-Goes.after c.in-Goes.size =
+    sym (c.in_ok-waiting.ensures ∙ ap (heard_next c.args.conn here c.loop-bytes.session) read) ∙ c.in-Goes.is in
+    let whole = whole_next c.front_is_stable.ensures c.args.conn here c.loop-bytes.session rest c.in-Goes.act
+    c.in-Goes.after c.in-Goes.size e in
     let there = whole.there in
     let left = c.rest_of.ensures.length in
     let long = ap length read in
     let seen = ap length c.as_slice.ensures in
-    let more = goes c.front_is_stable.ensures c.args.acts.now.items c.loop-bytes.acts.items c.args.conn here c.loop-bytes.session c.in-Goes.after rest all c.in-Goes.act c.in-Goes.size c.loop-bytes.invariant.hearing e in
-    let told : IsHearing c.args.acts.now.items c.add.new.acts.items c.args.conn (here + c.in-Goes.size) c.in-Goes.after (drop c.in-Goes.size rest) all = rw c.in_ok-add-in-Goes.ensures.ok more in
+    let more = goes c.front_is_stable.ensures c.args.acts.now.items c.loop-bytes.acts.items c.args.conn here
+    c.loop-bytes.session c.in-Goes.after rest all c.in-Goes.act c.in-Goes.size c.loop-bytes.invariant.hearing e in
+    let told : IsHearing c.args.acts.now.items c.add.new.acts.items c.args.conn (here + c.in-Goes.size) c.in-Goes.after
+    (drop c.in-Goes.size rest) all = rw c.in_ok-add-in-Goes.ensures.ok more in
     record {
       within = omega (arith, there, left, long, seen);
       same = c.loop-bytes.invariant.same;
-      hearing = moved c.args.acts.now.items c.add.new.acts.items c.args.conn c.args.place c.loop-bytes.at c.in-Goes.size c.in-Goes.after c.loop-bytes.bytes all told;
+      hearing = moved c.args.acts.now.items c.add.new.acts.items c.args.conn c.args.place c.loop-bytes.at c.in-Goes.size
+          c.in-Goes.after c.loop-bytes.bytes all told;
     }

@@ -1,3 +1,4 @@
+-- What the loop of `hear` keeps.
 use Rattle.std.proofs.Common.{◌≡◌, ◌+◌, ◌-◌, ◌≤◌, length, drop}
 use Rattle.rpc_session.specs.Hearings.{hear}
 use Rattle.rpc_session.proofs.Steps.{IsHearing}
@@ -7,7 +8,8 @@ abbrev pub invariant-loop-bytes : goal.invariant-loop-bytes
 invariant-loop-bytes l = record {
   within : l.at ≤ length l.bytes;
   same : l.bytes ≡ l.fn.bytes;
-  hearing : IsHearing l.fn.acts.items l.acts.items l.conn (l.place + l.at) l.session (drop l.at l.bytes) (hear l.conn l.place l.fn.session l.fn.bytes);
+  hearing : IsHearing l.fn.acts.items l.acts.items l.conn (l.place + l.at) l.session (drop l.at l.bytes)
+      (hear l.conn l.place l.fn.session l.fn.bytes);
 }
 
 abbrev pub decreases-loop-bytes : goal.decreases-loop-bytes

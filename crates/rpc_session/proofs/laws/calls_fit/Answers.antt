@@ -1,3 +1,4 @@
+-- The law `calls_fit`.
 use Rattle.rpc_session.proofs.Fit.{all_fit}
 use Rattle.rpc_session.proofs.laws.calls_fit.Goals as goal
 

@@ -1,3 +1,4 @@
+-- The law `refusals_are_last`.
 use Rattle.rpc_session.proofs.Fit.{refusals_last}
 use Rattle.rpc_session.proofs.laws.refusals_are_last.Goals as goal
 

@@ -1,3 +1,4 @@
+-- The law `streams_are_cut_anywhere`.
 use Rattle.rpc_session.proofs.Cutting.{cut_anywhere_is}
 use Rattle.rpc_session.proofs.laws.streams_are_cut_anywhere.Goals as goal
 

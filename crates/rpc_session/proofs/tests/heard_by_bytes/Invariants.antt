@@ -1,3 +1,4 @@
+-- What the loop of `heard_by_bytes` keeps.
 use Rattle.std.proofs.Common.{take}
 use Rattle.rpc_session.specs.Acts.{IsSoFar}
 use Rattle.rpc_session.proofs.tests.heard_by_bytes.Given as goal

@@ -1,3 +1,4 @@
+-- What the loop of `elements` keeps.
 use Rattle.rpc_pdu.specs.Lists.{element_at}
 use Rattle.rpc_pdu.proofs.Many.{SoFar}
 use Rattle.rpc_pdu.proofs.lists.Fields.elements.Given as goal

@@ -1,3 +1,4 @@
+-- What the loop of `outcomes` keeps.
 use Rattle.rpc_pdu.specs.Lists.{outcome_at}
 use Rattle.rpc_pdu.proofs.Many.{SoFar}
 use Rattle.rpc_pdu.proofs.lists.Fields.outcomes.Given as goal

@@ -1,3 +1,4 @@
+-- What the loop of `syntaxes` keeps.
 use Rattle.rpc_pdu.specs.Lists.{syntax_at}
 use Rattle.rpc_pdu.proofs.Many.{SoFar}
 use Rattle.rpc_pdu.proofs.lists.Fields.syntaxes.Given as goal

@@ -1,3 +1,4 @@
+-- `feed` meets its contract: what the search leaves open.
 use Rattle.std.proofs.Common.{◌∙◌, ap}
 use Rattle.std.proofs.lemmas.Result.{on_ok_weaker}
 use Rattle.rpc_session.specs.declared.hearing.Hearing.{Hearing}
@@ -7,6 +8,10 @@ use Rattle.rpc_session.proofs.hearing.Bytes2Acts.feed.Goals as goal
 
 pub returns-clause-stream : goal.returns-clause-stream
 returns-clause-stream c = λ conn stream so_far.
+    let before = c.args.acts.now.items in
+    let piece = c.args.piece.now in
+    let seen = ap (λ (h : Hearing). joined before (on h piece)) c.self.view_is in
     on_ok_weaker c.fed.result
-    (λ told. heard_more c.streams_are_cut_anywhere.ensures conn stream c.args.piece.now c.args.self.now c.fed.new.hearing c.args.acts.now.items c.fed.new.acts.items so_far (told ∙ ap (λ (h : Hearing). joined c.args.acts.now.items (on h c.args.piece.now)) c.self.view_is))
+    (λ told. heard_more c.streams_are_cut_anywhere.ensures conn stream piece c.args.self.now c.fed.new.hearing before
+    c.fed.new.acts.items so_far (told ∙ seen))
     c.fed.ensures.ok

@@ -1,3 +1,4 @@
+-- `new` meets its contract: what the search leaves open.
 use Rattle.rpc_session.proofs.Steps.{heard_nothing}
 use Rattle.rpc_session.proofs.hearing.Bytes2Acts.new.Goals as goal
 

@@ -7,7 +7,7 @@ use Rattle.rpc_pdu.specs.declared.pdus.Pdu.TheVariants.{Bind, Alter, Request, Ca
 use Rattle.rpc_pdu.specs.declared.fronts.ReadPdu.{ReadPdu}
 use Rattle.rpc_pdu.specs.declared.fronts.ReadPdu.TheVariants as read
 use Rattle.rpc_pdu.specs.Front.{Front, Whole, Rest, Refused, front}
-use Rattle.rpc_pdu.specs.Written.{size_of, HasFewParts, HasWholeIds}
+use Rattle.rpc_pdu.specs.Written.{type_of, call_id, size_of, HasFewParts, HasWholeIds}
 
 -- the PDUs whose reading takes memory, for their stub, their elements or their outcomes
 abbrev pub TakesMemory : Pdu → Type 0
@@ -28,11 +28,13 @@ MayWant (Whole pdu size) = TakesMemory pdu
 MayWant Rest = ⊥
 MayWant (Refused place cause ptype id) = cause ≡ cause_body
 
--- what is read is the front, unless memory ran out
+-- what is read is the front, with the type byte and the call id of a whole PDU, unless memory ran out
 abbrev pub IsRead : ReadPdu → Side → List ℕ → Type 0
-IsRead (read.Got pdu used) side bytes = (front side bytes ≡ Whole pdu used) × (16 ≤ used) × (used ≤ length bytes)
+IsRead (read.Got pdu ptype id used) side bytes = (front side bytes ≡ Whole pdu used) × (16 ≤ used)
+    × (used ≤ length bytes) × (ptype ≡ type_of pdu) × (id ≡ call_id pdu)
 IsRead read.More side bytes = front side bytes ≡ Rest
-IsRead (read.Refused place cause ptype id) side bytes = (front side bytes ≡ Refused place cause ptype id) × (place ≤ length bytes)
+IsRead (read.Refused place cause ptype id) side bytes = (front side bytes ≡ Refused place cause ptype id)
+    × (place ≤ length bytes)
 IsRead read.NoMemory side bytes = MayWant (front side bytes)
 
 -- the number of stub bytes of a request or a response
@@ -57,7 +59,7 @@ pub record IsBounded (pdu : Pdu) (used : ℕ) : Type 0 where
   pub whole_ids : HasWholeIds pdu
 
 abbrev pub IsWithin : ReadPdu → Type 0
-IsWithin (read.Got pdu used) = IsBounded pdu used
+IsWithin (read.Got pdu ptype id used) = IsBounded pdu used
 IsWithin read.More = Unit {0}
 IsWithin (read.Refused place cause ptype id) = Unit {0}
 IsWithin read.NoMemory = Unit {0}
