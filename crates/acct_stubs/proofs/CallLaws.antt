@@ -23,7 +23,7 @@ use Rattle.ndr_types.specs.Handles.{handle}
 use Rattle.acct_stubs.proofs.CallValues.{FieldsFit, call_fits, call_kind, class_of}
 use Rattle.acct_stubs.proofs.Complete.{stub_complete}
 use Rattle.acct_stubs.specs.Arguments.{arguments}
-use Rattle.acct_stubs.specs.Calls.{Answers, AreTheSpelledCalls, HasOneCall, IsCallOf, IsReadAgain, IsReadWhereSpelled}
+use Rattle.acct_stubs.specs.Calls.{ReadsStub, AreTheSpelledCalls, HasOneCall, IsCallOf, IsReadAgain, IsReadWhereSpelled}
 use Rattle.acct_stubs.specs.Calls.{IsServed, IsSpelled, Spells, call_at, call_in, call_of, call_read, carries_password}
 use Rattle.acct_stubs.specs.Calls.{class_behind, is_withheld, nothing_written, spell, spelled_in, start, stub_of}
 use Rattle.acct_stubs.specs.Calls.{withheld_class}
@@ -108,7 +108,7 @@ pub read_where_spelled : (w : Wire) → IsReadWhereSpelled w
 read_where_spelled w opnum stub call =
     (call_found w opnum stub call, λ h. call_only w opnum stub call h.0 h.1 h.2)
 
-pub is_found : (w : Wire) (opnum : ℕ) (stub : List ℕ) (r : Result Call WireError) → Answers r (call_at w opnum stub)
+pub is_found : (w : Wire) (opnum : ℕ) (stub : List ℕ) (r : Result Call WireError) → ReadsStub r (call_at w opnum stub)
     → IfOk r (λ call. IsFound w opnum stub call)
 is_found w opnum stub (Ok call) h = call_found w opnum stub call (sym h)
 is_found w opnum stub (Err e) h = tt
@@ -225,7 +225,7 @@ pub the_spelled_calls : (w : Wire) → IsLawful w → AreTheSpelledCalls w
 the_spelled_calls w l call = (some_stub w l call, λ h. can_be_spelled w l call h.0 h.1 h.2 h.3)
 
 pub can_be_written : (w : Wire) → IsLawful w → (opnum : ℕ) (stub : List ℕ) (r : Result Call WireError) → IsBytes stub
-    → Answers r (call_at w opnum stub) → IfOk r (λ call. IsCallOf w call)
+    → ReadsStub r (call_at w opnum stub) → IfOk r (λ call. IsCallOf w call)
 can_be_written w l opnum stub (Ok call) bytes h =
     let f = call_found w opnum stub call (sym h) in
     can_be_spelled w l call stub bytes (subst (λ (n : ℕ). IsServed w n stub) (sym f.0) f.1) f.2

@@ -82,7 +82,13 @@ sought_fits {P = P} p q xs is =
     let small : n < 2 ^ 32 = omega (arith, is.0) in
     let few : nat_le n 1000 ≡ true = le-leb n 1000 is.0 in
     let a = array_fits p xs (all_as {P = P} {Q = PartFits p} xs q.fits is.1) in (
-      ((small, few), (((lit< tt, few), (((lit< tt, refl), (((small, eq-eqb n n refl), (a, refl)), refl)), refl)), refl)),
+      (
+        (small, few),
+        (
+          ((lit< tt, few), (((lit< tt, refl), (((small, eq-eqb n n refl), (a, refl)), refl)), refl)),
+          refl,
+        ),
+      ),
       refl,
     )
 

@@ -3,12 +3,13 @@ use Rattle.std.proofs.Common.{◌≡◌, ℕ, Bool, true, false, List, [], lengt
 use Rattle.std.specs.Prelude.{◌==◌, nat_le}
 use Rattle.std.proofs.lemmas.Bool.{eqb-true}
 use Rattle.ndr_core.proofs.Complete.{IsComplete, chain_complete, given_complete, ignored_complete, ignored_same}
-use Rattle.ndr_core.proofs.Complete.{led_by_complete, made_complete, pointer_complete, such_complete, u16_complete}
+use Rattle.ndr_core.proofs.Complete.{led_by_complete, made_complete, padding_complete, pointer_complete, such_complete}
+use Rattle.ndr_core.proofs.Complete.{u16_complete}
 use Rattle.ndr_core.proofs.Complete.{u32_complete}
 use Rattle.ndr_core.specs.Codec.{Codec}
 use Rattle.ndr_core.specs.Cursor.{is_zero, second}
 use Rattle.ndr_core.specs.Parts.{Part, PartFits, array, flat, join, there, times, whole}
-use Rattle.ndr_core.specs.Shapes.{chain, ignored, padding4, u32, u32_such, unspelled}
+use Rattle.ndr_core.specs.Shapes.{chain, ignored, u32, u32_such, unspelled}
 use Rattle.dtyp_sid.specs.Value.{IsSid}
 use Rattle.acct_calls.specs.declared.calls.Args.TheVariants as args
 use Rattle.acct_calls.specs.declared.info.Info.TheVariants as info
@@ -109,9 +110,6 @@ searched_complete search.Rids =
     made_complete args.RidList rids_in (sought_complete (flat u32) long_has) (λ x h. (h, refl))
 
 -- ---- classes of information
-
-pub padding_complete : IsComplete padding4
-padding_complete = record { fits = λ u c d bytes h. tt }
 
 abbrev pub Anything : Unit {0} → Type 0
 Anything u = Unit {0}

@@ -1,6 +1,7 @@
 -- What some stub spells can be written: of each layout of a reply, from the shapes that it is made of.
 use Rattle.std.proofs.Common.{◌≡◌, true, ℕ, ◌^◌, ◌<◌, Option, Some, None, refl, lit<}
 use Rattle.std.specs.Prelude.{List}
+use Rattle.ndr_core.proofs.Complete.{padding_complete}
 use Rattle.ndr_core.proofs.Complete.{IsComplete, chain_complete, given_complete, ignored_complete, made_complete}
 use Rattle.ndr_core.proofs.Complete.{such_complete, u16_complete, u32_complete}
 use Rattle.ndr_core.specs.Codec.{Codec}
@@ -36,7 +37,7 @@ use Rattle.ndr_types.specs.Laws.{IsListOf}
 use Rattle.ndr_types.specs.Members.{rid_bits}
 use Rattle.ndr_types.specs.Sids.{sid, sid_pointer}
 use Rattle.ndr_types.specs.Texts.{text}
-use Rattle.acct_stubs.proofs.Complete.{padding_complete, value_complete}
+use Rattle.acct_stubs.proofs.Complete.{value_complete}
 use Rattle.acct_stubs.proofs.MemberLists.{members_complete}
 use Rattle.acct_stubs.specs.Calls.{start}
 use Rattle.acct_stubs.specs.Infos.{class_shown, is_named, named_value, shown_of, shown_parts}

@@ -4,7 +4,7 @@ use Rattle.std.proofs.Common.{arith}
 use Rattle.ndr_core.specs.Codec.{Codec}
 use Rattle.ndr_core.specs.Cursor.{Cursor, is_zero}
 use Rattle.ndr_core.specs.Parts.{Part, array, flat, list_of, pointer_to, there, whole}
-use Rattle.ndr_core.specs.Shapes.{chain, padding4, u16, u32, u32_such, unspelled}
+use Rattle.ndr_core.specs.Shapes.{chain, u16, u32, unspelled}
 use Rattle.ndr_core.specs.declared.error.NdrError.{NdrError}
 use Rattle.ndr_core.specs.declared.error.NdrError.TheVariants as ndr
 use Rattle.acct_calls.specs.declared.calls.Args.{Args}
@@ -36,8 +36,10 @@ use Rattle.acct_layouts.specs.declared.outputs.Outputs.TheVariants as outputs
 use Rattle.acct_layouts.specs.declared.outputs.Plainly.{Plainly}
 use Rattle.acct_layouts.specs.declared.outputs.Plainly.TheVariants as plainly
 use Rattle.acct_layouts.specs.declared.table.Layout.{Layout}
-use Rattle.ndr_types.proofs.Onward.{Takes, TakesPart, any_size, handle_onward, list_onward, rid_list_onward}
+use Rattle.ndr_types.proofs.Onward.{Takes, TakesPart, any_size, handle_onward, list_onward, long, rid_list_onward}
+use Rattle.ndr_types.proofs.Onward.{short}
 use Rattle.ndr_types.proofs.Onward.{rid_names_onward, sid_list_onward, sid_onward, takes_array, takes_chain, takes_flat}
+use Rattle.ndr_types.proofs.Onward.{such_long, takes_padding}
 use Rattle.ndr_types.proofs.Onward.{takes_given, takes_ignored, takes_join, takes_led_by, takes_made, takes_pointer}
 use Rattle.ndr_types.proofs.Onward.{takes_pointer_to, takes_sid_pointer, takes_such, takes_text, takes_times, takes_u16}
 use Rattle.ndr_types.proofs.Onward.{takes_u32, takes_varying, takes_whole, text_list_onward, text_onward}
@@ -59,19 +61,6 @@ use Rattle.acct_stubs.specs.ServerNames.{server_name, string}
 use Rattle.acct_stubs.specs.Wire.{Wire}
 use Rattle.acct_stubs.specs.declared.errors.WireError.{WireError}
 use Rattle.acct_stubs.specs.declared.errors.WireError.TheVariants.{Memory, NotServed}
-
--- a number of so many bytes, whatever stands behind it
-pub long : Takes 0 u32
-long = any_size 4 takes_u32
-
-pub such_long : (test : ℕ → Bool) → Takes 0 (u32_such test)
-such_long test = any_size 4 (takes_such 4 test takes_u32)
-
-short : Takes 0 u16
-short = any_size 2 takes_u16
-
-takes_padding : Takes 0 padding4
-takes_padding = record { onward = λ c. omega arith }
 
 to_value : {A : Type 0} (a : Codec A) → Takes 0 a → Takes 0 (whole (pointer_to a))
 to_value a p = takes_whole (pointer_to a) (takes_pointer_to a p)

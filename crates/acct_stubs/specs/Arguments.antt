@@ -83,15 +83,15 @@ plain_args plain.Nothing = given args.Nothing
 -- a relative identifier
 plain_args plain.Rid = made args.Rid rid_in u32
 -- MemberId, Attributes
-plain_args plain.Member = made (λ x. args.RidBits x.0 x.1) rid_bits_in (chain u32 (λ _. u32))
+plain_args plain.Member = made (λ (rid, bits). args.RidBits rid bits) rid_bits_in (chain u32 (λ _. u32))
 -- MemberId
 plain_args plain.Sid = made args.OneSid sid_in sid
 -- Name
 plain_args plain.Name = made (λ name. args.OneName (Some name)) name_in (whole text)
 -- DesiredAccess, DomainId
-plain_args plain.OpenDomain = made (λ x. args.AccessSid x.0 x.1) access_sid_in (chain u32 (λ _. sid))
+plain_args plain.OpenDomain = made (λ (access, s). args.AccessSid access s) access_sid_in (chain u32 (λ _. sid))
 -- DesiredAccess, and GroupId, AliasId or UserId
-plain_args plain.OpenAccount = made (λ x. args.AccessRid x.0 x.1) access_rid_in (chain u32 (λ _. u32))
+plain_args plain.OpenAccount = made (λ (access, rid). args.AccessRid access rid) access_rid_in (chain u32 (λ _. u32))
 
 -- A count of at most 1,000, and a conformant varying array: a maximum count, which is at least the count and is written
 -- as 1,000 (the size in the IDL), an offset of 0, the count again, and so many.
@@ -103,10 +103,11 @@ sought p =
 
 unfoldable pub searched : Search → Codec Args
 -- EnumerationContext, PreferedMaximumLength
-searched search.Page = made (λ x. args.Page x.0 0 x.1) page_in (chain u32 (λ _. u32))
+searched search.Page = made (λ (context, preferred). args.Page context 0 preferred) page_in (chain u32 (λ _. u32))
 -- EnumerationContext, UserAccountControl, PreferedMaximumLength
 searched search.FilteredPage =
-    made (λ x. args.Page x.0 x.1.0 x.1.1) filtered_page_in (chain u32 (λ _. chain u32 (λ _. u32)))
+    made (λ (context, (filter, preferred)). args.Page context filter preferred) filtered_page_in
+    (chain u32 (λ _. chain u32 (λ _. u32)))
 -- SidArray
 searched search.Sids = made args.SidList sids_in (sid_list 1024)
 -- Count, Names
@@ -119,7 +120,7 @@ unfoldable pub arguments : Wire → Fields → Codec Args
 arguments w (fields.Plain p) = plain_args p
 arguments w (fields.Search s) = searched s
 arguments w (fields.Class s) = made args.Class class_in u16
-arguments w (fields.Put s) = made (λ x. args.Put x.0 x.1) put_in (class_set s)
+arguments w (fields.Put s) = made (λ (class, value). args.Put class value) put_in (class_set s)
 -- what the interface has alone
 arguments w (fields.Connect c) = w.fields (fields.Connect c)
 arguments w (fields.Creation c) = w.fields (fields.Creation c)

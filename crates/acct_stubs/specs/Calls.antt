@@ -92,10 +92,11 @@ call_in w opnum (Some layout) stub =
 unfoldable pub call_at : Wire → ℕ → List ℕ → Result Call WireError
 call_at w opnum stub = call_in w opnum (layout_of w.face opnum) stub
 
--- What a call answered is this, but for want of memory, which may come anywhere.
-abbrev pub Answers : {A : Type 0} → Result A WireError → Result A WireError → Type 0
-Answers (Err Memory) right = Unit {0}
-Answers result right = result ≡ right
+-- ReadsStub, of the family of Reads, of a whole stub, which has no cursor: value and refusal are this, and want of
+-- memory may come anywhere.
+abbrev pub ReadsStub : {A : Type 0} → Result A WireError → Result A WireError → Type 0
+ReadsStub (Err Memory) right = Unit {0}
+ReadsStub result right = result ≡ right
 
 -- ---- writing
 

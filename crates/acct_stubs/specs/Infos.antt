@@ -67,19 +67,20 @@ unfoldable pub value_of : Arm → Codec Info
 value_of arm.Number = made info.Number number_in u32
 value_of arm.Text = made info.Text text_in (whole text)
 -- UserName, FullName (SAMPR_USER_NAME_INFORMATION)
-value_of arm.TwoTexts = made (λ x. info.TwoTexts x.0 x.1) two_texts_in (whole (join text text))
+value_of arm.TwoTexts = made (λ (name, full). info.TwoTexts name full) two_texts_in (whole (join text text))
 -- Name, Attributes, MemberCount, AdminComment (SAMPR_GROUP_GENERAL_INFORMATION)
 value_of arm.Group =
-    made (λ x. info.Group x.0 x.1.0 x.1.1.0 x.1.1.1) group_in
+    made (λ (name, (bits, (members, comment))). info.Group name bits members comment) group_in
     (whole (join text (join (flat u32) (join (flat u32) text))))
 -- Name, MemberCount, AdminComment (SAMPR_ALIAS_GENERAL_INFORMATION)
-value_of arm.Alias = made (λ x. info.Alias x.0 x.1.0 x.1.1) alias_in (whole (join text (join (flat u32) text)))
+value_of arm.Alias = made (λ (name, (members, comment)). info.Alias name members comment) alias_in
+    (whole (join text (join (flat u32) text)))
 -- UserName, FullName, PrimaryGroupId, AdminComment, UserComment (SAMPR_USER_GENERAL_INFORMATION)
 value_of arm.User =
-    made (λ x. info.User x.0 x.1.0 x.1.1.0 x.1.1.1.0) user_in
+    made (λ (name, (full, (primary, (comment, _)))). info.User name full primary comment) user_in
     (whole (join text (join text (join (flat u32) (join text empty_text)))))
 -- DomainName, Sid, which isn't null (LSAPR_POLICY_PRIMARY_DOM_INFO, LSAPR_POLICY_ACCOUNT_DOM_INFO)
-value_of arm.Place = made (λ x. info.Place x.0 x.1) place_in (whole (join text sid_pointer))
+value_of arm.Place = made (λ (name, sid). info.Place name sid) place_in (whole (join text sid_pointer))
 
 -- ---- what is set
 

@@ -105,23 +105,25 @@ plain_outs plainly.HandleBack = made outs.Handle handle_out handle
 -- OutVersion, OutRevisionInfo, ServerHandle
 plain_outs plainly.Connected = ignored tt revision_answered (made outs.Handle handle_out handle)
 -- a handle, and the relative identifier of the new account
-plain_outs plainly.Created = made (λ x. outs.Created x.0 0 x.1) created_out (chain handle (λ _. u32))
+plain_outs plainly.Created = made (λ (h, rid). outs.Created h 0 rid) created_out (chain handle (λ _. u32))
 -- UserHandle, GrantedAccess, RelativeId
 plain_outs plainly.Granted =
-    made (λ x. outs.Created x.0 x.1.0 x.1.1) granted_out (chain handle (λ _. chain u32 (λ _. u32)))
+    made (λ (h, (granted, rid)). outs.Created h granted rid) granted_out (chain handle (λ _. chain u32 (λ _. u32)))
 -- a pointer to a SID
 plain_outs plainly.Sid = made outs.OneSid sid_out (whole (pointer_to sid))
 
 unfoldable pub listed_outs : Listed → Codec Outs
 -- EnumerationContext, Buffer, CountReturned, which isn't looked at
-listed_outs listed.Page = made (λ x. outs.Page x.0 x.1.0) page_out (chain u32 (λ _. chain rid_names (λ _. u32)))
+listed_outs listed.Page =
+    made (λ (context, (entries, _)). outs.Page context entries) page_out (chain u32 (λ _. chain rid_names (λ _. u32)))
 -- Membership
 listed_outs listed.Rids = made outs.RidList rids_out (rid_list any)
 -- RelativeIds, Use
-listed_outs listed.RidUses = made (λ x. outs.RidUses x.0 x.1) rid_uses_out (chain (rid_list any) (λ _. rid_list any))
+listed_outs listed.RidUses =
+    made (λ (rids, uses). outs.RidUses rids uses) rid_uses_out (chain (rid_list any) (λ _. rid_list any))
 -- Names, Use
 listed_outs listed.NameUses =
-    made (λ x. outs.NameUses x.0 x.1) name_uses_out (chain (text_list any) (λ _. rid_list any))
+    made (λ (names, uses). outs.NameUses names uses) name_uses_out (chain (text_list any) (λ _. rid_list any))
 -- Groups: a pointer to SAMPR_GET_GROUPS_BUFFER (MS-SAMR 2.2.3.13)
 listed_outs listed.Groups = made outs.Pairs pairs_out (whole (pointer_to (list_of any rid_bits)))
 -- Members: a pointer to SAMPR_GET_MEMBERS_BUFFER
@@ -143,7 +145,7 @@ unfoldable pub with_status : Codec Outs → Codec Reply
 with_status o = made done_of parts_of_reply (chain o (λ _. u32))
 
 unfoldable pub shown_outs : Subject → Codec Outs
-shown_outs s = made (λ x. outs.Shown x.0 x.1) shown_out (class_shown s)
+shown_outs s = made (λ (class, value). outs.Shown class value) shown_out (class_shown s)
 
 unfoldable pub reply_stub : Wire → Outputs → Codec Reply
 reply_stub w (outputs.Plain p) = with_status (plain_outs p)

@@ -1,8 +1,7 @@
 // The fields of calls behind their handles.
 ghost use Rattle.std.specs.Prelude.{◌≡◌, All, OnOk};
-ghost use Rattle.ndr_core.specs.Parts.{array, whole};
 ghost use Rattle.acct_stubs.specs.Arguments.{arguments, plain_args, searched, sought};
-ghost use Rattle.ndr_types.specs.Outcomes.{Yields};
+ghost use Rattle.ndr_types.specs.Outcomes.{ReadsIfRoom};
 
 use crate::NoMemory;
 use crate::infos::{read_class_set, write_class_set};
@@ -12,14 +11,14 @@ use acct_calls::{Args, Names};
 use acct_layouts::{Fields, Plain, Search};
 use ndr_core::{In, NdrError, Out};
 use ndr_types::{
-    Embedded, read_heads, read_sid, read_sid_list, read_tails, read_text, write_heads, write_sid,
+    Embedded, read_array, read_sid, read_sid_list, read_text, write_heads, write_sid,
     write_sid_list, write_tails, write_text,
 };
 use std::alloc::Global;
 
 #[tactic(auto, unfolding(crate::specs::Arguments::plain_args))]
 fn read_plain(alloc: Global, from: &mut In<'_>, layout: Plain) -> Result<Args, NdrError>
-    ensures { Yields result from.new ((plain_args layout).read from.old) }
+    ensures { ReadsIfRoom result from.new ((plain_args layout).read from.old) }
 {
     match layout {
         Plain::Nothing => Ok(Args::Nothing),
@@ -79,18 +78,10 @@ fn write_plain(to: &mut Out, layout: Plain, args: &Args) -> Result<(), NoMemory>
     }
 }
 
-/// An array of so many.
-fn read_array<X: Embedded>(alloc: Global, from: &mut In<'_>, count: u32) -> Result<Seq<X>, NdrError>
-    ensures { Yields result from.new ((whole (array count X.part)).read from.old) }
-{
-    let heads = read_heads::<X>(alloc, from, count)?;
-    read_tails(alloc, from, heads.as_slice())
-}
-
 /// A count of at most 1,000, and a conformant varying array of so many.
 #[tactic(auto, unfolding(crate::specs::Arguments::sought))]
 fn read_sought<X: Embedded>(alloc: Global, from: &mut In<'_>) -> Result<Seq<X>, NdrError>
-    ensures { Yields result from.new ((sought X.part).read from.old) }
+    ensures { ReadsIfRoom result from.new ((sought X.part).read from.old) }
 {
     let count = from.u32()?;
     if count > 1000 {
@@ -126,7 +117,7 @@ fn write_sought<X: Embedded>(to: &mut Out, values: &[X]) -> Result<(), NoMemory>
 
 #[tactic(auto, unfolding(crate::specs::Arguments::searched))]
 fn read_searched(alloc: Global, from: &mut In<'_>, layout: Search) -> Result<Args, NdrError>
-    ensures { Yields result from.new ((searched layout).read from.old) }
+    ensures { ReadsIfRoom result from.new ((searched layout).read from.old) }
 {
     match layout {
         Search::Page => {
@@ -163,7 +154,7 @@ fn read_searched(alloc: Global, from: &mut In<'_>, layout: Search) -> Result<Arg
     }
 }
 
-#[tactic(auto, using(crate::proofs::Asked::sids_counted, crate::proofs::Asked::sought_short), unfolding(crate::specs::Arguments::searched))]
+#[tactic(auto, using(crate::proofs::Asked::sids_counted, crate::proofs::Asked::sought_short), unfolding(crate::specs::Arguments::searched),)]
 fn write_searched(to: &mut Out, layout: Search, args: &Args) -> Result<(), NoMemory>
     requires { (searched layout).Fits args.now }
     ensures { OnOk result (to.new ≡ (searched layout).write args.now to.old) }
@@ -206,7 +197,7 @@ pub fn read_arguments<I: Interface>(
     from: &mut In<'_>,
     fields: Fields,
 ) -> Result<Args, NdrError>
-    ensures { Yields result from.new ((arguments I.wire fields).read from.old) }
+    ensures { ReadsIfRoom result from.new ((arguments I.wire fields).read from.old) }
 {
     match fields {
         Fields::Plain(plain) => read_plain(alloc, from, plain),

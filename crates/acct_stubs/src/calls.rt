@@ -1,8 +1,8 @@
 // Calls as stubs.
 ghost use Rattle.std.specs.Prelude.{◌≡◌, IfOk, OnOk, Ok};
-ghost use Rattle.ndr_types.specs.Outcomes.{Yields};
+ghost use Rattle.ndr_types.specs.Outcomes.{ReadsIfRoom};
 ghost use Rattle.acct_calls.specs.declared.calls.Call.{Call};
-ghost use Rattle.acct_stubs.specs.Calls.{Answers, IsCallOf, IsServed, Spells, call_at, class_behind, is_withheld};
+ghost use Rattle.acct_stubs.specs.Calls.{ReadsStub, IsCallOf, IsServed, Spells, call_at, class_behind, is_withheld};
 ghost use Rattle.acct_stubs.specs.Calls.{carries_password, spell, stub_of};
 
 use crate::arguments::{read_arguments, write_arguments};
@@ -46,7 +46,7 @@ fn read_stub<I: Interface>(
     from: &mut In<'_>,
     fields: Fields,
 ) -> Result<(Handle, Args), NdrError>
-    ensures { Yields result from.new ((stub_of I.wire fields).read from.old) }
+    ensures { ReadsIfRoom result from.new ((stub_of I.wire fields).read from.old) }
 {
     let handle = match fields {
         Fields::Connect(_) => Handle { number: 0 },
@@ -58,7 +58,7 @@ fn read_stub<I: Interface>(
 
 #[tactic(auto, unfolding(crate::specs::Calls::call_at))]
 fn call_in<I: Interface>(alloc: Global, opnum: u16, stub: &[u8]) -> Result<Call, WireError>
-    ensures { Answers result (call_at I.wire opnum stub.now) }
+    ensures { ReadsStub result (call_at I.wire opnum stub.now) }
 {
     let face = I::face();
     let Some(layout) = layout_of(face, opnum) else {
@@ -89,9 +89,9 @@ pub fn read_call<I: Interface>(alloc: Global, opnum: u16, stub: &[u8]) -> Result
         (λ call. (call.opnum ≡ opnum) × IsServed I.wire opnum stub.now × Spells I.wire call stub.now) }
     // What is served and spelled is read, unless there is no memory.
     ensures only { (call : Call) → call.opnum ≡ opnum → IsServed I.wire opnum stub.now → Spells I.wire call stub.now
-        → Answers result (Ok call) }
+        → ReadsStub result (Ok call) }
     // Why there is no call.
-    ensures exact { Answers result (call_at I.wire opnum stub.now) }
+    ensures exact { ReadsStub result (call_at I.wire opnum stub.now) }
     // What is read can be written.
     ensures spelled { IfOk result (λ call. IsCallOf I.wire call) }
 {

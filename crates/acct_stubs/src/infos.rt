@@ -1,7 +1,7 @@
 // Classes of information.
 ghost use Rattle.std.specs.Prelude.{◌≡◌, OnOk, false};
-ghost use Rattle.ndr_core.specs.Cursor.{Gives};
-ghost use Rattle.ndr_types.specs.Outcomes.{Yields};
+ghost use Rattle.ndr_core.specs.Cursor.{Reads};
+ghost use Rattle.ndr_types.specs.Outcomes.{ReadsIfRoom};
 ghost use Rattle.acct_layouts.specs.Classes.{is_password_class, set_arm, shown_arm};
 ghost use Rattle.acct_stubs.specs.Infos.{class_set, class_shown, empty_text, value_of};
 
@@ -15,7 +15,7 @@ use std::alloc::Global;
 
 #[tactic(auto, unfolding(crate::specs::Infos::empty_text))]
 fn read_empty_head(from: &mut In<'_>) -> Result<(u16, bool), NdrError>
-    ensures { Gives result from.new (empty_text.head.read from.old) }
+    ensures { Reads result from.new (empty_text.head.read from.old) }
 {
     let length = from.u16()?;
     if length != 0 {
@@ -28,7 +28,7 @@ fn read_empty_head(from: &mut In<'_>) -> Result<(u16, bool), NdrError>
 
 #[tactic(auto, unfolding(crate::specs::Infos::empty_text, ndr_types::specs::Texts::text))]
 fn read_empty_tail(alloc: Global, from: &mut In<'_>, head: &(u16, bool)) -> Result<(), NdrError>
-    ensures { Yields result from.new ((empty_text.tail head.now).read from.old) }
+    ensures { ReadsIfRoom result from.new ((empty_text.tail head.now).read from.old) }
 {
     Name::read_tail(alloc, from, head)?;
     Ok(())
@@ -45,7 +45,7 @@ fn write_empty_head(to: &mut Out) -> Result<(), NoMemory>
 
 #[tactic(auto, unfolding(crate::specs::Infos::value_of))]
 fn read_two_texts(alloc: Global, from: &mut In<'_>) -> Result<Info, NdrError>
-    ensures { Yields result from.new ((value_of Arm.TwoTexts).read from.old) }
+    ensures { ReadsIfRoom result from.new ((value_of Arm.TwoTexts).read from.old) }
 {
     let name = Name::read_head(from)?;
     let full_name = Name::read_head(from)?;
@@ -56,7 +56,7 @@ fn read_two_texts(alloc: Global, from: &mut In<'_>) -> Result<Info, NdrError>
 
 #[tactic(auto, unfolding(crate::specs::Infos::value_of))]
 fn read_group(alloc: Global, from: &mut In<'_>) -> Result<Info, NdrError>
-    ensures { Yields result from.new ((value_of Arm.Group).read from.old) }
+    ensures { ReadsIfRoom result from.new ((value_of Arm.Group).read from.old) }
 {
     let name = Name::read_head(from)?;
     let attributes = from.u32()?;
@@ -69,7 +69,7 @@ fn read_group(alloc: Global, from: &mut In<'_>) -> Result<Info, NdrError>
 
 #[tactic(auto, unfolding(crate::specs::Infos::value_of))]
 fn read_alias(alloc: Global, from: &mut In<'_>) -> Result<Info, NdrError>
-    ensures { Yields result from.new ((value_of Arm.Alias).read from.old) }
+    ensures { ReadsIfRoom result from.new ((value_of Arm.Alias).read from.old) }
 {
     let name = Name::read_head(from)?;
     let members = from.u32()?;
@@ -81,7 +81,7 @@ fn read_alias(alloc: Global, from: &mut In<'_>) -> Result<Info, NdrError>
 
 #[tactic(auto, unfolding(crate::specs::Infos::value_of))]
 fn read_user(alloc: Global, from: &mut In<'_>) -> Result<Info, NdrError>
-    ensures { Yields result from.new ((value_of Arm.User).read from.old) }
+    ensures { ReadsIfRoom result from.new ((value_of Arm.User).read from.old) }
 {
     let name = Name::read_head(from)?;
     let full_name = Name::read_head(from)?;
@@ -97,7 +97,7 @@ fn read_user(alloc: Global, from: &mut In<'_>) -> Result<Info, NdrError>
 
 #[tactic(auto, unfolding(crate::specs::Infos::value_of))]
 fn read_place(alloc: Global, from: &mut In<'_>) -> Result<Info, NdrError>
-    ensures { Yields result from.new ((value_of Arm.Place).read from.old) }
+    ensures { ReadsIfRoom result from.new ((value_of Arm.Place).read from.old) }
 {
     let name = Name::read_head(from)?;
     let sid = Sid::read_head(from)?;
@@ -108,7 +108,7 @@ fn read_place(alloc: Global, from: &mut In<'_>) -> Result<Info, NdrError>
 
 #[tactic(auto, unfolding(crate::specs::Infos::value_of))]
 fn read_value(alloc: Global, from: &mut In<'_>, arm: Arm) -> Result<Info, NdrError>
-    ensures { Yields result from.new ((value_of arm).read from.old) }
+    ensures { ReadsIfRoom result from.new ((value_of arm).read from.old) }
 {
     match arm {
         Arm::Number => {
@@ -127,7 +127,7 @@ fn read_value(alloc: Global, from: &mut In<'_>, arm: Arm) -> Result<Info, NdrErr
     }
 }
 
-#[tactic(auto, using(crate::proofs::Asked::short_text, crate::proofs::Asked::short_part), unfolding(crate::specs::Infos::value_of, crate::specs::Infos::empty_text))]
+#[tactic(auto, using(crate::proofs::Asked::short_text, crate::proofs::Asked::short_part), unfolding(crate::specs::Infos::value_of, crate::specs::Infos::empty_text),)]
 fn write_value(to: &mut Out, arm: Arm, value: &Info) -> Result<(), NoMemory>
     requires { (value_of arm).Fits value.now }
     ensures { OnOk result (to.new ≡ (value_of arm).write value.now to.old) }
@@ -183,7 +183,7 @@ pub fn read_class_set(
     from: &mut In<'_>,
     subject: Subject,
 ) -> Result<(u16, Info), NdrError>
-    ensures { Yields result from.new ((class_set subject).read from.old) }
+    ensures { ReadsIfRoom result from.new ((class_set subject).read from.old) }
 {
     let class = from.u16()?;
     let Some(arm) = set_arm(subject, class) else {
@@ -224,7 +224,7 @@ pub fn read_class_shown(
     from: &mut In<'_>,
     subject: Subject,
 ) -> Result<(u16, Option<Info>), NdrError>
-    ensures { Yields result from.new ((class_shown subject).read from.old) }
+    ensures { ReadsIfRoom result from.new ((class_shown subject).read from.old) }
 {
     if !from.pointer()? {
         return Ok((0, None));

@@ -1,6 +1,6 @@
 // What an interface adds to the stubs of both.
 ghost use Rattle.std.specs.Prelude.{◌≡◌, true, OnOk};
-ghost use Rattle.ndr_types.specs.Outcomes.{Yields};
+ghost use Rattle.ndr_types.specs.Outcomes.{ReadsIfRoom};
 ghost use Rattle.acct_stubs.specs.Lawful.{IsLawful};
 ghost use Rattle.acct_stubs.specs.Shared.{own_outputs};
 ghost use Rattle.acct_stubs.specs.Wire.{Wire};
@@ -20,14 +20,14 @@ pub trait Interface {
         ensures { result ≡ wire.face };
 
     fn read_fields(alloc: Global, from: &mut In<'_>, fields: Fields) -> Result<Args, NdrError>
-        ensures { Yields result from.new ((wire.fields fields).read from.old) };
+        ensures { ReadsIfRoom result from.new ((wire.fields fields).read from.old) };
 
     fn write_fields(to: &mut Out, fields: Fields, args: &Args) -> Result<(), NoMemory>
         requires { (wire.fields fields).Fits args.now }
         ensures { OnOk result (to.new ≡ (wire.fields fields).write args.now to.old) };
 
     fn read_reply(alloc: Global, from: &mut In<'_>, outputs: Outputs) -> Result<Reply, NdrError>
-        ensures { Yields result from.new ((wire.replies outputs).read from.old) };
+        ensures { ReadsIfRoom result from.new ((wire.replies outputs).read from.old) };
 
     /// An interface that has no such outputs may be asked, and writes nothing.
     fn write_reply(to: &mut Out, outputs: Outputs, reply: &Reply) -> Result<(), NoMemory>

@@ -4,7 +4,7 @@ ghost use Rattle.ndr_core.specs.Parts.{times, whole};
 ghost use Rattle.ndr_core.specs.Shapes.{u32};
 ghost use Rattle.acct_layouts.specs.Bounds.{IfThere, IsListed};
 ghost use Rattle.ndr_types.specs.Bounds.{AnyValue};
-ghost use Rattle.ndr_types.specs.Outcomes.{Yields};
+ghost use Rattle.ndr_types.specs.Outcomes.{ReadsIfRoom};
 ghost use Rattle.acct_stubs.specs.Members.{bits_of, members, members_buffer, numbers, paired, rid_of};
 
 use crate::NoMemory;
@@ -16,7 +16,7 @@ use std::alloc::Global;
 
 /// So many numbers, where their pointer isn't null.
 fn read_numbers(alloc: Global, from: &mut In<'_>, count: u32, there: bool) -> Result<Rids, NdrError>
-    ensures { Yields result from.new ((numbers count there).read from.old) }
+    ensures { ReadsIfRoom result from.new ((numbers count there).read from.old) }
 {
     if !there {
         return Ok(Seq::new(alloc));
@@ -41,7 +41,7 @@ fn pair(alloc: Global, rids: &[u32], attributes: &[u32]) -> Result<RidBitsList, 
 
 #[tactic(auto, unfolding(crate::specs::Members::members_buffer))]
 fn read_buffer(alloc: Global, from: &mut In<'_>) -> Result<RidBitsList, NdrError>
-    ensures { Yields result from.new ((whole members_buffer).read from.old) }
+    ensures { ReadsIfRoom result from.new ((whole members_buffer).read from.old) }
 {
     let count = from.u32()?;
     let rids_there = from.pointer()?;
@@ -61,7 +61,7 @@ fn read_buffer(alloc: Global, from: &mut In<'_>) -> Result<RidBitsList, NdrError
 /// The members of a group, or none where the pointer is null.
 #[tactic(auto, unfolding(crate::specs::Members::members))]
 pub fn read_members(alloc: Global, from: &mut In<'_>) -> Result<Option<RidBitsList>, NdrError>
-    ensures { Yields result from.new (members.read from.old) }
+    ensures { ReadsIfRoom result from.new (members.read from.old) }
 {
     if !from.pointer()? {
         return Ok(None);

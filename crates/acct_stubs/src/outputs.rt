@@ -1,7 +1,7 @@
 // The outputs of replies.
 ghost use Rattle.std.specs.Prelude.{◌≡◌, OnOk};
-ghost use Rattle.ndr_core.specs.Cursor.{Gives};
-ghost use Rattle.ndr_types.specs.Outcomes.{Yields};
+ghost use Rattle.ndr_core.specs.Cursor.{Reads};
+ghost use Rattle.ndr_types.specs.Outcomes.{ReadsIfRoom};
 ghost use Rattle.acct_stubs.specs.Outputs.{listed_outs, plain_outs, reply_stub, revision_answered, shown_outs};
 
 use crate::NoMemory;
@@ -20,7 +20,7 @@ use std::alloc::Global;
 
 #[tactic(auto, unfolding(crate::specs::Outputs::revision_answered))]
 fn read_revision(from: &mut In<'_>) -> Result<(), NdrError>
-    ensures { Gives result from.new (revision_answered.read from.old) }
+    ensures { Reads result from.new (revision_answered.read from.old) }
 {
     if from.u32()? != 1 {
         return Err(from.broken(4));
@@ -49,7 +49,7 @@ fn write_revision(to: &mut Out) -> Result<(), NoMemory>
 
 #[tactic(auto, unfolding(crate::specs::Outputs::plain_outs))]
 fn read_plainly(from: &mut In<'_>, layout: Plainly) -> Result<Outs, NdrError>
-    ensures { Gives result from.new ((plain_outs layout).read from.old) }
+    ensures { Reads result from.new ((plain_outs layout).read from.old) }
 {
     match layout {
         Plainly::Nothing => Ok(Outs::Nothing),
@@ -131,7 +131,7 @@ fn write_plainly(to: &mut Out, layout: Plainly, outs: &Outs) -> Result<(), NoMem
 
 #[tactic(auto, unfolding(crate::specs::Outputs::listed_outs))]
 fn read_listed(alloc: Global, from: &mut In<'_>, layout: Listed) -> Result<Outs, NdrError>
-    ensures { Yields result from.new ((listed_outs layout).read from.old) }
+    ensures { ReadsIfRoom result from.new ((listed_outs layout).read from.old) }
 {
     match layout {
         Listed::Page => {
@@ -172,7 +172,7 @@ fn read_listed(alloc: Global, from: &mut In<'_>, layout: Listed) -> Result<Outs,
     }
 }
 
-#[tactic(auto, using(crate::proofs::Asked::accounts_listed, crate::proofs::Asked::texts_listed, crate::proofs::Asked::sids_counted, crate::proofs::Asked::rids_counted, crate::proofs::Asked::members_listed, crate::proofs::Asked::members_counted), unfolding(crate::specs::Outputs::listed_outs))]
+#[tactic(auto, using(crate::proofs::Asked::accounts_listed, crate::proofs::Asked::texts_listed, crate::proofs::Asked::sids_counted, crate::proofs::Asked::rids_counted, crate::proofs::Asked::members_listed, crate::proofs::Asked::members_counted,), unfolding(crate::specs::Outputs::listed_outs),)]
 fn write_listed(to: &mut Out, layout: Listed, outs: &Outs) -> Result<(), NoMemory>
     requires { (listed_outs layout).Fits outs.now }
     ensures { OnOk result (to.new ≡ (listed_outs layout).write outs.now to.old) }
@@ -209,7 +209,7 @@ fn write_listed(to: &mut Out, layout: Listed, outs: &Outs) -> Result<(), NoMemor
 
 #[tactic(auto, unfolding(crate::specs::Outputs::shown_outs))]
 fn read_shown(alloc: Global, from: &mut In<'_>, subject: Subject) -> Result<Outs, NdrError>
-    ensures { Yields result from.new ((shown_outs subject).read from.old) }
+    ensures { ReadsIfRoom result from.new ((shown_outs subject).read from.old) }
 {
     let (class, value) = read_class_shown(alloc, from, subject)?;
     Ok(Outs::Shown { class, value })
@@ -233,7 +233,7 @@ pub fn read_done<I: Interface>(
     from: &mut In<'_>,
     outputs: Outputs,
 ) -> Result<Reply, NdrError>
-    ensures { Yields result from.new ((reply_stub I.wire outputs).read from.old) }
+    ensures { ReadsIfRoom result from.new ((reply_stub I.wire outputs).read from.old) }
 {
     let outs = match outputs {
         Outputs::Plain(plain) => read_plainly(from, plain)?,

@@ -1,16 +1,16 @@
 // The name of the server, which isn't looked at.
 ghost use Rattle.std.specs.Prelude.{◌≡◌, OnOk};
-ghost use Rattle.ndr_core.specs.Cursor.{Gives};
+ghost use Rattle.ndr_core.specs.Cursor.{Reads};
 ghost use Rattle.ndr_core.specs.Shapes.{u16};
 ghost use Rattle.ndr_core.specs.Parts.{times};
-ghost use Rattle.acct_stubs.specs.ServerNames.{Passes, server_name};
+ghost use Rattle.acct_stubs.specs.ServerNames.{ReadsPast, server_name};
 
 use crate::NoMemory;
 use ndr_core::{In, NdrError, Out};
 
 /// Passes over the units of a text.
 fn skip_units(from: &mut In<'_>, count: u32) -> Result<(), NdrError>
-    ensures { Passes result from.new ((times count u16).read from.old) }
+    ensures { ReadsPast result from.new ((times count u16).read from.old) }
 {
     for _ in 0..count {
         from.u16()?;
@@ -21,7 +21,7 @@ fn skip_units(from: &mut In<'_>, count: u32) -> Result<(), NdrError>
 /// Passes over the name of the server.
 #[tactic(auto, unfolding(crate::specs::ServerNames::server_name))]
 pub fn read_server_name(from: &mut In<'_>) -> Result<(), NdrError>
-    ensures { Gives result from.new (server_name.read from.old) }
+    ensures { Reads result from.new (server_name.read from.old) }
 {
     if !from.pointer()? {
         return Ok(());

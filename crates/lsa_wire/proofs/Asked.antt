@@ -51,14 +51,6 @@ short_or_none name h = short_there name ((text_pointer_values name).0 h)
 
 -- ---- lists
 
-pub sids_counted : (most : ℕ) (sids : List SidValue) → (sid_list most).Fits sids → length sids < 2 ^ 32
-sids_counted most sids h = ((list_values most sid_pointer sid_pointer_has sids).0 h).1
-
-pub texts_listed : (most : ℕ) (names : List (List ℕ)) → (text_list most).Fits names → IsListed IsShort names
-texts_listed most names h =
-    let k = (list_values most text text_has names).0 h in
-    (k.1, all_as {P = IsText} {Q = IsShort} names (λ us is. is.0) k.2)
-
 pub privileges_listed : (entries : List RidName) → privilege_names.Fits entries → IsListed HasShortName entries
 privileges_listed entries h =
     let k = (privilege_names_values entries).0 h in

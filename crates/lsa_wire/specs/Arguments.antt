@@ -4,7 +4,7 @@
 use Rattle.std.specs.Prelude.{ℕ, Bool, true, false, Option, Some, None, List, [], length, nat_le, ◌==◌}
 use Rattle.ndr_core.specs.Codec.{Codec}
 use Rattle.ndr_core.specs.Cursor.{is_there}
-use Rattle.ndr_core.specs.Shapes.{u8, u16, u32, u32_such, unspelled, chain, made, led_by, ignored}
+use Rattle.ndr_core.specs.Shapes.{u8, u16, u32, u32_such, unspelled, chain, made, led_by, ignored, followed}
 use Rattle.ndr_core.specs.Parts.{Part, whole, array}
 use Rattle.dtyp_sid.specs.Value.{SidValue}
 use Rattle.acct_calls.specs.declared.calls.Args.{Args}
@@ -81,7 +81,8 @@ sids_in _ = ([], 0)
 unfoldable pub connect_args : Connect → Codec Args
 -- LsarOpenPolicy2: SystemName, ObjectAttributes, DesiredAccess
 connect_args connect.OpenPolicy2 =
-    ignored tt server_name (made (λ x. args.Policy x.0 x.1) opening_in (chain object_attributes (λ _. u32)))
+    ignored tt server_name (made (λ (rooted, access). args.Policy rooted access) opening_in
+    (chain object_attributes (λ _. u32)))
 connect_args _ = unspelled
 
 abbrev pub flag_number : Bool → ℕ
@@ -94,27 +95,23 @@ flag = made is_there flag_number u8
 
 unfoldable pub policy_args : PolicyFields → Codec Args
 -- AccountSid, DesiredAccess
-policy_args policy.Account = made (λ x. args.AccessSid x.1 x.0) account_in (chain sid (λ _. u32))
+policy_args policy.Account = made (λ (s, access). args.AccessSid access s) account_in (chain sid (λ _. u32))
 -- Privileges
 policy_args policy.AddPrivileges = made (λ privileges. args.Privileges false (Some privileges)) added_in privilege_set
 -- AllPrivileges, Privileges
 policy_args policy.RemovePrivileges =
-    made (λ x. args.Privileges x.0 x.1) removed_in (chain flag (λ _. privilege_set_pointer))
+    made (λ (all, privileges). args.Privileges all privileges) removed_in (chain flag (λ _. privilege_set_pointer))
 -- SystemAccess
 policy_args policy.SystemAccess = made args.Bits bits_in u32
 -- Value
-policy_args policy.Luid = made (λ x. args.Luid x.0 x.1) luid_in (chain u32 (λ _. u32))
+policy_args policy.Luid = made (λ (low, high). args.Luid low high) luid_in (chain u32 (λ _. u32))
 -- UserRight
 policy_args policy.Right = made args.OneName right_in text_pointer
 -- AccountSid, UserRights
-policy_args policy.AddRights = made (λ x. args.Rights x.0 false x.1) rights_in (chain sid (λ _. text_list 256))
+policy_args policy.AddRights = made (λ (s, names). args.Rights s false names) rights_in (chain sid (λ _. text_list 256))
 -- AccountSid, AllRights, UserRights
 policy_args policy.RemoveRights =
-    made (λ x. args.Rights x.0 x.1.0 x.1.1) all_rights_in (chain sid (λ _. chain flag (λ _. text_list 256)))
-
--- a value, and behind it a field that isn't kept, written as w
-abbrev pub followed : {A B : Type 0} → B → Codec B → Codec A → Codec A
-followed w b a = made (λ x. x.0) (λ x. (x, w)) (chain a (λ _. b))
+    made (λ (s, (all, names)). args.Rights s all names) all_rights_in (chain sid (λ _. chain flag (λ _. text_list 256)))
 
 -- A count of at most so many, and a conformant array: the same count, and so many.
 unfoldable pub counted : {S A : Type 0} → ℕ → Part S A → Codec (List A)
@@ -126,12 +123,12 @@ unfoldable pub translation_args : Translation → Codec Args
 -- Count, Names, TranslatedSids, LookupLevel, MappedCount; of the translations and the last count nothing is kept
 translation_args translation.Names =
     made
-    (λ x. args.LookNames x.1 x.0)
+    (λ (names, level). args.LookNames level names)
     names_in (chain (counted 1000 text) (λ _. ignored [] (translated_sids 1000) (followed 0 u32 u16)))
 -- SidEnumBuffer, TranslatedNames, LookupLevel, MappedCount
 translation_args translation.Sids =
     made
-    (λ x. args.LookSids x.1 x.0)
+    (λ (sids, level). args.LookSids level sids)
     sids_in (chain (sid_list 20480) (λ _. ignored [] (translated_names 20480) (followed 0 u32 u16)))
 
 -- behind the handle, if the operation takes one

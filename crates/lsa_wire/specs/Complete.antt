@@ -7,10 +7,10 @@ use Rattle.std.proofs.lemmas.Bool.{eqb-true}
 use Rattle.std.proofs.lemmas.List.Elements.{All-nil}
 use Rattle.ndr_core.specs.Cursor.{is_there}
 use Rattle.ndr_core.specs.Codec.{Codec}
-use Rattle.ndr_core.specs.Shapes.{u16, u32, u32_such, ignored, unspelled}
+use Rattle.ndr_core.specs.Shapes.{followed, u16, u32, u32_such, ignored}
 use Rattle.ndr_core.specs.Parts.{Part, whole, array, flat}
 use Rattle.ndr_core.proofs.Complete.{IsComplete, u8_complete, u16_complete, u32_complete, such_complete, chain_complete}
-use Rattle.ndr_core.proofs.Complete.{made_complete, led_by_complete, ignored_complete, ignored_same}
+use Rattle.ndr_core.proofs.Complete.{made_complete, led_by_complete, followed_complete, ignored_complete, ignored_same}
 use Rattle.acct_calls.specs.declared.calls.Args.TheVariants as args
 use Rattle.acct_layouts.specs.declared.fields.Connect.{Connect}
 use Rattle.acct_layouts.specs.declared.fields.Connect.TheVariants as connect
@@ -30,20 +30,13 @@ use Rattle.ndr_types.proofs.Records.{privilege_set_complete}
 use Rattle.ndr_types.proofs.ShapeValues.{list_complete, list_values}
 use Rattle.ndr_types.proofs.Sids.{sid_complete, sid_pointer_has}
 use Rattle.ndr_types.proofs.Texts.{text_has}
-use Rattle.lsa_wire.specs.Arguments.{connect_args, flag, flag_number, policy_args, followed, counted, translation_args}
+use Rattle.lsa_wire.specs.Arguments.{connect_args, flag, flag_number, policy_args, counted, translation_args}
 use Rattle.lsa_wire.specs.Arguments.{own_fields, opening_in, account_in, added_in, removed_in, bits_in, luid_in}
 use Rattle.lsa_wire.specs.Arguments.{right_in, rights_in, all_rights_in, names_in, sids_in}
 use Rattle.lsa_wire.specs.ObjectAttributes.{object_attributes}
-use Rattle.acct_stubs.specs.ServerNames.{server_name}
-
-pub unspelled_complete : {A : Type 0} → IsComplete (unspelled {A = A})
-unspelled_complete = record { fits = λ x c d bytes h. absurd h }
+use Rattle.acct_stubs.proofs.Complete.{server_name_complete, server_name_fits, unspelled_complete}
 
 -- ---- the opening of the policy
-
-pub server_name_fits : server_name.Fits tt
-unfolding server_name
-server_name_fits = (((tt, refl), refl), refl)
 
 pub attributes_fit : (rooted : Bool) → object_attributes.Fits rooted
 unfolding object_attributes
@@ -64,9 +57,6 @@ attributes_fit false = (
 
 attributes_complete : IsComplete object_attributes
 attributes_complete = record { fits = λ rooted c d bytes h. attributes_fit rooted }
-
-server_name_complete : IsComplete server_name
-server_name_complete = record { fits = λ u c d bytes h. server_name_fits }
 
 connect_complete : (c : Connect) → IsComplete (connect_args c)
 unfolding connect_args
@@ -139,9 +129,7 @@ counted_complete {A = A} most p q =
     ))
 
 level_complete : IsComplete (followed 0 u32 u16)
-level_complete =
-    made_complete (λ x. x.0) (λ x. (x, 0)) (chain_complete u16_complete (λ x h. u32_complete))
-    (λ x h. ((h.0, lit< tt), refl))
+level_complete = followed_complete 0 u16_complete u32_complete (lit< tt)
 
 pub no_sids_fit : (translated_sids 1000).Fits []
 no_sids_fit = (list_values 1000 (flat translated_sid) translated_sid_has []).1 (omega arith, lit< tt, All-nil _)

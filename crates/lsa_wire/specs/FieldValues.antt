@@ -27,7 +27,8 @@ use Rattle.ndr_types.proofs.Sids.{sid_fits, sid_kind, sid_pointer_has}
 use Rattle.ndr_types.proofs.Texts.{text_has}
 use Rattle.lsa_wire.specs.Arguments.{connect_args, flag, policy_args, counted, translation_args}
 use Rattle.lsa_wire.specs.Arguments.{own_fields}
-use Rattle.lsa_wire.specs.Complete.{server_name_fits, attributes_fit, no_sids_fit, no_names_fit}
+use Rattle.lsa_wire.specs.Complete.{attributes_fit, no_sids_fit, no_names_fit}
+use Rattle.acct_stubs.proofs.Complete.{server_name_fits}
 
 -- ---- the opening of the policy
 

@@ -1,6 +1,6 @@
 -- Reading goes onward: of each layout that this interface has alone, from the shapes that it is made of.
 use Rattle.std.proofs.Common.{ℕ, Bool, false, [], length, None, arith}
-use Rattle.ndr_core.specs.Shapes.{u8, u16, u32, pointer_such, unspelled}
+use Rattle.ndr_core.specs.Shapes.{followed, u8, u16, u32, pointer_such, unspelled}
 use Rattle.ndr_core.specs.Parts.{Part, array}
 use Rattle.acct_layouts.specs.declared.fields.Connect.{Connect}
 use Rattle.acct_layouts.specs.declared.fields.Connect.TheVariants as connect
@@ -16,42 +16,26 @@ use Rattle.acct_layouts.specs.declared.outputs.PolicyOutputs.{PolicyOutputs}
 use Rattle.acct_layouts.specs.declared.outputs.PolicyOutputs.TheVariants as outs
 use Rattle.ndr_types.specs.Accounts.{any}
 use Rattle.ndr_types.specs.Texts.{text}
-use Rattle.ndr_types.proofs.Onward.{Takes, TakesPart, any_size, takes_u8, takes_u16, takes_u32, takes_pointer}
+use Rattle.ndr_types.proofs.Onward.{Takes, TakesPart, any_size, long, short, takes_followed, takes_u8, takes_u16}
+use Rattle.ndr_types.proofs.Onward.{takes_u32}
+use Rattle.ndr_types.proofs.Onward.{takes_pointer}
 use Rattle.ndr_types.proofs.Onward.{takes_given, takes_such, takes_chain, takes_made, takes_led_by, takes_ignored}
 use Rattle.ndr_types.proofs.Onward.{takes_varying, takes_times, takes_whole, takes_array, takes_some, takes_pointer_to}
 use Rattle.ndr_types.proofs.Onward.{takes_text, sid_onward, sid_list_onward, text_list_onward, privilege_set_onward}
 use Rattle.ndr_types.proofs.Onward.{referenced_onward}
 use Rattle.ndr_types.proofs.OnwardEntries.{privilege_names_onward, privilege_set_pointer_onward, text_pointer_onward}
 use Rattle.ndr_types.proofs.OnwardEntries.{translated_names_onward, translated_sids_onward}
-use Rattle.lsa_wire.specs.Arguments.{connect_args, flag, policy_args, followed, counted, translation_args, own_fields}
+use Rattle.lsa_wire.specs.Arguments.{connect_args, flag, policy_args, counted, translation_args, own_fields}
 use Rattle.lsa_wire.specs.ObjectAttributes.{is_null, attributes_head, attributes_tail, quality, object_attributes}
 use Rattle.lsa_wire.specs.ObjectAttributes.{root_byte}
 use Rattle.acct_stubs.specs.Outputs.{with_status}
 use Rattle.lsa_wire.specs.Outputs.{policy_outs, translated, own_replies}
-use Rattle.acct_stubs.specs.ServerNames.{string, server_name}
-
-long : Takes 0 u32
-long = any_size 4 takes_u32
-
-short : Takes 0 u16
-short = any_size 2 takes_u16
+use Rattle.acct_stubs.proofs.Onward.{server_name_onward, takes_unspelled}
 
 small : Takes 0 u8
 small = any_size 1 takes_u8
 
-takes_unspelled : {A : Type 0} → Takes 0 (unspelled {A = A})
-takes_unspelled = record { onward = λ c. omega arith }
-
 -- ---- the opening of the policy
-
-string_onward : Takes 0 string
-string_onward =
-    takes_led_by 0 length long
-    (λ maximum. takes_led_by 0 length (any_size 4 (takes_varying maximum)) (λ actual. takes_times actual short))
-
-server_name_onward : Takes 0 server_name
-unfolding server_name
-server_name_onward = takes_made 0 _ _ (takes_whole _ (takes_pointer_to string string_onward))
 
 takes_null : Takes 0 (pointer_such is_null)
 takes_null = any_size 4 (takes_such 4 is_null takes_pointer)
@@ -114,7 +98,7 @@ counted_onward most p q =
     (takes_whole (array count p) (takes_array count p q)))
 
 level_onward : Takes 0 (followed 0 u32 u16)
-level_onward = takes_made 0 _ _ (takes_chain 0 short (λ x. long))
+level_onward = takes_followed 0 short long
 
 translation_onward : (t : Translation) → Takes 0 (translation_args t)
 unfolding translation_args

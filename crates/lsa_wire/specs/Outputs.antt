@@ -63,15 +63,17 @@ names_out _ = []
 unfoldable pub policy_outs : PolicyOutputs → Codec Outs
 -- EnumerationContext, EnumerationBuffer
 policy_outs policy.PrivilegePage =
-    made (λ x. outs.PrivilegePage x.0 x.1) privilege_page_out (chain u32 (λ _. privilege_names))
+    made (λ (context, entries). outs.PrivilegePage context entries) privilege_page_out
+    (chain u32 (λ _. privilege_names))
 -- EnumerationContext, EnumerationBuffer
-policy_outs policy.SidPage = made (λ x. outs.SidPage x.0 x.1) sid_page_out (chain u32 (λ _. sid_list any))
+policy_outs policy.SidPage =
+    made (λ (context, sids). outs.SidPage context sids) sid_page_out (chain u32 (λ _. sid_list any))
 -- Privileges
 policy_outs policy.Privileges = made outs.Privileges privileges_out privilege_set_pointer
 -- SystemAccess
 policy_outs policy.SystemAccess = made outs.Bits bits_out u32
 -- Value
-policy_outs policy.Luid = made (λ x. outs.Luid x.0 x.1) luid_out (chain u32 (λ _. u32))
+policy_outs policy.Luid = made (λ (low, high). outs.Luid low high) luid_out (chain u32 (λ _. u32))
 -- Name
 policy_outs policy.Name = made outs.OneName name_out text_pointer
 -- UserRights
@@ -88,7 +90,7 @@ abbrev pub TranslatedParts : Type 0 → Type 0
 TranslatedParts A = Option (List Place) × (List A × (ℕ × ℕ))
 
 abbrev pub sids_done : TranslatedParts TranslatedSid → Reply
-sids_done x = reply.Done x.1.1.1 (outs.Sids (or_empty x.0) x.1.0 x.1.1.0)
+sids_done = λ (domains, (entries, (mapped, status))). reply.Done status (outs.Sids (or_empty domains) entries mapped)
 
 abbrev pub sids_parts : Reply → TranslatedParts TranslatedSid
 sids_parts (reply.Done status (outs.Sids domains entries mapped)) =
@@ -96,7 +98,7 @@ sids_parts (reply.Done status (outs.Sids domains entries mapped)) =
 sids_parts _ = (None, ([], (0, 0)))
 
 abbrev pub names_done : TranslatedParts TranslatedName → Reply
-names_done x = reply.Done x.1.1.1 (outs.Names (or_empty x.0) x.1.0 x.1.1.0)
+names_done = λ (domains, (entries, (mapped, status))). reply.Done status (outs.Names (or_empty domains) entries mapped)
 
 abbrev pub names_parts : Reply → TranslatedParts TranslatedName
 names_parts (reply.Done status (outs.Names domains entries mapped)) =

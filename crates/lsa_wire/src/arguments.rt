@@ -1,10 +1,9 @@
 // The fields of calls behind their handles.
 ghost use Rattle.std.specs.Prelude.{◌≡◌, ◌<◌, ◌^◌, ℕ, [], All, OnOk, length};
-ghost use Rattle.ndr_core.specs.Cursor.{Gives};
-ghost use Rattle.ndr_core.specs.Parts.{array, whole};
-ghost use Rattle.ndr_core.specs.Shapes.{u16, u32};
-ghost use Rattle.lsa_wire.specs.Arguments.{counted, flag, followed, own_fields, policy_args, translation_args};
-ghost use Rattle.ndr_types.specs.Outcomes.{Yields};
+ghost use Rattle.ndr_core.specs.Cursor.{Reads};
+ghost use Rattle.ndr_core.specs.Shapes.{followed, u16, u32};
+ghost use Rattle.lsa_wire.specs.Arguments.{counted, flag, own_fields, policy_args, translation_args};
+ghost use Rattle.ndr_types.specs.Outcomes.{ReadsIfRoom};
 ghost use Rattle.ndr_types.specs.Translations.{translated_names, translated_sids};
 
 use crate::NoMemory;
@@ -14,16 +13,16 @@ use acct_calls::{Args, Names};
 use acct_layouts::{Fields, PolicyFields, Translation};
 use ndr_core::{In, NdrError, Out};
 use ndr_types::{
-    Embedded, read_heads, read_privilege_set, read_privilege_set_pointer, read_sid, read_sid_list,
-    read_tails, read_text_list, read_text_pointer, read_translated_names, read_translated_sids,
-    write_heads, write_privilege_set, write_privilege_set_pointer, write_sid, write_sid_list,
-    write_tails, write_text_list, write_text_pointer,
+    Embedded, read_array, read_privilege_set, read_privilege_set_pointer, read_sid, read_sid_list,
+    read_text_list, read_text_pointer, read_translated_names, read_translated_sids, write_heads,
+    write_privilege_set, write_privilege_set_pointer, write_sid, write_sid_list, write_tails,
+    write_text_list, write_text_pointer,
 };
 use std::alloc::Global;
 
 #[tactic(auto, unfolding(crate::specs::Arguments::flag))]
 fn read_flag(from: &mut In<'_>) -> Result<bool, NdrError>
-    ensures { Gives result from.new (flag.read from.old) }
+    ensures { Reads result from.new (flag.read from.old) }
 {
     let number = from.u8()?;
     Ok(number != 0)
@@ -41,7 +40,7 @@ fn write_flag(to: &mut Out, value: bool) -> Result<(), NoMemory>
 
 #[tactic(auto, unfolding(crate::specs::Arguments::policy_args))]
 fn read_policy(alloc: Global, from: &mut In<'_>, row: PolicyFields) -> Result<Args, NdrError>
-    ensures { Yields result from.new ((policy_args row).read from.old) }
+    ensures { ReadsIfRoom result from.new ((policy_args row).read from.old) }
 {
     match row {
         PolicyFields::Account => {
@@ -92,7 +91,7 @@ fn read_policy(alloc: Global, from: &mut In<'_>, row: PolicyFields) -> Result<Ar
     }
 }
 
-#[tactic(auto, using(crate::proofs::Asked::few_privileges, crate::proofs::Asked::few_or_none, crate::proofs::Asked::short_or_none, crate::proofs::Asked::texts_listed), unfolding(crate::specs::Arguments::policy_args))]
+#[tactic(auto, using(crate::proofs::Asked::few_privileges, crate::proofs::Asked::few_or_none, crate::proofs::Asked::short_or_none, acct_stubs::proofs::Asked::texts_listed,), unfolding(crate::specs::Arguments::policy_args),)]
 fn write_policy(to: &mut Out, row: PolicyFields, args: &Args) -> Result<(), NoMemory>
     requires { (policy_args row).Fits args.now }
     ensures { OnOk result (to.new ≡ (policy_args row).write args.now to.old) }
@@ -128,14 +127,6 @@ fn write_policy(to: &mut Out, row: PolicyFields, args: &Args) -> Result<(), NoMe
     }
 }
 
-/// An array of so many.
-fn read_array<X: Embedded>(alloc: Global, from: &mut In<'_>, count: u32) -> Result<Seq<X>, NdrError>
-    ensures { Yields result from.new ((whole (array count X.part)).read from.old) }
-{
-    let heads = read_heads::<X>(alloc, from, count)?;
-    read_tails(alloc, from, heads.as_slice())
-}
-
 /// A count of at most so many, and a conformant array of so many.
 #[tactic(auto, unfolding(crate::specs::Arguments::counted))]
 fn read_counted<X: Embedded>(
@@ -143,7 +134,7 @@ fn read_counted<X: Embedded>(
     from: &mut In<'_>,
     most: u32,
 ) -> Result<Seq<X>, NdrError>
-    ensures { Yields result from.new ((counted most X.part).read from.old) }
+    ensures { ReadsIfRoom result from.new ((counted most X.part).read from.old) }
 {
     let count = from.u32()?;
     if count > most {
@@ -170,7 +161,7 @@ fn write_counted<X: Embedded>(to: &mut Out, values: &[X]) -> Result<(), NoMemory
 
 /// The level of a translation, and the number of mapped entries, which isn't kept.
 fn read_level(from: &mut In<'_>) -> Result<u16, NdrError>
-    ensures { Gives result from.new ((followed 0 u32 u16).read from.old) }
+    ensures { Reads result from.new ((followed 0 u32 u16).read from.old) }
 {
     let level = from.u16()?;
     from.u32()?;
@@ -204,7 +195,7 @@ fn write_no_names(to: &mut Out) -> Result<(), NoMemory>
 
 #[tactic(auto, unfolding(crate::specs::Arguments::translation_args))]
 fn read_sought(alloc: Global, from: &mut In<'_>, row: Translation) -> Result<Args, NdrError>
-    ensures { Yields result from.new ((translation_args row).read from.old) }
+    ensures { ReadsIfRoom result from.new ((translation_args row).read from.old) }
 {
     match row {
         Translation::Names => {
@@ -225,7 +216,7 @@ fn read_sought(alloc: Global, from: &mut In<'_>, row: Translation) -> Result<Arg
     }
 }
 
-#[tactic(auto, using(crate::proofs::Asked::names_counted, crate::proofs::Asked::names_short, crate::proofs::Asked::sids_counted), unfolding(crate::specs::Arguments::translation_args))]
+#[tactic(auto, using(crate::proofs::Asked::names_counted, crate::proofs::Asked::names_short, acct_stubs::proofs::Asked::sids_counted,), unfolding(crate::specs::Arguments::translation_args),)]
 fn write_sought(to: &mut Out, row: Translation, args: &Args) -> Result<(), NoMemory>
     requires { (translation_args row).Fits args.now }
     ensures { OnOk result (to.new ≡ (translation_args row).write args.now to.old) }
@@ -248,7 +239,7 @@ fn write_sought(to: &mut Out, row: Translation, args: &Args) -> Result<(), NoMem
 /// What stands in a stub behind the handle.
 #[tactic(auto, unfolding(crate::specs::Arguments::own_fields))]
 pub fn read_fields(alloc: Global, from: &mut In<'_>, fields: Fields) -> Result<Args, NdrError>
-    ensures { Yields result from.new ((own_fields fields).read from.old) }
+    ensures { ReadsIfRoom result from.new ((own_fields fields).read from.old) }
 {
     match fields {
         Fields::Connect(row) => read_connect(from, row),

@@ -26,6 +26,3 @@ pub use replies::{read_reply, write_reply};
 
 /// Want of memory, which is the only fault of the writers here.
 pub type NoMemory = std::alloc::AllocError;
-
-#[cfg(test)]
-mod tests;

@@ -1,6 +1,6 @@
 // The fields of the opening of the policy.
 ghost use Rattle.std.specs.Prelude.{◌≡◌, OnOk};
-ghost use Rattle.ndr_core.specs.Cursor.{Gives};
+ghost use Rattle.ndr_core.specs.Cursor.{Reads};
 ghost use Rattle.ndr_core.specs.Shapes.{u8};
 ghost use Rattle.ndr_core.specs.Parts.{when_there};
 ghost use Rattle.lsa_wire.specs.Arguments.{connect_args};
@@ -14,7 +14,7 @@ use ndr_core::{In, NdrError, Out};
 
 /// Whether there is a root, and whether there is a quality.
 fn read_attributes_head(from: &mut In<'_>) -> Result<(bool, bool), NdrError>
-    ensures { Gives result from.new (attributes_head.read from.old) }
+    ensures { Reads result from.new (attributes_head.read from.old) }
 {
     from.u32()?;
     let root = from.pointer()?;
@@ -31,7 +31,7 @@ fn read_attributes_head(from: &mut In<'_>) -> Result<(bool, bool), NdrError>
 
 /// The byte that a root refers to.
 fn read_root(from: &mut In<'_>, there: bool) -> Result<Option<u8>, NdrError>
-    ensures { Gives result from.new ((when_there there u8).read from.old) }
+    ensures { Reads result from.new ((when_there there u8).read from.old) }
 {
     if !there {
         return Ok(None);
@@ -43,7 +43,7 @@ fn read_root(from: &mut In<'_>, there: bool) -> Result<Option<u8>, NdrError>
 /// Passes over a quality.
 #[tactic(auto, unfolding(crate::specs::ObjectAttributes::quality))]
 fn read_quality(from: &mut In<'_>, there: bool) -> Result<Option<()>, NdrError>
-    ensures { Gives result from.new ((when_there there quality).read from.old) }
+    ensures { Reads result from.new ((when_there there quality).read from.old) }
 {
     if !there {
         return Ok(None);
@@ -58,7 +58,7 @@ fn read_quality(from: &mut In<'_>, there: bool) -> Result<Option<()>, NdrError>
 /// Whether the object attributes name a root.
 #[tactic(auto, unfolding(crate::specs::ObjectAttributes::object_attributes))]
 fn read_attributes(from: &mut In<'_>) -> Result<bool, NdrError>
-    ensures { Gives result from.new (object_attributes.read from.old) }
+    ensures { Reads result from.new (object_attributes.read from.old) }
 {
     let head = read_attributes_head(from)?;
     read_root(from, head.0)?;
@@ -85,7 +85,7 @@ fn write_attributes(to: &mut Out, rooted: bool) -> Result<(), NoMemory>
 
 #[tactic(auto, unfolding(crate::specs::Arguments::connect_args))]
 pub fn read_connect(from: &mut In<'_>, row: Connect) -> Result<Args, NdrError>
-    ensures { Gives result from.new ((connect_args row).read from.old) }
+    ensures { Reads result from.new ((connect_args row).read from.old) }
 {
     match row {
         Connect::OpenPolicy2 => {

@@ -4,7 +4,7 @@ ghost use Rattle.std.specs.Option.{option_copied};
 ghost use Rattle.lsa_wire.specs.Outputs.{own_replies, policy_outs, referred_of, translated};
 ghost use Rattle.acct_stubs.specs.Outputs.{with_status};
 ghost use Rattle.ndr_types.specs.Domains.{or_empty};
-ghost use Rattle.ndr_types.specs.Outcomes.{Yields};
+ghost use Rattle.ndr_types.specs.Outcomes.{ReadsIfRoom};
 
 use crate::NoMemory;
 use acct_base::Seq;
@@ -21,7 +21,7 @@ use std::alloc::Global;
 
 #[tactic(auto, unfolding(crate::specs::Outputs::policy_outs))]
 fn read_policy(alloc: Global, from: &mut In<'_>, row: PolicyOutputs) -> Result<Outs, NdrError>
-    ensures { Yields result from.new ((policy_outs row).read from.old) }
+    ensures { ReadsIfRoom result from.new ((policy_outs row).read from.old) }
 {
     match row {
         PolicyOutputs::PrivilegePage => {
@@ -58,7 +58,7 @@ fn read_policy(alloc: Global, from: &mut In<'_>, row: PolicyOutputs) -> Result<O
     }
 }
 
-#[tactic(auto, using(crate::proofs::Asked::few_or_none, crate::proofs::Asked::short_or_none, crate::proofs::Asked::texts_listed, crate::proofs::Asked::sids_counted, crate::proofs::Asked::privileges_listed), unfolding(crate::specs::Outputs::policy_outs))]
+#[tactic(auto, using(crate::proofs::Asked::few_or_none, crate::proofs::Asked::short_or_none, acct_stubs::proofs::Asked::texts_listed, acct_stubs::proofs::Asked::sids_counted, crate::proofs::Asked::privileges_listed,), unfolding(crate::specs::Outputs::policy_outs),)]
 fn write_policy(to: &mut Out, row: PolicyOutputs, outs: &Outs) -> Result<(), NoMemory>
     requires { (policy_outs row).Fits outs.now }
     ensures { OnOk result (to.new ≡ (policy_outs row).write outs.now to.old) }
@@ -88,7 +88,7 @@ fn write_policy(to: &mut Out, row: PolicyOutputs, outs: &Outs) -> Result<(), NoM
 
 #[tactic(auto, unfolding(acct_stubs::specs::Outputs::with_status))]
 fn read_outputs(alloc: Global, from: &mut In<'_>, row: PolicyOutputs) -> Result<Reply, NdrError>
-    ensures { Yields result from.new ((with_status (policy_outs row)).read from.old) }
+    ensures { ReadsIfRoom result from.new ((with_status (policy_outs row)).read from.old) }
 {
     let outs = read_policy(alloc, from, row)?;
     let status = from.u32()?;
@@ -129,7 +129,7 @@ fn referred(status: u32, domains: &Places) -> Option<&Places>
 
 #[tactic(auto, unfolding(crate::specs::Outputs::translated))]
 fn read_translated(alloc: Global, from: &mut In<'_>, row: Translation) -> Result<Reply, NdrError>
-    ensures { Yields result from.new ((translated row).read from.old) }
+    ensures { ReadsIfRoom result from.new ((translated row).read from.old) }
 {
     let list = read_referenced_pointer(alloc, from)?;
     match row {
@@ -164,7 +164,7 @@ fn read_translated(alloc: Global, from: &mut In<'_>, row: Translation) -> Result
     }
 }
 
-#[tactic(auto, using(crate::proofs::Asked::domains_listed, crate::proofs::Asked::entries_counted, crate::proofs::Asked::entries_listed), unfolding(crate::specs::Outputs::translated))]
+#[tactic(auto, using(crate::proofs::Asked::domains_listed, crate::proofs::Asked::entries_counted, crate::proofs::Asked::entries_listed,), unfolding(crate::specs::Outputs::translated),)]
 fn write_translated(to: &mut Out, row: Translation, reply: &Reply) -> Result<(), NoMemory>
     requires { (translated row).Fits reply.now }
     ensures { OnOk result (to.new ≡ (translated row).write reply.now to.old) }
@@ -206,7 +206,7 @@ fn write_translated(to: &mut Out, row: Translation, reply: &Reply) -> Result<(),
 /// A reply of a layout that this interface has alone.
 #[tactic(auto, unfolding(crate::specs::Outputs::own_replies))]
 pub fn read_own(alloc: Global, from: &mut In<'_>, outputs: Outputs) -> Result<Reply, NdrError>
-    ensures { Yields result from.new ((own_replies outputs).read from.old) }
+    ensures { ReadsIfRoom result from.new ((own_replies outputs).read from.old) }
 {
     match outputs {
         Outputs::Policy(row) => read_outputs(alloc, from, row),

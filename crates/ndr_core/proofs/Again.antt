@@ -11,5 +11,6 @@ read_again shape value o rest fits = shape.only _ _ value (shape.spelled value o
 
 pub one_reading : {A : Type 0} (shape : Codec A) → HasOneReading shape
 one_reading {A = A} shape left right start end other l r =
-    let e = ok_is (left, end) (right, other) (Count 0) (sym (shape.only start end left l) ∙ shape.only start other right r) in
+    let e = ok_is (left, end) (right, other) (Count 0)
+    (sym (shape.only start end left l) ∙ shape.only start other right r) in
     (ap (λ (p : A × Cursor). p.0) e, ap (λ (p : A × Cursor). p.1) e)

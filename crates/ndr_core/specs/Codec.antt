@@ -1,7 +1,7 @@
--- What a shape of the transfer syntax is, as one record: how it is read, what spells a value of it, which values it has, how they
--- are written, and the laws that tie these together.
+-- What a shape of the transfer syntax is, as one record: how it is read, what spells a value of it, which values it
+-- has, how they are written, and the laws that tie these together.
 use Rattle.std.specs.Prelude.{◌≡◌, ℕ, List, ◌++◌, length, Ok}
-use Rattle.ndr_core.specs.Cursor.{Cursor, Reads}
+use Rattle.ndr_core.specs.Cursor.{Cursor, Reader}
 use Rattle.ndr_core.specs.Written.{Written, IsBytes}
 
 -- o with more bytes behind it
@@ -14,7 +14,7 @@ behind o stub = record { stub = stub; place = length o.bytes }
 
 pub record Codec (A : Type 0) : Type 1 where
   -- the value at a cursor and the cursor after it, or the bad place
-  pub read : Reads A
+  pub read : Reader A
   -- the value stands from one cursor to another, whatever its padding and referents are
   pub Spells : A → Cursor → Cursor → Type 0
   -- the value is one of the shape's, and has a spelling that can be written
@@ -32,4 +32,5 @@ pub record Codec (A : Type 0) : Type 1 where
   -- what is written is bytes
   pub bytes : (a : A) (o : Written) → IsBytes o.bytes → IsBytes (write a o).bytes
   -- what is written is spelled, whatever stands behind it
-  pub spelled : (a : A) (o : Written) (rest : List ℕ) → Fits a → Spells a (behind o ((write a o).bytes ++ rest)) (behind (write a o) ((write a o).bytes ++ rest))
+  pub spelled : (a : A) (o : Written) (rest : List ℕ) → Fits a
+      → Spells a (behind o ((write a o).bytes ++ rest)) (behind (write a o) ((write a o).bytes ++ rest))

@@ -1,5 +1,6 @@
 -- Where reading stands in a stub, and what the primitives of the transfer syntax read there (C706, chapter 14).
-use Rattle.std.specs.Prelude.{◌≡◌, ℕ, zero, suc, ◌+◌, ◌-◌, ◌*◌, ◌/◌, Bool, true, false, ◌==◌, ◌||◌, IsTrue, ◌≤◌, List, length, take, drop, Result, Ok, Err, nat_lt, nat_le, if◌then◌else◌}
+use Rattle.std.specs.Prelude.{◌≡◌, ℕ, zero, suc, ◌+◌, ◌-◌, ◌*◌, ◌/◌, Bool, true, false, ◌==◌, ◌||◌, IsTrue, ◌≤◌, List}
+use Rattle.std.specs.Prelude.{length, take, drop, Result, Ok, Err, nat_lt, nat_le, if◌then◌else◌}
 use Rattle.std.specs.Int.{Width, w32, byte_len, from_le_bytes}
 use Rattle.ndr_core.specs.declared.error.NdrError.{NdrError}
 use Rattle.ndr_core.specs.declared.error.NdrError.TheVariants.{Short, Count}
@@ -10,13 +11,15 @@ pub record Cursor : Type 0 where
   pub place : ℕ
 
 -- The value that stands at a cursor and the cursor after it, or the bad place.
-abbrev pub Reads : Type 0 → Type 0
-Reads A = Cursor → Result (A × Cursor) NdrError
+abbrev pub Reader : Type 0 → Type 0
+Reader A = Cursor → Result (A × Cursor) NdrError
 
--- What a call answered, and where it left its cursor, is what reading gives.
-abbrev pub Gives : {A : Type 0} → Result A NdrError → Cursor → Result (A × Cursor) NdrError → Type 0
-Gives (Ok x) after read = read ≡ Ok (x, after)
-Gives (Err e) after read = read ≡ Err e
+-- How a reading call keeps to a reading: one family of words. Each says of a value that it is the one that stands
+-- there, with the cursor behind it, and of a refusal that it is the reading's; where a refusal leaves the cursor none
+-- says. Reads: memory is never wanted.
+abbrev pub Reads : {A : Type 0} → Result A NdrError → Cursor → Result (A × Cursor) NdrError → Type 0
+Reads (Ok x) after read = read ≡ Ok (x, after)
+Reads (Err e) after read = read ≡ Err e
 
 -- ---- alignment, always from the stub's start
 
@@ -47,8 +50,10 @@ abbrev pub number_there : Width → Cursor → ℕ
 number_there w c = from_le_bytes w (take (byte_len w) (drop (number_start w c) c.stub))
 
 -- A number that is whole; else its place, after alignment, is bad.
-abbrev pub number_at : Width → Reads ℕ
-number_at w c = if nat_lt (length c.stub) (number_end w c) then Err (Short (number_start w c)) else Ok (number_there w c, after_number w c)
+abbrev pub number_at : Width → Reader ℕ
+number_at w c =
+    if nat_lt (length c.stub) (number_end w c) then Err (Short (number_start w c))
+    else Ok (number_there w c, after_number w c)
 
 -- ---- one reading after another
 
@@ -68,15 +73,15 @@ broken size after = Count (after.place - size)
 abbrev pub test_passed : {A : Type 0} → ℕ → (A → Bool) → A × Cursor → Result (A × Cursor) NdrError
 test_passed size test p = if test p.0 then Ok p else Err (broken size p.1)
 
-abbrev pub testing : {A : Type 0} → ℕ → (A → Bool) → Reads A → Reads A
+abbrev pub testing : {A : Type 0} → ℕ → (A → Bool) → Reader A → Reader A
 testing size test r c = r c >>= test_passed size test
 
 -- A value made of what is read.
-abbrev pub making : {A B : Type 0} → (A → B) → Reads A → Reads B
+abbrev pub making : {A B : Type 0} → (A → B) → Reader A → Reader B
 making make r c = r c >>= λ p. done (make p.0) p.1
 
 -- One value and then another, which may depend on the first.
-abbrev pub both : {A B : Type 0} → Reads A → (A → Reads B) → Reads (A × B)
+abbrev pub both : {A B : Type 0} → Reader A → (A → Reader B) → Reader (A × B)
 both {A = A} {B = B} r f c = r c >>= λ p. f p.0 p.1 >>= λ q. done (p.0, q.0) q.1
 
 abbrev pub second : {A B : Type 0} → A × B → B
@@ -92,15 +97,15 @@ abbrev pub is_there : ℕ → Bool
 is_there zero = false
 is_there (suc n) = true
 
-abbrev pub pointer_at : Reads Bool
+abbrev pub pointer_at : Reader Bool
 pointer_at = making is_there (number_at w32)
 
 -- The offset 0, and then the actual count, which is at most so many.
-abbrev pub offset_at : Reads ℕ
+abbrev pub offset_at : Reader ℕ
 offset_at = testing 4 is_zero (number_at w32)
 
-abbrev pub count_at : ℕ → Reads ℕ
+abbrev pub count_at : ℕ → Reader ℕ
 count_at most = testing 4 (λ n. nat_le n most) (number_at w32)
 
-abbrev pub varying_at : ℕ → Reads ℕ
+abbrev pub varying_at : ℕ → Reader ℕ
 varying_at most = making second (both offset_at (λ _. count_at most))

@@ -1,6 +1,7 @@
--- Arrays, and shapes that a structure or an array embeds. A pointer's referent is deferred: it stands behind the outermost structure or
--- array that embeds the pointer, in the pointers' order.
-use Rattle.std.proofs.Common.{◌≡◌, ℕ, zero, suc, Bool, true, false, nat_le, ◌==◌, ◌||◌, Option, Some, None, List, [], ◌∷◌, ◌++◌, length, map, refl, sym}
+-- Arrays, and shapes that a structure or an array embeds. A pointer's referent is deferred: it stands behind the
+-- outermost structure or array that embeds the pointer, in the pointers' order.
+use Rattle.std.proofs.Common.{◌≡◌, ℕ, zero, suc, Bool, true, false, nat_le, ◌==◌, ◌||◌, Option, Some, None, List, []}
+use Rattle.std.proofs.Common.{◌∷◌, ◌++◌, length, map, refl, sym}
 use Rattle.std.proofs.lemmas.List.{append-nil}
 use Rattle.ndr_core.specs.Cursor.{Cursor, making, both}
 use Rattle.ndr_core.specs.Written.{Written, IsBytes}
@@ -24,16 +25,20 @@ front_of p = p.0 ∷ p.1
 abbrev pub FrontSpells : {A : Type 0} → Codec A → Codec (List A) → List A → Cursor → Cursor → Type 0
 FrontSpells {A = A} a b xs c d = (x : A × List A) × (chain a (λ _. b)).Spells x c d × (front_of x ≡ xs)
 
-pub cons_grows : {A : Type 0} (a : Codec A) (b : Codec (List A)) (xs : List A) (o : Written) → Grows o (put_all a b xs o)
+pub cons_grows : {A : Type 0} (a : Codec A) (b : Codec (List A)) (xs : List A) (o : Written)
+    → Grows o (put_all a b xs o)
 cons_grows a b [] o = ([], sym (append-nil o.bytes))
 cons_grows a b (x ∷ xs) o = grows_on o (a.write x o) (b.write xs (a.write x o)) (a.grows x o) (b.grows xs (a.write x o))
 
-pub cons_bytes : {A : Type 0} (a : Codec A) (b : Codec (List A)) (xs : List A) (o : Written) → IsBytes o.bytes → IsBytes (put_all a b xs o).bytes
+pub cons_bytes : {A : Type 0} (a : Codec A) (b : Codec (List A)) (xs : List A) (o : Written) → IsBytes o.bytes
+    → IsBytes (put_all a b xs o).bytes
 cons_bytes a b [] o h = h
 cons_bytes a b (x ∷ xs) o h = b.bytes xs (a.write x o) (a.bytes x o h)
 
-pub cons_spelled : {A : Type 0} (a : Codec A) (b : Codec (List A)) (xs : List A) (o : Written) (rest : List ℕ) → AllFit a b xs
-    → FrontSpells a b xs (behind o ((put_all a b xs o).bytes ++ rest)) (behind (put_all a b xs o) ((put_all a b xs o).bytes ++ rest))
+pub cons_spelled : {A : Type 0} (a : Codec A) (b : Codec (List A)) (xs : List A) (o : Written) (rest : List ℕ)
+    → AllFit a b xs
+    → FrontSpells a b xs (behind o ((put_all a b xs o).bytes ++ rest))
+    (behind (put_all a b xs o) ((put_all a b xs o).bytes ++ rest))
 cons_spelled a b [] o rest h = absurd h
 cons_spelled a b (x ∷ xs) o rest h = ((x, xs), (chain a (λ _. b)).spelled (x, xs) o rest h, refl)
 
@@ -82,7 +87,11 @@ array n p = record { head = times n p.head; tail = each p.tail; head_of = map p.
 
 -- a structure of two
 abbrev pub join : {S T A B : Type 0} → Part S A → Part T B → Part (S × T) (A × B)
-join p q = record { head = chain p.head (λ _. q.head); tail = λ s. chain (p.tail s.0) (λ _. q.tail s.1); head_of = λ a. (p.head_of a.0, q.head_of a.1) }
+join p q = record {
+  head = chain p.head (λ _. q.head);
+  tail = λ s. chain (p.tail s.0) (λ _. q.tail s.1);
+  head_of = λ a. (p.head_of a.0, q.head_of a.1);
+}
 
 -- what has no pointers
 abbrev pub flat : {A : Type 0} → Codec A → Part A A
@@ -90,7 +99,8 @@ flat a = record { head = a; tail = given; head_of = λ x. x }
 
 -- the parts of one value, made of those of another
 abbrev pub part_of : {S A B : Type 0} → (A → B) → (B → A) → Part S A → Part S B
-part_of make parts p = record { head = p.head; tail = λ s. made make parts (p.tail s); head_of = λ b. p.head_of (parts b) }
+part_of make parts p =
+    record { head = p.head; tail = λ s. made make parts (p.tail s); head_of = λ b. p.head_of (parts b) }
 
 -- ---- a value that is there
 
@@ -112,11 +122,14 @@ pub some_grows : {A : Type 0} (a : Codec A) (y : Option A) (o : Written) → Gro
 some_grows a None o = ([], sym (append-nil o.bytes))
 some_grows a (Some x) o = a.grows x o
 
-pub some_bytes : {A : Type 0} (a : Codec A) (y : Option A) (o : Written) → IsBytes o.bytes → IsBytes (put_some a y o).bytes
+pub some_bytes : {A : Type 0} (a : Codec A) (y : Option A) (o : Written) → IsBytes o.bytes
+    → IsBytes (put_some a y o).bytes
 some_bytes a None o h = h
 some_bytes a (Some x) o h = a.bytes x o h
 
-pub some_spelled : {A : Type 0} (a : Codec A) (y : Option A) (o : Written) (rest : List ℕ) → SomeFits a y → SomeSpells a y (behind o ((put_some a y o).bytes ++ rest)) (behind (put_some a y o) ((put_some a y o).bytes ++ rest))
+pub some_spelled : {A : Type 0} (a : Codec A) (y : Option A) (o : Written) (rest : List ℕ) → SomeFits a y
+    → SomeSpells a y (behind o ((put_some a y o).bytes ++ rest))
+    (behind (put_some a y o) ((put_some a y o).bytes ++ rest))
 some_spelled a None o rest h = absurd h
 some_spelled a (Some x) o rest h = (x, a.spelled x o rest h, refl)
 

@@ -1,13 +1,18 @@
--- The shapes that all others are made of. Each is a value: a row of a table, or a structure, is written by these words as it stands in
--- the IDL, from left to right, and has its laws with it.
-use Rattle.std.proofs.Common.{◌≡◌, ℕ, ◌^◌, ◌<◌, Bool, true, [], ◌++◌, length, replicate, ◌-◌, nat_le, Err, refl, sym, ap, ◌∙◌}
+-- The shapes that all others are made of. Each is a value: a row of a table, or a structure, is written by these words
+-- as it stands in the IDL, from left to right, and has its laws with it.
+use Rattle.std.proofs.Common.{◌≡◌, ℕ, ◌^◌, ◌<◌, Bool, true, [], ◌++◌, length, replicate, ◌-◌, nat_le, Err, refl, sym}
+use Rattle.std.proofs.Common.{ap, ◌∙◌}
 use Rattle.std.proofs.lemmas.List.{append-nil}
 use Rattle.std.specs.Int.{Width, w8, w16, w32}
-use Rattle.ndr_core.specs.Cursor.{Cursor, broken, done, aligned, aligned_cursor, number_at, testing, making, both, is_there, pointer_at, is_zero, second}
+use Rattle.ndr_core.specs.Cursor.{Cursor, broken, done, aligned, aligned_cursor, number_at, testing, making, both}
+use Rattle.ndr_core.specs.Cursor.{is_there, pointer_at, is_zero, second}
 use Rattle.ndr_core.specs.Written.{put_number, put_padding, put_pointer}
 use Rattle.ndr_core.specs.Codec.{Codec, behind}
-use Rattle.ndr_core.specs.Numbers.{Number, IsNarrow, narrow8, narrow16, narrow32, number_found, number_only, number_grows, number_bytes, number_spelled, padded_bytes}
-use Rattle.ndr_core.specs.Laws.{such_found, such_only, given_found, given_only, unspelled_found, chain_found, chain_only, grows_on, spelled_before, made_found, made_only, pointer_grows, pointer_bytes, pointer_spelled, padding_spelled, padding_found}
+use Rattle.ndr_core.specs.Numbers.{Number, IsNarrow, narrow8, narrow16, narrow32, number_found, number_only}
+use Rattle.ndr_core.specs.Numbers.{number_grows, number_bytes, number_spelled, padded_bytes}
+use Rattle.ndr_core.specs.Laws.{such_found, such_only, given_found, given_only, unspelled_found, chain_found}
+use Rattle.ndr_core.specs.Laws.{chain_only, grows_on, spelled_before, made_found, made_only, pointer_grows}
+use Rattle.ndr_core.specs.Laws.{pointer_bytes, pointer_spelled, padding_spelled, padding_found}
 
 -- ---- numbers: padding to the size, and the number, little-endian
 
@@ -65,7 +70,8 @@ padding4 = record {
   spelled = λ u o rest h. padding_spelled o rest;
 }
 
--- ---- a rule of a shape: a value that passes a test. Where it fails, the number that was read last, of this size, is the bad place
+-- ---- a rule of a shape: a value that passes a test. Where it fails, the number that was read last, of this size, is
+-- the bad place
 
 abbrev pub such : {A : Type 0} → ℕ → (A → Bool) → Codec A → Codec A
 such size test a = record {
@@ -136,9 +142,17 @@ chain a b = record {
   found = λ c d x e. chain_found a b c d x e;
   only = λ c d x h. chain_only a b c d x h;
   stays = λ c d x h. (b x.0).stays h.0 d x.1 h.2 ∙ a.stays c h.0 x.0 h.1;
-  grows = λ x o. grows_on o (a.write x.0 o) ((b x.0).write x.1 (a.write x.0 o)) (a.grows x.0 o) ((b x.0).grows x.1 (a.write x.0 o));
+  grows = λ x o. grows_on o (a.write x.0 o) ((b x.0).write x.1 (a.write x.0 o)) (a.grows x.0 o)
+      ((b x.0).grows x.1 (a.write x.0 o));
   bytes = λ x o h. (b x.0).bytes x.1 (a.write x.0 o) (a.bytes x.0 o h);
-  spelled = λ x o rest h. (behind (a.write x.0 o) (((b x.0).write x.1 (a.write x.0 o)).bytes ++ rest), spelled_before a x.0 o ((b x.0).write x.1 (a.write x.0 o)) rest h.0 ((b x.0).grows x.1 (a.write x.0 o)), (b x.0).spelled x.1 (a.write x.0 o) rest h.1);
+  spelled = λ x o rest h. (
+    behind (a.write x.0 o)
+        (((b x.0).write x.1 (a.write x.0 o)).bytes ++ rest),
+    spelled_before a x.0 o
+        ((b x.0).write x.1 (a.write x.0 o)) rest h.0 ((b x.0).grows x.1 (a.write x.0 o)),
+    (b x.0).spelled x.1
+        (a.write x.0 o) rest h.1,
+  );
 }
 
 -- ---- the value that `make` gives of what is read; for a value, its `parts` are written
@@ -165,6 +179,10 @@ led_by parts a f = made second (λ b. (parts b, b)) (chain a f)
 -- a field that isn't kept, written as w, and then b
 abbrev pub ignored : {A B : Type 0} → A → Codec A → Codec B → Codec B
 ignored w a b = led_by (λ _. w) a (λ _. b)
+
+-- a value, and behind it a field that isn't kept, written as w
+abbrev pub followed : {A B : Type 0} → B → Codec B → Codec A → Codec A
+followed w b a = made (λ x. x.0) (λ x. (x, w)) (chain a (λ _. b))
 
 -- the actual count of a varying array, behind the offset 0: at most so many
 abbrev pub varying : ℕ → Codec ℕ

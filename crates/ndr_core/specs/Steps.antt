@@ -7,7 +7,8 @@ pub ok_is : {A : Type 0} (x y : A) (e : NdrError) → (let r : Result A NdrError
 ok_is x y e h = cc
 
 -- a step that did not fail
-pub bind_ok : {A B : Type 0} (r : Result A NdrError) (f : A → Result B NdrError) (y : B) → (r >>= f) ≡ Ok y → (x : A) × (r ≡ Ok x) × (f x ≡ Ok y)
+pub bind_ok : {A B : Type 0} (r : Result A NdrError) (f : A → Result B NdrError) (y : B) → (r >>= f) ≡ Ok y
+    → (x : A) × (r ≡ Ok x) × (f x ≡ Ok y)
 bind_ok (Ok x) f y e = (x, refl, e)
 bind_ok (Err d) f y e = absurd cc
 
@@ -16,6 +17,7 @@ pub passed : {A : Type 0} (b : Bool) (d : NdrError) (x y : A) → cond b (Ok x) 
 passed true d x y e = (refl, cc)
 passed false d x y e = absurd cc
 
-pub reached : {A : Type 0} (b : Bool) (d : NdrError) (r : Result A NdrError) (y : A) → cond b (Err d) r ≡ Ok y → (b ≡ false) × (r ≡ Ok y)
+pub reached : {A : Type 0} (b : Bool) (d : NdrError) (r : Result A NdrError) (y : A) → cond b (Err d) r ≡ Ok y
+    → (b ≡ false) × (r ≡ Ok y)
 reached true d r y e = absurd cc
 reached false d r y e = (refl, e)

@@ -37,7 +37,8 @@ referent o = 0x20000 + 4 * (o.pointers % referents)
 -- Null is 0.
 abbrev pub put_pointer : Bool → Written → Written
 put_pointer false o = put_number w32 0 o
-put_pointer true o = record { bytes = padded 4 o.bytes ++ to_le_bytes w32 (referent o); pointers = (o.pointers + 1) % referents }
+put_pointer true o = record
+    { bytes = padded 4 o.bytes ++ to_le_bytes w32 (referent o); pointers = (o.pointers + 1) % referents }
 
 -- The offset 0, and then the actual count.
 abbrev pub put_varying : ℕ → Written → Written

@@ -2,7 +2,8 @@
 ghost use Rattle.std.specs.Prelude.{◌≡◌, ◌<◌, ◌≤◌, ◌^◌, ◌-◌, ◌+◌, Ok, Err, OnErr, length, nat_lt, if◌then◌else◌};
 ghost use Rattle.std.specs.Int.{w8, w16, w32};
 ghost use Rattle.ndr_core.specs.declared.error.NdrError.TheVariants.{Short};
-ghost use Rattle.ndr_core.specs.Cursor.{Cursor, Gives, IsSize, aligned_cursor, broken, number_at, pointer_at, varying_at};
+ghost use Rattle.ndr_core.specs.Cursor.{Cursor, Reads, IsSize, aligned_cursor, broken, number_at, pointer_at};
+ghost use Rattle.ndr_core.specs.Cursor.{varying_at};
 
 use crate::error::NdrError;
 use std::marker::Model;
@@ -64,7 +65,8 @@ impl<'a> In<'a> {
     /// The place behind a primitive of this size that begins at `start`, if it is whole.
     fn end_of(&self, start: usize, size: usize) -> Result<usize, NdrError>
         requires { start + size < 2 ^ 64 }
-        ensures { result ≡ (if nat_lt (length self.now.stub) (start + size) then Err (Short start) else Ok (start + size)) }
+        ensures { result ≡
+            (if nat_lt (length self.now.stub) (start + size) then Err (Short start) else Ok (start + size)) }
     {
         let end = start + size;
         if self.stub.len() < end {
@@ -75,7 +77,7 @@ impl<'a> In<'a> {
 
     /// An unsigned small.
     pub fn u8(&mut self) -> Result<u8, NdrError>
-        ensures value { Gives result self.new (number_at w8 self.old) }
+        ensures value { Reads result self.new (number_at w8 self.old) }
         ensures refused { OnErr result (self.new ≡ self.old) }
     {
         let start = self.place;
@@ -85,7 +87,7 @@ impl<'a> In<'a> {
 
     /// An unsigned short.
     pub fn u16(&mut self) -> Result<u16, NdrError>
-        ensures value { Gives result self.new (number_at w16 self.old) }
+        ensures value { Reads result self.new (number_at w16 self.old) }
         ensures refused { OnErr result (self.new ≡ self.old) }
     {
         let start = (self.place + 1) / 2 * 2;
@@ -96,7 +98,7 @@ impl<'a> In<'a> {
 
     /// An unsigned long.
     pub fn u32(&mut self) -> Result<u32, NdrError>
-        ensures value { Gives result self.new (number_at w32 self.old) }
+        ensures value { Reads result self.new (number_at w32 self.old) }
         ensures refused { OnErr result (self.new ≡ self.old) }
     {
         let start = (self.place + 3) / 4 * 4;
@@ -107,7 +109,7 @@ impl<'a> In<'a> {
 
     /// Whether a pointer isn't null: its referent is any number but 0.
     pub fn pointer(&mut self) -> Result<bool, NdrError>
-        ensures value { Gives result self.new (pointer_at self.old) }
+        ensures value { Reads result self.new (pointer_at self.old) }
         ensures refused { OnErr result (self.new ≡ self.old) }
     {
         Ok(self.u32()? != 0)
@@ -115,7 +117,7 @@ impl<'a> In<'a> {
 
     /// The maximum count of a conformant array.
     pub fn conformant(&mut self) -> Result<u32, NdrError>
-        ensures value { Gives result self.new (number_at w32 self.old) }
+        ensures value { Reads result self.new (number_at w32 self.old) }
         ensures refused { OnErr result (self.new ≡ self.old) }
     {
         self.u32()
@@ -123,7 +125,7 @@ impl<'a> In<'a> {
 
     /// The offset, which is 0, and the actual count behind it.
     fn offset_and_count(&mut self, most: u32) -> Result<u32, NdrError>
-        ensures value { Gives result self.new (varying_at most self.old) }
+        ensures value { Reads result self.new (varying_at most self.old) }
         ensures same { self.new.stub ≡ self.old.stub }
     {
         if self.u32()? != 0 {
@@ -139,7 +141,7 @@ impl<'a> In<'a> {
     /// The actual count of a varying array, behind its offset. An offset other than 0 is refused at the offset, and a
     /// count above `most` at the count.
     pub fn varying(&mut self, most: u32) -> Result<u32, NdrError>
-        ensures value { Gives result self.new (varying_at most self.old) }
+        ensures value { Reads result self.new (varying_at most self.old) }
         ensures refused { OnErr result (self.new ≡ self.old) }
     {
         let start = self.place;

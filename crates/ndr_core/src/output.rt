@@ -68,7 +68,11 @@ impl Out {
     /// Zeros up to the next multiple of `size`, and the bytes.
     fn put(&mut self, size: usize, bytes: &[u8]) -> Result<(), AllocError>
         requires { IsSize size }
-        ensures ok { OnOk result (self.new ≡ record { bytes = padded size self.old.bytes ++ bytes.now; pointers = self.old.pointers }) }
+        ensures ok { OnOk result (self.new ≡ record {
+          bytes = padded size self.old.bytes ++ bytes.now;
+          pointers =
+              self.old.pointers;
+        }) }
         ensures err { OnErr result (self.new ≡ self.old) }
     {
         let start = self.bytes.len();

@@ -2,7 +2,8 @@
 use Rattle.std.proofs.Common.{◌≡◌, ℕ, ◌+◌, ◌*◌, ◌/◌, ◌%◌, ◌^◌, ◌<◌, refl, sym, subst, arith, lit<}
 use Rattle.ndr_core.specs.Codec.{Codec}
 use Rattle.ndr_core.specs.Shapes.{u8, u32}
-use Rattle.ndr_core.proofs.Complete.{IsComplete, u8_complete, u16_complete, u32_complete, made_complete, led_by_complete, ignored_complete}
+use Rattle.ndr_core.proofs.Complete.{IsComplete, u8_complete, u16_complete, u32_complete, made_complete}
+use Rattle.ndr_core.proofs.Complete.{led_by_complete, ignored_complete}
 use Rattle.ndr_types.specs.Digits.{then_small, then_short}
 use Rattle.ndr_types.specs.Handles.{uuid, handle, handle_of}
 use Rattle.ndr_types.specs.Sids.{authority}
@@ -17,13 +18,19 @@ record Limit (a : Codec ℕ) (limit : ℕ) : Type 0 where
 
 small_complete : {a : Codec ℕ} → IsComplete a → IsComplete (then_small a)
 small_complete {a = a} p =
-    led_by_complete (λ n. n / 0x100) p (λ h fits. made_complete (λ low. h * 0x100 + low) (λ n. n % 0x100) u8_complete (λ low lt. (omega arith, omega arith)))
-    (λ h n fits k. let e : n / 0x100 ≡ h = omega arith in (subst (λ (x : ℕ). a.Fits x) (sym e) fits, (k.0, omega arith)))
+    led_by_complete (λ n. n / 0x100) p
+    (λ h fits. made_complete (λ low. h * 0x100 + low) (λ n. n % 0x100) u8_complete
+    (λ low lt. (omega arith, omega arith)))
+    (λ h n fits k. let e : n / 0x100 ≡ h =
+    omega arith in (subst (λ (x : ℕ). a.Fits x) (sym e) fits, (k.0, omega arith)))
 
 short_complete : {a : Codec ℕ} → IsComplete a → IsComplete (then_short a)
 short_complete {a = a} p =
-    led_by_complete (λ n. n / 0x10000) p (λ h fits. made_complete (λ low. h * 0x10000 + low) (λ n. n % 0x10000) u16_complete (λ low lt. (omega arith, omega arith)))
-    (λ h n fits k. let e : n / 0x10000 ≡ h = omega arith in (subst (λ (x : ℕ). a.Fits x) (sym e) fits, (k.0, omega arith)))
+    led_by_complete (λ n. n / 0x10000) p
+    (λ h fits. made_complete (λ low. h * 0x10000 + low) (λ n. n % 0x10000) u16_complete
+    (λ low lt. (omega arith, omega arith)))
+    (λ h n fits k. let e : n / 0x10000 ≡ h =
+    omega arith in (subst (λ (x : ℕ). a.Fits x) (sym e) fits, (k.0, omega arith)))
 
 small : {a : Codec ℕ} {limit : ℕ} → Limit a limit → Limit (then_small a) (limit * 0x100)
 small p = record {
@@ -64,8 +71,13 @@ authority_complete = authority_limit.complete
 
 pub handle_values : HasValues handle IsHandle
 unfolding handle
-handle_values h = (λ fits. uuid_limit.below h.number fits.0.1.0, λ lt. ((lit< tt, (uuid_limit.fits h.number lt, refl)), refl))
+handle_values h = (
+  λ fits. uuid_limit.below h.number fits.0.1.0,
+  λ lt.
+      ((lit< tt, (uuid_limit.fits h.number lt, refl)), refl),
+)
 
 pub handle_complete : IsComplete handle
 unfolding handle
-handle_complete = ignored_complete 0 u32_complete (made_complete handle_of (λ h. h.number) uuid_limit.complete (λ n fits. (fits, refl))) (lit< tt)
+handle_complete = ignored_complete 0 u32_complete
+    (made_complete handle_of (λ h. h.number) uuid_limit.complete (λ n fits. (fits, refl))) (lit< tt)

@@ -6,10 +6,10 @@ use Rattle.std.proofs.Math.Facts.{Fits-of_z, Fits-lt-pow, Fits-of_lt, sfits_to_z
 use Rattle.std.proofs.lemmas.Int.{of_z-to_z, to_z-of_z}
 use Rattle.std.proofs.lemmas.Bool.{eqb-true}
 use Rattle.ndr_core.specs.Cursor.{is_zero}
-use Rattle.ndr_core.specs.Shapes.{u16, padding4}
+use Rattle.ndr_core.specs.Shapes.{u16}
 use Rattle.ndr_core.specs.Parts.{Part, whole, join, flat, pointer_to}
 use Rattle.ndr_core.proofs.Complete.{IsComplete, u16_complete, u32_complete, such_complete, chain_complete}
-use Rattle.ndr_core.proofs.Complete.{made_complete, ignored_complete}
+use Rattle.ndr_core.proofs.Complete.{made_complete, ignored_complete, padding_complete}
 use Rattle.acct_calls.specs.declared.lists.Privilege.{Privilege}
 use Rattle.acct_calls.specs.declared.lists.TranslatedSid.{TranslatedSid}
 use Rattle.ndr_types.specs.Accounts.{any}
@@ -48,9 +48,6 @@ signed_has : Has (flat signed_long) (FitsSigned w32)
 signed_has = flat_has signed_long signed_fits signed_kind signed_complete
 
 -- ---- padding in front
-
-pub padding_complete : IsComplete padding4
-padding_complete = record { fits = λ u c d bytes h. tt }
 
 padded_has : {S A : Type 0} {P : A → Type 0} (p : Part S A) → Has p P → Has (padded_part p) P
 padded_has p q = record {

@@ -1,7 +1,7 @@
 -- Reading goes onward: of translated entries, of names of privileges, and of pointers.
 use Rattle.std.proofs.Common.{ℕ, ℤ, arith}
 use Rattle.ndr_core.specs.Cursor.{is_zero}
-use Rattle.ndr_core.specs.Shapes.{u16, u32, padding4}
+use Rattle.ndr_core.specs.Shapes.{u16, u32}
 use Rattle.ndr_core.specs.Parts.{Part, whole, join, flat, pointer_to}
 use Rattle.ndr_types.specs.Accounts.{any}
 use Rattle.ndr_types.specs.Pointers.{text_pointer, privilege_set_pointer}
@@ -11,22 +11,14 @@ use Rattle.ndr_types.specs.PrivilegeNames.{privilege_names}
 use Rattle.ndr_types.specs.Texts.{text}
 use Rattle.ndr_types.specs.Translations.{signed_long, padded_part, translated_sid, translated_sids, translated_name}
 use Rattle.ndr_types.specs.Translations.{translated_name_of, parts_of_translated_name, translated_names}
-use Rattle.ndr_types.proofs.Onward.{Takes, TakesPart, any_size, takes_u16, takes_u32, takes_such, takes_chain}
+use Rattle.ndr_types.proofs.Onward.{Takes, TakesPart, any_size, takes_u32, long, short, takes_padding, takes_such}
+use Rattle.ndr_types.proofs.Onward.{takes_chain}
 use Rattle.ndr_types.proofs.Onward.{takes_made, takes_ignored, takes_whole, takes_join, takes_flat, takes_part_of}
 use Rattle.ndr_types.proofs.Onward.{takes_pointer_to, list_onward, takes_text, text_onward, privilege_set_onward}
-
-long : Takes 0 u32
-long = any_size 4 takes_u32
-
-short : Takes 0 u16
-short = any_size 2 takes_u16
 
 signed_onward : Takes 0 signed_long
 unfolding signed_long
 signed_onward = takes_made 0 _ _ long
-
-pub takes_padding : Takes 0 padding4
-takes_padding = record { onward = λ c. omega arith }
 
 takes_padded : {S A : Type 0} (p : Part S A) → TakesPart p → TakesPart (padded_part p)
 takes_padded p q = record { head = takes_ignored 0 tt takes_padding q.head; tail = q.tail }

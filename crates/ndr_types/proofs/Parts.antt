@@ -1,11 +1,15 @@
 -- Which values parts, arrays and lists have, and that what some bytes spell can be written.
-use Rattle.std.proofs.Common.{◌≡◌, ℕ, zero, suc, Bool, true, false, All, List, [], ◌∷◌, length, map, refl, sym, ap, subst, arith, lit<}
+use Rattle.std.proofs.Common.{◌≡◌, ℕ, zero, suc, Bool, true, false, All, List, [], ◌∷◌, length, map, refl, sym, ap}
+use Rattle.std.proofs.Common.{subst, arith, lit<}
 use Rattle.std.specs.Prelude.{◌==◌, ◌||◌, nat_le}
 use Rattle.std.proofs.lemmas.Bool.{eqb-true, leb-true, le-leb, eq-eqb}
 use Rattle.std.proofs.lemmas.List.Elements.{All-nil, All-cons, All-tail}
 use Rattle.ndr_core.specs.Codec.{Codec}
-use Rattle.ndr_core.specs.Parts.{Part, PartFits, whole, array, times, each, join, flat, part_of, there, list, list_head, list_tail, is_there_list}
-use Rattle.ndr_core.proofs.Complete.{IsComplete, u32_complete, pointer_complete, given_complete, such_complete, chain_complete, made_complete, led_by_complete, ignored_same, cons_complete, times_complete}
+use Rattle.ndr_core.specs.Parts.{Part, PartFits, whole, array, times, each, join, flat, part_of, there, list, list_head}
+use Rattle.ndr_core.specs.Parts.{list_tail, is_there_list}
+use Rattle.ndr_core.proofs.Complete.{IsComplete, u32_complete, pointer_complete, given_complete, such_complete}
+use Rattle.ndr_core.proofs.Complete.{chain_complete, made_complete, led_by_complete, ignored_same, cons_complete}
+use Rattle.ndr_core.proofs.Complete.{times_complete}
 use Rattle.ndr_types.specs.Laws.{IsListOf}
 
 -- The values of a part are those of a kind, and what some bytes spell can be written.
@@ -35,7 +39,8 @@ times_all (suc n) a (x ∷ xs) h = All-cons a.Fits x xs h.0 (times_all n a xs h.
 
 -- ---- arrays
 
-pub array_fits : {S A : Type 0} (p : Part S A) (xs : List A) → All (PartFits p) xs → (times (length xs) p.head).Fits (map p.head_of xs) × (each p.tail (map p.head_of xs)).Fits xs
+pub array_fits : {S A : Type 0} (p : Part S A) (xs : List A) → All (PartFits p) xs
+    → (times (length xs) p.head).Fits (map p.head_of xs) × (each p.tail (map p.head_of xs)).Fits xs
 unfolding times each
 array_fits p [] h = (refl, refl)
 array_fits p (x ∷ xs) h =
@@ -43,21 +48,25 @@ array_fits p (x ∷ xs) h =
     let r = array_fits p xs (All-tail (PartFits p) x xs h) in
     ((f.0, r.0), (f.1, r.1))
 
-pub array_all : {S A : Type 0} (p : Part S A) (n : ℕ) (xs : List A) → (times n p.head).Fits (map p.head_of xs) → (each p.tail (map p.head_of xs)).Fits xs → (length xs ≡ n) × All (PartFits p) xs
+pub array_all : {S A : Type 0} (p : Part S A) (n : ℕ) (xs : List A) → (times n p.head).Fits (map p.head_of xs)
+    → (each p.tail (map p.head_of xs)).Fits xs → (length xs ≡ n) × All (PartFits p) xs
 unfolding times each
 array_all p zero [] h t = (refl, All-nil (PartFits p))
 array_all p zero (x ∷ xs) h t = absurd cc
 array_all p (suc n) [] h t = absurd h
-array_all p (suc n) (x ∷ xs) h t = let r = array_all p n xs h.1 t.1 in (ap suc r.0, All-cons (PartFits p) x xs (h.0, t.0) r.1)
+array_all p (suc n) (x ∷ xs) h t = let r =
+    array_all p n xs h.1 t.1 in (ap suc r.0, All-cons (PartFits p) x xs (h.0, t.0) r.1)
 
-tails_complete : {S A : Type 0} {P : A → Type 0} (p : Part S A) → Has p P → (n : ℕ) (ss : List S) → (times n p.head).Fits ss → IsComplete (each p.tail ss)
+tails_complete : {S A : Type 0} {P : A → Type 0} (p : Part S A) → Has p P → (n : ℕ) (ss : List S)
+    → (times n p.head).Fits ss → IsComplete (each p.tail ss)
 unfolding times each
 tails_complete p q zero [] h = given_complete []
 tails_complete p q zero (s ∷ ss) h = absurd cc
 tails_complete p q (suc n) [] h = absurd h
 tails_complete p q (suc n) (s ∷ ss) h = cons_complete (q.tail s h.0) (tails_complete p q n ss h.1)
 
-array_keeps : {S A : Type 0} {P : A → Type 0} (p : Part S A) → Has p P → (n : ℕ) (ss : List S) (xs : List A) → (times n p.head).Fits ss → (each p.tail ss).Fits xs
+array_keeps : {S A : Type 0} {P : A → Type 0} (p : Part S A) → Has p P → (n : ℕ) (ss : List S) (xs : List A)
+    → (times n p.head).Fits ss → (each p.tail ss).Fits xs
     → (times n p.head).Fits (map p.head_of xs) × (each p.tail (map p.head_of xs)).Fits xs
 unfolding times each
 array_keeps p q zero [] [] h k = (refl, refl)
@@ -71,11 +80,13 @@ array_keeps p q (suc n) (s ∷ ss) (x ∷ xs) h k =
     ((a.0, b.0), (a.1, b.1))
 
 pub array_complete : {S A : Type 0} {P : A → Type 0} (p : Part S A) → Has p P → (n : ℕ) → IsComplete (whole (array n p))
-array_complete p q n = led_by_complete (map p.head_of) (times_complete n q.head) (tails_complete p q n) (array_keeps p q n)
+array_complete p q n = led_by_complete (map p.head_of) (times_complete n q.head) (tails_complete p q n)
+    (array_keeps p q n)
 
 -- ---- lists
 
-pub list_fits : {S A : Type 0} {P : A → Type 0} (most : ℕ) (p : Part S A) → Has p P → (xs : List A) → IsListOf most P xs → PartFits (list most p) xs
+pub list_fits : {S A : Type 0} {P : A → Type 0} (most : ℕ) (p : Part S A) → Has p P → (xs : List A) → IsListOf most P xs
+    → PartFits (list most p) xs
 unfolding list
 list_fits most p q [] h = (((lit< tt, le-leb 0 most (omega arith)), (tt, refl)), refl)
 list_fits {P = P} most p q (x ∷ xs) h =
@@ -83,7 +94,8 @@ list_fits {P = P} most p q (x ∷ xs) h =
     let a = array_fits p (x ∷ xs) (all_as {P = P} {Q = PartFits p} (x ∷ xs) q.fits h.2) in
     (((h.1, le-leb n most h.0), (tt, refl)), (((h.1, eq-eqb n n refl), (a, refl)), refl))
 
-pub list_kind : {S A : Type 0} {P : A → Type 0} (most : ℕ) (p : Part S A) → Has p P → (xs : List A) → PartFits (list most p) xs → IsListOf most P xs
+pub list_kind : {S A : Type 0} {P : A → Type 0} (most : ℕ) (p : Part S A) → Has p P → (xs : List A)
+    → PartFits (list most p) xs → IsListOf most P xs
 unfolding list
 list_kind {P = P} most p q [] h = (omega arith, lit< tt, All-nil P)
 list_kind {P = P} most p q (x ∷ xs) h =
@@ -92,13 +104,19 @@ list_kind {P = P} most p q (x ∷ xs) h =
     (leb-true n most h.0.0.1, h.0.0.0, all_as {P = PartFits p} {Q = P} (x ∷ xs) q.kind a.1)
 
 list_head_complete : (most : ℕ) → IsComplete (list_head most)
-list_head_complete most = chain_complete (such_complete 4 (λ n. nat_le n most) u32_complete) (λ n f. such_complete 4 (λ b. b || (n == 0)) pointer_complete)
+list_head_complete most =
+    chain_complete (such_complete 4 (λ n. nat_le n most) u32_complete)
+    (λ n f. such_complete 4 (λ b. b || (n == 0)) pointer_complete)
 
-list_tail_complete : {S A : Type 0} {P : A → Type 0} (p : Part S A) → Has p P → (s : ℕ × Bool) → IsComplete (list_tail p s)
-list_tail_complete p q (n, true) = ignored_same n (such_complete 4 (λ m. m == n) u32_complete) (array_complete p q n) (λ m h. eqb-true m n h.1)
+list_tail_complete : {S A : Type 0} {P : A → Type 0} (p : Part S A) → Has p P → (s : ℕ × Bool)
+    → IsComplete (list_tail p s)
+list_tail_complete p q (n, true) =
+    ignored_same n (such_complete 4 (λ m. m == n) u32_complete) (array_complete p q n) (λ m h. eqb-true m n h.1)
 list_tail_complete p q (n, false) = given_complete []
 
-list_keeps : {S A : Type 0} {P : A → Type 0} (most : ℕ) (p : Part S A) → Has p P → (s : ℕ × Bool) (xs : List A) → (list_head most).Fits s → (list_tail p s).Fits xs → (list_head most).Fits (length xs, is_there_list xs) × (list_tail p (length xs, is_there_list xs)).Fits xs
+list_keeps : {S A : Type 0} {P : A → Type 0} (most : ℕ) (p : Part S A) → Has p P → (s : ℕ × Bool) (xs : List A)
+    → (list_head most).Fits s → (list_tail p s).Fits xs
+    → (list_head most).Fits (length xs, is_there_list xs) × (list_tail p (length xs, is_there_list xs)).Fits xs
 list_keeps most p q s [] f h = (((lit< tt, le-leb 0 most (omega arith)), (tt, refl)), refl)
 list_keeps most p q (n, false) (x ∷ xs) f h = absurd cc
 list_keeps most p q (n, true) (x ∷ xs) f h =
@@ -128,7 +146,8 @@ whole_complete p q = led_by_complete p.head_of q.head q.tail q.keeps
 
 -- ---- structures
 
-pub flat_has : {A : Type 0} {P : A → Type 0} (a : Codec A) → ((x : A) → P x → a.Fits x) → ((x : A) → a.Fits x → P x) → IsComplete a → Has (flat a) P
+pub flat_has : {A : Type 0} {P : A → Type 0} (a : Codec A) → ((x : A) → P x → a.Fits x) → ((x : A) → a.Fits x → P x)
+    → IsComplete a → Has (flat a) P
 flat_has {A = A} a fits kind complete = record {
   fits = λ x h. (fits x h, refl);
   kind = λ x h. kind x h.0;
@@ -137,7 +156,8 @@ flat_has {A = A} a fits kind complete = record {
   keeps = λ s x f h. (subst (λ (y : A). a.Fits y) (sym h) f, refl);
 }
 
-pub join_has : {S T A B : Type 0} {P : A → Type 0} {Q : B → Type 0} (p : Part S A) (q : Part T B) → Has p P → Has q Q → Has (join p q) (λ x. P x.0 × Q x.1)
+pub join_has : {S T A B : Type 0} {P : A → Type 0} {Q : B → Type 0} (p : Part S A) (q : Part T B) → Has p P → Has q Q
+    → Has (join p q) (λ x. P x.0 × Q x.1)
 join_has {S = S} {T = T} {A = A} {B = B} p q f g = record {
   fits = λ x h. let a = f.fits x.0 h.0 in let b = g.fits x.1 h.1 in ((a.0, b.0), (a.1, b.1));
   kind = λ x h. (f.kind x.0 (h.0.0, h.1.0), g.kind x.1 (h.0.1, h.1.1));
@@ -146,19 +166,22 @@ join_has {S = S} {T = T} {A = A} {B = B} p q f g = record {
   keeps = λ s x h k. let a = f.keeps s.0 x.0 h.0 k.0 in let b = g.keeps s.1 x.1 h.1 k.1 in ((a.0, b.0), (a.1, b.1));
 }
 
-pub part_of_has : {S A B : Type 0} {P : A → Type 0} {Q : B → Type 0} (make : A → B) (parts : B → A) (p : Part S A) → Has p P → ((b : B) → Q b → P (parts b)) → ((b : B) → P (parts b) → Q b)
+pub part_of_has : {S A B : Type 0} {P : A → Type 0} {Q : B → Type 0} (make : A → B) (parts : B → A) (p : Part S A)
+    → Has p P → ((b : B) → Q b → P (parts b)) → ((b : B) → P (parts b) → Q b)
     → ((a : A) → parts (make a) ≡ a) → ((b : B) → make (parts b) ≡ b) → Has (part_of make parts p) Q
 part_of_has {A = A} {B = B} make parts p f fits kind back same = record {
   fits = λ b h. let a = f.fits (parts b) (fits b h) in (a.0, (a.1, same b));
   kind = λ b h. kind b (f.kind (parts b) (h.0, h.1.0));
   head = f.head;
-  tail = λ s h. made_complete make parts (f.tail s h) (λ a k. (subst (λ (y : A). (p.tail s).Fits y) (sym (back a)) k, same (make a)));
+  tail = λ s h. made_complete make parts (f.tail s h)
+      (λ a k. (subst (λ (y : A). (p.tail s).Fits y) (sym (back a)) k, same (make a)));
   keeps = λ s b h k. let a = f.keeps s (parts b) h k.0 in (a.0, (a.1, k.1));
 }
 
 -- ---- pointers
 
-pub there_has : {A : Type 0} {P : A → Type 0} (a : Codec A) → ((x : A) → P x → a.Fits x) → ((x : A) → a.Fits x → P x) → IsComplete a → Has (there a) P
+pub there_has : {A : Type 0} {P : A → Type 0} (a : Codec A) → ((x : A) → P x → a.Fits x) → ((x : A) → a.Fits x → P x)
+    → IsComplete a → Has (there a) P
 there_has a fits kind complete = record {
   fits = λ x h. ((tt, refl), fits x h);
   kind = λ x h. kind x h.1;

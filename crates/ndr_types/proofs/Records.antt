@@ -1,11 +1,14 @@
 -- Which privileges, accounts and domains can be written, and that what some bytes spell can be.
-use Rattle.std.proofs.Common.{ℕ, ◌^◌, ◌<◌, Bool, true, false, List, length, Option, Some, None, refl, sym, subst, arith, lit<}
+use Rattle.std.proofs.Common.{ℕ, ◌^◌, ◌<◌, Bool, true, false, List, length, Option, Some, None, refl, sym, subst, arith}
+use Rattle.std.proofs.Common.{lit<}
 use Rattle.std.specs.Prelude.{◌==◌, ◌&&◌, nat_le}
 use Rattle.std.proofs.lemmas.Bool.{eqb-true, leb-true, le-leb, eq-eqb}
 use Rattle.ndr_core.specs.Codec.{Codec}
 use Rattle.ndr_core.specs.Shapes.{u32, u32_such, ignored}
 use Rattle.ndr_core.specs.Parts.{PartFits, times, whole, join, flat, pointer_to, when_there, some, list}
-use Rattle.ndr_core.proofs.Complete.{IsComplete, u32_complete, pointer_complete, given_complete, such_complete, chain_complete, made_complete, led_by_complete, ignored_complete, ignored_same, times_complete, times_length}
+use Rattle.ndr_core.proofs.Complete.{IsComplete, u32_complete, pointer_complete, given_complete, such_complete}
+use Rattle.ndr_core.proofs.Complete.{chain_complete, made_complete, led_by_complete, ignored_complete, ignored_same}
+use Rattle.ndr_core.proofs.Complete.{times_complete, times_length}
 use Rattle.acct_calls.specs.declared.lists.Privilege.{Privilege}
 use Rattle.acct_calls.specs.declared.lists.Place.{Place}
 use Rattle.acct_calls.specs.declared.lists.RidBits.{RidBits}
@@ -18,7 +21,8 @@ use Rattle.ndr_types.specs.Sids.{sid_pointer}
 use Rattle.acct_layouts.specs.Bounds.{IfThere}
 use Rattle.acct_layouts.specs.Bounds.{IsPrivilege, IsPrivilegeSet, IsAccount, IsDomain, IsMember}
 use Rattle.ndr_types.specs.Laws.{IsListOf}
-use Rattle.ndr_types.proofs.Parts.{Has, all_as, flat_has, join_has, part_of_has, list_has, times_fit, times_all, whole_fits, whole_kind, whole_complete}
+use Rattle.ndr_types.proofs.Parts.{Has, all_as, flat_has, join_has, part_of_has, list_has, times_fit, times_all}
+use Rattle.ndr_types.proofs.Parts.{whole_fits, whole_kind, whole_complete}
 use Rattle.ndr_types.proofs.Texts.{text_has}
 use Rattle.ndr_types.proofs.Sids.{and_left, and_right, and_both, long_has, sid_pointer_has}
 
@@ -34,7 +38,8 @@ privilege_kind p h = (h.0.0, h.0.1.0, h.0.1.1)
 
 privilege_complete : IsComplete privilege
 unfolding privilege
-privilege_complete = made_complete privilege_of parts_of_privilege (chain_complete u32_complete (λ x h. chain_complete u32_complete (λ y k. u32_complete))) (λ x h. (h, refl))
+privilege_complete = made_complete privilege_of parts_of_privilege
+    (chain_complete u32_complete (λ x h. chain_complete u32_complete (λ y k. u32_complete))) (λ x h. (h, refl))
 
 -- what stands behind the maximum count
 abbrev after_maximum : ℕ → Codec (List Privilege)
@@ -51,14 +56,18 @@ privilege_set_fits ps h =
 pub privilege_set_kind : (ps : List Privilege) → privilege_set.Fits ps → IsPrivilegeSet ps
 unfolding privilege_set
 privilege_set_kind ps h =
-    let n = length ps in
-    (leb-true n 1000 (and_right (n == n) (nat_le n 1000) h.0.1.0.0.1), all_as {P = privilege.Fits} {Q = IsPrivilege} ps privilege_kind (times_all n privilege ps h.0.1.0.1.0.1))
+    let n = length ps in (
+      leb-true n 1000 (and_right (n == n) (nat_le n 1000) h.0.1.0.0.1),
+      all_as {P = privilege.Fits} {Q = IsPrivilege} ps
+          privilege_kind (times_all n privilege ps h.0.1.0.1.0.1),
+    )
 
 pub privilege_set_complete : IsComplete privilege_set
 unfolding privilege_set
 privilege_set_complete =
     led_by_complete length u32_complete
-    (λ n f. ignored_same n (such_complete 4 (λ count. (count == n) && nat_le count 1000) u32_complete) (ignored_complete 0 u32_complete (times_complete n privilege_complete) (lit< tt))
+    (λ n f. ignored_same n (such_complete 4 (λ count. (count == n) && nat_le count 1000) u32_complete)
+    (ignored_complete 0 u32_complete (times_complete n privilege_complete) (lit< tt))
     (λ count k. eqb-true count n (and_left (count == n) (nat_le count 1000) k.1)))
     (λ n ps f h.
     let len = times_length n privilege ps h.0.1.0.1 in
@@ -67,24 +76,29 @@ privilege_set_complete =
 -- ---- pointers to lists
 
 some_or_none : {A : Type 0} (a : Codec A) → IsComplete a → (b : Bool) → IsComplete (when_there b a)
-some_or_none {A = A} a p true = record { fits = λ y c d bytes h. subst (λ (z : Option A). (some a).Fits z) h.2 (p.fits h.0 c d bytes h.1) }
+some_or_none {A = A} a p true =
+    record { fits = λ y c d bytes h. subst (λ (z : Option A). (some a).Fits z) h.2 (p.fits h.0 c d bytes h.1) }
 some_or_none a p false = given_complete None
 
-pointer_keeps : {A : Type 0} (a : Codec A) (b : Bool) (y : Option A) → (when_there b a).Fits y → PartFits (pointer_to a) y
+pointer_keeps : {A : Type 0} (a : Codec A) (b : Bool) (y : Option A) → (when_there b a).Fits y
+    → PartFits (pointer_to a) y
 pointer_keeps a true None h = absurd h
 pointer_keeps a true (Some x) h = (tt, h)
 pointer_keeps a false None h = (tt, refl)
 pointer_keeps a false (Some x) h = absurd cc
 
-pointer_fits : {A : Type 0} {P : A → Type 0} (a : Codec A) → ((x : A) → P x → a.Fits x) → (y : Option A) → IfThere P y → PartFits (pointer_to a) y
+pointer_fits : {A : Type 0} {P : A → Type 0} (a : Codec A) → ((x : A) → P x → a.Fits x) → (y : Option A) → IfThere P y
+    → PartFits (pointer_to a) y
 pointer_fits a fits None h = (tt, refl)
 pointer_fits a fits (Some x) h = (tt, fits x h)
 
-pointer_kind : {A : Type 0} {P : A → Type 0} (a : Codec A) → ((x : A) → a.Fits x → P x) → (y : Option A) → PartFits (pointer_to a) y → IfThere P y
+pointer_kind : {A : Type 0} {P : A → Type 0} (a : Codec A) → ((x : A) → a.Fits x → P x) → (y : Option A)
+    → PartFits (pointer_to a) y → IfThere P y
 pointer_kind a kind None h = tt
 pointer_kind a kind (Some x) h = kind x h.1
 
-pub pointer_has : {A : Type 0} {P : A → Type 0} (a : Codec A) → ((x : A) → P x → a.Fits x) → ((x : A) → a.Fits x → P x) → IsComplete a → Has (pointer_to a) (IfThere P)
+pub pointer_has : {A : Type 0} {P : A → Type 0} (a : Codec A) → ((x : A) → P x → a.Fits x) → ((x : A) → a.Fits x → P x)
+    → IsComplete a → Has (pointer_to a) (IfThere P)
 pointer_has a fits kind complete = record {
   fits = pointer_fits a fits;
   kind = pointer_kind a kind;
@@ -97,24 +111,28 @@ pointer_has a fits kind complete = record {
 
 rid_name_has : Has rid_name IsAccount
 unfolding rid_name
-rid_name_has = part_of_has {Q = IsAccount} rid_name_of parts_of_rid_name (join (flat u32) text) (join_has (flat u32) text long_has text_has) (λ b h. h) (λ b h. h) (λ a. refl) (λ b. refl)
+rid_name_has = part_of_has {Q = IsAccount} rid_name_of parts_of_rid_name (join (flat u32) text)
+    (join_has (flat u32) text long_has text_has) (λ b h. h) (λ b h. h) (λ a. refl) (λ b. refl)
 
 pub rid_names_has : Has (pointer_to (whole (list any rid_name))) (IfThere (IsListOf any IsAccount))
 rid_names_has =
     let q = list_has any rid_name rid_name_has in
-    pointer_has (whole (list any rid_name)) (whole_fits (list any rid_name) q) (whole_kind (list any rid_name) q) (whole_complete (list any rid_name) q)
+    pointer_has (whole (list any rid_name)) (whole_fits (list any rid_name) q) (whole_kind (list any rid_name) q)
+    (whole_complete (list any rid_name) q)
 
 -- ---- domains
 
 place_has : Has place IsDomain
 unfolding place
-place_has = part_of_has {Q = IsDomain} place_of parts_of_place (join text sid_pointer) (join_has text sid_pointer text_has sid_pointer_has) (λ b h. h) (λ b h. h) (λ a. refl) (λ b. refl)
+place_has = part_of_has {Q = IsDomain} place_of parts_of_place (join text sid_pointer)
+    (join_has text sid_pointer text_has sid_pointer_has) (λ b h. h) (λ b h. h) (λ a. refl) (λ b. refl)
 
 count_of : (s : ℕ × Bool) → (list any place).head.Fits s → s.0 < 2 ^ 32
 unfolding list
 count_of s h = h.0.0
 
-count_long : (xs : List Place) → (list any place).head.Fits ((list any place).head_of xs) → ((list any place).head_of xs).0 < 2 ^ 32
+count_long : (xs : List Place) → (list any place).head.Fits ((list any place).head_of xs)
+    → ((list any place).head_of xs).0 < 2 ^ 32
 count_long xs h = count_of ((list any place).head_of xs) h
 
 places_has : Has places (IsListOf any IsDomain)
@@ -123,19 +141,22 @@ places_has =
     let q = list_has any place place_has in record {
       fits = λ xs h. let f = q.fits xs h in (((f.0, count_long xs f.0), refl), f.1);
       kind = λ xs h. q.kind xs (h.0.0.0, h.1);
-      head = made_complete first with_entries (chain_complete q.head (λ x h. u32_complete)) (λ x h. ((h.0, count_of x.0 h.0), refl));
+      head = made_complete first with_entries (chain_complete q.head (λ x h. u32_complete))
+          (λ x h. ((h.0, count_of x.0 h.0), refl));
       tail = λ s h. q.tail s h.0.0;
       keeps = λ s xs h k. let f = q.keeps s xs h.0.0 k in (((f.0, count_long xs f.0), refl), f.1);
     }
 
 pub referenced_has : Has (pointer_to (whole places)) (IfThere (IsListOf any IsDomain))
-referenced_has = pointer_has (whole places) (whole_fits places places_has) (whole_kind places places_has) (whole_complete places places_has)
+referenced_has = pointer_has (whole places) (whole_fits places places_has) (whole_kind places places_has)
+    (whole_complete places places_has)
 
 -- ---- members
 
 membership_complete : IsComplete membership
 unfolding membership
-membership_complete = made_complete rid_bits_of parts_of_rid_bits (chain_complete u32_complete (λ x h. u32_complete)) (λ x h. (h, refl))
+membership_complete = made_complete rid_bits_of parts_of_rid_bits (chain_complete u32_complete (λ x h. u32_complete))
+    (λ x h. (h, refl))
 
 membership_fits : (r : RidBits) → IsMember r → membership.Fits r
 unfolding membership

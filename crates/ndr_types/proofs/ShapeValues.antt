@@ -19,7 +19,8 @@ use Rattle.ndr_types.proofs.Records.{privilege_set_fits, privilege_set_kind, rid
 pub whole_values : {S A : Type 0} {P : A → Type 0} (p : Part S A) → Has p P → HasValues (whole p) P
 whole_values p q x = (whole_kind p q x, whole_fits p q x)
 
-pub list_values : {S A : Type 0} {P : A → Type 0} (most : ℕ) (p : Part S A) → Has p P → HasValues (list_of most p) (IsListOf most P)
+pub list_values : {S A : Type 0} {P : A → Type 0} (most : ℕ) (p : Part S A) → Has p P
+    → HasValues (list_of most p) (IsListOf most P)
 unfolding list_of
 list_values most p q = whole_values (list most p) (list_has most p q)
 

@@ -5,7 +5,8 @@ use Rattle.std.proofs.lemmas.Bool.{eqb-true, leb-true, le-leb, eq-eqb}
 use Rattle.ndr_core.specs.Codec.{Codec}
 use Rattle.ndr_core.specs.Shapes.{u32, u8_such, ignored, made, chain}
 use Rattle.ndr_core.specs.Parts.{flat, times}
-use Rattle.ndr_core.proofs.Complete.{IsComplete, u8_complete, u32_complete, such_complete, chain_complete, made_complete, led_by_complete, ignored_same, times_complete, times_length}
+use Rattle.ndr_core.proofs.Complete.{IsComplete, u8_complete, u32_complete, such_complete, chain_complete}
+use Rattle.ndr_core.proofs.Complete.{made_complete, led_by_complete, ignored_same, times_complete, times_length}
 use Rattle.dtyp_sid.specs.Value.{SidValue, IsSid}
 use Rattle.ndr_types.specs.Sids.{authority, sid, sid_of, parts_of_sid, sid_pointer, is_revision}
 use Rattle.acct_layouts.specs.Bounds.{IsLong}
@@ -28,13 +29,32 @@ count_passes n le = and_both (n == n) (nat_le n 15) (eq-eqb n n refl) (le-leb n 
 
 -- what stands behind the maximum count
 abbrev after_count : ℕ → Codec SidValue
-after_count n = ignored 1 (u8_such is_revision) (ignored n (u8_such (λ count. (count == n) && nat_le count 15)) (made sid_of parts_of_sid (chain authority (λ _. times n u32))))
+after_count n = ignored 1 (u8_such is_revision)
+    (ignored n (u8_such (λ count. (count == n) && nat_le count 15))
+    (made sid_of parts_of_sid (chain authority (λ _. times n u32))))
 
 pub sid_fits : (s : SidValue) → IsSid s → sid.Fits s
 unfolding sid
 sid_fits s h =
-    let n = length s.subs in
-    ((omega (arith, h.count_fits), ((((lit< tt, refl)), (((omega (arith, h.count_fits), count_passes n h.count_fits), ((authority_fits s.authority h.authority_fits, times_fit u32 s.subs h.subs_fit), refl)), refl)), refl)), refl)
+    let n = length s.subs in (
+      (
+        omega (arith, h.count_fits),
+        (
+          (
+            ((lit< tt, refl)),
+            (
+              (
+                (omega (arith, h.count_fits), count_passes n h.count_fits),
+                ((authority_fits s.authority h.authority_fits, times_fit u32 s.subs h.subs_fit), refl),
+              ),
+              refl,
+            ),
+          ),
+          refl,
+        ),
+      ),
+      refl,
+    )
 
 pub sid_kind : (s : SidValue) → sid.Fits s → IsSid s
 unfolding sid
@@ -53,7 +73,8 @@ sid_complete =
     led_by_complete (λ s. length s.subs) u32_complete
     (λ n f. ignored_same 1 (such_complete 1 is_revision u8_complete)
     (ignored_same n (such_complete 1 (λ count. (count == n) && nat_le count 15) u8_complete)
-    (made_complete sid_of parts_of_sid (chain_complete authority_complete (λ a k. times_complete n u32_complete)) (λ x k. (k, refl)))
+    (made_complete sid_of parts_of_sid (chain_complete authority_complete (λ a k. times_complete n u32_complete))
+    (λ x k. (k, refl)))
     (λ count k. eqb-true count n (and_left (count == n) (nat_le count 15) k.1)))
     (λ r k. eqb-true r 1 k.1))
     (λ n s f h.

@@ -5,17 +5,21 @@ use Rattle.ndr_core.specs.declared.error.NdrError.TheVariants.{Short, Count, Mem
 use Rattle.ndr_core.specs.Cursor.{Cursor}
 use Rattle.ndr_core.specs.Written.{IsBytes}
 use Rattle.ndr_core.specs.Codec.{Codec}
+use Rattle.ndr_core.specs.Again.{HasOneReading, IsReadAgain}
 
 -- What some bytes spell can be written.
 abbrev pub IsWritable : {A : Type 0} → Codec A → Type 0
-IsWritable {A = A} shape = (value : A) (start end : Cursor) → IsBytes start.stub → shape.Spells value start end → shape.Fits value
+IsWritable {A = A} shape =
+    (value : A) (start end : Cursor) → IsBytes start.stub → shape.Spells value start end → shape.Fits value
 
--- A value is read, and ends there, exactly where it is spelled, whatever the padding and the referents are. Elsewhere reading gives the
--- first field in reading order that has no reading.
+-- A value is read, and ends there, exactly where it is spelled, whatever the padding and the referents are. Elsewhere
+-- reading gives the first field in reading order that has no reading.
 abbrev pub IsReadWhereSpelled : {A : Type 0} → Codec A → Type 0
-IsReadWhereSpelled {A = A} shape = (value : A) (start end : Cursor) → (shape.read start ≡ Ok (value, end)) ↔ shape.Spells value start end
+IsReadWhereSpelled {A = A} shape =
+    (value : A) (start end : Cursor) → (shape.read start ≡ Ok (value, end)) ↔ shape.Spells value start end
 
--- A value ends so many bytes at least behind the place where reading began, a bad place stands there or behind it, and no reading wants memory.
+-- A value ends so many bytes at least behind the place where reading began, a bad place stands there or behind it, and
+-- no reading wants memory.
 abbrev pub Onward : {A : Type 0} → ℕ → ℕ → Result (A × Cursor) NdrError → Type 0
 Onward place size (Ok x) = place + size ≤ x.1.place
 Onward place size (Err (Short bad)) = place ≤ bad
@@ -32,3 +36,18 @@ HasValues {A = A} shape P = (value : A) → shape.Fits value ↔ P value
 -- a list of at most so many values of a kind
 abbrev pub IsListOf : {A : Type 0} → ℕ → (A → Type 0) → List A → Type 0
 IsListOf most P xs = (length xs ≤ most) × (length xs < 2 ^ 32) × All P xs
+
+-- The laws of a shape whose values are those of a kind, as one bundle.
+pub record IsLawfulShape {A : Type 0} (shape : Codec A) (P : A → Type 0) : Type 0 where
+  -- a value is read exactly where it is spelled
+  pub read : IsReadWhereSpelled shape
+  -- what is written is read again
+  pub again : IsReadAgain shape
+  -- no stub has two readings at one place
+  pub one : HasOneReading shape
+  -- what some stub spells can be written
+  pub writable : IsWritable shape
+  -- what can be written are the values of the kind
+  pub values : HasValues shape P
+  -- neither an end nor a bad place stands before the place where reading began
+  pub onward : GoesOnward shape

@@ -1,4 +1,5 @@
--- A set of privileges: LSAPR_PRIVILEGE_SET (MS-LSAD 2.2.5.5), a structure that ends with a conformant array (C706 14.3.7.1).
+-- A set of privileges: LSAPR_PRIVILEGE_SET (MS-LSAD 2.2.5.5), a structure that ends with a conformant array (C706
+-- 14.3.7.1).
 use Rattle.std.specs.Prelude.{ℕ, List, length, ◌==◌, ◌&&◌, nat_le}
 use Rattle.ndr_core.specs.Codec.{Codec}
 use Rattle.ndr_core.specs.Shapes.{u32, u32_such, conformant, chain, made, led_by, ignored}
@@ -15,6 +16,8 @@ parts_of_privilege p = (p.low, (p.high, p.attributes))
 unfoldable pub privilege : Codec Privilege
 privilege = made privilege_of parts_of_privilege (chain u32 (λ _. chain u32 (λ _. u32)))
 
--- A maximum count, the same count of at most 1,000, a control word, which isn't looked at and is written as 0, and so many privileges.
+-- A maximum count, the same count of at most 1,000, a control word, which isn't looked at and is written as 0, and so
+-- many privileges.
 unfoldable pub privilege_set : Codec (List Privilege)
-privilege_set = led_by length conformant (λ n. ignored n (u32_such (λ count. (count == n) && nat_le count 1000)) (ignored 0 u32 (times n privilege)))
+privilege_set = led_by length conformant
+    (λ n. ignored n (u32_such (λ count. (count == n) && nat_le count 1000)) (ignored 0 u32 (times n privilege)))

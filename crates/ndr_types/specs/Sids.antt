@@ -1,4 +1,5 @@
--- A SID: RPC_SID (MS-DTYP 2.4.2.3), a structure that ends with a conformant array, whose maximum count stands before it (C706 14.3.7.1).
+-- A SID: RPC_SID (MS-DTYP 2.4.2.3), a structure that ends with a conformant array, whose maximum count stands before it
+-- (C706 14.3.7.1).
 use Rattle.std.specs.Prelude.{ℕ, Bool, List, length, ◌==◌, ◌&&◌, nat_le}
 use Rattle.ndr_core.specs.Codec.{Codec}
 use Rattle.ndr_core.specs.Shapes.{u8, u32, u8_such, conformant, chain, made, led_by, ignored}
@@ -21,7 +22,8 @@ is_revision n = n == 1
 
 -- A maximum count, the revision 1, the same count of at most 15, the authority, and so many sub-authorities.
 unfoldable pub sid : Codec SidValue
-sid = led_by (λ s. length s.subs) conformant (λ n. ignored 1 (u8_such is_revision) (ignored n (u8_such (λ count. (count == n) && nat_le count 15))
+sid = led_by (λ s. length s.subs) conformant
+    (λ n. ignored 1 (u8_such is_revision) (ignored n (u8_such (λ count. (count == n) && nat_le count 15))
     (made sid_of parts_of_sid (chain authority (λ _. times n u32)))))
 
 -- A pointer to a SID, which isn't null.

@@ -4,7 +4,7 @@ ghost use Rattle.std.specs.Option.{option_copied};
 ghost use Rattle.ndr_types.specs.Accounts.{rid_name, rid_names};
 ghost use Rattle.acct_layouts.specs.Bounds.{IfThere, IsListed};
 ghost use Rattle.ndr_types.specs.Bounds.{HasShortName};
-ghost use Rattle.ndr_types.specs.Outcomes.{Yields};
+ghost use Rattle.ndr_types.specs.Outcomes.{ReadsIfRoom};
 
 use crate::array::{read_list, write_list};
 use crate::{Embedded, NoMemory};
@@ -51,7 +51,7 @@ impl Embedded for RidName {
 /// A list of accounts, or none where the pointer is null.
 #[tactic(auto, unfolding(crate::specs::Accounts::rid_names))]
 pub fn read_rid_names(alloc: Global, from: &mut In<'_>) -> Result<Option<RidNames>, NdrError>
-    ensures { Yields result from.new (rid_names.read from.old) }
+    ensures { ReadsIfRoom result from.new (rid_names.read from.old) }
 {
     if !from.pointer()? {
         return Ok(None);

@@ -1,9 +1,9 @@
 // Arrays and lists of embedded shapes.
 ghost use Rattle.std.specs.Prelude.{◌≡◌, ℕ, All, OnOk, length, map};
-ghost use Rattle.ndr_core.specs.Cursor.{Gives};
-ghost use Rattle.ndr_core.specs.Parts.{times, each, list, list_of};
+ghost use Rattle.ndr_core.specs.Cursor.{Reads};
+ghost use Rattle.ndr_core.specs.Parts.{array, each, list, list_of, times, whole};
 ghost use Rattle.acct_layouts.specs.Bounds.{IsListed};
-ghost use Rattle.ndr_types.specs.Outcomes.{Yields};
+ghost use Rattle.ndr_types.specs.Outcomes.{ReadsIfRoom};
 
 use crate::{Embedded, NoMemory};
 use acct_base::Seq;
@@ -16,7 +16,7 @@ pub fn read_heads<X: Embedded>(
     from: &mut In<'_>,
     count: u32,
 ) -> Result<Seq<X::Head>, NdrError>
-    ensures { Yields result from.new ((times count X.part.head).read from.old) }
+    ensures { ReadsIfRoom result from.new ((times count X.part.head).read from.old) }
 {
     let mut heads = Seq::new(alloc);
     for _ in 0..count {
@@ -32,7 +32,7 @@ pub fn read_tails<X: Embedded>(
     from: &mut In<'_>,
     heads: &[X::Head],
 ) -> Result<Seq<X>, NdrError>
-    ensures { Yields result from.new ((each X.part.tail heads.now).read from.old) }
+    ensures { ReadsIfRoom result from.new ((each X.part.tail heads.now).read from.old) }
 {
     let mut values = Seq::new(alloc);
     for head in heads {
@@ -45,7 +45,8 @@ pub fn read_tails<X: Embedded>(
 /// The heads of these values, one after the other.
 pub fn write_heads<X: Embedded>(to: &mut Out, values: &[X]) -> Result<(), NoMemory>
     requires { All X.Bounded values.now }
-    ensures { OnOk result (to.new ≡ (times (length values.now) X.part.head).write (map X.part.head_of values.now) to.old) }
+    ensures { OnOk result
+        (to.new ≡ (times (length values.now) X.part.head).write (map X.part.head_of values.now) to.old) }
 {
     for value in values {
         value.write_head(to)?;
@@ -64,10 +65,22 @@ pub fn write_tails<X: Embedded>(to: &mut Out, values: &[X]) -> Result<(), NoMemo
     Ok(())
 }
 
+/// An array of so many, with its heads before its tails.
+pub fn read_array<X: Embedded>(
+    alloc: Global,
+    from: &mut In<'_>,
+    count: u32,
+) -> Result<Seq<X>, NdrError>
+    ensures { ReadsIfRoom result from.new ((whole (array count X.part)).read from.old) }
+{
+    let heads = read_heads::<X>(alloc, from, count)?;
+    read_tails(alloc, from, heads.as_slice())
+}
+
 /// The count of a list, of at most so many, and whether its array is there.
 #[tactic(auto, unfolding(ndr_core::specs::Parts::list))]
 pub fn read_list_head<X: Embedded>(from: &mut In<'_>, most: u32) -> Result<(u32, bool), NdrError>
-    ensures { Gives result from.new ((list most X.part).head.read from.old) }
+    ensures { Reads result from.new ((list most X.part).head.read from.old) }
 {
     let count = from.u32()?;
     if count > most {
@@ -87,7 +100,7 @@ pub fn read_list_tail<X: Embedded>(
     from: &mut In<'_>,
     head: &(u32, bool),
 ) -> Result<Seq<X>, NdrError>
-    ensures { (most : ℕ) → Yields result from.new (((list most X.part).tail head.now).read from.old) }
+    ensures { (most : ℕ) → ReadsIfRoom result from.new (((list most X.part).tail head.now).read from.old) }
 {
     if !head.1 {
         return Ok(Seq::new(alloc));
@@ -95,8 +108,7 @@ pub fn read_list_tail<X: Embedded>(
     if from.conformant()? != head.0 {
         return Err(from.broken(4));
     }
-    let heads = read_heads::<X>(alloc, from, head.0)?;
-    read_tails(alloc, from, heads.as_slice())
+    read_array(alloc, from, head.0)
 }
 
 /// A list of at most so many values.
@@ -106,7 +118,7 @@ pub fn read_list<X: Embedded>(
     from: &mut In<'_>,
     most: u32,
 ) -> Result<Seq<X>, NdrError>
-    ensures { Yields result from.new ((list_of most X.part).read from.old) }
+    ensures { ReadsIfRoom result from.new ((list_of most X.part).read from.old) }
 {
     let head = read_list_head::<X>(from, most)?;
     read_list_tail(alloc, from, &head)
@@ -116,7 +128,8 @@ pub fn read_list<X: Embedded>(
 #[tactic(auto, unfolding(ndr_core::specs::Parts::list))]
 pub fn write_list_head<X: Embedded>(to: &mut Out, values: &[X]) -> Result<(), NoMemory>
     requires { IsListed X.Bounded values.now }
-    ensures { OnOk result ((most : ℕ) → to.new ≡ (list most X.part).head.write ((list most X.part).head_of values.now) to.old) }
+    ensures { OnOk result ((most : ℕ)
+        → to.new ≡ (list most X.part).head.write ((list most X.part).head_of values.now) to.old) }
 {
     to.u32(values.len() as u32)?;
     to.pointer(!values.is_empty())
@@ -126,7 +139,8 @@ pub fn write_list_head<X: Embedded>(to: &mut Out, values: &[X]) -> Result<(), No
 #[tactic(auto, unfolding(ndr_core::specs::Parts::list))]
 pub fn write_list_tail<X: Embedded>(to: &mut Out, values: &[X]) -> Result<(), NoMemory>
     requires { IsListed X.Bounded values.now }
-    ensures { OnOk result ((most : ℕ) → to.new ≡ ((list most X.part).tail ((list most X.part).head_of values.now)).write values.now to.old) }
+    ensures { OnOk result ((most : ℕ)
+        → to.new ≡ ((list most X.part).tail ((list most X.part).head_of values.now)).write values.now to.old) }
 {
     if values.is_empty() {
         return Ok(());

@@ -1,12 +1,12 @@
 // Lists of the domains that a translation refers to.
 ghost use Rattle.std.specs.Prelude.{◌≡◌, OnOk};
 ghost use Rattle.std.specs.Option.{option_copied};
-ghost use Rattle.ndr_core.specs.Cursor.{Gives, making};
+ghost use Rattle.ndr_core.specs.Cursor.{Reads, making};
 ghost use Rattle.ndr_core.specs.Parts.{whole};
 ghost use Rattle.acct_layouts.specs.Bounds.{IfThere, IsListed};
 ghost use Rattle.ndr_types.specs.Bounds.{IsShortPlace};
 ghost use Rattle.ndr_types.specs.Domains.{or_empty, place, places, referenced};
-ghost use Rattle.ndr_types.specs.Outcomes.{Yields};
+ghost use Rattle.ndr_types.specs.Outcomes.{ReadsIfRoom};
 
 use crate::array::{read_list_head, read_list_tail, write_list_head, write_list_tail};
 use crate::{Embedded, NoMemory};
@@ -56,7 +56,7 @@ impl Embedded for Place {
 
 #[tactic(auto, unfolding(crate::specs::Domains::places))]
 fn read_places_head(from: &mut In<'_>) -> Result<(u32, bool), NdrError>
-    ensures { Gives result from.new (places.head.read from.old) }
+    ensures { Reads result from.new (places.head.read from.old) }
 {
     let head = read_list_head::<Place>(from, u32::MAX)?;
     from.u32()?;
@@ -69,13 +69,13 @@ fn read_places_tail(
     from: &mut In<'_>,
     head: &(u32, bool),
 ) -> Result<Places, NdrError>
-    ensures { Yields result from.new ((places.tail head.now).read from.old) }
+    ensures { ReadsIfRoom result from.new ((places.tail head.now).read from.old) }
 {
     read_list_tail(alloc, from, head)
 }
 
 fn read_places(alloc: Global, from: &mut In<'_>) -> Result<Places, NdrError>
-    ensures { Yields result from.new ((whole places).read from.old) }
+    ensures { ReadsIfRoom result from.new ((whole places).read from.old) }
 {
     let head = read_places_head(from)?;
     read_places_tail(alloc, from, &head)
@@ -84,7 +84,7 @@ fn read_places(alloc: Global, from: &mut In<'_>) -> Result<Places, NdrError>
 /// A list of domains, or none where the pointer is null.
 #[tactic(auto, unfolding(crate::specs::Domains::referenced))]
 pub fn read_referenced_pointer(alloc: Global, from: &mut In<'_>) -> Result<Option<Places>, NdrError>
-    ensures { Yields result from.new (referenced.read from.old) }
+    ensures { ReadsIfRoom result from.new (referenced.read from.old) }
 {
     if !from.pointer()? {
         return Ok(None);
@@ -96,7 +96,7 @@ pub fn read_referenced_pointer(alloc: Global, from: &mut In<'_>) -> Result<Optio
 /// A list of domains. Where the pointer is null it is empty.
 #[tactic(auto, unfolding(crate::specs::Domains::referenced))]
 pub fn read_referenced(alloc: Global, from: &mut In<'_>) -> Result<Places, NdrError>
-    ensures { Yields result from.new (making or_empty referenced.read from.old) }
+    ensures { ReadsIfRoom result from.new (making or_empty referenced.read from.old) }
 {
     if !from.pointer()? {
         return Ok(Seq::new(alloc));

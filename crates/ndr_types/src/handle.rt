@@ -1,6 +1,6 @@
 // Context handles.
 ghost use Rattle.std.specs.Prelude.{◌≡◌, OnOk};
-ghost use Rattle.ndr_core.specs.Cursor.{Gives};
+ghost use Rattle.ndr_core.specs.Cursor.{Reads};
 ghost use Rattle.ndr_types.specs.Handles.{handle, uuid};
 
 use crate::NoMemory;
@@ -9,7 +9,7 @@ use ndr_core::{In, NdrError, Out};
 
 #[tactic(auto, unfolding(crate::specs::Handles::uuid))]
 fn read_uuid(from: &mut In<'_>) -> Result<u128, NdrError>
-    ensures { Gives result from.new (uuid.read from.old) }
+    ensures { Reads result from.new (uuid.read from.old) }
 {
     let n = from.u32()? as u128;
     let n = n * 0x10000 + from.u16()? as u128;
@@ -28,7 +28,7 @@ fn read_uuid(from: &mut In<'_>) -> Result<u128, NdrError>
 /// A context handle. Its attributes aren't looked at.
 #[tactic(auto, unfolding(crate::specs::Handles::handle))]
 pub fn read_handle(from: &mut In<'_>) -> Result<Handle, NdrError>
-    ensures { Gives result from.new (handle.read from.old) }
+    ensures { Reads result from.new (handle.read from.old) }
 {
     from.u32()?;
     let number = read_uuid(from)?;

@@ -28,15 +28,12 @@ mod translations;
 
 pub use accounts::{read_rid_names, write_rid_names};
 pub use array::{
-    read_heads, read_list, read_list_head, read_list_tail, read_tails, write_heads, write_list,
-    write_list_head, write_list_tail, write_tails,
+    read_array, read_heads, read_list, read_list_head, read_list_tail, read_tails, write_heads,
+    write_list, write_list_head, write_list_tail, write_tails,
 };
 pub use domains::{read_referenced, read_referenced_pointer, write_referenced};
 pub use handle::{read_handle, write_handle};
-pub use laws::{
-    one_reading, places_go_onward, read_where_spelled, spelled_is_writable, values_are_of_a_kind,
-    written_is_read_again,
-};
+pub use laws::shapes_are_lawful;
 pub use lists::{
     read_rid_list, read_sid_list, read_text_list, write_rid_list, write_sid_list, write_text_list,
 };
@@ -54,6 +51,3 @@ pub use translations::{
 
 /// Want of memory, which is the only fault of the writers here.
 pub type NoMemory = std::alloc::AllocError;
-
-#[cfg(test)]
-mod tests;

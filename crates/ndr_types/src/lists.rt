@@ -3,7 +3,7 @@ ghost use Rattle.std.specs.Prelude.{◌≡◌, ◌<◌, ◌^◌, ℕ, OnOk, leng
 ghost use Rattle.acct_layouts.specs.Bounds.{IsListed};
 ghost use Rattle.ndr_types.specs.Bounds.{IsShort};
 ghost use Rattle.ndr_types.specs.Lists.{rid_list, sid_list, text_list};
-ghost use Rattle.ndr_types.specs.Outcomes.{Yields};
+ghost use Rattle.ndr_types.specs.Outcomes.{ReadsIfRoom};
 
 use crate::NoMemory;
 use crate::array::{read_list, write_list};
@@ -13,7 +13,7 @@ use std::alloc::Global;
 
 /// A list of at most so many SIDs, none of them null.
 pub fn read_sid_list(alloc: Global, from: &mut In<'_>, most: u32) -> Result<Sids, NdrError>
-    ensures { Yields result from.new ((sid_list most).read from.old) }
+    ensures { ReadsIfRoom result from.new ((sid_list most).read from.old) }
 {
     read_list(alloc, from, most)
 }
@@ -28,7 +28,7 @@ pub fn write_sid_list(to: &mut Out, value: &Sids) -> Result<(), NoMemory>
 
 /// A list of at most so many numbers.
 pub fn read_rid_list(alloc: Global, from: &mut In<'_>, most: u32) -> Result<Rids, NdrError>
-    ensures { Yields result from.new ((rid_list most).read from.old) }
+    ensures { ReadsIfRoom result from.new ((rid_list most).read from.old) }
 {
     read_list(alloc, from, most)
 }
@@ -43,7 +43,7 @@ pub fn write_rid_list(to: &mut Out, value: &Rids) -> Result<(), NoMemory>
 
 /// A list of at most so many texts.
 pub fn read_text_list(alloc: Global, from: &mut In<'_>, most: u32) -> Result<Names, NdrError>
-    ensures { Yields result from.new ((text_list most).read from.old) }
+    ensures { ReadsIfRoom result from.new ((text_list most).read from.old) }
 {
     let names = read_list(alloc, from, most)?;
     Ok(Names::from_vec(names.into_vec()))

@@ -3,7 +3,7 @@ ghost use Rattle.std.specs.Prelude.{◌≡◌, OnOk, length};
 ghost use Rattle.ndr_core.specs.Shapes.{u16, u32};
 ghost use Rattle.ndr_core.specs.Parts.{flat, times};
 ghost use Rattle.ndr_types.specs.Bounds.{AnyValue};
-ghost use Rattle.ndr_types.specs.Outcomes.{Fills};
+ghost use Rattle.ndr_types.specs.Outcomes.{ReadsOnto};
 
 use crate::array::write_heads;
 use crate::{Embedded, NoMemory};
@@ -60,7 +60,7 @@ impl Embedded for u32 {
 
 /// Fills a slice with numbers, one after the other.
 pub fn read_numbers(from: &mut In<'_>, numbers: &mut [u32]) -> Result<(), NdrError>
-    ensures { Fills result numbers.new from.new ((times (length numbers.old) u32).read from.old) }
+    ensures { ReadsOnto result numbers.new from.new ((times (length numbers.old) u32).read from.old) }
 {
     for number in numbers.iter_mut() {
         *number = from.u32()?;

@@ -1,8 +1,8 @@
 // Shapes that a structure or an array embeds.
 ghost use Rattle.std.specs.Prelude.{◌≡◌, OnOk};
-ghost use Rattle.ndr_core.specs.Cursor.{Gives};
+ghost use Rattle.ndr_core.specs.Cursor.{Reads};
 ghost use Rattle.ndr_core.specs.Parts.{Part};
-ghost use Rattle.ndr_types.specs.Outcomes.{Yields};
+ghost use Rattle.ndr_types.specs.Outcomes.{ReadsIfRoom};
 
 use crate::NoMemory;
 use ndr_core::{In, NdrError, Out};
@@ -21,10 +21,10 @@ pub trait Embedded: Drop {
     ghost Bounded: { Self → Type 0 };
 
     fn read_head(from: &mut In<'_>) -> Result<Self::Head, NdrError>
-        ensures { Gives result from.new (part.head.read from.old) };
+        ensures { Reads result from.new (part.head.read from.old) };
 
     fn read_tail(alloc: Global, from: &mut In<'_>, head: &Self::Head) -> Result<Self, NdrError>
-        ensures { Yields result from.new ((part.tail head.now).read from.old) };
+        ensures { ReadsIfRoom result from.new ((part.tail head.now).read from.old) };
 
     fn write_head(&self, to: &mut Out) -> Result<(), NoMemory>
         requires { Bounded self.now }

@@ -3,7 +3,7 @@ ghost use Rattle.std.specs.Prelude.{◌≡◌, ◌≤◌, OnOk, length};
 ghost use Rattle.std.specs.Option.{option_copied};
 ghost use Rattle.acct_layouts.specs.Bounds.{IfThere};
 ghost use Rattle.ndr_types.specs.Bounds.{IsShort};
-ghost use Rattle.ndr_types.specs.Outcomes.{Yields};
+ghost use Rattle.ndr_types.specs.Outcomes.{ReadsIfRoom};
 ghost use Rattle.ndr_types.specs.Pointers.{IsFew, privilege_set_pointer, text_pointer};
 
 use crate::NoMemory;
@@ -16,7 +16,7 @@ use std::alloc::Global;
 /// A text, or none where the pointer is null.
 #[tactic(auto, unfolding(crate::specs::Pointers::text_pointer))]
 pub fn read_text_pointer(alloc: Global, from: &mut In<'_>) -> Result<Option<Name>, NdrError>
-    ensures { Yields result from.new (text_pointer.read from.old) }
+    ensures { ReadsIfRoom result from.new (text_pointer.read from.old) }
 {
     if !from.pointer()? {
         return Ok(None);
@@ -44,7 +44,7 @@ pub fn read_privilege_set_pointer(
     alloc: Global,
     from: &mut In<'_>,
 ) -> Result<Option<PrivilegeSet>, NdrError>
-    ensures { Yields result from.new (privilege_set_pointer.read from.old) }
+    ensures { ReadsIfRoom result from.new (privilege_set_pointer.read from.old) }
 {
     if !from.pointer()? {
         return Ok(None);

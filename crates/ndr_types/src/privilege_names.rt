@@ -1,11 +1,11 @@
 // The names of privileges, with their LUIDs.
 ghost use Rattle.std.specs.Prelude.{◌≡◌, All, OnOk, length, map};
-ghost use Rattle.ndr_core.specs.Cursor.{Gives};
+ghost use Rattle.ndr_core.specs.Cursor.{Reads};
 ghost use Rattle.ndr_core.specs.Parts.{each, list, times};
 ghost use Rattle.ndr_types.specs.Accounts.{any};
 ghost use Rattle.acct_layouts.specs.Bounds.{IsListed};
 ghost use Rattle.ndr_types.specs.Bounds.{HasShortName};
-ghost use Rattle.ndr_types.specs.Outcomes.{Yields};
+ghost use Rattle.ndr_types.specs.Outcomes.{ReadsIfRoom};
 ghost use Rattle.ndr_types.specs.PrivilegeNames.{privilege_name, privilege_names};
 
 use crate::array::read_list_head;
@@ -18,7 +18,7 @@ use std::alloc::Global;
 /// A LUID's high part is 0.
 #[tactic(auto, unfolding(crate::specs::PrivilegeNames::privilege_name, crate::specs::PrivilegeNames::low_part))]
 fn read_head(from: &mut In<'_>) -> Result<((u16, bool), u32), NdrError>
-    ensures { Gives result from.new (privilege_name.head.read from.old) }
+    ensures { Reads result from.new (privilege_name.head.read from.old) }
 {
     let name = Name::read_head(from)?;
     let low = from.u32()?;
@@ -34,7 +34,7 @@ fn read_tail(
     from: &mut In<'_>,
     head: &((u16, bool), u32),
 ) -> Result<RidName, NdrError>
-    ensures { Yields result from.new ((privilege_name.tail head.now).read from.old) }
+    ensures { ReadsIfRoom result from.new ((privilege_name.tail head.now).read from.old) }
 {
     let name = Name::read_tail(alloc, from, &head.0)?;
     Ok(RidName { rid: head.1, name })
@@ -64,7 +64,7 @@ fn read_heads(
     from: &mut In<'_>,
     count: u32,
 ) -> Result<Seq<((u16, bool), u32)>, NdrError>
-    ensures { Yields result from.new ((times count privilege_name.head).read from.old) }
+    ensures { ReadsIfRoom result from.new ((times count privilege_name.head).read from.old) }
 {
     let mut heads = Seq::new(alloc);
     for _ in 0..count {
@@ -80,7 +80,7 @@ fn read_tails(
     from: &mut In<'_>,
     heads: &[((u16, bool), u32)],
 ) -> Result<RidNames, NdrError>
-    ensures { Yields result from.new ((each privilege_name.tail heads.now).read from.old) }
+    ensures { ReadsIfRoom result from.new ((each privilege_name.tail heads.now).read from.old) }
 {
     let mut values = Seq::new(alloc);
     for head in heads {
@@ -116,7 +116,7 @@ fn write_tails(to: &mut Out, values: &[RidName]) -> Result<(), NoMemory>
 
 #[tactic(auto, unfolding(ndr_core::specs::Parts::list))]
 fn read_names_head(from: &mut In<'_>) -> Result<(u32, bool), NdrError>
-    ensures { Gives result from.new ((list any privilege_name).head.read from.old) }
+    ensures { Reads result from.new ((list any privilege_name).head.read from.old) }
 {
     read_list_head::<u32>(from, u32::MAX)
 }
@@ -127,7 +127,7 @@ fn read_names_tail(
     from: &mut In<'_>,
     head: &(u32, bool),
 ) -> Result<RidNames, NdrError>
-    ensures { Yields result from.new (((list any privilege_name).tail head.now).read from.old) }
+    ensures { ReadsIfRoom result from.new (((list any privilege_name).tail head.now).read from.old) }
 {
     if !head.1 {
         return Ok(Seq::new(alloc));
@@ -142,14 +142,14 @@ fn read_names_tail(
 /// A list of privileges by their names, with the low parts of their LUIDs, whose high parts are 0.
 #[tactic(auto, unfolding(crate::specs::PrivilegeNames::privilege_names, ndr_core::specs::Parts::list_of))]
 pub fn read_privilege_names(alloc: Global, from: &mut In<'_>) -> Result<RidNames, NdrError>
-    ensures { Yields result from.new (privilege_names.read from.old) }
+    ensures { ReadsIfRoom result from.new (privilege_names.read from.old) }
 {
     let head = read_names_head(from)?;
     read_names_tail(alloc, from, &head)
 }
 
 /// A list of privileges by their names, with the low parts of their LUIDs.
-#[tactic(auto, unfolding(crate::specs::PrivilegeNames::privilege_names, ndr_core::specs::Parts::list_of, ndr_core::specs::Parts::list))]
+#[tactic(auto, unfolding(crate::specs::PrivilegeNames::privilege_names, ndr_core::specs::Parts::list_of, ndr_core::specs::Parts::list,),)]
 pub fn write_privilege_names(to: &mut Out, value: &RidNames) -> Result<(), NoMemory>
     requires { IsListed HasShortName value.now }
     ensures { OnOk result (to.new ≡ privilege_names.write value.now to.old) }

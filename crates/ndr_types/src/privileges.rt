@@ -2,7 +2,7 @@
 ghost use Rattle.std.specs.Prelude.{◌≡◌, ◌≤◌, OnOk, length};
 ghost use Rattle.ndr_core.specs.Parts.{flat, times};
 ghost use Rattle.ndr_types.specs.Bounds.{AnyValue};
-ghost use Rattle.ndr_types.specs.Outcomes.{Yields};
+ghost use Rattle.ndr_types.specs.Outcomes.{ReadsIfRoom};
 ghost use Rattle.ndr_types.specs.Privileges.{privilege, privilege_set};
 
 use crate::array::{read_heads, write_heads};
@@ -53,7 +53,7 @@ impl Embedded for Privilege {
 /// A set of at most 1,000 privileges. Its control word isn't looked at.
 #[tactic(auto, unfolding(crate::specs::Privileges::privilege_set))]
 pub fn read_privilege_set(alloc: Global, from: &mut In<'_>) -> Result<PrivilegeSet, NdrError>
-    ensures { Yields result from.new (privilege_set.read from.old) }
+    ensures { ReadsIfRoom result from.new (privilege_set.read from.old) }
 {
     let maximum = from.conformant()?;
     let count = from.u32()?;

@@ -1,6 +1,6 @@
 // SIDs.
 ghost use Rattle.std.specs.Prelude.{◌≡◌, ◌<◌, ◌^◌, IfOk, OnOk};
-ghost use Rattle.ndr_core.specs.Cursor.{Gives};
+ghost use Rattle.ndr_core.specs.Cursor.{Reads};
 ghost use Rattle.ndr_types.specs.Bounds.{AnyValue};
 ghost use Rattle.ndr_types.specs.Sids.{authority, sid, sid_pointer};
 
@@ -12,7 +12,7 @@ use std::alloc::Global;
 
 #[tactic(auto, unfolding(crate::specs::Sids::authority))]
 fn read_authority(from: &mut In<'_>) -> Result<u64, NdrError>
-    ensures gives { Gives result from.new (authority.read from.old) }
+    ensures gives { Reads result from.new (authority.read from.old) }
     ensures below { IfOk result (λ n. n < 2 ^ 48) }
 {
     let n = from.u8()? as u64;
@@ -27,7 +27,7 @@ fn read_authority(from: &mut In<'_>) -> Result<u64, NdrError>
 /// A SID.
 #[tactic(auto, unfolding(crate::specs::Sids::sid))]
 pub fn read_sid(from: &mut In<'_>) -> Result<Sid, NdrError>
-    ensures { Gives result from.new (sid.read from.old) }
+    ensures { Reads result from.new (sid.read from.old) }
 {
     let count = from.conformant()?;
     if from.u8()? != 1 {

@@ -2,7 +2,7 @@
 ghost use Rattle.std.specs.Prelude.{◌≡◌, OnOk};
 ghost use Rattle.ndr_core.specs.Parts.{whole};
 ghost use Rattle.ndr_types.specs.Bounds.{IsShort};
-ghost use Rattle.ndr_types.specs.Outcomes.{Yields};
+ghost use Rattle.ndr_types.specs.Outcomes.{ReadsIfRoom};
 ghost use Rattle.ndr_types.specs.Texts.{text};
 
 use crate::array::read_heads;
@@ -69,7 +69,7 @@ impl Embedded for Name {
 
 /// A text.
 pub fn read_text(alloc: Global, from: &mut In<'_>) -> Result<Name, NdrError>
-    ensures { Yields result from.new ((whole text).read from.old) }
+    ensures { ReadsIfRoom result from.new ((whole text).read from.old) }
 {
     let head = Name::read_head(from)?;
     Name::read_tail(alloc, from, &head)

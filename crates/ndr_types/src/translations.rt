@@ -1,10 +1,10 @@
 // Translated names and SIDs as elements of arrays.
 ghost use Rattle.std.specs.Prelude.{◌≡◌, ◌<◌, ◌^◌, ℕ, OnOk, length};
-ghost use Rattle.ndr_core.specs.Cursor.{Gives};
+ghost use Rattle.ndr_core.specs.Cursor.{Reads};
 ghost use Rattle.ndr_core.specs.Parts.{flat};
 ghost use Rattle.acct_layouts.specs.Bounds.{IsListed};
 ghost use Rattle.ndr_types.specs.Bounds.{AnyValue, HasShortText};
-ghost use Rattle.ndr_types.specs.Outcomes.{Yields};
+ghost use Rattle.ndr_types.specs.Outcomes.{ReadsIfRoom};
 ghost use Rattle.ndr_types.specs.Translations.{signed_long, translated_name, translated_names, translated_sid};
 ghost use Rattle.ndr_types.specs.Translations.{translated_sids};
 
@@ -16,7 +16,7 @@ use std::alloc::Global;
 
 #[tactic(auto, unfolding(crate::specs::Translations::signed_long))]
 fn read_signed(from: &mut In<'_>) -> Result<i32, NdrError>
-    ensures { Gives result from.new (signed_long.read from.old) }
+    ensures { Reads result from.new (signed_long.read from.old) }
 {
     let bits = from.u32()?;
     Ok(bits.cast_signed())
@@ -111,7 +111,7 @@ pub fn read_translated_sids(
     from: &mut In<'_>,
     most: u32,
 ) -> Result<Translated, NdrError>
-    ensures { Yields result from.new ((translated_sids most).read from.old) }
+    ensures { ReadsIfRoom result from.new ((translated_sids most).read from.old) }
 {
     read_list(alloc, from, most)
 }
@@ -130,7 +130,7 @@ pub fn read_translated_names(
     from: &mut In<'_>,
     most: u32,
 ) -> Result<NamedList, NdrError>
-    ensures { Yields result from.new ((translated_names most).read from.old) }
+    ensures { ReadsIfRoom result from.new ((translated_names most).read from.old) }
 {
     read_list(alloc, from, most)
 }

@@ -20,9 +20,11 @@ typed_in _ = ([], (0, 0))
 
 unfoldable pub created : Creation → Codec Args
 -- Name, DesiredAccess
-created creation.Account = made (λ x. args.Make x.0 0 x.1) made_in (chain (whole text) (λ _. u32))
+created creation.Account = made (λ (name, access). args.Make name 0 access) made_in (chain (whole text) (λ _. u32))
 -- Name, DesiredAccess, of a normal account (USER_NORMAL_ACCOUNT, MS-SAMR 2.2.1.12)
-created creation.User = made (λ x. args.Make x.0 user_normal_account x.1) made_in (chain (whole text) (λ _. u32))
+created creation.User = made (λ (name, access). args.Make name user_normal_account access) made_in
+    (chain (whole text) (λ _. u32))
 -- Name, AccountType, DesiredAccess
 created creation.TypedUser =
-    made (λ x. args.Make x.0 x.1.0 x.1.1) typed_in (chain (whole text) (λ _. chain u32 (λ _. u32)))
+    made (λ (name, (bits, access)). args.Make name bits access) typed_in
+    (chain (whole text) (λ _. chain u32 (λ _. u32)))

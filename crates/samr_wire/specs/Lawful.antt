@@ -1,6 +1,7 @@
 -- The codecs of this interface's own layouts are lawful.
 use Rattle.std.proofs.Common.{◌≡◌, ℕ, true, false, List, refl, sym, ap, ◌∙◌, lit<}
-use Rattle.ndr_core.proofs.Complete.{IsComplete, chain_complete, ignored_complete, made_complete, u32_complete}
+use Rattle.ndr_core.proofs.Complete.{IsComplete, chain_complete, followed_complete, ignored_complete, made_complete}
+use Rattle.ndr_core.proofs.Complete.{u32_complete}
 use Rattle.ndr_core.specs.Codec.{Codec}
 use Rattle.ndr_core.specs.Shapes.{made, u32}
 use Rattle.acct_calls.specs.declared.calls.Args.{Args}
@@ -17,21 +18,22 @@ use Rattle.acct_layouts.specs.declared.fields.Fields.{Fields}
 use Rattle.acct_layouts.specs.declared.fields.Fields.TheVariants as fields
 use Rattle.acct_layouts.specs.declared.outputs.Outputs.{Outputs}
 use Rattle.acct_layouts.specs.declared.outputs.Outputs.TheVariants as outputs
-use Rattle.ndr_types.proofs.Onward.{Takes, takes_chain, takes_given, takes_ignored, takes_made, text_onward}
+use Rattle.ndr_types.proofs.Onward.{Takes, long, such_long, takes_chain, takes_followed, takes_given, takes_ignored}
+use Rattle.ndr_types.proofs.Onward.{takes_made, text_onward}
 use Rattle.ndr_types.proofs.Parts.{whole_fits, whole_kind}
 use Rattle.ndr_types.proofs.ShapeValues.{text_complete}
 use Rattle.ndr_types.proofs.Spelled.{writable}
 use Rattle.ndr_types.proofs.Texts.{text_has}
 use Rattle.ndr_types.specs.Texts.{text}
 use Rattle.acct_stubs.proofs.Complete.{server_name_complete, server_name_fits, unspelled_complete}
-use Rattle.acct_stubs.proofs.Onward.{long, reply_onward, server_name_onward, such_long, takes_unspelled}
+use Rattle.acct_stubs.proofs.Onward.{reply_onward, server_name_onward, takes_unspelled}
 use Rattle.acct_stubs.proofs.ReplyValues.{reply_kind}
 use Rattle.acct_stubs.specs.Calls.{start}
 use Rattle.acct_stubs.specs.Lawful.{IsLawful}
 use Rattle.acct_stubs.specs.Outputs.{is_one}
 use Rattle.acct_stubs.specs.Shared.{are_own, opens_server, own_outputs}
 use Rattle.samr_wire.specs.Creations.{created, made_in, typed_in}
-use Rattle.samr_wire.specs.Openings.{connect_args, desired_access, followed, revision_asked}
+use Rattle.samr_wire.specs.Openings.{connect_args, desired_access, revision_asked}
 use Rattle.samr_wire.specs.Samr.{own_fields, samr}
 
 -- ======== what some stub spells can be written
@@ -42,12 +44,6 @@ revision_fits = (((lit< tt, refl), (((lit< tt, refl), ((lit< tt, ((lit< tt, refl
 
 revision_complete : IsComplete revision_asked
 revision_complete = record { fits = λ u c d bytes h. revision_fits }
-
-followed_complete : {A B : Type 0} (w : B) {b : Codec B} {a : Codec A} → IsComplete a → IsComplete b → b.Fits w
-    → IsComplete (followed w b a)
-followed_complete {A =
-    A} {B = B} w p q fits = made_complete (λ (x : A × B). x.0) (λ x. (x, w)) (chain_complete p (λ x h. q))
-    (λ x h. ((h.0, fits), refl))
 
 access_complete : IsComplete (made args.Access desired_access u32)
 access_complete = made_complete args.Access desired_access u32_complete (λ x h. (h, refl))
@@ -92,7 +88,7 @@ connect_onward connect.Connect4 = takes_ignored 0 tt server_name_onward (takes_i
 connect_onward connect.OpenPolicy2 = takes_unspelled
 connect_onward connect.Connect5 =
     takes_ignored 0 tt server_name_onward
-    (takes_made 0 _ _ (takes_chain 0 (takes_made 0 _ _ long) (λ x. revision_asked_onward)))
+    (takes_followed tt (takes_made 0 _ _ long) revision_asked_onward)
 
 -- ---- new accounts
 

@@ -1,17 +1,13 @@
 -- What the openings of the server bring (MS-SAMR 3.1.5.1.1 to 3.1.5.1.3): none of them takes a handle.
 use Rattle.std.specs.Prelude.{◌≡◌, ℕ, Bool, ◌==◌, List, length, Option, None, Result, Ok, Err}
 use Rattle.ndr_core.specs.Codec.{Codec}
-use Rattle.ndr_core.specs.Shapes.{chain, given, ignored, made, u32, u32_such, unspelled}
+use Rattle.ndr_core.specs.Shapes.{followed, given, ignored, made, u32, u32_such, unspelled}
 use Rattle.acct_calls.specs.declared.calls.Args.{Args}
 use Rattle.acct_calls.specs.declared.calls.Args.TheVariants as args
 use Rattle.acct_layouts.specs.declared.fields.Connect.{Connect}
 use Rattle.acct_layouts.specs.declared.fields.Connect.TheVariants as connect
 use Rattle.acct_stubs.specs.Outputs.{is_one}
 use Rattle.acct_stubs.specs.ServerNames.{server_name}
-
--- a value, and behind it a field that isn't kept, written as w
-abbrev pub followed : {A B : Type 0} → B → Codec B → Codec A → Codec A
-followed w b a = made (λ x. x.0) (λ x. (x, w)) (chain a (λ _. b))
 
 -- InVersion, which is 1, and InRevisionInfo (SAMPR_REVISION_INFO, MS-SAMR 2.2.3.16): the tag 1, then Revision and
 -- SupportedFeatures, which aren't looked at and are written as 3 and 0.

@@ -2,7 +2,7 @@
 ghost use Rattle.std.specs.Prelude.{◌≡◌, IfOk, Ok};
 ghost use Rattle.acct_calls.specs.declared.calls.Call.{Call};
 ghost use Rattle.acct_layouts.specs.CallShapes.{CanBeSpelled};
-ghost use Rattle.acct_stubs.specs.Calls.{Answers, IsServed, Spells, call_at, spell};
+ghost use Rattle.acct_stubs.specs.Calls.{ReadsStub, IsServed, Spells, call_at, spell};
 ghost use Rattle.samr_wire.specs.Samr.{samr};
 
 use crate::interface::Samr;
@@ -19,9 +19,9 @@ pub fn read_call(alloc: Global, opnum: u16, stub: &[u8]) -> Result<Call, WireErr
         (λ call. (call.opnum ≡ opnum) × IsServed samr opnum stub.now × Spells samr call stub.now) }
     // What is served and spelled is read, unless there is no memory.
     ensures only { (call : Call) → call.opnum ≡ opnum → IsServed samr opnum stub.now → Spells samr call stub.now
-        → Answers result (Ok call) }
+        → ReadsStub result (Ok call) }
     // Why there is no call.
-    ensures exact { Answers result (call_at samr opnum stub.now) }
+    ensures exact { ReadsStub result (call_at samr opnum stub.now) }
     // What is read is of this interface, and can be written.
     ensures spelled { IfOk result (λ call. (call.face ≡ Face.Samr) × CanBeSpelled call) }
 {

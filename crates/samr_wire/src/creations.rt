@@ -1,6 +1,6 @@
 // The fields of new accounts.
 ghost use Rattle.std.specs.Prelude.{◌≡◌, OnOk};
-ghost use Rattle.ndr_types.specs.Outcomes.{Yields};
+ghost use Rattle.ndr_types.specs.Outcomes.{ReadsIfRoom};
 ghost use Rattle.samr_wire.specs.Creations.{created};
 
 use crate::NoMemory;
@@ -13,7 +13,7 @@ use std::alloc::Global;
 
 #[tactic(auto, unfolding(crate::specs::Creations::created))]
 pub fn read_created(alloc: Global, from: &mut In<'_>, creation: Creation) -> Result<Args, NdrError>
-    ensures { Yields result from.new ((created creation).read from.old) }
+    ensures { ReadsIfRoom result from.new ((created creation).read from.old) }
 {
     let name = read_text(alloc, from)?;
     match creation {

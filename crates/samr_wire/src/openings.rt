@@ -1,6 +1,6 @@
 // The fields of openings of the server.
 ghost use Rattle.std.specs.Prelude.{◌≡◌, OnOk};
-ghost use Rattle.ndr_core.specs.Cursor.{Gives};
+ghost use Rattle.ndr_core.specs.Cursor.{Reads};
 ghost use Rattle.samr_wire.specs.Openings.{connect_args, revision_asked};
 
 use crate::NoMemory;
@@ -11,7 +11,7 @@ use ndr_core::{In, NdrError, Out};
 
 #[tactic(auto, unfolding(crate::specs::Openings::revision_asked))]
 fn read_revision(from: &mut In<'_>) -> Result<(), NdrError>
-    ensures { Gives result from.new (revision_asked.read from.old) }
+    ensures { Reads result from.new (revision_asked.read from.old) }
 {
     if from.u32()? != 1 {
         return Err(from.broken(4));
@@ -36,7 +36,7 @@ fn write_revision(to: &mut Out) -> Result<(), NoMemory>
 
 #[tactic(auto, unfolding(crate::specs::Openings::connect_args))]
 pub fn read_connect(from: &mut In<'_>, connect: Connect) -> Result<Args, NdrError>
-    ensures { Gives result from.new ((connect_args connect).read from.old) }
+    ensures { Reads result from.new ((connect_args connect).read from.old) }
 {
     match connect {
         Connect::Connect2 => {

@@ -1,10 +1,11 @@
+-- The clauses on a call that was read, from the laws of the definition and from what the reading gave.
 use Rattle.std.proofs.Common.{w8, subst, Result}
 use Rattle.std.proofs.lemmas.List.Elements.{All-from_get_or}
 use Rattle.std.proofs.Math.Facts.{Fits-lt-pow}
 use Rattle.acct_calls.specs.declared.calls.Call.{Call}
 use Rattle.ndr_core.specs.Written.{IsByte, IsBytes}
 use Rattle.acct_stubs.specs.declared.errors.WireError.{WireError}
-use Rattle.acct_stubs.specs.Calls.{Answers}
+use Rattle.acct_stubs.specs.Calls.{ReadsStub}
 use Rattle.acct_stubs.proofs.CallLaws.{is_found, call_only, can_be_written}
 use Rattle.acct_stubs.proofs.calls.read_call.Goals as goal
 
@@ -14,7 +15,7 @@ returns-clause-found g c =
 
 pub returns-clause-only : goal.returns-clause-only
 returns-clause-only g c = λ call e served h.
-    subst (λ (r : Result Call WireError). Answers c.call_in.result r)
+    subst (λ (r : Result Call WireError). ReadsStub c.call_in.result r)
     (call_only g.I.Interface.wire c.args.opnum c.args.stub.now call e served h) c.call_in.ensures
 
 pub returns-clause-spelled : goal.returns-clause-spelled

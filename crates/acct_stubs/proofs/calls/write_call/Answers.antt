@@ -1,3 +1,4 @@
+-- The table has the call's operation, so its codec is the one that was written with.
 use Rattle.std.proofs.Common.{sym}
 use Rattle.acct_stubs.proofs.CallValues.{has_layout, layout_can_write}
 use Rattle.acct_stubs.proofs.calls.write_call.Goals as goal

@@ -1,3 +1,4 @@
+-- The pairs so far go on by one, and at the end they are the two lists.
 use Rattle.std.proofs.Common.{◌≡◌, ◌+◌, List, [], ◌∷◌, ◌++◌, length, sym, ap, ◌∙◌}
 use Rattle.std.proofs.lemmas.List.{length-append}
 use Rattle.std.proofs.lemmas.Slice.Zip.{zip_turn, zip_end}

@@ -1,3 +1,4 @@
+-- The table has the reply's operation, so its codec is the one that was written with.
 use Rattle.std.proofs.Common.{sym}
 use Rattle.acct_stubs.proofs.ReplyValues.{has_layout, layout_can_write}
 use Rattle.acct_stubs.proofs.replies.write_reply.Goals as goal

@@ -1,3 +1,4 @@
+-- One more unit is passed over, and at the end all are.
 use Rattle.std.proofs.Common.{◌++◌, ◌∷◌, []}
 use Rattle.std.proofs.lemmas.Result.{err_from_is_err_and}
 use Rattle.ndr_core.specs.Shapes.{u16}

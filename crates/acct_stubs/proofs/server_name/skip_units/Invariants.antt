@@ -1,3 +1,4 @@
+-- Some list of units stands in front of the place.
 use Rattle.std.proofs.Common.{ℕ, List}
 use Rattle.ndr_core.specs.Shapes.{u16}
 use Rattle.ndr_core.proofs.Loop.{TimesSoFar}

@@ -1,3 +1,4 @@
+-- From the law of every lawful interface.
 use Rattle.acct_stubs.proofs.CallLaws.{read_again}
 use Rattle.lsa_wire.specs.Lawful.{lsa_lawful}
 use Rattle.lsa_wire.specs.Wires.{lsa}

@@ -1,3 +1,4 @@
+-- From the laws of every lawful interface.
 use Rattle.acct_stubs.proofs.CallLaws.{one_call, read_where_spelled, the_spelled_calls}
 use Rattle.lsa_wire.specs.Lawful.{lsa_lawful}
 use Rattle.lsa_wire.specs.Wires.{lsa}

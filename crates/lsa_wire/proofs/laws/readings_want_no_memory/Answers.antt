@@ -1,3 +1,4 @@
+-- From the laws of every lawful interface.
 use Rattle.acct_stubs.proofs.Onward.{no_call_wants_memory, no_reply_wants_memory}
 use Rattle.lsa_wire.specs.Lawful.{lsa_lawful}
 use Rattle.lsa_wire.specs.Wires.{lsa}

@@ -1,3 +1,4 @@
+-- From the laws of every lawful interface.
 use Rattle.acct_stubs.proofs.ReplyLaws.{one_reply, read_where_spelled, the_spelled_replies}
 use Rattle.lsa_wire.specs.Lawful.{lsa_lawful}
 use Rattle.lsa_wire.specs.Wires.{lsa}

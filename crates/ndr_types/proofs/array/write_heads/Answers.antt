@@ -1,3 +1,4 @@
+-- One more head is written, and at the end all are.
 use Rattle.ndr_types.proofs.Arrays.{heads_begin, heads_go_on, heads_written}
 use Rattle.ndr_types.proofs.array.write_heads.Goals as goal
 
@@ -5,7 +6,11 @@ pub loop-value-init : goal.loop-value-init
 loop-value-init g c = heads_begin g.X.Embedded.part c.args.values.now c.args.to.now
 
 pub loop-value-preserved : goal.loop-value-preserved
-loop-value-preserved g c = rw c.in_ok-write_head.ensures (heads_go_on g.X.Embedded.part c.args.values.now c.loop-value.value-index c.value-item.result c.value-item.result c.args.to.now c.loop-value.to c.loop-value-test.true c.value-item.is c.loop-value.invariant)
+loop-value-preserved g c =
+    rw c.in_ok-write_head.ensures
+    (heads_go_on g.X.Embedded.part c.args.values.now c.loop-value.value-index c.value-item.result c.value-item.result
+    c.args.to.now c.loop-value.to c.loop-value-test.true c.value-item.is c.loop-value.invariant)
 
 pub returns : goal.returns
-returns g c = heads_written g.X.Embedded.part c.args.values.now c.loop-value.value-index c.args.to.now c.loop-value.to c.loop-value-test.false c.loop-value.invariant
+returns g c = heads_written g.X.Embedded.part c.args.values.now c.loop-value.value-index c.args.to.now c.loop-value.to
+    c.loop-value-test.false c.loop-value.invariant

@@ -1,3 +1,4 @@
+-- The head of the list doesn't depend on its limit.
 use Rattle.ndr_core.specs.Parts.{list}
 use Rattle.ndr_types.specs.Accounts.{any}
 use Rattle.ndr_types.specs.Domains.{places}

@@ -1,3 +1,4 @@
+-- One more head is read, or the reading of all ends where that of one does.
 use Rattle.std.proofs.lemmas.Result.{err_from_is_err_and}
 use Rattle.ndr_core.specs.Parts.{times}
 use Rattle.ndr_core.proofs.Loop.{times_begins, times_goes_on, times_ends, times_done}

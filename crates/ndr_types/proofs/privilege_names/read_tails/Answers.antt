@@ -1,3 +1,4 @@
+-- One more tail is read, or the reading of all ends where that of one does.
 use Rattle.std.proofs.Common.{ℕ, Bool, false, get_or, refl}
 use Rattle.std.proofs.lemmas.Result.{err_from_is_err_and}
 use Rattle.ndr_types.specs.PrivilegeNames.{privilege_name}

@@ -1,3 +1,4 @@
+-- What is written is the list, at every limit.
 use Rattle.ndr_types.proofs.translations.write_translated_names.Goals as goal
 
 pub returns : goal.returns

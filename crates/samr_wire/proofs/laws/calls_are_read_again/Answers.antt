@@ -1,3 +1,4 @@
+-- From the law of every lawful interface.
 use Rattle.acct_stubs.proofs.CallLaws.{read_again}
 use Rattle.samr_wire.specs.Samr.{samr}
 use Rattle.samr_wire.specs.Lawful.{samr_lawful}

@@ -1,3 +1,4 @@
+-- From the laws of every lawful interface that has no replies of its own.
 use Rattle.acct_stubs.proofs.ReplyLaws.{one_reply, read_where_spelled, the_shared_replies}
 use Rattle.samr_wire.specs.Samr.{samr}
 use Rattle.samr_wire.specs.Lawful.{no_outputs, samr_lawful}

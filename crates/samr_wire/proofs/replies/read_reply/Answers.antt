@@ -1,3 +1,4 @@
+-- What is read can be written: no reply of this interface refers to a domain.
 use Rattle.std.proofs.Common.{w8}
 use Rattle.std.proofs.lemmas.List.Elements.{All-from_get_or}
 use Rattle.std.proofs.Math.Facts.{Fits-lt-pow}

@@ -1,45 +1,67 @@
 // Which calls aren't served, and which values of a class aren't looked at.
-use super::calls::table_is_right;
-use super::{HANDLE_WRITTEN, bad_call, joined};
-use crate::{WireError, read_call, read_reply};
+use super::digits::joined;
+use super::tables::{HANDLE_WRITTEN, is_bad, table_is_right};
+use super::wires::{Heard, Wire};
 use std::alloc::Global;
 use std::process::Abort;
 use std::test::Fail;
 
 /// The opnums of the operations that the account server takes.
-const OPERATIONS: [u16; 42] = [
+const SAMR_OPERATIONS: [u16; 42] = [
     1, 5, 6, 7, 8, 9, 10, 11, 12, 13, 14, 15, 16, 17, 18, 19, 20, 21, 22, 23, 24, 25, 27, 28, 29,
     30, 31, 32, 33, 34, 35, 36, 37, 39, 46, 47, 50, 57, 58, 62, 64, 65,
 ];
 
-fn is_not_served(alloc: Global, opnum: u16, stub: &[u8]) -> bool {
-    matches!(read_call(alloc, opnum, stub), Err(WireError::NotServed(of)) if of == opnum)
+/// The same of the policy.
+const LSA_OPERATIONS: [u16; 22] = [
+    0, 2, 7, 10, 11, 14, 15, 17, 18, 19, 20, 23, 24, 31, 32, 34, 35, 36, 37, 38, 44, 46,
+];
+
+fn is_not_served(alloc: Global, wire: Wire, opnum: u16, stub: &[u8]) -> Result<bool, Fail> {
+    let heard = wire.heard(alloc, opnum, stub)?;
+    Ok(matches!(heard, Heard::NotServed(of) if of == opnum))
 }
 
-fn has_no_reply(alloc: Global, opnum: u16) -> bool {
-    matches!(read_reply(alloc, opnum, &[]), Err(WireError::NotServed(of)) if of == opnum)
+/// Of every opnum, that it is served just where it is among the operations: without a byte it is bad at 0, or not
+/// served.
+fn are_the_served(
+    rt: &impl Abort,
+    alloc: Global,
+    wire: Wire,
+    operations: &[u16],
+) -> Result<(), Fail> {
+    for opnum in 0..=u16::MAX {
+        let served = is_bad(alloc, wire, opnum, &[], 0)?;
+        assert!(rt; served == operations.contains(&opnum), "{opnum}");
+        assert!(rt;
+            served != is_not_served(alloc, wire, opnum, &[])?,
+            "{opnum}"
+        );
+    }
+    Ok(())
 }
 
 #[test]
-fn other_opnums_are_not_served(rt: HostRuntime) {
-    let alloc = rt.alloc();
-    for opnum in 0..=u16::MAX {
-        if !OPERATIONS.contains(&opnum) {
-            assert!(rt; is_not_served(alloc, opnum, &[]));
-            assert!(rt; has_no_reply(alloc, opnum));
-        }
-    }
+fn other_operations_of_the_database_are_not_served(rt: HostRuntime) -> Result<(), Fail> {
+    are_the_served(&rt, rt.alloc(), Wire::SamrCalls, &SAMR_OPERATIONS)?;
+    are_the_served(&rt, rt.alloc(), Wire::SamrReplies, &SAMR_OPERATIONS)
+}
+
+#[test]
+fn other_operations_of_the_policy_are_not_served(rt: HostRuntime) -> Result<(), Fail> {
+    are_the_served(&rt, rt.alloc(), Wire::LsaCalls, &LSA_OPERATIONS)?;
+    are_the_served(&rt, rt.alloc(), Wire::LsaReplies, &LSA_OPERATIONS)
 }
 
 /// A class that carries a password isn't served, whatever stands behind it; without its two bytes the stub is bad.
 fn is_withheld(rt: &impl Abort, alloc: Global, opnum: u16, class: u8) -> Result<(), Fail> {
     let mut stub = joined(alloc, HANDLE_WRITTEN, "")?;
-    assert_eq!(rt; bad_call(alloc, opnum, &stub), Some(20));
+    assert!(rt; is_bad(alloc, Wire::SamrCalls, opnum, &stub, 20)?);
     stub.push(class)?;
-    assert_eq!(rt; bad_call(alloc, opnum, &stub), Some(20));
+    assert!(rt; is_bad(alloc, Wire::SamrCalls, opnum, &stub, 20)?);
     for byte in [0, class, 0, 0xFF] {
         stub.push(byte)?;
-        assert!(rt; is_not_served(alloc, opnum, &stub));
+        assert!(rt; is_not_served(alloc, Wire::SamrCalls, opnum, &stub)?);
     }
     Ok(())
 }
@@ -60,13 +82,15 @@ fn passwords_are_not_served(rt: HostRuntime) -> Result<(), Fail> {
     Ok(())
 }
 
-/// Values of classes that can't be set, in the form of the table of calls: of them the class alone is kept, and written.
+/// Values of classes that can't be set, in the form of the table of calls: of them the class alone is kept, and
+/// written.
 const UNSERVED: &str = "
 37 SamrSetInformationUser, a user's names
 Put 6 Unserved
 4422111111112
 HAND 0600
-SAMBA 06000600 06000600 00000200 0a000a00 04000200 03000000 00000000 03000000 62006f00 62000000 05000000 00000000 05000000 42006f00 62002000 4200
+SAMBA 06000600 06000600 00000200 0a000a00 04000200 03000000 00000000 03000000 62006f00 62000000 05000000 00000000 \
+    05000000 42006f00 62002000 4200
 HAND 060010
 HAND 06001000
 
@@ -116,7 +140,8 @@ HAND 030004
 Put 1 Unserved
 4422111111112
 HAND 0100
-IMPACKET 01000100 0a000a00 be970000 07000000 03000000 02000200 dd4d0000 05000000 00000000 05000000 73007400 61006600 6600abab 01000000 00000000 01000000 7800
+IMPACKET 01000100 0a000a00 be970000 07000000 03000000 02000200 dd4d0000 05000000 00000000 05000000 73007400 \
+    61006600 6600abab 01000000 00000000 01000000 7800
 
 21 SamrSetInformationGroup
 Put 5 Unserved
@@ -139,6 +164,7 @@ HAND 040003
 
 #[test]
 fn a_class_that_cannot_be_set_is_taken(rt: HostRuntime) -> Result<(), Fail> {
-    assert_eq!(rt; table_is_right(&rt, rt.alloc(), UNSERVED)?, (12, 26));
+    let counted = table_is_right(&rt, rt.alloc(), Wire::SamrCalls, UNSERVED)?;
+    assert_eq!(rt; counted, (12, 26));
     Ok(())
 }

@@ -1,123 +1,15 @@
-// Calls as Samba and impacket write them: what they bring, and how they are written here.
-ghost use Rattle.std.specs.Prelude.{◌≡◌, IfOk};
-ghost use Rattle.acct_layouts.specs.CallShapes.{CanBeSpelled};
-
-use super::places::call_beginnings;
-use super::told::told_args;
-use super::{
-    HANDLE, HANDLE_SENT, HANDLE_WRITTEN, add_bytes, cut, expect, joined, numbered, takes_no_handle,
-};
-use crate::{read_call, write_call};
-use acct_calls::{Call, Face};
-use std::alloc::Global;
-use std::process::Abort;
+// Calls of the account database as Samba and impacket write them.
+use super::tables::table_is_right;
+use super::wires::Wire;
 use std::test::Fail;
 
-/// The call is written as a stub.
-fn is_spelled(
-    rt: &impl Abort,
-    alloc: Global,
-    call: &Call,
-    brought: &str,
-    written: &[u8],
-) -> Result<(), Fail>
-    requires ours { call.now.face ≡ Face.Samr }
-    requires spelled { CanBeSpelled call.now }
-{
-    let again = write_call(alloc, call)?;
-    expect(rt, again.as_slice() == written, brought);
-    Ok(())
-}
-
-/// The call that a stub spells.
-pub fn call_of(alloc: Global, opnum: u16, stub: &[u8]) -> Result<Call, Fail>
-    ensures { IfOk result (λ call. (call.face ≡ Face.Samr) × CanBeSpelled call) }
-{
-    let call = read_call(alloc, opnum, stub)?;
-    Ok(call)
-}
-
-/// The stub is read as a call that brings this, and that is written as another stub.
-pub fn is_written(
-    rt: &impl Abort,
-    alloc: Global,
-    opnum: u16,
-    stub: &[u8],
-    brought: &str,
-    written: &[u8],
-) -> Result<(), Fail> {
-    let call = call_of(alloc, opnum, stub)?;
-    is_spelled(rt, alloc, &call, brought, written)?;
-    let number = if takes_no_handle(opnum) { 0 } else { HANDLE };
-    expect(rt, call.handle.number == number, brought);
-    let told = told_args(alloc, &call.args)?;
-    expect(rt, told.as_str() == brought, brought);
-    Ok(())
-}
-
-/// Other stubs of the same call. It counts them.
-fn others_are_right(
-    rt: &impl Abort,
-    alloc: Global,
-    opnum: u16,
-    others: &str,
-    brought: &str,
-    written: &[u8],
-) -> Result<u32, Fail> {
-    let sent = if takes_no_handle(opnum) {
-        ""
-    } else {
-        HANDLE_SENT
-    };
-    let mut count: u32 = 0;
-    for line in others.lines() {
-        let stub = joined(alloc, sent, line)?;
-        is_written(rt, alloc, opnum, &stub, brought, written)?;
-        count = count.wrapping_add(1);
-    }
-    Ok(count)
-}
-
-/// A row of a table: each of its stubs is read as the call, which is written as the first of them, and each beginning of
-/// that one is bad at its place. It counts the stubs.
-fn row_is_right(rt: &impl Abort, alloc: Global, row: &str) -> Result<u32, Fail> {
-    let (opnum, rest) = numbered(rt, row);
-    let (_, rest) = cut(rest);
-    let (brought, rest) = cut(rest);
-    let (fields, rest) = cut(rest);
-    let (first, others) = cut(rest);
-    let kept = if takes_no_handle(opnum) {
-        ""
-    } else {
-        HANDLE_WRITTEN
-    };
-    let written = joined(alloc, kept, first)?;
-    is_written(rt, alloc, opnum, &written, brought, &written)?;
-    call_beginnings(rt, alloc, opnum, &written, fields);
-    let count = others_are_right(rt, alloc, opnum, others, brought, &written)?;
-    Ok(count.wrapping_add(1))
-}
-
-/// The rows of a table and their stubs, each of which is right, by their numbers.
-pub fn table_is_right(rt: &impl Abort, alloc: Global, table: &str) -> Result<(u32, u32), Fail> {
-    let mut rows: u32 = 0;
-    let mut stubs: u32 = 0;
-    for row in table.trim().split("\n\n") {
-        stubs = stubs.wrapping_add(row_is_right(rt, alloc, row)?);
-        rows = rows.wrapping_add(1);
-    }
-    Ok((rows, stubs))
-}
-
-/// A row has the opnum and the operation, what the call brings, the fields of the first stub (a digit for each, of so
-/// many bytes, and a dot for each byte of padding), the first stub, and others of the same call; of these only what
-/// stands behind the handle, if there is one. Each expected value is that which was given to the other software.
+/// Each expected value is that which was given to the other software.
 ///
 /// SAMBA is samba.dcerpc.samr with samba.ndr.ndr_pack_in (Debian's python3-samba 4.17.12). Where it is given None for
 /// the name of a server or for a text it writes what is written here: referents from 0x00020000 on, zeros for padding,
-/// maximum counts of the length, or of 1,000 for a look-up. So the first stubs, which are expected of the writer, are its.
-/// IMPACKET is a request structure of impacket.dcerpc.v5.samr with getData (Debian's python3-impacket 0.10.0-4), whose
-/// referents and padding are arbitrary. Behind the handle of SamrCloseHandle it has a number of its own.
+/// maximum counts of the length, or of 1,000 for a look-up. So the first stubs, which are expected of the writer, are
+/// its. IMPACKET is a request structure of impacket.dcerpc.v5.samr with getData (Debian's python3-impacket 0.10.0-4),
+/// whose referents and padding are arbitrary. Behind the handle of SamrCloseHandle it has a number of its own.
 const CALLS: &str = "
 1 SamrCloseHandle
 Nothing
@@ -200,8 +92,10 @@ IMPACKET 20020000 00100000
 16 SamrGetAliasMembership
 SidList S-1-5-21-1-2-3-500 S-1-5-18 S-1-1-0
 4422111111114444444111111114444441111111144111111114
-SAMBA 03000000 00000200 03000000 04000200 08000200 0c000200 05000000 01050000 00000005 15000000 01000000 02000000 03000000 f4010000 01000000 01010000 00000005 12000000 01000000 01010000 00000001 00000000
-IMPACKET 03000000 30890000 03000000 19180000 9e5d0000 32950000 05000000 01050000 00000005 15000000 01000000 02000000 03000000 f4010000 01000000 01010000 00000005 12000000 01000000 01010000 00000001 00000000
+SAMBA 03000000 00000200 03000000 04000200 08000200 0c000200 05000000 01050000 00000005 15000000 01000000 02000000 \
+    03000000 f4010000 01000000 01010000 00000005 12000000 01000000 01010000 00000001 00000000
+IMPACKET 03000000 30890000 03000000 19180000 9e5d0000 32950000 05000000 01050000 00000005 15000000 01000000 \
+    02000000 03000000 f4010000 01000000 01010000 00000005 12000000 01000000 01010000 00000001 00000000
 
 16 SamrGetAliasMembership, no SID, whose array is null, or there
 SidList
@@ -212,9 +106,12 @@ IMPACKET 00000000 8ff80000 00000000
 17 SamrLookupNamesInDomain, with the maximum count of 1,000, and with the count as maximum
 NameList 'alice' 'nobody'
 442211111111444422422444422222..444222222
-SAMBA 02000000 e8030000 00000000 02000000 0a000a00 00000200 0c000c00 04000200 05000000 00000000 05000000 61006c00 69006300 65000000 06000000 00000000 06000000 6e006f00 62006f00 64007900
-IMPACKET 02000000 e8030000 00000000 02000000 0a000a00 e3e80000 0c000c00 e8810000 05000000 00000000 05000000 61006c00 69006300 6500abab 06000000 00000000 06000000 6e006f00 62006f00 64007900
-IMPACKET 02000000 02000000 00000000 02000000 0a000a00 75fd0000 0c000c00 7f360000 05000000 00000000 05000000 61006c00 69006300 6500abab 06000000 00000000 06000000 6e006f00 62006f00 64007900
+SAMBA 02000000 e8030000 00000000 02000000 0a000a00 00000200 0c000c00 04000200 05000000 00000000 05000000 61006c00 \
+    69006300 65000000 06000000 00000000 06000000 6e006f00 62006f00 64007900
+IMPACKET 02000000 e8030000 00000000 02000000 0a000a00 e3e80000 0c000c00 e8810000 05000000 00000000 05000000 \
+    61006c00 69006300 6500abab 06000000 00000000 06000000 6e006f00 62006f00 64007900
+IMPACKET 02000000 02000000 00000000 02000000 0a000a00 75fd0000 0c000c00 7f360000 05000000 00000000 05000000 \
+    61006c00 69006300 6500abab 06000000 00000000 06000000 6e006f00 62006f00 64007900
 
 17 SamrLookupNamesInDomain
 NameList
@@ -480,42 +377,7 @@ IMPACKET f4010000
 
 #[test]
 fn calls_are_read_and_written(rt: HostRuntime) -> Result<(), Fail> {
-    assert_eq!(rt; table_is_right(&rt, rt.alloc(), CALLS)?, (59, 122));
+    let counted = table_is_right(&rt, rt.alloc(), Wire::SamrCalls, CALLS)?;
+    assert_eq!(rt; counted, (59, 122));
     Ok(())
-}
-
-/// A look-up of so many times `nobody`, as Samba writes that of a thousand: 8 bytes that are the same but for the
-/// referent, which rises by 4, for each.
-fn names_stub(alloc: Global, count: &str, names: &str) -> Result<Vec<u8>, Fail> {
-    let mut stub = joined(alloc, HANDLE_WRITTEN, count)?;
-    for place in 0..1000u32 {
-        add_bytes(&mut stub, "0c000c00")?;
-        stub.push((place * 4 % 256) as u8)?;
-        stub.push((place * 4 / 256) as u8)?;
-        add_bytes(&mut stub, "0200")?;
-    }
-    for _ in 0..1000u32 {
-        add_bytes(&mut stub, names)?;
-    }
-    Ok(stub)
-}
-
-/// The words of a thousand names.
-fn names_told(alloc: Global) -> Result<String, Fail> {
-    let mut told = String::new(alloc);
-    told.push_str("NameList")?;
-    for _ in 0..1000u32 {
-        told.push_str(" 'nobody'")?;
-    }
-    Ok(told)
-}
-
-#[test]
-fn a_thousand_names_are_taken(rt: HostRuntime) -> Result<(), Fail> {
-    let alloc = rt.alloc();
-    let names = "06000000 00000000 06000000 6e006f00 62006f00 64007900";
-    let stub = names_stub(alloc, "e8030000 e8030000 00000000 e8030000", names)?;
-    let told = names_told(alloc)?;
-    assert_eq!(rt; stub.len(), 32036);
-    is_written(&rt, alloc, 17, &stub, &told, &stub)
 }

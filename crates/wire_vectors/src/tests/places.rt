@@ -1,58 +1,37 @@
 // The places of the first field that has no reading.
-use super::{HANDLE_WRITTEN, bad_call, bad_reply, expect, joined, numbered, takes_no_handle};
+use super::digits::{joined, numbered};
+use super::tables::{HANDLE_WRITTEN, handle_of, is_bad};
+use super::wires::Wire;
 use std::alloc::Global;
 use std::process::Abort;
 use std::test::Fail;
 
-/// The place of the first field that so many bytes don't hold: a digit is a field of so many bytes, a dot a byte of
-/// padding in front of a field.
-fn place_in(fields: &str, length: usize) -> usize {
-    let mut place: usize = 0;
-    for letter in fields.bytes() {
-        match letter {
-            b'.' => place = place.wrapping_add(1),
-            b'1'..=b'9' => {
-                let end = place.wrapping_add(usize::from(letter - b'0'));
-                if end > length {
-                    return place;
-                }
-                place = end;
-            }
-            _ => (),
+/// A line of a table: the opnum, the place that is bad, and the stub, of a call with a handle what stands behind it.
+fn line_is_bad(rt: &impl Abort, alloc: Global, wire: Wire, line: &str) -> Result<(), Fail> {
+    let (opnum, rest) = numbered(rt, line);
+    let (place, stub) = numbered(rt, rest);
+    let stub = joined(alloc, handle_of(wire, opnum, HANDLE_WRITTEN), stub)?;
+    assert!(rt;
+        is_bad(alloc, wire, opnum, &stub, usize::from(place))?,
+        "{line}"
+    );
+    Ok(())
+}
+
+/// Each line is bad at its place. It counts them; a line that begins with `#` is a comment.
+fn lines_are_bad(rt: &impl Abort, alloc: Global, wire: Wire, table: &str) -> Result<u32, Fail> {
+    let mut count: u32 = 0;
+    for line in table.trim().lines() {
+        if !line.starts_with('#') {
+            line_is_bad(rt, alloc, wire, line)?;
+            count = count.wrapping_add(1);
         }
     }
-    place
+    Ok(count)
 }
 
-/// Each beginning of the stub is bad at the place of the first field that it doesn't hold.
-pub fn call_beginnings(rt: &impl Abort, alloc: Global, opnum: u16, stub: &[u8], fields: &str) {
-    expect(rt, place_in(fields, stub.len()) == stub.len(), fields);
-    for length in 0..stub.len() {
-        let place = place_in(fields, length);
-        expect(
-            rt,
-            bad_call(alloc, opnum, &stub[..length]) == Some(place),
-            fields,
-        );
-    }
-}
-
-/// The same of a reply.
-pub fn reply_beginnings(rt: &impl Abort, alloc: Global, opnum: u16, stub: &[u8], fields: &str) {
-    expect(rt, place_in(fields, stub.len()) == stub.len(), fields);
-    for length in 0..stub.len() {
-        let place = place_in(fields, length);
-        expect(
-            rt,
-            bad_reply(alloc, opnum, &stub[..length]) == Some(place),
-            fields,
-        );
-    }
-}
-
-/// The opnum, the place that is bad, and the stub, behind a handle of 20 bytes if the operation takes one. One is of
-/// impacket; the others are stubs of Samba that were changed by hand, and their places were counted.
-const BAD_CALLS: &str = "
+/// One is of impacket; the others are stubs of Samba that were changed by hand, and their places were counted.
+const SAMR_CALLS: &str = "
 # ---- a list or a count above its limit, at the first count
 # 1,001 names, and as many as a count can say
 17 20 e9030000
@@ -140,7 +119,7 @@ const BAD_CALLS: &str = "
 ";
 
 /// The same of replies.
-const BAD_REPLIES: &str = "
+const SAMR_REPLIES: &str = "
 # the numbers of SamrConnect5
 64 0 02000000 01000000 03000000 00000000
 64 4 01000000 02000000 03000000 00000000
@@ -183,57 +162,65 @@ const BAD_REPLIES: &str = "
 22 0 000000
 ";
 
-fn call_is_bad(rt: &impl Abort, alloc: Global, line: &str) -> Result<(), Fail> {
-    let (opnum, rest) = numbered(rt, line);
-    let (place, digits) = numbered(rt, rest);
-    let handle = if takes_no_handle(opnum) {
-        ""
-    } else {
-        HANDLE_WRITTEN
-    };
-    let stub = joined(alloc, handle, digits)?;
-    expect(
-        rt,
-        bad_call(alloc, opnum, &stub) == Some(usize::from(place)),
-        line,
-    );
-    Ok(())
-}
+/// From the rules of MS-LSAD and MS-LSAT, by hand: counts above their limits, counts that differ, null elements, and
+/// pointers of object attributes that have to be null.
+const LSA_CALLS: &str = "
+14 20 e9030000 e9030000 1001*0000000000000000 00000000 00000000 0100 0000 00000000
+14 24 02000000 03000000 3*0000000000000000 00000000 00000000 0100 0000 00000000
+14 28 00000000 00000000 e9030000 01000000 e9030000 1001*010000000000000000000000 0100 0000 00000000
+15 20 01500000 01000000 01500000 20481*01000000 20481*000000000100000000000000 00000000 00000000 0100 0000 00000000
+15 36 02000000 01000000 02000000 01000000 00000000 00000000 01000000 00000000
+15 28 00000000 00000000 01500000 01000000 01500000 20481*01000000000000000000000000000000 0100 0000 00000000
+19 24 e9030000 e9030000 00000000 1001*110000000000000000000000
+19 24 01000000 02000000 00000000 2*110000000000000000000000
+20 32 00 000000 01000000 e9030000 e9030000 00000000 1001*110000000000000000000000
+37 36 01000000 0101000000000001 00000000 01010000 01000000 01010000 257*0000000000000000
+38 40 01000000 0101000000000001 00000000 00 000000 01010000 01000000 01010000 257*0000000000000000
+44 12 00000000 18000000 00000000 01000000 00000000 00000000 00000000 00000002
+44 20 00000000 18000000 00000000 00000000 00000000 01000000 00000000 00000002
+";
 
-fn reply_is_bad(rt: &impl Abort, alloc: Global, line: &str) -> Result<(), Fail> {
-    let (opnum, rest) = numbered(rt, line);
-    let (place, digits) = numbered(rt, rest);
-    let stub = joined(alloc, "", digits)?;
-    expect(
-        rt,
-        bad_reply(alloc, opnum, &stub) == Some(usize::from(place)),
-        line,
+/// Fields of replies that break a rule, by hand: a LUID whose high part isn't 0, a null SID among the domains and in
+/// what the policy shows, and a class that isn't shown.
+const LSA_REPLIES: &str = "
+2 28 02000000 01000000 01000000 01000000 0000 0000 00000000 07000000 01000000 00000000
+14 28 01000000 01000000 01000000 01000000 01000000 0000 0000 00000000 00000000
+7 16 01000000 0500 0000 0000 0000 00000000 00000000 00000000
+46 4 01000000 0400 0000 0000 0000 00000000 01000000 00000000
+";
+
+#[test]
+fn bad_calls_of_the_database_have_their_places(rt: HostRuntime) -> Result<(), Fail> {
+    assert_eq!(rt;
+        lines_are_bad(&rt, rt.alloc(), Wire::SamrCalls, SAMR_CALLS)?,
+        47
     );
     Ok(())
 }
 
 #[test]
-fn bad_calls_have_their_places(rt: HostRuntime) -> Result<(), Fail> {
-    let mut count: u32 = 0;
-    for line in BAD_CALLS.trim().lines() {
-        if !line.starts_with('#') {
-            call_is_bad(&rt, rt.alloc(), line)?;
-            count = count.wrapping_add(1);
-        }
-    }
-    assert_eq!(rt; count, 40 + 7);
+fn bad_replies_of_the_database_have_their_places(rt: HostRuntime) -> Result<(), Fail> {
+    assert_eq!(rt;
+        lines_are_bad(&rt, rt.alloc(), Wire::SamrReplies, SAMR_REPLIES)?,
+        28
+    );
     Ok(())
 }
 
 #[test]
-fn bad_replies_have_their_places(rt: HostRuntime) -> Result<(), Fail> {
-    let mut count: u32 = 0;
-    for line in BAD_REPLIES.trim().lines() {
-        if !line.starts_with('#') {
-            reply_is_bad(&rt, rt.alloc(), line)?;
-            count = count.wrapping_add(1);
-        }
-    }
-    assert_eq!(rt; count, 28);
+fn bad_calls_of_the_policy_have_their_places(rt: HostRuntime) -> Result<(), Fail> {
+    assert_eq!(rt;
+        lines_are_bad(&rt, rt.alloc(), Wire::LsaCalls, LSA_CALLS)?,
+        13
+    );
+    Ok(())
+}
+
+#[test]
+fn bad_replies_of_the_policy_have_their_places(rt: HostRuntime) -> Result<(), Fail> {
+    assert_eq!(rt;
+        lines_are_bad(&rt, rt.alloc(), Wire::LsaReplies, LSA_REPLIES)?,
+        4
+    );
     Ok(())
 }

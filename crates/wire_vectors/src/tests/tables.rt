@@ -1,0 +1,174 @@
+// Tables of stubs, told row by row.
+use super::digits::{cut, joined, numbered};
+use super::wires::{Heard, Wire};
+use std::alloc::Global;
+use std::process::Abort;
+use std::test::Fail;
+
+/// A handle whose bytes differ, with attributes, which aren't kept.
+const HANDLE_SENT: &str = "10111213 14151617 18191a1b 1c1d1e1f 20212223";
+
+/// The same handle as it is written.
+pub const HANDLE_WRITTEN: &str = "00000000 14151617 18191a1b 1c1d1e1f 20212223";
+
+/// The number of its UUID.
+const HANDLE: u128 = 0x1716_1514_1918_1b1a_1c1d_1e1f_2021_2223;
+
+/// What a handle adds to a stub, where there is one.
+pub fn handle_of(wire: Wire, opnum: u16, handle: &'static str) -> &'static str {
+    if wire.has_handle(opnum) { handle } else { "" }
+}
+
+/// What a row says of its first stub.
+#[derive(Clone, Copy)]
+pub struct Row<'a> {
+    pub wire: Wire,
+    pub opnum: u16,
+    pub words: &'a str,
+    pub written: &'a [u8],
+}
+
+/// A stub is read as what the words say, which is written as the first stub.
+pub fn stub_is_right(
+    rt: &impl Abort,
+    alloc: Global,
+    row: &Row<'_>,
+    stub: &[u8],
+) -> Result<(), Fail> {
+    match row.wire.heard(alloc, row.opnum, stub)? {
+        Heard::Value {
+            handle,
+            words,
+            written,
+        } => {
+            let number = if row.wire.has_handle(row.opnum) {
+                HANDLE
+            } else {
+                0
+            };
+            assert!(rt; handle == number, "another handle: {}", row.words);
+            assert!(rt; words.as_str() == row.words, "{} is {words}", row.words);
+            assert!(rt;
+                written.as_slice() == row.written,
+                "another stub: {}",
+                row.words
+            );
+        }
+        _ => panic!(rt; "no value: {}", row.words),
+    }
+    Ok(())
+}
+
+/// The place of the first field that so many bytes don't hold: a digit is a field of so many bytes, a dot a byte of
+/// padding in front of a field.
+fn place_in(fields: &str, length: usize) -> usize {
+    let mut place: usize = 0;
+    for letter in fields.bytes() {
+        match letter {
+            b'.' => place = place.wrapping_add(1),
+            b'1'..=b'9' => {
+                let end = place.wrapping_add(usize::from(letter - b'0'));
+                if end > length {
+                    return place;
+                }
+                place = end;
+            }
+            _ => (),
+        }
+    }
+    place
+}
+
+/// A stub is bad at the place.
+pub fn is_bad(
+    alloc: Global,
+    wire: Wire,
+    opnum: u16,
+    stub: &[u8],
+    place: usize,
+) -> Result<bool, Fail> {
+    let heard = wire.heard(alloc, opnum, stub)?;
+    Ok(match heard {
+        Heard::Bad(bad) | Heard::Short(bad) => bad == place,
+        _ => false,
+    })
+}
+
+/// Each beginning of the first stub is bad at the place of the first field that it doesn't hold.
+pub fn beginnings_are_bad(
+    rt: &impl Abort,
+    alloc: Global,
+    row: &Row<'_>,
+    fields: &str,
+) -> Result<(), Fail> {
+    let stub = row.written;
+    assert_eq!(rt; place_in(fields, stub.len()), stub.len());
+    for length in 0..stub.len() {
+        let bad = is_bad(
+            alloc,
+            row.wire,
+            row.opnum,
+            &stub[..length],
+            place_in(fields, length),
+        )?;
+        assert!(rt; bad, "{length} bytes of {}", row.words);
+    }
+    Ok(())
+}
+
+/// Further stubs of the same value. It counts them.
+fn others_are_right(
+    rt: &impl Abort,
+    alloc: Global,
+    row: &Row<'_>,
+    others: &str,
+) -> Result<u32, Fail> {
+    let mut count: u32 = 0;
+    for line in others.lines() {
+        let stub = joined(alloc, handle_of(row.wire, row.opnum, HANDLE_SENT), line)?;
+        stub_is_right(rt, alloc, row, &stub)?;
+        count = count.wrapping_add(1);
+    }
+    Ok(count)
+}
+
+/// A row of a table: each of its stubs is read as the value, which is written as the first of them, and each beginning
+/// of that one is bad at its place. It counts the stubs.
+fn row_is_right(rt: &impl Abort, alloc: Global, wire: Wire, text: &str) -> Result<u32, Fail> {
+    let (opnum, rest) = numbered(rt, text);
+    let (_, rest) = cut(rest);
+    let (words, rest) = cut(rest);
+    let (fields, rest) = cut(rest);
+    let (first, others) = cut(rest);
+    let written = joined(alloc, handle_of(wire, opnum, HANDLE_WRITTEN), first)?;
+    let row = Row {
+        wire,
+        opnum,
+        words,
+        written: &written,
+    };
+    stub_is_right(rt, alloc, &row, &written)?;
+    beginnings_are_bad(rt, alloc, &row, fields)?;
+    let count = others_are_right(rt, alloc, &row, others)?;
+    Ok(count.wrapping_add(1))
+}
+
+/// A table whose rows are all right. It counts the rows and their stubs.
+///
+/// A row has the opnum and the operation, the value in words, the fields of the first stub (a digit for each, of so
+/// many bytes, and a dot for each byte of padding), the first stub, and others of the same value; of a call with a
+/// handle these are what stands behind it.
+pub fn table_is_right(
+    rt: &impl Abort,
+    alloc: Global,
+    wire: Wire,
+    table: &str,
+) -> Result<(u32, u32), Fail> {
+    let mut rows: u32 = 0;
+    let mut stubs: u32 = 0;
+    for row in table.trim().split("\n\n") {
+        stubs = stubs.wrapping_add(row_is_right(rt, alloc, wire, row)?);
+        rows = rows.wrapping_add(1);
+    }
+    Ok((rows, stubs))
+}
