@@ -23,21 +23,24 @@ index_rises a b q lt =
           (sym (turned q b Less (nat_list_cmp_total.trans q a b (turned a q Greater e) lt))) (omega arith)
     ] refl
 
-module _ {A : Type 0} (key : A → List ℕ) (q : List ℕ) where
+module _ {A : Type 0} (key : A → List ℕ) where
   below_at : (k : List ℕ) (xs : List A) (i : ℕ) (d : A) → below_all key k xs ≡ true → i < length xs
       → compare k (key (get_or xs i d)) ≡ Less
   below_at k [] i d h lt = absurd (omega arith)
   below_at k (x ∷ xs) zero d h lt = less _ (first_so _ _ h)
   below_at k (x ∷ xs) (suc i) d h lt = below_at k xs i d (second_so _ _ h) (omega arith)
 
-  rises : (xs : List A) → is_ascending key xs ≡ true → IsNonDecreasingBy (λ y. ordering_index (compare (key y) q)) xs
+-- a number that doesn't fall where the key rises doesn't fall in rows that ascend
+module _ {A : Type 0} (key : A → List ℕ) (f : A → ℕ) (le : (x y : A) → compare (key x) (key y) ≡ Less → f x ≤ f y) where
+  pub rises : (xs : List A) → is_ascending key xs ≡ true → IsNonDecreasingBy f xs
   rises [] h i j d le lt = absurd (omega arith)
   rises (x ∷ xs) h zero zero d le lt = omega arith
-  rises (x ∷ xs) h zero (suc j) d le lt =
-      index_rises (key x) (key (get_or xs j d)) q (below_at (key x) xs j d (first_so _ _ h) (omega arith))
+  rises (x ∷ xs) h zero (suc j) d under lt =
+      le x (get_or xs j d) (below_at key (key x) xs j d (first_so _ _ h) (omega arith))
   rises (x ∷ xs) h (suc i) zero d le lt = absurd (omega arith)
   rises (x ∷ xs) h (suc i) (suc j) d le lt = rises xs (second_so _ _ h) i j d (omega arith) (omega arith)
 
+module _ {A : Type 0} (key : A → List ℕ) (q : List ℕ) where
   found : (xs : List A) (i : ℕ) → is_ascending key xs ≡ true → i < length xs
       → ((d : A) → compare (key (get_or xs i d)) q ≡ Equal) → place key q xs ≡ Ok i
   found [] i h lt e = absurd (omega arith)
@@ -47,7 +50,7 @@ module _ {A : Type 0} (key : A → List ℕ) (q : List ℕ) where
       let same : key (get_or xs i x) ≡ q = tied-is _ _ (e x) in
       let above : compare q (key x) ≡ Greater =
       turned (key x) q Less
-      (ap (compare (key x)) (sym same) ∙ below_at (key x) xs i x (first_so _ _ h) (omega arith)) in
+      (ap (compare (key x)) (sym same) ∙ below_at key (key x) xs i x (first_so _ _ h) (omega arith)) in
       ap (λ r. by_order r (Err 0) (Ok 0) (further (place key q xs))) above
       ∙ ap further (found xs i (second_so _ _ h) (omega arith) e)
 
@@ -67,4 +70,7 @@ module _ {A : Type 0} (key : A → List ℕ) (q : List ℕ) where
   pub searched : (xs : List A) → is_ascending key xs ≡ true → (r : Result ℕ ℕ) → IsSearchInRange r (length xs)
       → IsBinarySearchResult (λ y. compare (key y) q) xs r → r ≡ place key q xs
   searched xs h (Ok i) in_range equal = sym (found xs i h in_range equal)
-  searched xs h (Err i) in_range parted = let p = parted (rises xs h) in sym (gap xs i in_range p.0 p.1)
+  searched xs h (Err i) in_range parted =
+      let risen = rises key (λ y. ordering_index (compare (key y) q)) (λ x y. index_rises (key x) (key y) q) xs h in
+      let p = parted risen in
+      sym (gap xs i in_range p.0 p.1)

@@ -3,13 +3,14 @@ use Rattle.std.proofs.Common.{◌≡◌, ℕ, ◌≤◌, Bool, true, false, Some
 use Rattle.std.proofs.Common.{inl, inr, ◌⊎◌, is_some, arith}
 use Rattle.acct_codes.specs.declared.kind.Kind.{Kind}
 use Rattle.acct_codes.specs.declared.kind.Kind.TheVariants.{Group, Alias, User}
-use Rattle.dtyp_sid.specs.Value.{SidValue}
+use Rattle.dtyp_sid.specs.Value.{SidValue, IsSid}
 use Rattle.acct_calls.specs.Folding.{is_same}
 use Rattle.acct_rows.specs.Keyed.{is_ascending}
 use Rattle.acct_rows.specs.Rows.{Lists, domain_key, account_key, member_key, alias_key, lsa_key, is_of}
 use Rattle.acct_rows.specs.Rows.{domain_at, account_at, member_at, alias_row_at, lsa_at}
 use Rattle.acct_rows.specs.Objects.{exists}
-use Rattle.acct_rows.specs.Sound.{next_rid_of, IsGoodDomain, IsGoodAccount, IsGoodLsa, IsSoundRows}
+use Rattle.acct_rows.specs.Sound.{next_rid_of, IsGoodDomain, IsGoodAccount, IsGoodMember, IsGoodLsa}
+use Rattle.acct_rows.specs.Sound.{IsSoundRows}
 use Rattle.acct_rows.specs.Laws.{Keeps}
 use Rattle.acct_rows.specs.declared.object.Object.{Object}
 use Rattle.acct_rows.specs.declared.object.Object.TheVariants as objects
@@ -68,9 +69,10 @@ pub record Moves (r s : Lists) : Type 0 where
   pub names : (n i j : ℕ) (a b : AccountRow) → account_at s n i ≡ Some a → account_at s n j ≡ Some b
       → is_same a.name b.name ≡ true → i ≡ j
   pub members : (g u : ℕ) (m : MemberRow) → member_at s g u ≡ Some m
-      → (member_at r g u ≡ Some m) ⊎ ((is_of Group (account_at s 0 g) ≡ true) × (is_of User (account_at s 0 u) ≡ true))
+      → (member_at r g u ≡ Some m)
+      ⊎ ((is_of Group (account_at s 0 g) ≡ true) × (is_of User (account_at s 0 u) ≡ true) × IsGoodMember m)
   pub aliases : (n i : ℕ) (sid : SidValue) (a : AliasRow) → alias_row_at s n i sid ≡ Some a
-      → (alias_row_at r n i sid ≡ Some a) ⊎ (is_of Alias (account_at s n i) ≡ true)
+      → (alias_row_at r n i sid ≡ Some a) ⊎ ((is_of Alias (account_at s n i) ≡ true) × IsSid a.member)
   pub lsa : (sid : SidValue) (l : LsaRow) → lsa_at s sid ≡ Some l → (lsa_at r sid ≡ Some l) ⊎ IsGoodLsa l
 
 moved_sound : (r s : Lists) → IsSoundRows r → Moves r s → IsSoundRows s
@@ -94,9 +96,17 @@ moved_sound r s sound by = record {
     | inl old ↦ by.kept.kinds User 0 u (sound.member_users g u m old)
     | inr there ↦ there.1
   ];
+  member_rules = λ g u m e. elim (by.members g u m e) [
+    | inl old ↦ sound.member_rules g u m old
+    | inr there ↦ there.2
+  ];
   alias_rows = λ n i sid a e. elim (by.aliases n i sid a e) [
     | inl old ↦ by.kept.kinds Alias n i (sound.alias_rows n i sid a old)
-    | inr there ↦ there
+    | inr there ↦ there.0
+  ];
+  alias_members = λ n i sid a e. elim (by.aliases n i sid a e) [
+    | inl old ↦ sound.alias_members n i sid a old
+    | inr there ↦ there.1
   ];
   lsa_rules = λ sid l e. elim (by.lsa sid l e) [ inl old ↦ sound.lsa_rules sid l old | inr good ↦ good ];
 }

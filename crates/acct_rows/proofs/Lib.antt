@@ -1,11 +1,13 @@
 pub mod Tables
 pub mod Places
 pub mod Halving
+pub mod Together
 pub mod Lookups
 pub mod Passing
 pub mod Seeded
 pub mod Once
 pub mod Removals
+pub mod Keeping
 pub mod Kept
 pub mod Moves
 pub mod Purges

@@ -7,7 +7,7 @@ use Rattle.std.specs.Cmp.{first_so, second_so}
 use Rattle.std.proofs.lemmas.Bool.Decides.{nat_tests}
 use Rattle.acct_codes.specs.declared.kind.Kind.{Kind}
 use Rattle.acct_codes.specs.declared.kind.Kind.TheVariants.{Server, Domain, Group, Alias, User, Policy, Account}
-use Rattle.dtyp_sid.specs.Value.{SidValue}
+use Rattle.dtyp_sid.specs.Value.{SidValue, IsSid}
 use Rattle.dtyp_sid.specs.Order.{sid_eq}
 use Rattle.dtyp_sid.proofs.Equal.{equal_sids}
 use Rattle.acct_calls.specs.Folding.{is_same}
@@ -19,7 +19,8 @@ use Rattle.acct_rows.specs.Rows.{domain_at, account_at, member_at, has_name, put
 use Rattle.acct_rows.specs.Rows.{remove_row}
 use Rattle.acct_rows.specs.Objects.{same_object}
 use Rattle.acct_rows.specs.declared.object.Object.TheVariants as objects
-use Rattle.acct_rows.specs.Sound.{good_place, next_rid_of, IsGoodDomain, IsGoodAccount, IsGoodLsa, IsSoundRows}
+use Rattle.acct_rows.specs.Sound.{good_place, next_rid_of, IsGoodDomain, IsGoodAccount, IsGoodMember}
+use Rattle.acct_rows.specs.Sound.{IsGoodLsa, IsSoundRows}
 use Rattle.acct_rows.specs.Laws.{Keeps, nothing, IsNew, Replaces}
 use Rattle.acct_rows.specs.Laws.{DomainsStaySound, NextIsFree, AddedAccountsStaySound, AddedUsersStaySound}
 use Rattle.acct_rows.specs.Laws.{ReplacedAccountsStaySound, OwnNameIsFree, UnusedNameIsFree, NameFoundIsFree}
@@ -95,7 +96,7 @@ alias_there r a n i sid key there =
     (subst (λ k. is_of Alias (account_at r a.domain k) ≡ true) alias there)
 
 pub alias_row_sound : AliasRowsStaySound
-alias_row_sound r a sound there =
+alias_row_sound r a sound whole there =
     let s = put_row (rows.Alias a) r in
     moved nothing r s sound (record {
       order = record {
@@ -111,7 +112,7 @@ alias_row_sound r a sound there =
       names = sound.names_differ;
       members = λ g u m e. inl e;
       aliases = λ n i sid x e. elim (put_cases alias_key (n ∷ i ∷ sid_key sid) a r.aliases x e) [
-        | inl w ↦ inr (alias_there r a n i sid w.0 there)
+        | inl w ↦ inr (alias_there r a n i sid w.0 there, subst (λ y. IsSid y.member) (sym w.1) whole)
         | inr old ↦ inl old
       ];
       lsa = λ sid l e. inl e;
@@ -306,7 +307,7 @@ module _ (r : Lists) (a : AccountRow) (ms : List MemberRow) (sound : IsSoundRows
   grown_sound : is_ascending member_key ms ≡ true → MembersKept r grown → IsGoodAccount grown a
       → ((g u : ℕ) (m : MemberRow) → at member_key (g ∷ u ∷ []) ms ≡ Some m
       → (member_at r g u ≡ Some m) ⊎
-      ((is_of Group (account_at grown 0 g) ≡ true) × (is_of User (account_at grown 0 u) ≡ true)))
+      ((is_of Group (account_at grown 0 g) ≡ true) × (is_of User (account_at grown 0 u) ≡ true) × IsGoodMember m))
       → Keeps nothing r grown
   grown_sound ascend members good each =
       let kept : Kept r grown = record { domains = λ n was. was; nexts = λ n. omega arith; kinds = kinds_grown } in
@@ -340,7 +341,7 @@ added_account_sound r a sound new other =
     }) (λ g u m e. inl e)
 
 pub added_user_sound : AddedUsersStaySound
-added_user_sound r a m sound new user group grouped named =
+added_user_sound r a m sound new user group grouped named good =
     let ms = put member_key m r.members in
     let there : account_at (grown r a ms sound new) a.domain a.rid ≡ Some a = put_here account_key a r.accounts in
     let group_there : is_of Group (account_at (grown r a ms sound new) 0 a.primary) ≡ true =
@@ -363,6 +364,7 @@ added_user_sound r a m sound new user group grouped named =
             subst (λ k. is_of User (account_at (grown r a ms sound new) 0 k) ≡ true) u_is
                 (subst (λ k. is_of User (account_at (grown r a ms sound new) k a.rid) ≡ true) zero
                 (ap (is_of User) there ∙ user)),
+            subst IsGoodMember (sym w.1) good,
           ))
       | inr old ↦ inl old
     ])
@@ -500,7 +502,7 @@ found_name_free r a found sound is own j b e one =
     sound.names_differ a.domain j found.rid b found e here same ∙ own
 
 pub member_sound : MembersStaySound
-member_sound r m sound group user =
+member_sound r m sound good group user =
     let s = put_row (rows.Member m) r in
     let more : MembersKept r s = λ g u was. there_after member_key (g ∷ u ∷ []) m r.members was in
     moved nothing r s sound (record {
@@ -522,6 +524,7 @@ member_sound r m sound group user =
               subst (λ k. is_of Group (account_at r 0 k) ≡ true) g_is group,
               subst
                   (λ k. is_of User (account_at r 0 k) ≡ true) u_is user,
+              subst IsGoodMember (sym w.1) good,
             ))
         | inr old ↦ inl old
       ];

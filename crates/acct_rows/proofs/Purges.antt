@@ -214,6 +214,10 @@ module _ (r : Lists) (domain rid : ℕ) (sid : SidValue) (kind : Kind) (sound : 
         let yes : is_alias_row_of domain rid sid a ≡ true =
         named_alias domain rid sid a (cc (key, same)) (cc (key, same)) in cc (yes, found.1))
         (sound.alias_rows n i s a found.0);
+    member_rules = λ g u m e. sound.member_rules g u m
+        (purged_found member_key (is_member_of domain rid) (g ∷ u ∷ []) r.members m e).0;
+    alias_members = λ n i s a e. sound.alias_members n i s a
+        (purged_found alias_key (is_alias_row_of domain rid sid) (n ∷ i ∷ sid_key s) r.aliases a e).0;
     lsa_rules = sound.lsa_rules;
   }
 

@@ -1,7 +1,8 @@
 -- The rows that a database without rows begins with are sound
-use Rattle.std.proofs.Common.{◌≡◌, ℕ, ◌<◌, ◌==◌, nat_lt, nat_le, Bool, true, false, not, cond, ◌&&◌, ◌||◌, codes, List}
-use Rattle.std.proofs.Common.{[], ◌∷◌, ◌++◌, map, length, is_some, Some, refl, sym, ap, subst, ◌∙◌, arith}
+use Rattle.std.proofs.Common.{◌≡◌, ℕ, ◌+◌, ◌^◌, ◌<◌, ◌≤◌, ◌==◌, nat_lt, nat_le, Bool, true, false, not, cond, ◌&&◌, ◌||◌, codes}
+use Rattle.std.proofs.Common.{All, List, [], ◌∷◌, ◌++◌, map, length, is_some, Some, refl, sym, ap, subst, ◌∙◌, arith}
 use Rattle.std.proofs.lemmas.Bool.Decides.{nat_tests}
+use Rattle.std.proofs.lemmas.List.Elements.{All-nil, All-cons, All-push}
 use Rattle.std.specs.List.{list_all}
 use Rattle.std.specs.Char.{to_ascii_lowercase}
 use Rattle.std.specs.Str.{bytes_eq, chars}
@@ -11,9 +12,14 @@ use Rattle.std.specs.Cmp.{first_so, second_so, tied_itself, nat_cmp_total}
 use Rattle.ucd_case.specs.CaseFolding.{simple_fold}
 use Rattle.ucd_case.proofs.CaseFoldingLemmas.{simple_fold-ascii}
 use Rattle.acct_codes.specs.declared.kind.Kind.TheVariants.{Group, Alias, User}
+use Rattle.acct_codes.specs.Limits.{most_domain_subs}
+use Rattle.acct_codes.specs.Rids.{domain_user_rid_admin, domain_user_rid_guest, domain_group_rid_admins}
+use Rattle.acct_codes.specs.Rids.{domain_group_rid_users, domain_group_rid_guests, domain_alias_rid_admins}
+use Rattle.acct_codes.specs.Rids.{domain_alias_rid_users, domain_alias_rid_guests, first_created_rid}
 use Rattle.acct_codes.specs.UserControl.{user_normal_account}
-use Rattle.dtyp_sid.specs.Value.{SidValue}
-use Rattle.acct_calls.specs.CodePoints.{is_surrogate, code_points, units_of}
+use Rattle.dtyp_sid.specs.Made.{with_last}
+use Rattle.dtyp_sid.specs.Value.{SidValue, IsSid}
+use Rattle.acct_calls.specs.CodePoints.{AreUnits, is_surrogate, code_points, units_of}
 use Rattle.acct_calls.specs.Folding.{folded_point, folded_points, is_same}
 use Rattle.acct_calls.specs.Validity.{is_valid_name}
 use Rattle.acct_rows.specs.Keyed.{compare, at, is_ascending}
@@ -22,8 +28,9 @@ use Rattle.acct_rows.specs.Rows.{account_at, member_at, is_of}
 use Rattle.acct_rows.specs.declared.row.AccountRow.{AccountRow}
 use Rattle.acct_rows.specs.declared.row.MemberRow.{MemberRow}
 use Rattle.acct_rows.specs.declared.row.AliasRow.{AliasRow}
-use Rattle.acct_rows.specs.Sound.{name_of_text, is_domain_name, is_domain_sid, control_is_good, IsGoodDomain, IsGoodRow}
-use Rattle.acct_rows.specs.Sound.{IsGoodAccount, IsSoundRows}
+use Rattle.acct_calls.specs.Domains.{name_of_text, builtin_name, is_domain_name, is_domain_sid}
+use Rattle.acct_rows.specs.Sound.{control_is_good, IsGoodDomain, IsGoodRow}
+use Rattle.acct_rows.specs.Sound.{IsGoodAccount, IsGoodMember, IsSoundRows}
 use Rattle.acct_rows.specs.Seed.{guest_control, seed_user, seed_group, seed_alias, seed_domains, seed_accounts}
 use Rattle.acct_rows.specs.Seed.{seed_members, seed_aliases, seed_lists}
 use Rattle.acct_rows.proofs.Lookups.{key_found}
@@ -38,13 +45,16 @@ last_decides (n ∷ front) i j e =
 
 pub seed_aliases_ascend : (sid : SidValue) → is_ascending alias_key (seed_aliases sid) ≡ true
 seed_aliases_ascend sid =
-    rw (last_decides (sid.authority ∷ sid.subs) 500 512 refl, last_decides (sid.authority ∷ sid.subs) 501 514 refl) refl
+    rw (
+      last_decides (sid.authority ∷ sid.subs) domain_user_rid_admin domain_group_rid_admins refl,
+      last_decides (sid.authority ∷ sid.subs) domain_user_rid_guest domain_group_rid_guests refl,
+    ) refl
 
 -- a domain's SID has a slot for a RID
-pub has_slot : (sid : SidValue) → is_domain_sid sid ≡ true → length sid.subs < 15
+pub has_slot : (sid : SidValue) → is_domain_sid sid ≡ true → length sid.subs ≤ most_domain_subs
 unfolding is_domain_sid
 has_slot sid right =
-    let most : nat_le (length sid.subs) 14 ≡ true = second_so _ _ (first_so _ _ right) in
+    let most : nat_le (length sid.subs) most_domain_subs ≡ true = second_so _ _ (first_so _ _ right) in
     grind (arith, nat_tests)
 
 -- ASCII folds to lower case
@@ -121,68 +131,101 @@ seed_names_differ domain i j a b there_a there_b same =
     let one : a.rid ≡ b.rid = by_rid a b apart domains (same_by_lower a b a_ascii b_ascii same) in
     cc
 
-user_row : (rid : ℕ) (text : List ℕ) (control primary : ℕ) → is_valid_name User (name_of_text text) ≡ true
-    → control_is_good control ≡ true
-    → IsGoodRow (seed_user rid text control primary)
-user_row rid text control primary valid good = record {
-  kind_known = refl;
-  place = refl;
-  named = valid;
-  full_name_most = omega arith;
-  comment_most = omega arith;
-  control = good;
-  primary_kind = refl;
-}
+also : {P R : Type 0} → P → R → P × R
+also p r = (p, r)
 
-group_row : (rid : ℕ) (text : List ℕ) → is_valid_name Group (name_of_text text) ≡ true → IsGoodRow (seed_group rid text)
-group_row rid text valid = record {
-  kind_known = refl;
-  place = refl;
-  named = valid;
-  full_name_most = omega arith;
-  comment_most = omega arith;
-  control = refl;
-  primary_kind = refl;
-}
+-- numbers that pass the test are units
+abbrev is_unit : ℕ → Bool
+is_unit unit = nat_lt unit (2 ^ 16)
 
-alias_row : (rid : ℕ) (text : List ℕ) → is_valid_name Alias (name_of_text text) ≡ true → IsGoodRow (seed_alias rid text)
-alias_row rid text valid = record {
-  kind_known = refl;
-  place = refl;
-  named = valid;
-  full_name_most = omega arith;
-  comment_most = omega arith;
-  control = refl;
-  primary_kind = refl;
+units : (ns : List ℕ) → list_all is_unit ns ≡ true → AreUnits ns
+units [] pass = All-nil (λ unit. unit < 2 ^ 16)
+units (n ∷ ns) pass =
+    let first : nat_lt n (2 ^ 16) ≡ true = first_so _ _ pass in
+    All-cons (λ unit. unit < 2 ^ 16) n ns (grind (arith, nat_tests)) (units ns (second_so _ _ pass))
+
+no_units : AreUnits []
+no_units = All-nil (λ unit. unit < 2 ^ 16)
+
+-- a SID with room for a RID is one with it
+counted : (ns : List ℕ) (rid : ℕ) → length (ns ++ rid ∷ []) ≡ length ns + 1
+counted [] rid = refl
+counted (n ∷ ns) rid = omega (arith, counted ns rid)
+
+with_last_whole : (sid : SidValue) (rid : ℕ) → IsSid sid → length sid.subs ≤ most_domain_subs → rid < 2 ^ 32
+    → IsSid (with_last sid rid)
+with_last_whole sid rid whole few fits = record {
+  authority_fits = whole.authority_fits;
+  count_fits = omega (arith, counted sid.subs rid, few);
+  subs_fit = All-push (λ sub. sub < 2 ^ 32) sid.subs rid whole.subs_fit fits;
 }
 
 -- the rows of the seed keep the rules
 module _ (name : List ℕ) (sid : SidValue) where
-  user_is_good : (rid : ℕ) (text : List ℕ) (control primary : ℕ) → IsGoodRow (seed_user rid text control primary)
-      → rid < 1000
+  user_is_good : (rid : ℕ) (text : List ℕ) (control primary : ℕ) → is_valid_name User (name_of_text text) ≡ true
+      → list_all is_unit (name_of_text text) ≡ true → control_is_good control ≡ true → control < 2 ^ 32
+      → rid < first_created_rid
       → is_of Group (account_at (seed_lists name sid) 0 primary) ≡ true
       → is_some (member_at (seed_lists name sid) primary rid) ≡ true
       → IsGoodAccount (seed_lists name sid) (seed_user rid text control primary)
-  user_is_good rid text control primary good low group member = record {
-    itself = good;
+  user_is_good rid text control primary valid whole good fits low group member = record {
+    itself = record {
+      name_units = units (name_of_text text) whole;
+      full_name_units = no_units;
+      comment_units = no_units;
+      bits_fit = fits;
+      kind_known = refl;
+      place = refl;
+      named = valid;
+      full_name_most = omega arith;
+      comment_most = omega arith;
+      control = good;
+      primary_kind = refl;
+    };
     below = low;
     primary_group = λ _. group;
     primary_member = λ _. member;
   }
 
-  group_is_good : (rid : ℕ) (text : List ℕ) → IsGoodRow (seed_group rid text) → rid < 1000
+  group_is_good : (rid : ℕ) (text : List ℕ) → is_valid_name Group (name_of_text text) ≡ true
+      → list_all is_unit (name_of_text text) ≡ true → rid < first_created_rid
       → IsGoodAccount (seed_lists name sid) (seed_group rid text)
-  group_is_good rid text good low = record {
-    itself = good;
+  group_is_good rid text valid whole low = record {
+    itself = record {
+      name_units = units (name_of_text text) whole;
+      full_name_units = no_units;
+      comment_units = no_units;
+      bits_fit = omega arith;
+      kind_known = refl;
+      place = refl;
+      named = valid;
+      full_name_most = omega arith;
+      comment_most = omega arith;
+      control = refl;
+      primary_kind = refl;
+    };
     below = low;
     primary_group = λ user. cc;
     primary_member = λ user. cc;
   }
 
-  alias_is_good : (rid : ℕ) (text : List ℕ) → IsGoodRow (seed_alias rid text) → rid < 1000
+  alias_is_good : (rid : ℕ) (text : List ℕ) → is_valid_name Alias (name_of_text text) ≡ true
+      → list_all is_unit (name_of_text text) ≡ true → rid < first_created_rid
       → IsGoodAccount (seed_lists name sid) (seed_alias rid text)
-  alias_is_good rid text good low = record {
-    itself = good;
+  alias_is_good rid text valid whole low = record {
+    itself = record {
+      name_units = units (name_of_text text) whole;
+      full_name_units = no_units;
+      comment_units = no_units;
+      bits_fit = omega arith;
+      kind_known = refl;
+      place = refl;
+      named = valid;
+      full_name_most = omega arith;
+      comment_most = omega arith;
+      control = refl;
+      primary_kind = refl;
+    };
     below = low;
     primary_group = λ user. cc;
     primary_member = λ user. cc;
@@ -190,37 +233,26 @@ module _ (name : List ℕ) (sid : SidValue) where
 
   accounts_are_good : Each (IsGoodAccount (seed_lists name sid)) seed_accounts
   unfolding is_valid_name chars code_points units_of
-  accounts_are_good = (
-    user_is_good 500 (codes "Administrator") user_normal_account 513
-        (user_row 500 (codes "Administrator") user_normal_account 513 refl refl) (omega arith) refl refl,
-    (
-      user_is_good 501 (codes "Guest") guest_control 514 (user_row 501 (codes "Guest") guest_control 514 refl refl)
-          (omega arith) refl refl,
-      (
-        group_is_good 512 (codes "Domain Admins") (group_row 512 (codes "Domain Admins") refl) (omega arith),
-        (
-          group_is_good 513 (codes "Domain Users") (group_row 513 (codes "Domain Users") refl) (omega arith),
-          (
-            group_is_good 514 (codes "Domain Guests") (group_row 514 (codes "Domain Guests") refl) (omega arith),
-            (
-              alias_is_good 544 (codes "Administrators") (alias_row 544 (codes "Administrators") refl) (omega arith),
-              (
-                alias_is_good 545 (codes "Users") (alias_row 545 (codes "Users") refl) (omega arith),
-                (
-                  alias_is_good 546 (codes "Guests") (alias_row 546 (codes "Guests") refl) (omega arith),
-                  tt,
-                ),
-              ),
-            ),
-          ),
-        ),
-      ),
-    ),
-  )
+  accounts_are_good =
+      also (user_is_good domain_user_rid_admin (codes "Administrator") user_normal_account domain_group_rid_users
+      refl refl refl (omega arith) (omega arith) refl refl)
+      (also (user_is_good domain_user_rid_guest (codes "Guest") guest_control domain_group_rid_guests
+      refl refl refl (omega arith) (omega arith) refl refl)
+      (also (group_is_good domain_group_rid_admins (codes "Domain Admins") refl refl (omega arith))
+      (also (group_is_good domain_group_rid_users (codes "Domain Users") refl refl (omega arith))
+      (also (group_is_good domain_group_rid_guests (codes "Domain Guests") refl refl (omega arith))
+      (also (alias_is_good domain_alias_rid_admins (codes "Administrators") refl refl (omega arith))
+      (also (alias_is_good domain_alias_rid_users (codes "Users") refl refl (omega arith))
+      (also (alias_is_good domain_alias_rid_guests (codes "Guests") refl refl (omega arith)) tt)))))))
 
-  domains_are_good : is_domain_name name ≡ true → is_domain_sid sid ≡ true → Each IsGoodDomain (seed_domains name sid)
-  domains_are_good named sided = (
+  domains_are_good : is_domain_name name ≡ true → is_domain_sid sid ≡ true → AreUnits name → IsSid sid
+      → Each IsGoodDomain (seed_domains name sid)
+  unfolding chars units_of
+  domains_are_good named sided whole sided_whole = (
     record {
+      sid_whole = sided_whole;
+      name_units = whole;
+      oem_units = no_units;
       number_most = omega arith;
       account_name = λ _. named;
       account_sid = λ _. sided;
@@ -232,6 +264,13 @@ module _ (name : List ℕ) (sid : SidValue) where
     },
     (
       record {
+        sid_whole = record {
+          authority_fits = omega arith;
+          count_fits = omega arith;
+          subs_fit = All-cons (λ sub. sub < 2 ^ 32) 32 [] (omega arith) (All-nil (λ sub. sub < 2 ^ 32));
+        };
+        name_units = units builtin_name refl;
+        oem_units = no_units;
         number_most = omega arith;
         account_name = λ no. absurd (omega arith);
         account_sid = λ no. absurd (omega arith);
@@ -254,15 +293,28 @@ module _ (name : List ℕ) (sid : SidValue) where
   abbrev alias_there : AliasRow → Bool
   alias_there a = is_of Alias (account_at (seed_lists name sid) a.domain a.alias)
 
-  seed_is_sound : is_domain_name name ≡ true → is_domain_sid sid ≡ true → IsSoundRows (seed_lists name sid)
-  seed_is_sound named sided = record {
+  members_are_good : Each IsGoodMember seed_members
+  members_are_good = also (omega arith) (also (omega arith) (also (omega arith) tt))
+
+  aliases_are_good : IsSid sid → length sid.subs ≤ most_domain_subs
+      → Each (λ (a : AliasRow). IsSid a.member) (seed_aliases sid)
+  aliases_are_good whole few =
+      also (with_last_whole sid domain_user_rid_admin whole few (omega arith))
+      (also (with_last_whole sid domain_group_rid_admins whole few (omega arith))
+      (also (with_last_whole sid domain_group_rid_users whole few (omega arith))
+      (also (with_last_whole sid domain_user_rid_guest whole few (omega arith))
+      (also (with_last_whole sid domain_group_rid_guests whole few (omega arith)) tt))))
+
+  seed_is_sound : is_domain_name name ≡ true → is_domain_sid sid ≡ true → AreUnits name → IsSid sid
+      → IsSoundRows (seed_lists name sid)
+  seed_is_sound named sided whole sided_whole = record {
     domains_ascend = refl;
     accounts_ascend = refl;
     members_ascend = refl;
     aliases_ascend = seed_aliases_ascend sid;
     lsa_ascend = refl;
     domain_rules = λ number d there. found_is domain_key IsGoodDomain (number ∷ []) (seed_domains name sid) d
-        (domains_are_good named sided) there;
+        (domains_are_good named sided whole sided_whole) there;
     account_domain = refl;
     builtin_domain = refl;
     account_rules = λ domain rid a there. found_is account_key (IsGoodAccount (seed_lists name sid))
@@ -287,10 +339,16 @@ module _ (name : List ℕ) (sid : SidValue) where
         subst (λ n. is_of Alias (account_at (seed_lists name sid) n alias) ≡ true) domains
         (subst (λ n. is_of Alias (account_at (seed_lists name sid) a.domain n) ≡ true) aliases
         (found_passes alias_key alias_there (domain ∷ alias ∷ sid_key member) (seed_aliases sid) a refl there));
+    member_rules = λ group user m there. found_is member_key IsGoodMember (group ∷ user ∷ []) seed_members m
+        members_are_good there;
+    alias_members = λ domain alias member a there. found_is alias_key (λ (x : AliasRow). IsSid x.member)
+        (domain ∷ alias ∷ sid_key member) (seed_aliases sid) a
+        (aliases_are_good sided_whole (has_slot sid sided)) there;
     lsa_rules = λ member l there. cc;
   }
 
 pub seeded_is_sound : (name : List ℕ) (sid : SidValue) (lists : Lists) → is_domain_name name ≡ true
-    → is_domain_sid sid ≡ true
+    → is_domain_sid sid ≡ true → AreUnits name → IsSid sid
     → lists ≡ seed_lists name sid → IsSoundRows lists
-seeded_is_sound name sid lists named sided are = subst IsSoundRows (sym are) (seed_is_sound name sid named sided)
+seeded_is_sound name sid lists named sided whole sided_whole are =
+    subst IsSoundRows (sym are) (seed_is_sound name sid named sided whole sided_whole)

@@ -1,15 +1,17 @@
 -- What changes of rows keep: sound rows stay sound, and the objects that are there stay
 use Rattle.std.specs.Prelude.{◌≡◌, ◌≢◌, ℕ, ◌<◌, ◌≤◌, ◌==◌, Bool, true, false, ◌&&◌, ◌||◌, List, [], ◌∷◌, ◌++◌, map}
-use Rattle.std.specs.Prelude.{Some, None, is_some}
+use Rattle.std.specs.Prelude.{Some, None, is_some, All}
 use Rattle.std.specs.List.{filter}
 use Rattle.acct_codes.specs.declared.kind.Kind.TheVariants.{Group, Alias, User}
-use Rattle.dtyp_sid.specs.Value.{SidValue}
+use Rattle.acct_codes.specs.Rids.{domain_group_rid_users}
+use Rattle.dtyp_sid.specs.Value.{SidValue, IsSid}
 use Rattle.dtyp_sid.specs.Order.{sid_eq}
 use Rattle.acct_calls.specs.Folding.{is_same}
 use Rattle.acct_rows.specs.Rows.{Lists, domain_at, account_at, member_at, find_name, same_kind, is_of}
 use Rattle.acct_rows.specs.Rows.{put_row, remove_row, removed}
 use Rattle.acct_rows.specs.Objects.{kind_of, domain_of, rid_of, exists, same_object}
-use Rattle.acct_rows.specs.Sound.{is_account_kind, next_rid_of, IsGoodDomain, IsGoodRow, IsGoodLsa, IsSoundRows}
+use Rattle.acct_rows.specs.Sound.{is_account_kind, next_rid_of, IsGoodDomain, IsGoodRow, IsGoodAccount}
+use Rattle.acct_rows.specs.Sound.{IsGoodMember, IsGoodLsa, IsSoundRows}
 use Rattle.acct_rows.specs.declared.object.Object.{Object}
 use Rattle.acct_rows.specs.declared.object.Object.TheVariants as objects
 use Rattle.acct_rows.specs.declared.row.DomainRow.{DomainRow}
@@ -56,7 +58,7 @@ AddedAccountsStaySound = (lists : Lists) (a : AccountRow) → IsSoundRows lists 
 abbrev pub AddedUsersStaySound : Type 0
 AddedUsersStaySound = (lists : Lists) (a : AccountRow) (m : MemberRow) → IsSoundRows lists → IsNew lists a
     → same_kind User a.kind ≡ true → is_of Group (account_at lists 0 a.primary) ≡ true → m.group ≡ a.primary
-    → m.user ≡ a.rid
+    → m.user ≡ a.rid → IsGoodMember m
     → Keeps nothing lists (put_row (rows.Member m) (put_row (rows.Account a) lists))
 
 -- no other account of the domain has the name
@@ -92,8 +94,9 @@ NameFoundIsFree = (lists : Lists) (a found : AccountRow) → IsSoundRows lists
 
 -- a member row is put: its group and its user are there
 abbrev pub MembersStaySound : Type 0
-MembersStaySound = (lists : Lists) (m : MemberRow) → IsSoundRows lists → is_of Group (account_at lists 0 m.group) ≡ true
-    → is_of User (account_at lists 0 m.user) ≡ true → Keeps nothing lists (put_row (rows.Member m) lists)
+MembersStaySound = (lists : Lists) (m : MemberRow) → IsSoundRows lists → IsGoodMember m
+    → is_of Group (account_at lists 0 m.group) ≡ true → is_of User (account_at lists 0 m.user) ≡ true
+    → Keeps nothing lists (put_row (rows.Member m) lists)
 
 -- a member row is removed that isn't the user's for its primary group
 abbrev pub RemovedMembersStaySound : Type 0
@@ -103,7 +106,7 @@ RemovedMembersStaySound = (lists : Lists) (group user : ℕ) → IsSoundRows lis
 
 -- an alias row is put, of an alias that is there, or removed
 abbrev pub AliasRowsStaySound : Type 0
-AliasRowsStaySound = (lists : Lists) (a : AliasRow) → IsSoundRows lists
+AliasRowsStaySound = (lists : Lists) (a : AliasRow) → IsSoundRows lists → IsSid a.member
     → is_of Alias (account_at lists a.domain a.alias) ≡ true
     → Keeps nothing lists (put_row (rows.Alias a) lists)
 
@@ -156,6 +159,18 @@ OthersAreNoPrimary = (lists : Lists) (domain rid : ℕ) → IsSoundRows lists
 abbrev pub RemovedAccountsStaySound : Type 0
 RemovedAccountsStaySound = (lists : Lists) (object : Object) (sid : SidValue) → IsSoundRows lists
     → is_account_kind (kind_of object) ≡ true → exists lists object ≡ true
-    → same_object object (objects.Group 513) ≡ false
+    → same_object object (objects.Group domain_group_rid_users) ≡ false
     → IsNoPrimary lists (domain_of object) (rid_of object)
     → Keeps (λ x. same_object x object) lists (removed (naming lists (domain_of object) (rid_of object) sid) lists)
+
+-- each domain and each account of sound rows stands at its key and keeps its rules, and what is found at a key has it
+pub record EachStands (lists : Lists) : Type 0 where
+  pub domains : All (λ (d : DomainRow). (domain_at lists d.number ≡ Some d) × IsGoodDomain d) lists.domains
+  pub accounts : All (λ (a : AccountRow). (account_at lists a.domain a.rid ≡ Some a) × IsGoodAccount lists a)
+      lists.accounts
+  pub domain_number : (number : ℕ) (d : DomainRow) → domain_at lists number ≡ Some d → d.number ≡ number
+  pub account_domain : (domain rid : ℕ) (a : AccountRow) → account_at lists domain rid ≡ Some a → a.domain ≡ domain
+  pub account_rid : (domain rid : ℕ) (a : AccountRow) → account_at lists domain rid ≡ Some a → a.rid ≡ rid
+
+abbrev pub EachIsGood : Type 0
+EachIsGood = (lists : Lists) → IsSoundRows lists → EachStands lists

@@ -2,17 +2,21 @@
 use Rattle.std.specs.Prelude.{ℕ, ◌+◌, codes, List, [], ◌∷◌, ◌++◌}
 use Rattle.acct_codes.specs.declared.kind.Kind.TheVariants.{Group, Alias, User}
 use Rattle.acct_codes.specs.UserControl.{user_account_disabled, user_password_not_required, user_normal_account}
+use Rattle.acct_codes.specs.GroupAttributes.{new_group_attributes}
+use Rattle.acct_codes.specs.Rids.{domain_user_rid_admin, domain_user_rid_guest, domain_group_rid_admins}
+use Rattle.acct_codes.specs.Rids.{domain_group_rid_users, domain_group_rid_guests, domain_alias_rid_admins}
+use Rattle.acct_codes.specs.Rids.{domain_alias_rid_users, domain_alias_rid_guests, first_created_rid}
+use Rattle.acct_calls.specs.Domains.{name_of_text, builtin_name, builtin_sid}
 use Rattle.dtyp_sid.specs.Value.{SidValue}
 use Rattle.dtyp_sid.specs.Made.{with_last}
 use Rattle.acct_rows.specs.Rows.{Lists}
-use Rattle.acct_rows.specs.Sound.{name_of_text, builtin_name, builtin_sid}
 use Rattle.acct_rows.specs.declared.row.DomainRow.{DomainRow}
 use Rattle.acct_rows.specs.declared.row.AccountRow.{AccountRow}
 use Rattle.acct_rows.specs.declared.row.MemberRow.{MemberRow}
 use Rattle.acct_rows.specs.declared.row.AliasRow.{AliasRow}
 
 abbrev pub seed_domain : ℕ → SidValue → List ℕ → DomainRow
-seed_domain number sid name = record { number = number; sid = sid; name = name; oem = []; next_rid = 1000 }
+seed_domain number sid name = record { number = number; sid = sid; name = name; oem = []; next_rid = first_created_rid }
 
 -- a user by RID, name, control and primary group
 abbrev pub seed_user : ℕ → List ℕ → ℕ → ℕ → AccountRow
@@ -35,7 +39,7 @@ seed_group rid text = record {
   name = name_of_text text;
   full_name = [];
   comment = [];
-  bits = 7;
+  bits = new_group_attributes;
   primary = 0;
 }
 
@@ -52,7 +56,7 @@ seed_alias rid text = record {
 }
 
 abbrev pub seed_member : ℕ → ℕ → MemberRow
-seed_member group user = record { group = group; user = user; attributes = 7 }
+seed_member group user = record { group = group; user = user; attributes = new_group_attributes }
 
 -- an alias of BUILTIN with an account of a domain
 abbrev pub seed_alias_row : ℕ → SidValue → ℕ → AliasRow
@@ -68,34 +72,43 @@ guest_control = user_normal_account + user_password_not_required + user_account_
 
 abbrev pub seed_users : List AccountRow
 seed_users =
-    seed_user 500 (codes "Administrator") user_normal_account 513
-    ∷ seed_user 501 (codes "Guest") guest_control 514
+    seed_user domain_user_rid_admin (codes "Administrator") user_normal_account domain_group_rid_users
+    ∷ seed_user domain_user_rid_guest (codes "Guest") guest_control domain_group_rid_guests
     ∷ []
 
 abbrev pub seed_groups : List AccountRow
 seed_groups =
-    seed_group 512 (codes "Domain Admins") ∷ seed_group 513 (codes "Domain Users") ∷ seed_group 514
-    (codes "Domain Guests") ∷ []
+    seed_group domain_group_rid_admins (codes "Domain Admins")
+    ∷ seed_group domain_group_rid_users (codes "Domain Users")
+    ∷ seed_group domain_group_rid_guests (codes "Domain Guests")
+    ∷ []
 
 abbrev pub builtin_aliases : List AccountRow
 builtin_aliases =
-    seed_alias 544 (codes "Administrators") ∷ seed_alias 545 (codes "Users") ∷ seed_alias 546 (codes "Guests") ∷ []
+    seed_alias domain_alias_rid_admins (codes "Administrators")
+    ∷ seed_alias domain_alias_rid_users (codes "Users")
+    ∷ seed_alias domain_alias_rid_guests (codes "Guests")
+    ∷ []
 
 abbrev pub seed_accounts : List AccountRow
 seed_accounts = seed_users ++ seed_groups ++ builtin_aliases
 
 -- Administrator is a member of Domain Admins and Domain Users, Guest of Domain Guests
 abbrev pub seed_members : List MemberRow
-seed_members = seed_member 512 500 ∷ seed_member 513 500 ∷ seed_member 514 501 ∷ []
+seed_members =
+    seed_member domain_group_rid_admins domain_user_rid_admin
+    ∷ seed_member domain_group_rid_users domain_user_rid_admin
+    ∷ seed_member domain_group_rid_guests domain_user_rid_guest
+    ∷ []
 
 -- Administrators has Administrator and Domain Admins, Users has Domain Users, Guests has Guest and Domain Guests
 abbrev pub seed_aliases : SidValue → List AliasRow
 seed_aliases sid =
-    seed_alias_row 544 sid 500
-    ∷ seed_alias_row 544 sid 512
-    ∷ seed_alias_row 545 sid 513
-    ∷ seed_alias_row 546 sid 501
-    ∷ seed_alias_row 546 sid 514
+    seed_alias_row domain_alias_rid_admins sid domain_user_rid_admin
+    ∷ seed_alias_row domain_alias_rid_admins sid domain_group_rid_admins
+    ∷ seed_alias_row domain_alias_rid_users sid domain_group_rid_users
+    ∷ seed_alias_row domain_alias_rid_guests sid domain_user_rid_guest
+    ∷ seed_alias_row domain_alias_rid_guests sid domain_group_rid_guests
     ∷ []
 
 -- the rows for an account domain of that name and SID; the policy has no account

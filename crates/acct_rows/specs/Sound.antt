@@ -1,14 +1,17 @@
 -- Which rows are sound: each breaks no rule, by itself and among the others
-use Rattle.std.specs.Prelude.{◌≡◌, ℕ, ◌+◌, ◌<◌, ◌≤◌, ◌==◌, nat_le, nat_lt, Bool, true, false, not, ◌&&◌, ◌||◌, codes}
-use Rattle.std.specs.Prelude.{chars}
+use Rattle.std.specs.Prelude.{◌≡◌, ℕ, ◌+◌, ◌^◌, ◌<◌, ◌≤◌, ◌==◌, nat_le, nat_lt, Bool, true, false, not, ◌&&◌, ◌||◌}
 use Rattle.std.specs.Prelude.{List, [], ◌∷◌, length, All, Option, Some, None, is_some, bit_and}
 use Rattle.acct_codes.specs.declared.kind.Kind.{Kind}
 use Rattle.acct_codes.specs.declared.kind.Kind.TheVariants.{Group, Alias, User}
+use Rattle.acct_codes.specs.Limits.{most_text}
+use Rattle.acct_codes.specs.Privileges.{se_create_token, se_create_global}
+use Rattle.acct_codes.specs.Rids.{domain_group_rid_users, first_created_rid, most_rid}
+use Rattle.acct_codes.specs.SystemAccess.{known_system_access}
 use Rattle.acct_codes.specs.UserControl.{user_account_disabled, user_password_not_required, user_normal_account}
 use Rattle.acct_codes.specs.UserControl.{user_workstation_trust_account, user_server_trust_account}
-use Rattle.dtyp_sid.specs.Value.{SidValue}
-use Rattle.dtyp_sid.specs.Order.{sid_eq}
-use Rattle.acct_calls.specs.CodePoints.{units_of}
+use Rattle.dtyp_sid.specs.Value.{SidValue, IsSid}
+use Rattle.acct_calls.specs.CodePoints.{AreUnits}
+use Rattle.acct_calls.specs.Domains.{builtin_name, builtin_sid, is_domain_name, is_domain_sid}
 use Rattle.acct_calls.specs.Folding.{is_same}
 use Rattle.acct_calls.specs.Validity.{is_valid_name}
 use Rattle.acct_rows.specs.Keyed.{is_ascending}
@@ -21,29 +24,12 @@ use Rattle.acct_rows.specs.declared.row.AliasRow.{AliasRow}
 use Rattle.acct_rows.specs.declared.row.LsaRow.{LsaRow}
 use Rattle.acct_rows.specs.declared.row.Held.{Held}
 
--- the name that a text spells
-abbrev pub name_of_text : List ℕ → List ℕ
-name_of_text text = units_of (chars text)
-
--- the domain BUILTIN, S-1-5-32 (MS-DTYP 2.4.2.4)
-abbrev pub builtin_name : List ℕ
-builtin_name = name_of_text (codes "BUILTIN")
-
-abbrev pub builtin_sid : SidValue
-builtin_sid = record { authority = 5; subs = 32 ∷ [] }
-
--- the account domain's name: one that a group may have, of at most 15 units, and not that of another domain
-unfoldable pub is_domain_name : List ℕ → Bool
-is_domain_name name =
-    nat_le (length name) 15 && is_valid_name Group name
-    && not (is_same name builtin_name) && not (is_same name (name_of_text (codes "NT AUTHORITY")))
-
--- the account domain's SID: it has 1 to 14 sub-authorities, so that an account's has one more, and isn't BUILTIN's
-unfoldable pub is_domain_sid : SidValue → Bool
-is_domain_sid sid = (nat_le 1 (length sid.subs) && nat_le (length sid.subs) 14) && not (sid_eq sid builtin_sid)
-
 -- a domain by itself
 pub record IsGoodDomain (d : DomainRow) : Type 0 where
+  -- its SID and its texts are such: numbers and units are as wide as they may be
+  pub sid_whole : IsSid d.sid
+  pub name_units : AreUnits d.name
+  pub oem_units : AreUnits d.oem
   -- there are the account domain, 0, and BUILTIN, 1
   pub number_most : d.number ≤ 1
   -- the account domain's name and SID are such that a configuration may name
@@ -52,11 +38,11 @@ pub record IsGoodDomain (d : DomainRow) : Type 0 where
   -- those of BUILTIN are its own
   pub builtin_named : d.number ≡ 1 → d.name ≡ builtin_name
   pub builtin_sided : d.number ≡ 1 → d.sid ≡ builtin_sid
-  -- OEM information has at most 256 units
-  pub oem_most : length d.oem ≤ 256
+  -- OEM information has no more units than a text may have
+  pub oem_most : length d.oem ≤ most_text
   -- the next RID is a RID that a created account may take, or the limit
-  pub next_least : 1000 ≤ d.next_rid
-  pub next_most : d.next_rid ≤ 0x3FFFFFFF
+  pub next_least : first_created_rid ≤ d.next_rid
+  pub next_most : d.next_rid ≤ most_rid
 
 -- the types of a user
 abbrev pub is_user_type : ℕ → Bool
@@ -98,13 +84,18 @@ good_place domain kind = (domain == 0) || ((domain == 1) && same_kind Alias kind
 
 -- an account by itself
 pub record IsGoodRow (a : AccountRow) : Type 0 where
+  -- its texts have units, and its bits are a number of 32
+  pub name_units : AreUnits a.name
+  pub full_name_units : AreUnits a.full_name
+  pub comment_units : AreUnits a.comment
+  pub bits_fit : a.bits < 2 ^ 32
   pub kind_known : is_account_kind a.kind ≡ true
   pub place : good_place a.domain a.kind ≡ true
   -- its name is one that its kind may have (MS-SAMR 3.1.1.8.4)
   pub named : is_valid_name a.kind a.name ≡ true
-  -- its full name and its comment have at most 256 units
-  pub full_name_most : length a.full_name ≤ 256
-  pub comment_most : length a.comment ≤ 256
+  -- its full name and its comment have no more units than a text may have
+  pub full_name_most : length a.full_name ≤ most_text
+  pub comment_most : length a.comment ≤ most_text
   pub control : good_bits a.kind a.bits ≡ true
   pub primary_kind : good_primary a.kind a.primary ≡ true
 
@@ -122,19 +113,24 @@ pub record IsGoodAccount (lists : Lists) (a : AccountRow) : Type 0 where
   pub primary_group : same_kind User a.kind ≡ true → is_of Group (account_at lists 0 a.primary) ≡ true
   pub primary_member : same_kind User a.kind ≡ true → is_some (member_at lists a.primary a.rid) ≡ true
 
+-- a member row by itself: its attributes are a number of 32 bits
+abbrev pub IsGoodMember : MemberRow → Type 0
+IsGoodMember m = m.attributes < 2 ^ 32
+
 -- privileges stand by strictly ascending low part of their LUID, so that none stands twice
 abbrev pub are_above : ℕ → List Held → Bool
 are_above low [] = true
 are_above low (held ∷ rest) = nat_lt low held.low && are_above held.low rest
 
--- the known privileges have the low parts 2 to 30
+-- the known privileges are all those between the first and the last, and have attributes of 32 bits
 abbrev pub IsKnown : Held → Type 0
-IsKnown held = (2 ≤ held.low) × (held.low ≤ 30)
+IsKnown held = (se_create_token ≤ held.low) × (held.low ≤ se_create_global) × (held.attributes < 2 ^ 32)
 
 -- an account of the policy by itself
 pub record IsGoodLsa (l : LsaRow) : Type 0 where
+  pub sid_whole : IsSid l.sid
   -- its system access has bits of rights alone (MS-LSAD 2.2.1.2)
-  pub access_known : bit_and l.access 0xFD7 ≡ l.access
+  pub access_known : bit_and l.access known_system_access ≡ l.access
   pub privileges_ascend : are_above 0 l.privileges ≡ true
   pub privileges_known : All IsKnown l.privileges
 
@@ -157,14 +153,17 @@ pub record IsSoundRows (lists : Lists) : Type 0 where
   -- no two accounts of a domain have one name
   pub names_differ : (domain i j : ℕ) (a b : AccountRow) → account_at lists domain i ≡ Some a
       → account_at lists domain j ≡ Some b → is_same a.name b.name ≡ true → i ≡ j
-  -- the group of all users, 513, is there
-  pub users_group : is_of Group (account_at lists 0 513) ≡ true
-  -- a member row's group and user are there
+  -- the group of all users is there
+  pub users_group : is_of Group (account_at lists 0 domain_group_rid_users) ≡ true
+  -- each member row keeps its rule, and its group and user are there
+  pub member_rules : (group user : ℕ) (m : MemberRow) → member_at lists group user ≡ Some m → IsGoodMember m
   pub member_groups : (group user : ℕ) (m : MemberRow) → member_at lists group user ≡ Some m
       → is_of Group (account_at lists 0 group) ≡ true
   pub member_users : (group user : ℕ) (m : MemberRow) → member_at lists group user ≡ Some m
       → is_of User (account_at lists 0 user) ≡ true
-  -- an alias row's alias is there
+  -- an alias row's member is a SID, and its alias is there
+  pub alias_members : (domain alias : ℕ) (sid : SidValue) (a : AliasRow) → alias_row_at lists domain alias sid ≡ Some a
+      → IsSid a.member
   pub alias_rows : (domain alias : ℕ) (sid : SidValue) (a : AliasRow) → alias_row_at lists domain alias sid ≡ Some a
       → is_of Alias (account_at lists domain alias) ≡ true
   -- each account of the policy keeps its rules

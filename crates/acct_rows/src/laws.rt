@@ -4,7 +4,7 @@ ghost use Rattle.acct_rows.specs.Laws.{DomainsStaySound, NextIsFree, AddedAccoun
 ghost use Rattle.acct_rows.specs.Laws.{ReplacedAccountsStaySound, OwnNameIsFree, UnusedNameIsFree, NameFoundIsFree};
 ghost use Rattle.acct_rows.specs.Laws.{MembersStaySound, RemovedMembersStaySound, AliasRowsStaySound};
 ghost use Rattle.acct_rows.specs.Laws.{RemovedAliasRowsStaySound, LsaAccountsStaySound, RemovedLsaAccountsStaySound};
-ghost use Rattle.acct_rows.specs.Laws.{OthersAreNoPrimary, RemovedAccountsStaySound};
+ghost use Rattle.acct_rows.specs.Laws.{OthersAreNoPrimary, RemovedAccountsStaySound, EachIsGood};
 
 /// Rows stay sound when a domain's row is replaced by one that keeps the rules, with a next RID that is not lower.
 pub fn domains_stay_sound()
@@ -84,4 +84,9 @@ pub fn others_are_no_primary()
 /// Rows stay sound when a user, a group or an alias is removed with every row that names it.
 pub fn removed_accounts_stay_sound()
     ensures { RemovedAccountsStaySound }
+{}
+
+/// Each domain and each account of sound rows stands at its key and keeps its rules.
+pub fn each_is_good()
+    ensures { EachIsGood }
 {}

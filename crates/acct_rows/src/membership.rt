@@ -1,8 +1,9 @@
 // The members of groups, and the aliases that have some SIDs as members.
-ghost use Rattle.std.specs.Prelude.{◌≡◌, IfOk, map};
+ghost use Rattle.std.specs.Prelude.{◌≡◌, true, IfOk, map};
 ghost use Rattle.std.specs.List.{filter, list_any};
 ghost use Rattle.dtyp_sid.specs.Order.{sid_eq};
-ghost use Rattle.acct_rows.specs.Rows.{is_in_group, has_one, each_once};
+ghost use Rattle.acct_rows.specs.Keyed.{is_ascending};
+ghost use Rattle.acct_rows.specs.Rows.{member_key, is_in_group, has_one, each_once};
 
 use crate::row::{AliasRow, MemberRow};
 use acct_base::Seq;
@@ -10,20 +11,14 @@ use acct_calls::{NoMemory, Rids};
 use dtyp_sid::Sid;
 use std::alloc::Global;
 
-pub fn members_among(
-    alloc: Global,
-    rows: &[MemberRow],
-    group: u32,
-) -> Result<Vec<MemberRow>, NoMemory>
-    ensures { IfOk result (λ members. members.items ≡ filter (is_in_group group) rows.now) }
+// The members of a group stand together, behind those of lower groups: halving finds the first and the last of them.
+pub fn members_among(rows: &[MemberRow], group: u32) -> &[MemberRow]
+    requires { is_ascending member_key rows.now ≡ true }
+    ensures { result.now ≡ filter (is_in_group group) rows.now }
 {
-    let mut members = Vec::new(alloc);
-    for row in rows {
-        if row.group == group {
-            members.push(*row)?;
-        }
-    }
-    Ok(members)
+    let first = rows.partition_point(|row| row.group < group);
+    let last = rows.partition_point(|row| row.group <= group);
+    &rows[first..last]
 }
 
 fn is_among(sids: &[Sid], sid: &Sid) -> bool

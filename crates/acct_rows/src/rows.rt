@@ -1,6 +1,7 @@
 // The rows.
 ghost use Rattle.std.specs.Prelude.{◌≡◌, ◌+◌, ◌<◌, ◌≤◌, true, [], ◌∷◌, IfOk, OnOk, length, find};
-ghost use Rattle.acct_rows.specs.Sound.{is_domain_name, is_domain_sid, IsSoundRows};
+ghost use Rattle.acct_calls.specs.Domains.{is_domain_name, is_domain_sid};
+ghost use Rattle.acct_rows.specs.Sound.{IsSoundRows};
 ghost use Rattle.acct_rows.specs.Seed.{seed_lists};
 ghost use Rattle.std.specs.Option.{option_copied};
 ghost use Rattle.acct_rows.specs.Keyed.{is_ascending};
@@ -81,6 +82,8 @@ impl Rows {
         ensures lists { IfOk result (λ rows. rows.lists ≡ seed_lists name.now sid) }
         ensures sound { IfOk result (λ rows. IsSoundRows rows.lists) }
     {
+        name.has_units();
+        sid.keeps_limits();
         Ok(Rows {
             domains: Table::from_rows(seed_domains(alloc, name, sid)?),
             accounts: Table::from_rows(seed_accounts(alloc)?),
@@ -190,7 +193,7 @@ impl Rows {
     pub fn members(&self, alloc: Global, group: u32) -> Result<Vec<MemberRow>, NoMemory>
         ensures { IfOk result (λ members. members.items ≡ members_of self.now.lists group) }
     {
-        members_among(alloc, self.members.rows(), group)
+        Ok(members_among(self.members.rows(), group).to_vec(alloc)?)
     }
 
     /// The RIDs of the aliases of a domain that have one of the SIDs as a member, ascending, each once.

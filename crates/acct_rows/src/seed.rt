@@ -1,14 +1,21 @@
 // The rows that a database without rows begins with.
-ghost use Rattle.std.specs.Prelude.{◌≡◌, ◌<◌, ◌++◌, length, IfOk, OnOk};
-ghost use Rattle.acct_rows.specs.Sound.{builtin_sid};
+ghost use Rattle.std.specs.Prelude.{◌≡◌, ◌≤◌, ◌++◌, length, IfOk, OnOk};
+ghost use Rattle.acct_codes.specs.Limits.{most_domain_subs};
 ghost use Rattle.acct_rows.specs.Seed.{seed_domain, seed_user, seed_group, seed_alias, seed_member, seed_alias_row};
 ghost use Rattle.acct_rows.specs.Seed.{seed_domains, seed_users, seed_groups, builtin_aliases, seed_accounts};
 ghost use Rattle.acct_rows.specs.Seed.{seed_members, seed_aliases};
 
 use crate::row::{AccountRow, AliasRow, DomainRow, MemberRow};
 use acct_base::Seq;
+use acct_calls::domain::{BUILTIN_NAME, builtin_sid};
 use acct_calls::{Name, NoMemory};
 use acct_codes::Kind;
+use acct_codes::group_attribute::NEW_GROUP_ATTRIBUTES;
+use acct_codes::rid::{
+    DOMAIN_ALIAS_RID_ADMINS, DOMAIN_ALIAS_RID_GUESTS, DOMAIN_ALIAS_RID_USERS,
+    DOMAIN_GROUP_RID_ADMINS, DOMAIN_GROUP_RID_GUESTS, DOMAIN_GROUP_RID_USERS,
+    DOMAIN_USER_RID_ADMIN, DOMAIN_USER_RID_GUEST, FIRST_CREATED_RID,
+};
 use acct_codes::user_control::{
     USER_ACCOUNT_DISABLED, USER_NORMAL_ACCOUNT, USER_PASSWORD_NOT_REQUIRED,
 };
@@ -23,7 +30,7 @@ fn seed_domain(alloc: Global, number: u8, sid: Sid, name: Name) -> DomainRow
         sid,
         name,
         oem: Name::from_units(Vec::new(alloc)),
-        next_rid: 1000,
+        next_rid: FIRST_CREATED_RID,
     }
 }
 
@@ -58,7 +65,7 @@ fn seed_group(alloc: Global, rid: u32, text: &str) -> Result<AccountRow, NoMemor
         name: Name::from_text(alloc, text)?,
         full_name: Name::from_units(Vec::new(alloc)),
         comment: Name::from_units(Vec::new(alloc)),
-        bits: 7,
+        bits: NEW_GROUP_ATTRIBUTES,
         primary: 0,
     })
 }
@@ -84,12 +91,12 @@ fn seed_member(group: u32, user: u32) -> MemberRow
     MemberRow {
         group,
         user,
-        attributes: 7,
+        attributes: NEW_GROUP_ATTRIBUTES,
     }
 }
 
 fn seed_alias_row(alias: u32, sid: Sid, rid: u32) -> AliasRow
-    requires { length sid.subs < 15 }
+    requires { length sid.subs ≤ most_domain_subs }
     ensures { result ≡ seed_alias_row alias sid rid }
 {
     let Some(member) = sid.with_rid(rid) else {
@@ -102,21 +109,16 @@ fn seed_alias_row(alias: u32, sid: Sid, rid: u32) -> AliasRow
     }
 }
 
-// BUILTIN's SID, S-1-5-32.
-fn builtin_sid() -> Sid
-    ensures { result ≡ builtin_sid }
-{
-    match Sid::new(5, &[32]) {
-        Ok(sid) => sid,
-        Err(_) => unreachable!(),
-    }
-}
-
 pub fn seed_domains(alloc: Global, name: &Name, sid: Sid) -> Result<Vec<DomainRow>, NoMemory>
     ensures { IfOk result (λ rows. rows.items ≡ seed_domains name.now sid) }
 {
     let account = seed_domain(alloc, 0, sid, name.copy(alloc)?);
-    let builtin = seed_domain(alloc, 1, builtin_sid(), Name::from_text(alloc, "BUILTIN")?);
+    let builtin = seed_domain(
+        alloc,
+        1,
+        builtin_sid(),
+        Name::from_text(alloc, BUILTIN_NAME)?,
+    );
     Ok(vec![in alloc; account, builtin]?)
 }
 
@@ -124,25 +126,37 @@ fn push_users(alloc: Global, rows: &mut Seq<AccountRow>) -> Result<(), NoMemory>
     ensures { OnOk result (rows.new ≡ rows.old ++ seed_users) }
 {
     let guest_control = USER_NORMAL_ACCOUNT + USER_PASSWORD_NOT_REQUIRED + USER_ACCOUNT_DISABLED;
-    rows.push(seed_user(alloc, 500, "Administrator", USER_NORMAL_ACCOUNT, 513)?)?;
-    rows.push(seed_user(alloc, 501, "Guest", guest_control, 514)?)
+    rows.push(seed_user(
+        alloc,
+        DOMAIN_USER_RID_ADMIN,
+        "Administrator",
+        USER_NORMAL_ACCOUNT,
+        DOMAIN_GROUP_RID_USERS,
+    )?)?;
+    rows.push(seed_user(
+        alloc,
+        DOMAIN_USER_RID_GUEST,
+        "Guest",
+        guest_control,
+        DOMAIN_GROUP_RID_GUESTS,
+    )?)
 }
 
 fn push_groups(alloc: Global, rows: &mut Seq<AccountRow>) -> Result<(), NoMemory>
     ensures { OnOk result (rows.new ≡ rows.old ++ seed_groups) }
 {
-    rows.push(seed_group(alloc, 512, "Domain Admins")?)?;
-    rows.push(seed_group(alloc, 513, "Domain Users")?)?;
-    rows.push(seed_group(alloc, 514, "Domain Guests")?)?;
+    rows.push(seed_group(alloc, DOMAIN_GROUP_RID_ADMINS, "Domain Admins")?)?;
+    rows.push(seed_group(alloc, DOMAIN_GROUP_RID_USERS, "Domain Users")?)?;
+    rows.push(seed_group(alloc, DOMAIN_GROUP_RID_GUESTS, "Domain Guests")?)?;
     Ok(())
 }
 
 fn push_aliases(alloc: Global, rows: &mut Seq<AccountRow>) -> Result<(), NoMemory>
     ensures { OnOk result (rows.new ≡ rows.old ++ builtin_aliases) }
 {
-    rows.push(seed_alias(alloc, 544, "Administrators")?)?;
-    rows.push(seed_alias(alloc, 545, "Users")?)?;
-    rows.push(seed_alias(alloc, 546, "Guests")?)
+    rows.push(seed_alias(alloc, DOMAIN_ALIAS_RID_ADMINS, "Administrators")?)?;
+    rows.push(seed_alias(alloc, DOMAIN_ALIAS_RID_USERS, "Users")?)?;
+    rows.push(seed_alias(alloc, DOMAIN_ALIAS_RID_GUESTS, "Guests")?)
 }
 
 pub fn seed_accounts(alloc: Global) -> Result<Vec<AccountRow>, NoMemory>
@@ -159,23 +173,23 @@ pub fn seed_members(alloc: Global) -> Result<Vec<MemberRow>, NoMemory>
     ensures { IfOk result (λ rows. rows.items ≡ seed_members) }
 {
     let rows = vec![in alloc;
-        seed_member(512, 500),
-        seed_member(513, 500),
-        seed_member(514, 501),
+        seed_member(DOMAIN_GROUP_RID_ADMINS, DOMAIN_USER_RID_ADMIN),
+        seed_member(DOMAIN_GROUP_RID_USERS, DOMAIN_USER_RID_ADMIN),
+        seed_member(DOMAIN_GROUP_RID_GUESTS, DOMAIN_USER_RID_GUEST),
     ]?;
     Ok(rows)
 }
 
 pub fn seed_aliases(alloc: Global, sid: Sid) -> Result<Vec<AliasRow>, NoMemory>
-    requires { length sid.subs < 15 }
+    requires { length sid.subs ≤ most_domain_subs }
     ensures { IfOk result (λ rows. rows.items ≡ seed_aliases sid) }
 {
     let rows = vec![in alloc;
-        seed_alias_row(544, sid, 500),
-        seed_alias_row(544, sid, 512),
-        seed_alias_row(545, sid, 513),
-        seed_alias_row(546, sid, 501),
-        seed_alias_row(546, sid, 514),
+        seed_alias_row(DOMAIN_ALIAS_RID_ADMINS, sid, DOMAIN_USER_RID_ADMIN),
+        seed_alias_row(DOMAIN_ALIAS_RID_ADMINS, sid, DOMAIN_GROUP_RID_ADMINS),
+        seed_alias_row(DOMAIN_ALIAS_RID_USERS, sid, DOMAIN_GROUP_RID_USERS),
+        seed_alias_row(DOMAIN_ALIAS_RID_GUESTS, sid, DOMAIN_USER_RID_GUEST),
+        seed_alias_row(DOMAIN_ALIAS_RID_GUESTS, sid, DOMAIN_GROUP_RID_GUESTS),
     ]?;
     Ok(rows)
 }

@@ -1,11 +1,15 @@
-// The accounts that Windows and Samba make in each domain (MS-SAMR 3.1.4.2), names that fold alike, and many rows.
-ghost use Rattle.std.specs.Prelude.{◌≡◌, IfOk};
-ghost use Rattle.acct_rows.specs.Sound.{is_domain_name, is_domain_sid};
+// Rows in words: what is done to them, what is asked, and what is answered; and many rows.
+ghost use Rattle.std.specs.Prelude.{IfOk};
+ghost use Rattle.acct_rows.specs.Sound.{IsSoundRows};
+
+mod sound;
+mod tables;
 
 use crate::{
-    AccountRow, AliasRow, DomainRow, Held, LsaRow, MemberRow, Object, Plan, Row, RowKey, Rows, laws,
+    AccountRow, AliasRow, DomainRow, Held, LsaRow, MemberRow, Object, Plan, Row, RowKey, Rows,
 };
 use acct_base::Seq;
+use acct_calls::domain::{is_domain_name, is_domain_sid};
 use acct_calls::{Name, NoMemory};
 use acct_codes::Kind;
 use dtyp_sid::{Sid, parse_text};
@@ -20,29 +24,9 @@ fn sid_of(rt: &impl Abort, text: &str) -> Sid {
     }
 }
 
-#[tactic(auto, unfolding(crate::specs::Sound::is_domain_name))]
-fn is_domain_name(alloc: Global, name: &Name) -> Result<bool, NoMemory>
-    ensures { IfOk result (λ may. may ≡ is_domain_name name.now) }
+fn seeded(rt: &impl Abort, alloc: Global) -> Result<Rows, Fail>
+    ensures { IfOk result (λ rows. IsSoundRows rows.lists) }
 {
-    let builtin = Name::from_text(alloc, "BUILTIN")?;
-    let authority = Name::from_text(alloc, "NT AUTHORITY")?;
-    Ok(
-        name.units().len() <= 15
-            && name.is_valid(Kind::Group)
-            && !name.same(&builtin)
-            && !name.same(&authority),
-    )
-}
-
-#[tactic(auto, unfolding(crate::specs::Sound::is_domain_sid))]
-fn is_domain_sid(sid: &Sid) -> bool
-    ensures { result ≡ is_domain_sid sid.now }
-{
-    let is_builtin = sid.authority() == 5 && sid.subs() == [32].as_slice();
-    1 <= sid.subs().len() && sid.subs().len() <= 14 && !is_builtin
-}
-
-fn seeded(rt: &impl Abort, alloc: Global) -> Result<Rows, Fail> {
     let name = Name::from_text(alloc, "CORP")?;
     let sid = sid_of(rt, "S-1-5-21-1-2-3");
     assert!(rt; is_domain_name(alloc, &name)?);
@@ -50,66 +34,37 @@ fn seeded(rt: &impl Abort, alloc: Global) -> Result<Rows, Fail> {
     Ok(Rows::seed(alloc, &name, sid)?)
 }
 
-fn named(alloc: Global, name: &Name, text: &str) -> bool {
-    match Name::from_text(alloc, text) {
-        Ok(wanted) => *name == wanted,
-        Err(_) => false,
-    }
+/// The first word, and those behind it.
+fn word(text: &str) -> (&str, &str) {
+    let text = text.trim();
+    text.split_once(' ').unwrap_or((text, ""))
 }
 
-fn is_domain(alloc: Global, row: Option<&DomainRow>, sid: Sid, text: &str) -> bool {
-    match row {
-        Some(row) => {
-            row.sid == sid
-                && row.next_rid == 1000
-                && row.oem.units().is_empty()
-                && named(alloc, &row.name, text)
-        }
-        None => false,
-    }
+fn number(text: &str) -> u32 {
+    text.trim().parse::<u32>().ok().unwrap_or(0)
 }
 
-#[test]
-fn two_domains_are_there(rt: HostRuntime) -> Result<(), Fail> {
-    let rows = seeded(&rt, rt.alloc())?;
-    assert_eq!(rt; rows.domains().len(), 2);
-    let account = sid_of(&rt, "S-1-5-21-1-2-3");
-    assert!(rt; is_domain(rt.alloc(), rows.domain(0), account, "CORP"));
-    let builtin = sid_of(&rt, "S-1-5-32");
-    assert!(rt; is_domain(rt.alloc(), rows.domain(1), builtin, "BUILTIN"));
-    Ok(())
+fn small(text: &str) -> u8 {
+    text.trim().parse::<u8>().ok().unwrap_or(0)
 }
 
-/// The accounts by domain, RID, kind, name, bits and primary group.
-const ACCOUNTS: [(u8, u32, Kind, &str, u32, u32); 8] = [
-    (0, 500, Kind::User, "Administrator", 0x10, 513),
-    (0, 501, Kind::User, "Guest", 0x15, 514),
-    (0, 512, Kind::Group, "Domain Admins", 7, 0),
-    (0, 513, Kind::Group, "Domain Users", 7, 0),
-    (0, 514, Kind::Group, "Domain Guests", 7, 0),
-    (1, 544, Kind::Alias, "Administrators", 0, 0),
-    (1, 545, Kind::Alias, "Users", 0, 0),
-    (1, 546, Kind::Alias, "Guests", 0, 0),
-];
-
-fn is_account(alloc: Global, row: &AccountRow, place: usize) -> bool {
-    if place >= 8 {
-        return false;
-    }
-    let (domain, rid, kind, text, bits, primary) = ACCOUNTS[place];
-    let plain = row.full_name.units().is_empty() && row.comment.units().is_empty();
-    let keyed = row.domain == domain && row.rid == rid && row.kind == kind;
-    plain && keyed && row.bits == bits && row.primary == primary && named(alloc, &row.name, text)
+fn text_of(alloc: Global, name: &Name) -> Result<String, NoMemory> {
+    String::from_utf16_lossy(alloc, name.units())
 }
 
-#[test]
-fn known_accounts_are_there(rt: HostRuntime) -> Result<(), Fail> {
-    let rows = seeded(&rt, rt.alloc())?;
-    assert_eq!(rt; rows.accounts().len(), 8);
-    for (place, row) in rows.accounts().iter().enumerate() {
-        assert!(rt; is_account(rt.alloc(), row, place));
-    }
-    Ok(())
+// ---- changes
+
+fn group(alloc: Global, rid: u32, text: &str) -> Result<Row, NoMemory> {
+    Ok(Row::Account(AccountRow {
+        domain: 0,
+        rid,
+        kind: Kind::Group,
+        name: Name::from_text(alloc, text.trim())?,
+        full_name: Name::from_units(Vec::new(alloc)),
+        comment: Name::from_units(Vec::new(alloc)),
+        bits: 7,
+        primary: 0,
+    }))
 }
 
 fn member(group: u32, user: u32) -> MemberRow {
@@ -120,44 +75,53 @@ fn member(group: u32, user: u32) -> MemberRow {
     }
 }
 
-fn alias_row(rt: &impl Abort, alias: u32, rid: u32) -> AliasRow {
-    let domain = sid_of(rt, "S-1-5-21-1-2-3");
-    AliasRow {
-        domain: 1,
-        alias,
-        member: domain.with_rid(rid).expect(rt, "room for a RID"),
+fn policy(alloc: Global, sid: Sid) -> Result<Row, NoMemory> {
+    let held = Held {
+        low: 5,
+        attributes: 3,
+    };
+    Ok(Row::Lsa(LsaRow {
+        sid,
+        access: 1,
+        privileges: Seq::from_vec(vec![in alloc; held]?),
+    }))
+}
+
+fn row_of(rt: &impl Abort, alloc: Global, words: &str) -> Result<Row, NoMemory> {
+    let (list, rest) = word(words);
+    let (first, second) = word(rest);
+    match list {
+        "group" => group(alloc, number(first), second),
+        "member" => Ok(Row::Member(member(number(first), number(second)))),
+        "alias" => Ok(Row::Alias(AliasRow {
+            domain: 1,
+            alias: number(first),
+            member: sid_of(rt, second.trim()),
+        })),
+        _ => policy(alloc, sid_of(rt, first)),
     }
 }
 
-#[test]
-fn known_members_are_there(rt: HostRuntime) -> Result<(), Fail> {
-    let rows = seeded(&rt, rt.alloc())?;
-    let members = [member(512, 500), member(513, 500), member(514, 501)];
-    assert!(rt; rows.member_rows() == members.as_slice());
-    let aliases = [
-        alias_row(&rt, 544, 500),
-        alias_row(&rt, 544, 512),
-        alias_row(&rt, 545, 513),
-        alias_row(&rt, 546, 501),
-        alias_row(&rt, 546, 514),
-    ];
-    assert!(rt; rows.alias_rows() == aliases.as_slice());
-    assert!(rt; rows.lsa_rows().is_empty());
-    Ok(())
-}
-
-fn group_named(alloc: Global, rid: u32, text: &str) -> Result<Row, NoMemory> {
-    let name = Name::from_text(alloc, text)?;
-    Ok(Row::Account(AccountRow {
-        domain: 0,
-        rid,
-        kind: Kind::Group,
-        name,
-        full_name: Name::from_units(Vec::new(alloc)),
-        comment: Name::from_units(Vec::new(alloc)),
-        bits: 7,
-        primary: 0,
-    }))
+fn key_of(rt: &impl Abort, words: &str) -> RowKey {
+    let (list, rest) = word(words);
+    let (first, second) = word(rest);
+    match list {
+        "domain" => RowKey::Domain(small(first)),
+        "account" => RowKey::Account {
+            domain: 0,
+            rid: number(first),
+        },
+        "member" => RowKey::Member {
+            group: number(first),
+            user: number(second),
+        },
+        "alias" => RowKey::Alias {
+            domain: 1,
+            alias: number(first),
+            member: sid_of(rt, second.trim()),
+        },
+        _ => RowKey::Lsa(sid_of(rt, first)),
+    }
 }
 
 fn put(rows: &mut Rows, row: Row) -> Result<(), NoMemory> {
@@ -166,87 +130,239 @@ fn put(rows: &mut Rows, row: Row) -> Result<(), NoMemory> {
     Ok(())
 }
 
-fn put_groups(alloc: Global, rows: &mut Rows) -> Result<(), NoMemory> {
-    put(rows, group_named(alloc, 1000, "Kelvin")?)?;
-    put(rows, group_named(alloc, 1001, "STRA\u{1E9E}E")?)?;
-    put(rows, group_named(alloc, 1002, "\u{1DF95}x")?)
+/// A plan that removes two accounts, and puts another in place of one.
+fn plan(alloc: Global) -> Result<(Seq<Row>, Seq<RowKey>), NoMemory> {
+    let guest = RowKey::Account {
+        domain: 0,
+        rid: 501,
+    };
+    let users = RowKey::Account {
+        domain: 0,
+        rid: 513,
+    };
+    let removes = Seq::from_vec(vec![in alloc; guest, users]?);
+    let mut puts = Seq::new(alloc);
+    puts.push(group(alloc, 513, "Users")?)?;
+    Ok((puts, removes))
 }
 
-/// Whether the account of a domain with a name has the RID; 0 stands for no account.
-fn has_rid(alloc: Global, rows: &Rows, domain: u8, text: &str, rid: u32) -> bool {
-    match Name::from_text(alloc, text) {
-        Ok(name) => match rows.find_name(domain, &name) {
-            Some(row) => row.rid == rid,
-            None => rid == 0,
-        },
-        Err(_) => false,
+fn apply(alloc: Global, rows: &mut Rows) -> Result<(), NoMemory> {
+    let (puts, removes) = plan(alloc)?;
+    rows.reserve(5)?;
+    if puts.as_slice().len() <= 5 {
+        rows.apply(Plan { puts, removes });
     }
+    Ok(())
+}
+
+fn step(rt: &impl Abort, alloc: Global, rows: &mut Rows, words: &str) -> Result<(), NoMemory> {
+    let (what, rest) = word(words);
+    match what {
+        "put" => put(rows, row_of(rt, alloc, rest)?)?,
+        "remove" => rows.remove(&key_of(rt, rest)),
+        "plan" => apply(alloc, rows)?,
+        "copy" => *rows = rows.copy(alloc)?,
+        _ => {}
+    }
+    Ok(())
+}
+
+// ---- answers
+
+fn none(alloc: Global) -> Result<String, Fail> {
+    Ok(String::from_str(alloc, "none")?)
+}
+
+fn domain_words(alloc: Global, row: Option<&DomainRow>) -> Result<String, Fail> {
+    let Some(row) = row else {
+        return none(alloc);
+    };
+    let sid = row.sid.text(alloc)?;
+    let name = text_of(alloc, &row.name)?;
+    let oem = text_of(alloc, &row.oem)?;
+    Ok(format!(in alloc; "{sid} {name} (oem {oem}) next {}", row.next_rid)?)
+}
+
+fn account_words(alloc: Global, row: Option<&AccountRow>) -> Result<String, Fail> {
+    let Some(row) = row else {
+        return none(alloc);
+    };
+    let name = text_of(alloc, &row.name)?;
+    let full = text_of(alloc, &row.full_name)?;
+    let comment = text_of(alloc, &row.comment)?;
+    let text = format!(in alloc; "{:?} {name} ({full}) ({comment})", row.kind)?;
+    Ok(format!(in alloc; "{text} bits {} primary {}", row.bits, row.primary)?)
+}
+
+fn policy_words(alloc: Global, row: Option<&LsaRow>) -> Result<String, Fail> {
+    let Some(row) = row else {
+        return none(alloc);
+    };
+    let mut text = format!(in alloc; "access {} holds", row.access)?;
+    for held in row.privileges.as_slice() {
+        text.push_str(format!(in alloc; " {}-{}", held.low, held.attributes)?.as_str())?;
+    }
+    Ok(text)
+}
+
+fn member_words(alloc: Global, row: Option<&MemberRow>) -> Result<String, Fail> {
+    let Some(row) = row else {
+        return none(alloc);
+    };
+    Ok(format!(in alloc; "{}-{}-{}", row.group, row.user, row.attributes)?)
+}
+
+fn account_keys(alloc: Global, rows: &[AccountRow]) -> Result<String, Fail> {
+    let mut text = String::new(alloc);
+    for row in rows {
+        text.push_str(format!(in alloc; "{}-{} ", row.domain, row.rid)?.as_str())?;
+    }
+    Ok(text)
+}
+
+fn member_keys(alloc: Global, rows: &[MemberRow]) -> Result<String, Fail> {
+    let mut text = String::new(alloc);
+    for row in rows {
+        let words = format!(in alloc; "{}-{}-{} ", row.group, row.user, row.attributes)?;
+        text.push_str(words.as_str())?;
+    }
+    Ok(text)
+}
+
+fn users(alloc: Global, rows: &[MemberRow]) -> Result<String, Fail> {
+    let mut text = String::new(alloc);
+    for row in rows {
+        text.push_str(format!(in alloc; "{}-{} ", row.user, row.attributes)?.as_str())?;
+    }
+    Ok(text)
+}
+
+fn alias_keys(alloc: Global, rows: &[AliasRow]) -> Result<String, Fail> {
+    let mut text = String::new(alloc);
+    for row in rows {
+        let sid = row.member.text(alloc)?;
+        text.push_str(format!(in alloc; "{}-{}-{sid} ", row.domain, row.alias)?.as_str())?;
+    }
+    Ok(text)
+}
+
+fn policy_keys(alloc: Global, rows: &[LsaRow]) -> Result<String, Fail> {
+    let mut text = String::new(alloc);
+    for row in rows {
+        text.push_str(format!(in alloc; "{} ", row.sid.text(alloc)?)?.as_str())?;
+    }
+    Ok(text)
+}
+
+fn rid_words(alloc: Global, rids: &[u32]) -> Result<String, Fail> {
+    let mut text = String::new(alloc);
+    for rid in rids {
+        text.push_str(format!(in alloc; "{rid} ")?.as_str())?;
+    }
+    Ok(text)
+}
+
+fn all(alloc: Global, rows: &Rows, list: &str) -> Result<String, Fail> {
+    match list {
+        "accounts" => account_keys(alloc, rows.accounts()),
+        "members" => member_keys(alloc, rows.member_rows()),
+        "aliases" => alias_keys(alloc, rows.alias_rows()),
+        _ => policy_keys(alloc, rows.lsa_rows()),
+    }
+}
+
+fn sids_of(rt: &impl Abort, alloc: Global, words: &str) -> Result<Seq<Sid>, NoMemory> {
+    let mut sids = Seq::new(alloc);
+    for text in words.split_whitespace() {
+        sids.push(sid_of(rt, text))?;
+    }
+    Ok(sids)
+}
+
+fn aliases_of(rt: &impl Abort, alloc: Global, rows: &Rows, words: &str) -> Result<String, Fail> {
+    let (domain, sids) = word(words);
+    let sids = sids_of(rt, alloc, sids)?;
+    let rids = rows.aliases_of(alloc, small(domain), &sids)?;
+    rid_words(alloc, rids.as_slice())
+}
+
+fn named(alloc: Global, rows: &Rows, words: &str) -> Result<String, Fail> {
+    let (domain, text) = word(words);
+    let name = Name::from_text(alloc, text)?;
+    match rows.find_name(small(domain), &name) {
+        Some(row) => Ok(format!(in alloc; "{}", row.rid)?),
+        None => none(alloc),
+    }
+}
+
+fn answer(rt: &impl Abort, alloc: Global, rows: &Rows, question: &str) -> Result<String, Fail> {
+    let (what, rest) = word(question);
+    let (first, second) = word(rest);
+    match what {
+        "all" => all(alloc, rows, first),
+        "domain" => domain_words(alloc, rows.domain(small(first))),
+        "account" => account_words(alloc, rows.find_rid(small(first), number(second))),
+        "named" => named(alloc, rows, rest),
+        "member" => member_words(alloc, rows.member(number(first), number(second))),
+        "members" => users(alloc, &rows.members(alloc, number(first))?),
+        "aliases" => aliases_of(rt, alloc, rows, rest),
+        _ => policy_words(alloc, rows.lsa_account(&sid_of(rt, first))),
+    }
+}
+
+// ---- tables
+
+fn change(rt: &impl Abort, alloc: Global, rows: &mut Rows, steps: &str) -> Result<(), NoMemory> {
+    for words in steps.split(';') {
+        step(rt, alloc, rows, words)?;
+    }
+    Ok(())
+}
+
+/// Tells a row: what is done to the rows of the seed, what is asked, and the answer.
+fn tell(rt: &impl Abort, alloc: Global, row: &str) -> Result<(), Fail> {
+    let (steps, rest) = row.split_once('|').unwrap_or((row, ""));
+    let (question, wanted) = rest.split_once('|').unwrap_or((rest, ""));
+    let mut rows = seeded(rt, alloc)?;
+    change(rt, alloc, &mut rows, steps)?;
+    let told = answer(rt, alloc, &rows, question)?;
+    assert_eq!(rt; told.as_str().trim(), wanted.trim(), "{row}");
+    Ok(())
+}
+
+fn tell_all(rt: &impl Abort, alloc: Global, table: &str) -> Result<(), Fail> {
+    for row in table.lines() {
+        tell(rt, alloc, row)?;
+    }
+    Ok(())
+}
+
+#[test]
+fn the_seed_is_there(rt: HostRuntime) -> Result<(), Fail> {
+    tell_all(&rt, rt.alloc(), tables::SEED)
 }
 
 #[test]
 fn names_are_found_in_any_case(rt: HostRuntime) -> Result<(), Fail> {
-    let mut rows = seeded(&rt, rt.alloc())?;
-    put_groups(rt.alloc(), &mut rows)?;
-    assert!(rt; has_rid(rt.alloc(), &rows, 0, "\u{212A}ELVIN", 1000));
-    assert!(rt; has_rid(rt.alloc(), &rows, 0, "Kelvi", 0));
-    assert!(rt; has_rid(rt.alloc(), &rows, 0, "straße", 1001));
-    assert!(rt; has_rid(rt.alloc(), &rows, 0, "strasse", 0));
-    assert!(rt; has_rid(rt.alloc(), &rows, 0, "ßX", 1002));
-    assert!(rt; has_rid(rt.alloc(), &rows, 0, "Administrators", 0));
-    assert!(rt; has_rid(rt.alloc(), &rows, 1, "ADMINISTRATORS", 544));
-    Ok(())
-}
-
-fn put_lsa(alloc: Global, rows: &mut Rows, sid: Sid) -> Result<(), NoMemory> {
-    let held = Held {
-        low: 5,
-        attributes: 3,
-    };
-    let privileges = Seq::from_vec(vec![in alloc; held]?);
-    let access = 1;
-    put(
-        rows,
-        Row::Lsa(LsaRow {
-            sid,
-            access,
-            privileges,
-        }),
-    )
-}
-
-fn put_sids(rt: &impl Abort, alloc: Global, rows: &mut Rows) -> Result<(), NoMemory> {
-    put_lsa(alloc, rows, sid_of(rt, "S-1-5-32-544"))?;
-    put_lsa(alloc, rows, sid_of(rt, "S-1-16-0"))?;
-    put_lsa(alloc, rows, sid_of(rt, "S-1-5-32"))?;
-    put_lsa(alloc, rows, sid_of(rt, "S-1-5-4294967295"))?;
-    put_lsa(alloc, rows, sid_of(rt, "S-1-1-0"))
-}
-
-/// SIDs in their order: by authority, and then by the sub-authorities as lists.
-const SIDS: [&str; 5] = [
-    "S-1-1-0",
-    "S-1-5-32",
-    "S-1-5-32-544",
-    "S-1-5-4294967295",
-    "S-1-16-0",
-];
-
-fn is_sid(rt: &impl Abort, sid: Sid, place: usize) -> bool {
-    place < 5 && sid == sid_of(rt, SIDS[place])
+    tell_all(&rt, rt.alloc(), tables::NAMES)
 }
 
 #[test]
-fn sids_stand_in_order(rt: HostRuntime) -> Result<(), Fail> {
-    let mut rows = seeded(&rt, rt.alloc())?;
-    put_sids(&rt, rt.alloc(), &mut rows)?;
-    assert_eq!(rt; rows.lsa_rows().len(), 5);
-    for (place, row) in rows.lsa_rows().iter().enumerate() {
-        assert!(rt; is_sid(&rt, row.sid, place));
-    }
-    assert!(rt; rows.lsa_account(&sid_of(&rt, "S-1-5-32-544")).is_some());
-    assert!(rt; rows.lsa_account(&sid_of(&rt, "S-1-5-32-545")).is_none());
-    Ok(())
+fn rows_are_put_and_removed(rt: HostRuntime) -> Result<(), Fail> {
+    tell_all(&rt, rt.alloc(), tables::CHANGES)
 }
+
+#[test]
+fn members_are_found(rt: HostRuntime) -> Result<(), Fail> {
+    tell_all(&rt, rt.alloc(), tables::MEMBERS)
+}
+
+#[test]
+fn plans_change_the_rows_at_their_keys(rt: HostRuntime) -> Result<(), Fail> {
+    tell_all(&rt, rt.alloc(), tables::PLANS)
+}
+
+// ---- many rows
 
 /// Ten thousand member rows of a group, in falling order.
 fn many_rows(alloc: Global) -> Result<Vec<Row>, NoMemory> {
@@ -276,102 +392,13 @@ fn has_many(rows: &Rows) -> bool {
     rows.member(1000, 10_000).is_none()
 }
 
-fn count_members(alloc: Global, rows: &Rows, group: u32) -> usize {
-    match rows.members(alloc, group) {
-        Ok(members) => members.len(),
-        Err(_) => 0,
-    }
-}
-
 #[test]
 fn ten_thousand_rows_are_found(rt: HostRuntime) -> Result<(), Fail> {
     let mut rows = seeded(&rt, rt.alloc())?;
     put_many(rt.alloc(), &mut rows)?;
     assert!(rt; has_many(&rows));
     assert_eq!(rt; rows.member_rows().len(), 10_003);
-    assert_eq!(rt; count_members(rt.alloc(), &rows, 1000), 10_000);
-    Ok(())
-}
-
-/// Whether the aliases of a domain that have one of two accounts as a member are these.
-fn has_aliases(
-    rt: &impl Abort,
-    alloc: Global,
-    rows: &Rows,
-    domain: u8,
-    rids: (u32, u32),
-    wanted: &[u32],
-) -> bool {
-    let first = alias_row(rt, 0, rids.0).member;
-    let second = alias_row(rt, 0, rids.1).member;
-    let Ok(sids) = vec![in alloc; first, second] else {
-        return false;
-    };
-    match rows.aliases_of(alloc, domain, &Seq::from_vec(sids)) {
-        Ok(found) => found.as_slice() == wanted,
-        Err(_) => false,
-    }
-}
-
-#[test]
-fn each_alias_comes_once(rt: HostRuntime) -> Result<(), Fail> {
-    let rows = seeded(&rt, rt.alloc())?;
-    assert!(rt; has_aliases(&rt, rt.alloc(), &rows, 1, (512, 500), &[544]));
-    assert!(rt; has_aliases(&rt, rt.alloc(), &rows, 1, (501, 500), &[544, 546]));
-    assert!(rt; has_aliases(&rt, rt.alloc(), &rows, 0, (501, 500), &[]));
-    assert!(rt; has_aliases(&rt, rt.alloc(), &rows, 1, (544, 1000), &[]));
-    Ok(())
-}
-
-/// The rows of the seed without two accounts, and with another in place of one.
-fn change(alloc: Global, rows: &mut Rows) -> Result<(), NoMemory> {
-    rows.reserve(1)?;
-    let guest = RowKey::Account {
-        domain: 0,
-        rid: 501,
-    };
-    let users = RowKey::Account {
-        domain: 0,
-        rid: 513,
-    };
-    let removes = Seq::from_vec(vec![in alloc; guest, users]?);
-    let mut puts = Seq::new(alloc);
-    puts.push(group_named(alloc, 513, "Users")?)?;
-    rows.apply(Plan { puts, removes });
-    Ok(())
-}
-
-fn copied(rt: &impl Abort, alloc: Global) -> Result<Rows, Fail> {
-    let rows = seeded(rt, alloc)?;
-    Ok(rows.copy(alloc)?)
-}
-
-#[test]
-fn plans_change_the_rows_at_their_keys(rt: HostRuntime) -> Result<(), Fail> {
-    let mut rows = copied(&rt, rt.alloc())?;
-    assert_eq!(rt; rows.accounts().len(), 8);
-    change(rt.alloc(), &mut rows)?;
-    assert!(rt; rows.find_rid(0, 501).is_none() && rows.find_rid(0, 513).is_some());
-    assert!(rt; has_rid(rt.alloc(), &rows, 0, "users", 513));
-    assert_eq!(rt; rows.accounts().len(), 7);
-    Ok(())
-}
-
-fn key_of(row: &AliasRow) -> RowKey {
-    RowKey::Alias {
-        domain: row.domain,
-        alias: row.alias,
-        member: row.member,
-    }
-}
-
-#[test]
-fn a_row_is_put_and_removed(rt: HostRuntime) -> Result<(), Fail> {
-    let mut rows = seeded(&rt, rt.alloc())?;
-    put(&mut rows, Row::Alias(alias_row(&rt, 545, 1000)))?;
-    assert_eq!(rt; rows.alias_rows().len(), 6);
-    rows.remove(&key_of(&alias_row(&rt, 545, 1000)));
-    assert_eq!(rt; rows.alias_rows().len(), 5);
+    assert_eq!(rt; rows.members(rt.alloc(), 1000)?.len(), 10_000);
     Ok(())
 }
 
@@ -381,7 +408,6 @@ fn lists_stay_below_2_to_the_32(rt: HostRuntime) -> Result<(), Fail> {
     assert!(rt; rows.reserve(100).is_ok());
     assert!(rt; rows.reserve(1 << 32).is_err());
     assert!(rt; rows.reserve((1 << 32) - 8).is_err());
-    rows.has_few_rows();
     Ok(())
 }
 
@@ -395,6 +421,10 @@ fn objects_have_kinds(rt: HostRuntime) {
     assert!(rt; Object::User(500).kind() == Kind::User);
     assert!(rt; Object::Policy.kind() == Kind::Policy);
     assert!(rt; Object::Account(everyone).kind() == Kind::Account);
+}
+
+#[test]
+fn objects_are_told_apart(rt: HostRuntime) {
     assert!(rt; Object::Alias(1, 544).domain() == 1);
     assert!(rt; Object::Alias(1, 544).rid() == 544);
     assert!(rt; Object::Group(513).same(Object::Group(513)));

@@ -10,4 +10,6 @@ from_rows-requires-4-clause-ascending c = rw (c.in_ok-seed_aliases.ensures) (see
 
 pub returns-clause-sound : goal.returns-clause-sound
 returns-clause-sound c =
-    seeded_is_sound c.args.name.now c.args.sid _ c.requires.name c.requires.sid (search rules)
+    seeded_is_sound c.args.name.now c.args.sid _ c.requires.name c.requires.sid c.has_units.ensures
+    c.keeps_limits.ensures
+    (search rules)

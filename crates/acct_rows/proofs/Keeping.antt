@@ -1,0 +1,44 @@
+-- Each row of a table that ascends is found at its key, so that what holds of what is found holds of each row.
+use Rattle.std.proofs.Common.{◌≡◌, ℕ, Bool, true, cond, All, List, [], ◌∷◌, Some, None, sym, ap, subst, ◌∙◌}
+use Rattle.std.proofs.Common.{inl, inr}
+use Rattle.std.proofs.lemmas.List.Elements.{All-nil, All-cons}
+use Rattle.std.specs.Cmp.{first_so, second_so}
+use Rattle.acct_rows.specs.Keyed.{same_key, at, is_ascending}
+use Rattle.acct_rows.specs.Laws.{EachIsGood}
+use Rattle.acct_rows.specs.Rows.{domain_key, account_key, domain_at, account_at}
+use Rattle.acct_rows.specs.Sound.{IsGoodDomain, IsGoodAccount}
+use Rattle.acct_rows.proofs.Lookups.{tested, key_found}
+use Rattle.acct_rows.proofs.Tables.{same_key-is, same_key-itself, below_apart}
+
+module _ {A : Type 0} (key : A → List ℕ) where
+  all_found : (P : A → Type 0) (xs : List A) → is_ascending key xs ≡ true
+      → ((q : List ℕ) (x : A) → at key q xs ≡ Some x → P x) → All P xs
+  all_found P [] ascend each = All-nil P
+  all_found P (x ∷ xs) ascend each = All-cons P x xs
+      (each (key x) x (ap (λ b. cond b (Some x) (at key (key x) xs)) (same_key-itself (key x))))
+      (all_found P xs (second_so _ _ ascend) (λ q y e. elim (tested (same_key q (key x))) [
+        | inl s ↦ absurd (
+            let none : at key (key x) xs ≡ None = below_apart key (key x) xs (first_so _ _ ascend) in
+            let here : at key q xs ≡ None = subst (λ k. at key k xs ≡ None) (sym (same_key-is q (key x) s)) none in
+            cc (here, e))
+        | inr s ↦ each q y (ap (λ b. cond b (Some x) (at key q xs)) s ∙ e)
+      ]))
+
+pub each_good : EachIsGood
+each_good r sound = record {
+  domains = all_found domain_key (λ d. (domain_at r d.number ≡ Some d) × IsGoodDomain d) r.domains sound.domains_ascend
+      (λ q d e.
+      let key : domain_key d ≡ q = key_found domain_key q r.domains d e in
+      let there : domain_at r d.number ≡ Some d = subst (λ k. at domain_key k r.domains ≡ Some d) (sym key) e in
+      (there, sound.domain_rules d.number d there));
+  accounts = all_found account_key (λ a. (account_at r a.domain a.rid ≡ Some a) × IsGoodAccount r a) r.accounts
+      sound.accounts_ascend (λ q a e.
+      let key : account_key a ≡ q = key_found account_key q r.accounts a e in
+      let there : account_at r a.domain a.rid ≡ Some a = subst (λ k. at account_key k r.accounts ≡ Some a) (sym key) e in
+      (there, sound.account_rules a.domain a.rid a there));
+  domain_number = λ number d e. let key : domain_key d ≡ number ∷ [] = key_found domain_key _ r.domains d e in cc;
+  account_domain = λ domain rid a e.
+      let key : account_key a ≡ domain ∷ rid ∷ [] = key_found account_key _ r.accounts a e in cc;
+  account_rid = λ domain rid a e.
+      let key : account_key a ≡ domain ∷ rid ∷ [] = key_found account_key _ r.accounts a e in cc;
+}
