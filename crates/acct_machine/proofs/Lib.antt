@@ -14,4 +14,3 @@ pub mod Serials
 pub mod Shapes
 pub mod Answering
 pub mod Kept
-pub mod DomainRules

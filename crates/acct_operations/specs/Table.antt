@@ -12,11 +12,20 @@ use Rattle.acct_rules.specs.declared.profile.Needs.TheVariants as needs
 use Rattle.acct_rules.specs.declared.profile.Memory.TheVariants as memory
 use Rattle.acct_rules.specs.declared.profile.Profile.{Profile}
 use Rattle.acct_rules.specs.Operations.{Operation}
+use Rattle.acct_rules.specs.Profiles.{asking}
 use Rattle.acct_operations.specs.declared.table.Work.{Work}
 use Rattle.acct_operations.specs.declared.table.Work.TheVariants.{SamrConnect2, SamrConnect4, SamrConnect5}
-use Rattle.acct_operations.specs.declared.table.Work.TheVariants.{SamrCloseHandle, LsarOpenPolicy2, LsarClose}
+use Rattle.acct_operations.specs.declared.table.Work.TheVariants.{SamrCloseHandle, SamrLookupDomainInSamServer}
+use Rattle.acct_operations.specs.declared.table.Work.TheVariants.{SamrEnumerateDomainsInSamServer, SamrOpenDomain}
+use Rattle.acct_operations.specs.declared.table.Work.TheVariants.{SamrLookupNamesInDomain, SamrLookupIdsInDomain}
+use Rattle.acct_operations.specs.declared.table.Work.TheVariants.{SamrOpenGroup, SamrOpenAlias, SamrOpenUser}
+use Rattle.acct_operations.specs.declared.table.Work.TheVariants.{SamrRidToSid, LsarOpenPolicy2, LsarClose}
 use Rattle.acct_operations.specs.Openings.{connect, open_policy}
 use Rattle.acct_operations.specs.Closings.{close}
+use Rattle.samr_objects.specs.Table.{lookup_domain_in_sam_server, enumerate_domains_in_sam_server}
+use Rattle.samr_objects.specs.Table.{open_domain_in_sam_server, lookup_names_in_domain, lookup_ids_in_domain}
+use Rattle.samr_objects.specs.Table.{open_group_in_domain, open_alias_in_domain, open_user_in_domain}
+use Rattle.samr_objects.specs.Table.{sid_of_rid_in_domain}
 
 -- It brings no handle and needs no bit, and memory may want for the new handle alone.
 abbrev pub opening : Face → ℕ → Profile
@@ -30,13 +39,7 @@ opening face opnum = record {
 
 -- It brings a handle to an object of these kinds and needs no bit, and memory never wants.
 abbrev pub closing : Face → ℕ → Kinds → Profile
-closing face opnum taken = record {
-  face = face;
-  opnum = opnum;
-  brings = brings.Handle taken;
-  needs = needs.Bits 0;
-  memory = memory.Never;
-}
+closing face opnum taken = asking face opnum taken 0 memory.Never
 
 -- It is unfolded by name alone, so that nothing above looks into one operation.
 unfoldable pub operation : Work → Operation
@@ -44,11 +47,36 @@ operation SamrConnect2 = record { profile = opening Samr samr_connect2; rule = c
 operation SamrConnect4 = record { profile = opening Samr samr_connect4; rule = connect }
 operation SamrConnect5 = record { profile = opening Samr samr_connect5; rule = connect }
 operation SamrCloseHandle = record { profile = closing Samr samr_close_handle kinds.Samr; rule = close }
+operation SamrLookupDomainInSamServer = lookup_domain_in_sam_server
+operation SamrEnumerateDomainsInSamServer = enumerate_domains_in_sam_server
+operation SamrOpenDomain = open_domain_in_sam_server
+operation SamrLookupNamesInDomain = lookup_names_in_domain
+operation SamrLookupIdsInDomain = lookup_ids_in_domain
+operation SamrOpenGroup = open_group_in_domain
+operation SamrOpenAlias = open_alias_in_domain
+operation SamrOpenUser = open_user_in_domain
+operation SamrRidToSid = sid_of_rid_in_domain
 operation LsarOpenPolicy2 = record { profile = opening Lsa lsar_open_policy2; rule = open_policy }
 operation LsarClose = record { profile = closing Lsa lsar_close kinds.Lsa; rule = close }
 
 abbrev pub works : List Work
-works = SamrConnect2 ∷ SamrConnect4 ∷ SamrConnect5 ∷ SamrCloseHandle ∷ LsarOpenPolicy2 ∷ LsarClose ∷ []
+works =
+    SamrConnect2
+    ∷ SamrConnect4
+    ∷ SamrConnect5
+    ∷ SamrCloseHandle
+    ∷ SamrLookupDomainInSamServer
+    ∷ SamrEnumerateDomainsInSamServer
+    ∷ SamrOpenDomain
+    ∷ SamrLookupNamesInDomain
+    ∷ SamrLookupIdsInDomain
+    ∷ SamrOpenGroup
+    ∷ SamrOpenAlias
+    ∷ SamrOpenUser
+    ∷ SamrRidToSid
+    ∷ LsarOpenPolicy2
+    ∷ LsarClose
+    ∷ []
 
 abbrev pub same_face : Face → Face → Bool
 same_face Samr Samr = true

@@ -6,9 +6,13 @@ ghost use Rattle.acct_operations.specs.Laws.{AreRight, KeepRows};
 /// where its profile says so.
 pub fn operations_are_right()
     ensures { AreRight }
-{}
+{
+    samr_objects::laws::operations_are_right();
+}
 
 /// Each operation keeps the rows sound, and leaves the objects that it doesn't delete; what it opens is there.
 pub fn operations_keep_rows()
     ensures { KeepRows }
-{}
+{
+    samr_objects::laws::operations_keep_rows();
+}

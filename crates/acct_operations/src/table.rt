@@ -8,10 +8,22 @@ ghost use Rattle.acct_operations.specs.Table.{opening, closing, operation, works
 use crate::closings::close;
 use crate::openings::{connect, open_policy};
 use acct_calls::{Args, Face};
+use acct_codes::Kind;
+use acct_codes::domain_rights::DOMAIN_LOOKUP;
 use acct_codes::lsa_opnum::{LSAR_CLOSE, LSAR_OPEN_POLICY2};
-use acct_codes::samr_opnum::{SAMR_CLOSE_HANDLE, SAMR_CONNECT2, SAMR_CONNECT4, SAMR_CONNECT5};
+use acct_codes::samr_opnum::{
+    SAMR_CLOSE_HANDLE, SAMR_CONNECT2, SAMR_CONNECT4, SAMR_CONNECT5,
+    SAMR_ENUMERATE_DOMAINS_IN_SAM_SERVER, SAMR_LOOKUP_DOMAIN_IN_SAM_SERVER,
+    SAMR_LOOKUP_IDS_IN_DOMAIN, SAMR_LOOKUP_NAMES_IN_DOMAIN, SAMR_OPEN_ALIAS, SAMR_OPEN_DOMAIN,
+    SAMR_OPEN_GROUP, SAMR_OPEN_USER, SAMR_RID_TO_SID,
+};
+use acct_codes::server_rights::{SAM_SERVER_ENUMERATE_DOMAINS, SAM_SERVER_LOOKUP_DOMAIN};
 use acct_rows::{Object, Rows};
-use acct_rules::{Brings, Kinds, Memory, Needs, NoMemory, Planned, Profile};
+use acct_rules::{Brings, Kinds, Memory, Needs, NoMemory, Planned, Profile, asking};
+use samr_objects::{
+    list_domains, look_domain, look_ids, look_names, open_alias, open_domain, open_group,
+    open_user, rid_to_sid,
+};
 use std::alloc::Global;
 
 /// The operations.
@@ -21,6 +33,15 @@ pub enum Work {
     SamrConnect4,
     SamrConnect5,
     SamrCloseHandle,
+    SamrLookupDomainInSamServer,
+    SamrEnumerateDomainsInSamServer,
+    SamrOpenDomain,
+    SamrLookupNamesInDomain,
+    SamrLookupIdsInDomain,
+    SamrOpenGroup,
+    SamrOpenAlias,
+    SamrOpenUser,
+    SamrRidToSid,
     LsarOpenPolicy2,
     LsarClose,
 }
@@ -34,6 +55,15 @@ pub fn works() -> &'static [Work]
         Work::SamrConnect4,
         Work::SamrConnect5,
         Work::SamrCloseHandle,
+        Work::SamrLookupDomainInSamServer,
+        Work::SamrEnumerateDomainsInSamServer,
+        Work::SamrOpenDomain,
+        Work::SamrLookupNamesInDomain,
+        Work::SamrLookupIdsInDomain,
+        Work::SamrOpenGroup,
+        Work::SamrOpenAlias,
+        Work::SamrOpenUser,
+        Work::SamrRidToSid,
         Work::LsarOpenPolicy2,
         Work::LsarClose,
     ]
@@ -89,13 +119,7 @@ fn opening(face: Face, opnum: u16) -> Profile
 fn closing(face: Face, opnum: u16, kinds: Kinds) -> Profile
     ensures { result ≡ closing face opnum kinds }
 {
-    Profile {
-        face,
-        opnum,
-        brings: Brings::Handle(kinds),
-        needs: Needs::Bits(0),
-        memory: Memory::Never,
-    }
+    asking(face, opnum, kinds, 0, Memory::Never)
 }
 
 /// The profile of an operation.
@@ -108,6 +132,69 @@ pub fn profile_of(work: Work) -> Profile
         Work::SamrConnect4 => opening(Face::Samr, SAMR_CONNECT4),
         Work::SamrConnect5 => opening(Face::Samr, SAMR_CONNECT5),
         Work::SamrCloseHandle => closing(Face::Samr, SAMR_CLOSE_HANDLE, Kinds::Samr),
+        Work::SamrLookupDomainInSamServer => asking(
+            Face::Samr,
+            SAMR_LOOKUP_DOMAIN_IN_SAM_SERVER,
+            Kinds::Only(Kind::Server),
+            SAM_SERVER_LOOKUP_DOMAIN,
+            Memory::Never,
+        ),
+        Work::SamrEnumerateDomainsInSamServer => asking(
+            Face::Samr,
+            SAMR_ENUMERATE_DOMAINS_IN_SAM_SERVER,
+            Kinds::Only(Kind::Server),
+            SAM_SERVER_ENUMERATE_DOMAINS,
+            Memory::Anywhere,
+        ),
+        Work::SamrOpenDomain => asking(
+            Face::Samr,
+            SAMR_OPEN_DOMAIN,
+            Kinds::Only(Kind::Server),
+            SAM_SERVER_LOOKUP_DOMAIN,
+            Memory::BehindConditions,
+        ),
+        Work::SamrLookupNamesInDomain => asking(
+            Face::Samr,
+            SAMR_LOOKUP_NAMES_IN_DOMAIN,
+            Kinds::Only(Kind::Domain),
+            DOMAIN_LOOKUP,
+            Memory::Anywhere,
+        ),
+        Work::SamrLookupIdsInDomain => asking(
+            Face::Samr,
+            SAMR_LOOKUP_IDS_IN_DOMAIN,
+            Kinds::Only(Kind::Domain),
+            DOMAIN_LOOKUP,
+            Memory::Anywhere,
+        ),
+        Work::SamrOpenGroup => asking(
+            Face::Samr,
+            SAMR_OPEN_GROUP,
+            Kinds::Only(Kind::Domain),
+            DOMAIN_LOOKUP,
+            Memory::BehindConditions,
+        ),
+        Work::SamrOpenAlias => asking(
+            Face::Samr,
+            SAMR_OPEN_ALIAS,
+            Kinds::Only(Kind::Domain),
+            DOMAIN_LOOKUP,
+            Memory::BehindConditions,
+        ),
+        Work::SamrOpenUser => asking(
+            Face::Samr,
+            SAMR_OPEN_USER,
+            Kinds::Only(Kind::Domain),
+            DOMAIN_LOOKUP,
+            Memory::BehindConditions,
+        ),
+        Work::SamrRidToSid => asking(
+            Face::Samr,
+            SAMR_RID_TO_SID,
+            Kinds::InDomain,
+            0,
+            Memory::Never,
+        ),
         Work::LsarOpenPolicy2 => opening(Face::Lsa, LSAR_OPEN_POLICY2),
         Work::LsarClose => closing(Face::Lsa, LSAR_CLOSE, Kinds::Lsa),
     }
@@ -130,6 +217,15 @@ pub fn decide(
         Work::SamrConnect4 => Ok(connect(alloc, rows, object, args)),
         Work::SamrConnect5 => Ok(connect(alloc, rows, object, args)),
         Work::SamrCloseHandle => Ok(close(alloc, rows, object, args)),
+        Work::SamrLookupDomainInSamServer => look_domain(alloc, rows, object, args),
+        Work::SamrEnumerateDomainsInSamServer => list_domains(alloc, rows, object, args),
+        Work::SamrOpenDomain => open_domain(alloc, rows, object, args),
+        Work::SamrLookupNamesInDomain => look_names(alloc, rows, object, args),
+        Work::SamrLookupIdsInDomain => look_ids(alloc, rows, object, args),
+        Work::SamrOpenGroup => open_group(alloc, rows, object, args),
+        Work::SamrOpenAlias => open_alias(alloc, rows, object, args),
+        Work::SamrOpenUser => open_user(alloc, rows, object, args),
+        Work::SamrRidToSid => rid_to_sid(alloc, rows, object, args),
         Work::LsarOpenPolicy2 => Ok(open_policy(alloc, rows, object, args)),
         Work::LsarClose => Ok(close(alloc, rows, object, args)),
     }

@@ -4,12 +4,15 @@ use Rattle.acct_codes.specs.declared.kind.Kind.{Kind}
 use Rattle.acct_codes.specs.declared.kind.Kind.TheVariants as kind
 use Rattle.acct_calls.specs.declared.calls.Args.{Args}
 use Rattle.acct_rows.specs.Rows.{Lists, same_kind}
+use Rattle.acct_calls.specs.declared.calls.Face.{Face}
+use Rattle.acct_rules.specs.declared.profile.Brings.TheVariants as brings
 use Rattle.acct_rules.specs.declared.profile.Kinds.{Kinds}
 use Rattle.acct_rules.specs.declared.profile.Kinds.TheVariants as kinds
 use Rattle.acct_rules.specs.declared.profile.Memory.{Memory}
 use Rattle.acct_rules.specs.declared.profile.Memory.TheVariants as memory
 use Rattle.acct_rules.specs.declared.profile.Needs.{Needs}
 use Rattle.acct_rules.specs.declared.profile.Needs.TheVariants as needs
+use Rattle.acct_rules.specs.declared.profile.Profile.{Profile}
 use Rattle.acct_rules.specs.Asked.{class_of, has_account}
 
 -- the kinds of the policy (MS-LSAD); the others are those of the account database (MS-SAMR)
@@ -18,10 +21,19 @@ is_lsa kind.Policy = true
 is_lsa kind.Account = true
 is_lsa _ = false
 
+-- a domain, and the kinds that stand in one
+abbrev pub is_in_domain : Kind → Bool
+is_in_domain kind.Domain = true
+is_in_domain kind.Group = true
+is_in_domain kind.Alias = true
+is_in_domain kind.User = true
+is_in_domain _ = false
+
 -- the kinds of objects whose handles are taken
 abbrev pub takes : Kinds → Kind → Bool
 takes (kinds.Only only) k = same_kind only k
 takes kinds.Samr k = not (is_lsa k)
+takes kinds.InDomain k = is_in_domain k
 takes kinds.Lsa k = is_lsa k
 
 -- the bits that the handle's grant must have, by the rows and the arguments
@@ -40,3 +52,13 @@ abbrev pub is_never : Memory → Bool
 is_never memory.Never = true
 is_never memory.BehindConditions = false
 is_never memory.Anywhere = false
+
+-- An operation that brings a handle to an object of these kinds, whose grant has these bits.
+abbrev pub asking : Face → ℕ → Kinds → ℕ → Memory → Profile
+asking face opnum taken bits wants = record {
+  face = face;
+  opnum = opnum;
+  brings = brings.Handle taken;
+  needs = needs.Bits bits;
+  memory = wants;
+}

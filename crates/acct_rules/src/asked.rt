@@ -1,9 +1,12 @@
 // What the arguments of a call ask for.
 ghost use Rattle.std.specs.Prelude.{◌≡◌};
-ghost use Rattle.acct_rules.specs.Asked.{class_of, desired_access, has_account};
+ghost use Rattle.std.specs.Option.{option_copied};
+ghost use Rattle.acct_rules.specs.Asked.{class_of, desired_access, has_account, asked_sid, asked_rid, asked_name};
+ghost use Rattle.acct_rules.specs.Asked.{asked_names, asked_rids, asked_context, asked_length};
 
-use acct_calls::Args;
+use acct_calls::{Args, Name};
 use acct_rows::Rows;
+use dtyp_sid::Sid;
 
 /// The class of information that is asked for, or set.
 pub fn class_of(args: &Args) -> u16
@@ -37,5 +40,77 @@ pub fn has_account(rows: &Rows, args: &Args) -> bool
     match args {
         Args::Rights { sid, .. } => rows.lsa_account(sid).is_some(),
         _ => false,
+    }
+}
+
+/// The SID that is looked for or opened.
+pub fn asked_sid(args: &Args) -> Option<Sid>
+    ensures { result ≡ asked_sid args.now }
+{
+    match args {
+        Args::AccessSid { sid, .. } => Some(*sid),
+        Args::OneSid(sid) => Some(*sid),
+        _ => None,
+    }
+}
+
+/// The relative identifier that is looked for or opened; 0 where none is.
+pub fn asked_rid(args: &Args) -> u32
+    ensures { result ≡ asked_rid args.now }
+{
+    match args {
+        Args::AccessRid { rid, .. } => *rid,
+        Args::Rid(rid) => *rid,
+        _ => 0,
+    }
+}
+
+/// The name that is looked for.
+pub fn asked_name(args: &Args) -> Option<&Name>
+    ensures { option_copied result ≡ asked_name args.now }
+{
+    match args {
+        Args::OneName(Some(name)) => Some(name),
+        _ => None,
+    }
+}
+
+/// The names that are looked for.
+pub fn asked_names(args: &Args) -> &[Name]
+    ensures { result.now ≡ asked_names args.now }
+{
+    match args {
+        Args::NameList(names) => names.as_slice(),
+        _ => &[],
+    }
+}
+
+/// The relative identifiers that are looked for.
+pub fn asked_rids(args: &Args) -> &[u32]
+    ensures { result.now ≡ asked_rids args.now }
+{
+    match args {
+        Args::RidList(rids) => rids.as_slice(),
+        _ => &[],
+    }
+}
+
+/// Where an enumeration begins.
+pub fn asked_context(args: &Args) -> u32
+    ensures { result ≡ asked_context args.now }
+{
+    match args {
+        Args::Page { context, .. } => *context,
+        _ => 0,
+    }
+}
+
+/// The length that is preferred for a page of it.
+pub fn asked_length(args: &Args) -> u32
+    ensures { result ≡ asked_length args.now }
+{
+    match args {
+        Args::Page { preferred, .. } => *preferred,
+        _ => 0,
     }
 }

@@ -10,13 +10,23 @@
 #![tactic(auto)]
 
 mod asked;
+mod mapped;
 mod outputs;
+mod pages;
 mod planned;
 mod profile;
 
 pub use acct_calls::NoMemory;
 pub use acct_rows::Object;
-pub use asked::{class_of, desired_access};
+pub use asked::{
+    asked_context, asked_length, asked_name, asked_names, asked_rid, asked_rids, asked_sid,
+    class_of, desired_access,
+};
+pub use mapped::mapped_status;
 pub use outputs::fill;
+pub use pages::page_status;
 pub use planned::{Effect, Opening, Planned, answers, closes, opens, refusal};
-pub use profile::{Brings, Kinds, Memory, Needs, Profile, needed_bits};
+pub use profile::{Brings, Kinds, Memory, Needs, Profile, asking, needed_bits};
+
+#[cfg(test)]
+mod tests;

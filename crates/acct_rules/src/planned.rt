@@ -4,6 +4,7 @@ ghost use Rattle.acct_rules.specs.Planned.{answers, opens, closes, refusal};
 
 use acct_base::Seq;
 use acct_calls::{Handle, Outs};
+use acct_codes::status::STATUS_SUCCESS;
 use acct_rows::{Object, Plan};
 use std::alloc::Global;
 
@@ -70,7 +71,7 @@ pub fn opens(alloc: Global, object: Object, desired: u32) -> Planned
 {
     Planned {
         effect: Effect::Opens(Opening { object, desired }),
-        ..answers(alloc, 0, Outs::Handle(ZERO_HANDLE))
+        ..answers(alloc, STATUS_SUCCESS, Outs::Handle(ZERO_HANDLE))
     }
 }
 
@@ -80,6 +81,6 @@ pub fn closes(alloc: Global) -> Planned
 {
     Planned {
         effect: Effect::Closes,
-        ..answers(alloc, 0, Outs::Handle(ZERO_HANDLE))
+        ..answers(alloc, STATUS_SUCCESS, Outs::Handle(ZERO_HANDLE))
     }
 }

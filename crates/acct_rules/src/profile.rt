@@ -1,6 +1,6 @@
 // What is fixed for an operation before its conditions: its profile.
 ghost use Rattle.std.specs.Prelude.{◌≡◌};
-ghost use Rattle.acct_rules.specs.Profiles.{needed};
+ghost use Rattle.acct_rules.specs.Profiles.{needed, asking};
 
 use crate::asked::{class_of, has_account};
 use acct_calls::{Args, Face};
@@ -13,6 +13,8 @@ pub enum Kinds {
     Only(Kind),
     /// Each kind of the account database.
     Samr,
+    /// A domain, and each kind that stands in one.
+    InDomain,
     /// Each kind of the policy.
     Lsa,
 }
@@ -27,6 +29,10 @@ impl Kinds {
         match self {
             Kinds::Only(only) => only == kind,
             Kinds::Samr => !matches!(kind, Kind::Policy | Kind::Account),
+            Kinds::InDomain => matches!(
+                kind,
+                Kind::Domain | Kind::Group | Kind::Alias | Kind::User
+            ),
             Kinds::Lsa => matches!(kind, Kind::Policy | Kind::Account),
         }
     }
@@ -68,6 +74,19 @@ pub struct Profile {
     pub brings: Brings,
     pub needs: Needs,
     pub memory: Memory,
+}
+
+/// The profile of an operation that brings a handle to an object of these kinds, whose grant has these bits.
+pub fn asking(face: Face, opnum: u16, kinds: Kinds, bits: u32, memory: Memory) -> Profile
+    ensures { result ≡ asking face opnum kinds bits memory }
+{
+    Profile {
+        face,
+        opnum,
+        brings: Brings::Handle(kinds),
+        needs: Needs::Bits(bits),
+        memory,
+    }
 }
 
 /// The bits that the handle's grant must have.

@@ -1,0 +1,56 @@
+-- A page has no more entries than are left, so that its context stays a number of 32 bits.
+use Rattle.std.proofs.Common.{◌≡◌, ℕ, ◌+◌, ◌-◌, ◌^◌, ◌<◌, ◌≤◌, Bool, true, false, cond, List, [], ◌∷◌, length, map}
+use Rattle.std.proofs.Common.{drop, arith}
+use Rattle.std.specs.Prelude.{min, nat_le}
+use Rattle.std.proofs.lemmas.List.{length-drop, length-map}
+use Rattle.acct_calls.specs.declared.lists.RidName.{RidName}
+use Rattle.acct_codes.specs.Limits.{most_page}
+use Rattle.acct_rows.specs.declared.row.DomainRow.{DomainRow}
+use Rattle.acct_rules.specs.Pages.{within, page}
+use Rattle.samr_objects.specs.Domains.{cost, listed}
+
+either-few : {A : Type 0} (b : Bool) (x : A) (given xs : List A) → length given ≤ length xs
+    → length (cond b (x ∷ given) []) ≤ length (x ∷ xs)
+either-few true x given xs few = omega arith
+either-few false x given xs few = omega arith
+
+within-few : {A : Type 0} (cost : A → ℕ) (left : ℕ) (xs : List A) → length (within cost left xs) ≤ length xs
+within-few cost left [] = omega arith
+within-few cost left (x ∷ xs) = either-few (nat_le (cost x) left) x _ xs (within-few cost (left - cost x) xs)
+
+page-few : {A : Type 0} (cost : A → ℕ) (preferred : ℕ) (xs : List A) → length (page cost preferred xs) ≤ length xs
+page-few cost preferred [] = omega arith
+page-few cost preferred (x ∷ xs) = let rest = within-few cost (min preferred most_page - cost x) xs in omega arith
+
+few-left : (context : ℕ) (domains : List DomainRow) (preferred : ℕ)
+    → length (page cost preferred (map listed (drop context domains))) ≤ length domains - context
+few-left context domains preferred =
+    let few = page-few cost preferred (map listed (drop context domains)) in
+    let mapped = length-map (drop context domains) listed in
+    let dropped = length-drop context domains in
+    omega arith
+
+pub page-fits : (context preferred : ℕ) (domains left : List DomainRow) (entries given : List RidName)
+    → length domains < 2 ^ 32 → left ≡ drop context domains → entries ≡ page cost preferred (map listed left)
+    → given ≡ entries → length given < 2 ^ 32
+page-fits context preferred domains left entries given few is-left is-page same =
+    let most = few-left context domains preferred in
+    let e : length given ≡ length (page cost preferred (map listed (drop context domains))) = cc in
+    omega arith
+
+pub context-fits : (context preferred : ℕ) (domains left : List DomainRow) (entries given : List RidName)
+    → length domains < 2 ^ 32 → left ≡ drop context domains → entries ≡ page cost preferred (map listed left)
+    → given ≡ entries → context < 2 ^ 32 → context + length given < 2 ^ 32
+context-fits context preferred domains left entries given few is-left is-page same fits =
+    let most = few-left context domains preferred in
+    let e : length given ≡ length (page cost preferred (map listed (drop context domains))) = cc in
+    omega arith
+
+pub page-few-left : (context preferred : ℕ) (domains : List DomainRow) → length domains + 0 < 2 ^ 32
+    → length (page cost preferred (map listed (drop context domains))) < 2 ^ 32
+page-few-left context preferred domains few = omega (arith, few-left context domains preferred, few)
+
+pub context-long : (context preferred : ℕ) (domains : List DomainRow) → length domains + 0 < 2 ^ 32
+    → context < 2 ^ 32
+    → context + length (page cost preferred (map listed (drop context domains))) < 2 ^ 32
+context-long context preferred domains few fits = omega (arith, few-left context domains preferred, few, fits)

@@ -1,0 +1,191 @@
+-- Each operation has its layout, its statuses, and the outputs of its layout.
+use Rattle.std.proofs.Common.{◌≡◌, ◌≤◌, List, length, map, drop, lit<, refl}
+use Rattle.acct_calls.specs.declared.calls.Args.{Args}
+use Rattle.acct_calls.specs.declared.calls.Call.{Call}
+use Rattle.acct_calls.specs.declared.calls.Face.TheVariants.{Samr}
+use Rattle.acct_calls.specs.declared.lists.RidName.{RidName}
+use Rattle.acct_codes.specs.Opnums.{samr_lookup_names_in_domain, samr_lookup_ids_in_domain, samr_rid_to_sid}
+use Rattle.acct_codes.specs.Opnums.{samr_enumerate_domains_in_sam_server}
+use Rattle.acct_layouts.specs.Bounds.{IsLong}
+use Rattle.acct_layouts.specs.CallShapes.{CanBeSpelled}
+use Rattle.acct_layouts.specs.ReplyShapes.{HasShape}
+use Rattle.acct_layouts.specs.Table.{samr_layout, lsa_layout}
+use Rattle.acct_rows.specs.Laws.{EachIsGood}
+use Rattle.acct_rows.specs.Objects.{domain_of}
+use Rattle.acct_rows.specs.Rows.{Lists, find_name, account_at}
+use Rattle.acct_rows.specs.declared.row.DomainRow.{DomainRow}
+use Rattle.acct_rules.specs.Asked.{asked_name, asked_names, asked_rids, asked_rid, asked_context, asked_length}
+use Rattle.acct_rules.specs.Operations.{IsRight}
+use Rattle.acct_rules.specs.Pages.{page}
+use Rattle.samr_objects.specs.Domains.{listed, cost}
+use Rattle.samr_objects.specs.Found.{use_in}
+use Rattle.samr_objects.specs.Table.{lookup_domain_in_sam_server, enumerate_domains_in_sam_server}
+use Rattle.samr_objects.specs.Table.{open_domain_in_sam_server, lookup_names_in_domain, lookup_ids_in_domain}
+use Rattle.samr_objects.specs.Table.{open_group_in_domain, open_alias_in_domain, open_user_in_domain}
+use Rattle.samr_objects.specs.Table.{sid_of_rid_in_domain}
+use Rattle.samr_objects.proofs.Asking.{arguments, asks}
+use Rattle.samr_objects.proofs.Paging.{page-few-left, context-long}
+use Rattle.samr_objects.proofs.Shaping.{mapped-full, mapped-long, page-full, page-long, sid-shaped, rid-shaped}
+use Rattle.samr_objects.proofs.Shaping.{page-shaped, rids-shaped, uses-shaped, names-shaped}
+use Rattle.samr_objects.proofs.laws.operations_are_right.Goals as goal
+
+few-names : (call : Call) → call.face ≡ Samr → call.opnum ≡ samr_lookup_names_in_domain → CanBeSpelled call
+    → length (asked_names call.args) ≤ 1000
+unfolding samr_layout
+few-names call face opnum spelled = (asks call.args).names (arguments call Samr samr_lookup_names_in_domain face opnum spelled).1
+
+few-rids : (call : Call) → call.face ≡ Samr → call.opnum ≡ samr_lookup_ids_in_domain → CanBeSpelled call
+    → length (asked_rids call.args) ≤ 1000
+unfolding samr_layout
+few-rids call face opnum spelled = (asks call.args).rids (arguments call Samr samr_lookup_ids_in_domain face opnum spelled).1
+
+long-context : (call : Call) → call.face ≡ Samr → call.opnum ≡ samr_enumerate_domains_in_sam_server
+    → CanBeSpelled call → IsLong (asked_context call.args)
+unfolding samr_layout
+long-context call face opnum spelled =
+    (asks call.args).page (arguments call Samr samr_enumerate_domains_in_sam_server face opnum spelled).1
+
+long-rid : (call : Call) → call.face ≡ Samr → call.opnum ≡ samr_rid_to_sid → CanBeSpelled call
+    → IsLong (asked_rid call.args)
+unfolding samr_layout
+long-rid call face opnum spelled = (asks call.args).rid (arguments call Samr samr_rid_to_sid face opnum spelled).1
+
+look_domain : EachIsGood → IsRight lookup_domain_in_sam_server
+unfolding HasShape samr_layout lsa_layout
+look_domain each = record {
+  laid_out = refl;
+  refuses = λ r object asked. refl;
+  succeeds = λ r object asked. refl;
+  frugal = λ r object asked. refl;
+  shaped = λ r object call few is none. (lit< tt, sid-shaped each r (asked_name call.args) is.rows, λ refused. refl);
+}
+
+abbrev left-of : Lists → Args → List DomainRow
+left-of r asked = drop (asked_context asked) r.domains
+
+abbrev page-of : Lists → Args → List RidName
+page-of r asked = page cost (asked_length asked) (map listed (left-of r asked))
+
+list_domains : EachIsGood → IsRight enumerate_domains_in_sam_server
+unfolding HasShape samr_layout lsa_layout
+list_domains each = record {
+  laid_out = refl;
+  refuses = λ r object asked. refl;
+  succeeds = λ r object asked. page-full (length (page-of r asked)) (length (left-of r asked));
+  frugal = λ r object asked. refl;
+  shaped = λ r object call few is none. (
+    page-long (length (page-of r call.args)) (length (left-of r call.args)),
+    (
+      context-long (asked_context call.args) (asked_length call.args) r.domains few.domains
+          (long-context call is.face is.opnum is.spelled),
+      (
+        page-few-left (asked_context call.args) (asked_length call.args) r.domains few.domains,
+        page-shaped each r (asked_context call.args) (asked_length call.args) is.rows,
+      ),
+    ),
+    λ refused. refl,
+  );
+}
+
+open_domain : IsRight open_domain_in_sam_server
+unfolding HasShape samr_layout lsa_layout
+open_domain = record {
+  laid_out = refl;
+  refuses = λ r object asked. refl;
+  succeeds = λ r object asked. refl;
+  frugal = λ r object asked. refl;
+  shaped = λ r object call few is none. (lit< tt, lit< tt, λ refused. refl);
+}
+
+look_names : EachIsGood → IsRight lookup_names_in_domain
+unfolding HasShape samr_layout lsa_layout
+look_names each = record {
+  laid_out = refl;
+  refuses = λ r object asked. refl;
+  succeeds = λ r object asked. mapped-full (map use_in (map (find_name r (domain_of object)) (asked_names asked)));
+  frugal = λ r object asked. refl;
+  shaped = λ r object call few is none.
+      let most = few-names call is.face is.opnum is.spelled in (
+        mapped-long (map use_in (map (find_name r (domain_of object)) (asked_names call.args))),
+        (
+          rids-shaped each r (domain_of object) (asked_names call.args) is.rows most,
+          uses-shaped (find_name r (domain_of object)) (asked_names call.args) most,
+        ),
+        λ refused. refl,
+      );
+}
+
+look_ids : IsRight lookup_ids_in_domain
+unfolding HasShape samr_layout lsa_layout
+look_ids = record {
+  laid_out = refl;
+  refuses = λ r object asked. refl;
+  succeeds = λ r object asked. mapped-full (map use_in (map (account_at r (domain_of object)) (asked_rids asked)));
+  frugal = λ r object asked. refl;
+  shaped = λ r object call few is none.
+      let most = few-rids call is.face is.opnum is.spelled in (
+        mapped-long (map use_in (map (account_at r (domain_of object)) (asked_rids call.args))),
+        (
+          names-shaped r (domain_of object) (asked_rids call.args) is.rows most,
+          uses-shaped (account_at r (domain_of object)) (asked_rids call.args) most,
+        ),
+        λ refused. refl,
+      );
+}
+
+open_group : IsRight open_group_in_domain
+unfolding HasShape samr_layout lsa_layout
+open_group = record {
+  laid_out = refl;
+  refuses = λ r object asked. refl;
+  succeeds = λ r object asked. refl;
+  frugal = λ r object asked. refl;
+  shaped = λ r object call few is none. (lit< tt, lit< tt, λ refused. refl);
+}
+
+open_alias : IsRight open_alias_in_domain
+unfolding HasShape samr_layout lsa_layout
+open_alias = record {
+  laid_out = refl;
+  refuses = λ r object asked. refl;
+  succeeds = λ r object asked. refl;
+  frugal = λ r object asked. refl;
+  shaped = λ r object call few is none. (lit< tt, lit< tt, λ refused. refl);
+}
+
+open_user : IsRight open_user_in_domain
+unfolding HasShape samr_layout lsa_layout
+open_user = record {
+  laid_out = refl;
+  refuses = λ r object asked. refl;
+  succeeds = λ r object asked. refl;
+  frugal = λ r object asked. refl;
+  shaped = λ r object call few is none. (lit< tt, lit< tt, λ refused. refl);
+}
+
+rid_to_sid : IsRight sid_of_rid_in_domain
+unfolding HasShape samr_layout lsa_layout
+rid_to_sid = record {
+  laid_out = refl;
+  refuses = λ r object asked. refl;
+  succeeds = λ r object asked. refl;
+  frugal = λ r object asked. refl;
+  shaped = λ r object call few is none. (
+    lit< tt,
+    rid-shaped r (domain_of object) (asked_rid call.args) is.rows (long-rid call is.face is.opnum is.spelled),
+    λ refused. refl,
+  );
+}
+
+pub returns : goal.returns
+returns c = record {
+  look_domain = look_domain c.each_is_good.ensures;
+  list_domains = list_domains c.each_is_good.ensures;
+  open_domain = open_domain;
+  look_names = look_names c.each_is_good.ensures;
+  look_ids = look_ids;
+  open_group = open_group;
+  open_alias = open_alias;
+  open_user = open_user;
+  rid_to_sid = rid_to_sid;
+}
