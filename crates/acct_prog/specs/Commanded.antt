@@ -41,26 +41,30 @@ pub record NotHandedOut {S T : Type 0} (name : List ℕ) (old new : Seen S T) (s
   pub periods : new.periods ≡ old.periods
   pub asked : old.tells ≡ true → AsksFront (wanted name) old.asked new.asked
 
--- All parts were handed out: a replay ran over them, its history was given to the world as one period, and the world has the
+-- All parts were handed out: a replay ran over them, its history was given to the world as one period, and the world
+-- has the
 -- parts again.
-pub record HasRun {S T : Type 0} (told : Telling S T) (name : List ℕ) (old new : Seen S T) (status : Status) : Type 0 where
-  pub before : Parts S T
-  pub after : Parts S T
-  pub ended : Status
-  pub period : Period
-  pub replayed : IsReplay told before after ended period.history
-  pub took_config : old.tells ≡ true → old.source name ≡ Some before.config
-  pub took_events : old.tells ≡ true → old.source standard_input ≡ Some before.events
-  pub took_sink : old.tells ≡ true → old.sink ≡ Some before.out
-  pub gave_config : old.tells ≡ true → new.source name ≡ Some after.config
-  pub gave_events : old.tells ≡ true → new.source standard_input ≡ Some after.events
-  pub gave_sink : old.tells ≡ true → new.sink ≡ Some after.out
-  pub asked : old.tells ≡ true → new.asked ≡ old.asked ++ wanted name
-  -- the status is the replay's, and the world keeps the period; or it found no memory to keep it
-  pub answers : ((status ≡ ended) × (old.tells ≡ true → new.periods ≡ old.periods ++ period ∷ [])) ⊎ ((status ≡ NoMemory) × (new.periods ≡ old.periods))
+pub record HasRun {S T : Type 0} (told : Telling S T) (name : List ℕ) (old new : Seen S T) (status : Status) : Type 0
+  where
+    pub before : Parts S T
+    pub after : Parts S T
+    pub ended : Status
+    pub period : Period
+    pub replayed : IsReplay told before after ended period.history
+    pub took_config : old.tells ≡ true → old.source name ≡ Some before.config
+    pub took_events : old.tells ≡ true → old.source standard_input ≡ Some before.events
+    pub took_sink : old.tells ≡ true → old.sink ≡ Some before.out
+    pub gave_config : old.tells ≡ true → new.source name ≡ Some after.config
+    pub gave_events : old.tells ≡ true → new.source standard_input ≡ Some after.events
+    pub gave_sink : old.tells ≡ true → new.sink ≡ Some after.out
+    pub asked : old.tells ≡ true → new.asked ≡ old.asked ++ wanted name
+    -- the status is the replay's, and the world keeps the period; or it found no memory to keep it
+    pub answers : ((status ≡ ended) × (old.tells ≡ true → new.periods ≡ old.periods ++ period ∷ [])) ⊎
+        ((status ≡ NoMemory) × (new.periods ≡ old.periods))
 
 -- A replay ran over parts that were out: it left its period to the world, and the world has the parts again.
-pub record Returned {S T : Type 0} (told : Telling S T) (name : List ℕ) (before : Parts S T) (old new : Seen S T) (status : Status) : Type 0 where
+pub record Returned {S T : Type 0} (told : Telling S T) (name : List ℕ) (before : Parts S T) (old new : Seen S T)
+    (status : Status) : Type 0 where
   pub after : Parts S T
   pub ended : Status
   pub period : Period
@@ -69,7 +73,8 @@ pub record Returned {S T : Type 0} (told : Telling S T) (name : List ℕ) (befor
   pub gave_events : old.tells ≡ true → old.knows standard_input ≡ true → new.source standard_input ≡ Some after.events
   pub gave_sink : old.tells ≡ true → new.sink ≡ Some after.out
   pub asked : new.asked ≡ old.asked
-  pub answers : ((status ≡ ended) × (old.tells ≡ true → new.periods ≡ old.periods ++ period ∷ [])) ⊎ ((status ≡ NoMemory) × (new.periods ≡ old.periods))
+  pub answers : ((status ≡ ended) × (old.tells ≡ true → new.periods ≡ old.periods ++ period ∷ [])) ⊎
+      ((status ≡ NoMemory) × (new.periods ≡ old.periods))
 
 abbrev pub Commanded : {S T : Type 0} → Telling S T → List ℕ → Seen S T → Seen S T → Status → Type 0
 Commanded told name old new status = NotHandedOut name old new status ⊎ HasRun told name old new status

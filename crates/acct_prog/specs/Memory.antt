@@ -9,7 +9,8 @@ abbrev pub known_name : List ℕ → List ℕ → Bool
 known_name config_name name = bytes_eq name (codes "-") || bytes_eq name config_name
 
 abbrev pub source_under : {S : Type 0} → List ℕ → Option S → Option S → List ℕ → Option S
-source_under config_name config events name = if bytes_eq name (codes "-") then events else (if bytes_eq name config_name then config else None)
+source_under config_name config events name =
+    if bytes_eq name (codes "-") then events else (if bytes_eq name config_name then config else None)
 
 abbrev pub shown : {S T : Type 0} → List ℕ → Option S → Option S → Option T → List Period → List Part → ℕ → ℕ → Seen S T
 shown name config events sink periods asked source_faults sink_faults = record {

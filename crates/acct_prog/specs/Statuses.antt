@@ -1,7 +1,9 @@
 -- The exit code of a status, and its word.
 use Rattle.std.specs.Prelude.{ℕ, List, codes}
 use Rattle.acct_server.specs.declared.status.Status.{Status}
-use Rattle.acct_server.specs.declared.status.Status.TheVariants.{Done, NoMemory, Usage, Config, ReadFault, WriteFault, EventLine, InputTooLong}
+use Rattle.acct_server.specs.declared.status.Status.TheVariants.{Done, NoMemory, Usage, Config, ReadFault, WriteFault}
+use Rattle.acct_server.specs.declared.status.Status.TheVariants.{EventLine, HistoryFull}
+use Rattle.acct_server.specs.declared.status.Status.TheVariants.{InputTooLong}
 
 abbrev pub code_of : Status → ℕ
 code_of Done = 0
@@ -11,6 +13,7 @@ code_of (Config rule) = 3
 code_of ReadFault = 4
 code_of WriteFault = 5
 code_of (EventLine line) = 8
+code_of (HistoryFull count) = 10
 code_of InputTooLong = 13
 
 abbrev pub word_of : Status → List ℕ
@@ -21,4 +24,5 @@ word_of (Config rule) = codes "config"
 word_of ReadFault = codes "read"
 word_of WriteFault = codes "write"
 word_of (EventLine line) = codes "event"
+word_of (HistoryFull count) = codes "full"
 word_of InputTooLong = codes "long"

@@ -9,7 +9,8 @@ use Rattle.acct_prog.specs.declared.take.TakeError.TheVariants.{Failed, NoMemory
 use Rattle.acct_prog.specs.declared.part.Part.{Part}
 use Rattle.acct_prog.specs.declared.part.Part.TheVariants.{Source, Sink}
 
--- Whether it tells what it holds, the names under which it has a place for a source, the source under each name, the sink, the periods that
+-- Whether it tells what it holds, the names under which it has a place for a source, the source under each name, the
+-- sink, the periods that
 -- it was given, the parts that it was asked for in order, and how often handing out a source or the sink has failed.
 pub record Seen (S T : Type 0) : Type 0 where
   pub tells : Bool
@@ -74,13 +75,14 @@ pub record GivesSink {S T : Type 0} (old new : Seen S T) (part : T) : Type 0 whe
   pub sink_count : new.sink_faults ≡ old.sink_faults
 
 -- the period is the last of those that were given, or none was added
-pub record KeepsPeriod {S T E : Type 0} (old new : Seen S T) (period : Period) (answer : Result (Unit {0}) E) : Type 0 where
-  pub kept : OnOk answer (old.tells ≡ true → new.periods ≡ old.periods ++ period ∷ [])
-  pub none : OnErr answer (new.periods ≡ old.periods)
-  pub sources : (name : List ℕ) → new.source name ≡ old.source name
-  pub sink : new.sink ≡ old.sink
-  pub tells : new.tells ≡ old.tells
-  pub knows : new.knows ≡ old.knows
-  pub asked : new.asked ≡ old.asked
-  pub source_count : new.source_faults ≡ old.source_faults
-  pub sink_count : new.sink_faults ≡ old.sink_faults
+pub record KeepsPeriod {S T E : Type 0} (old new : Seen S T) (period : Period) (answer : Result (Unit {0}) E) : Type 0
+  where
+    pub kept : OnOk answer (old.tells ≡ true → new.periods ≡ old.periods ++ period ∷ [])
+    pub none : OnErr answer (new.periods ≡ old.periods)
+    pub sources : (name : List ℕ) → new.source name ≡ old.source name
+    pub sink : new.sink ≡ old.sink
+    pub tells : new.tells ≡ old.tells
+    pub knows : new.knows ≡ old.knows
+    pub asked : new.asked ≡ old.asked
+    pub source_count : new.source_faults ≡ old.source_faults
+    pub sink_count : new.sink_faults ≡ old.sink_faults

@@ -31,7 +31,8 @@ fn write_status(e: TakeError) -> Status
 
 // The configuration's name, of words that have the form.
 fn replay_name(words: &Vec<String>) -> Option<&str>
-    ensures { MatchOption result (form_of (map string_bytes words.now.items) ≡ None) (λ name. form_of (map string_bytes words.now.items) ≡ Some name.now) }
+    ensures { MatchOption result (form_of (map string_bytes words.now.items) ≡ None)
+        (λ name. form_of (map string_bytes words.now.items) ≡ Some name.now) }
 {
     if words.len() != 2 {
         return None;
@@ -63,7 +64,14 @@ fn run_parts<W: World>(
     mut out: W::T,
 ) -> Status
     requires { name.now ≢ standard_input }
-    ensures { Returned (record { left = W.S.left; read_faults = W.S.faults; held = W.T.held; write_faults = W.T.faults }) name.now (record { config = config; events = events; out = out }) (W.seen world.old) (W.seen world.new) result }
+    ensures { Returned (record {
+      left = W.S.left;
+      read_faults = W.S.faults;
+      held = W.T.held;
+      write_faults =
+          W.T.faults;
+    }) name.now (record { config = config; events = events; out = out }) (W.seen world.old)
+        (W.seen world.new) result }
 {
     let replayed = replay(alloc, &mut config, &mut events, &mut out);
     let ended = replayed.status;
@@ -80,7 +88,13 @@ fn run_parts<W: World>(
 // The command `replay`: it takes the configuration, the standard input and the sink, in this order.
 fn run_replay<W: World>(alloc: Global, name: &str, world: &mut W) -> Status
     requires { name.now ≢ standard_input }
-    ensures commanded { Commanded (record { left = W.S.left; read_faults = W.S.faults; held = W.T.held; write_faults = W.T.faults }) name.now (W.seen world.old) (W.seen world.new) result }
+    ensures commanded { Commanded (record {
+      left = W.S.left;
+      read_faults = W.S.faults;
+      held = W.T.held;
+      write_faults =
+          W.T.faults;
+    }) name.now (W.seen world.old) (W.seen world.new) result }
 {
     let config = match world.take_source(name) {
         Ok(config) => config,
@@ -109,7 +123,8 @@ pub fn account<W: World>(alloc: Global, words: &Vec<String>, world: &mut W) -> S
     ensures usage { result ≡ Usage ↔ form_of (map string_bytes words.now.items) ≡ None }
     ensures untouched { result ≡ Usage → world.new ≡ world.old }
     ensures commanded { (name : List ℕ) → form_of (map string_bytes words.now.items) ≡ Some name →
-        Commanded (record { left = W.S.left; read_faults = W.S.faults; held = W.T.held; write_faults = W.T.faults }) name (W.seen world.old) (W.seen world.new) result }
+        Commanded (record { left = W.S.left; read_faults = W.S.faults; held = W.T.held; write_faults = W.T.faults })
+        name (W.seen world.old) (W.seen world.new) result }
 {
     match replay_name(words) {
         Some(name) => run_replay(alloc, name, world),

@@ -122,7 +122,16 @@ impl<'a, R: Files<File = File> + Input + Print> World for HostWorld<'a, R> {
 
     type T = HostSink<Printer<'a, R>>;
 
-    ghost seen = { λ w. record { tells = false; knows = λ _. false; source = λ _. None; sink = None; periods = []; asked = []; source_faults = w.source_faults; sink_faults = 0 } };
+    ghost seen = { λ w. record {
+      tells = false;
+      knows = λ _. false;
+      source = λ _. None;
+      sink = None;
+      periods = [];
+      asked = [];
+      source_faults = w.source_faults;
+      sink_faults = 0;
+    } };
 
     fn take_source(&mut self, name: &str) -> Result<HostSource<R::Reader>, TakeError> {
         let opened = if name == "-" {

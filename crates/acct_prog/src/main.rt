@@ -41,6 +41,7 @@ fn code_of(status: Status) -> u8
         Status::ReadFault => 4,
         Status::WriteFault => 5,
         Status::EventLine(_) => 8,
+        Status::HistoryFull(_) => 10,
         Status::InputTooLong => 13,
     }
 }
@@ -57,6 +58,7 @@ fn word_of(status: Status) -> &'static str
         Status::ReadFault => "read",
         Status::WriteFault => "write",
         Status::EventLine(_) => "event",
+        Status::HistoryFull(_) => "full",
         Status::InputTooLong => "long",
     }
 }

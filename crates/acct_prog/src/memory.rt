@@ -1,5 +1,6 @@
 // A world in memory.
-ghost use Rattle.std.specs.Prelude.{◌≡◌, ◌≢◌, ◌≤◌, ◌||◌, [], Some, None, Err, IfOk, OnErr, is_err, is_none, if◌then◌else◌};
+ghost use Rattle.std.specs.Prelude.{◌≡◌, ◌≢◌, ◌≤◌, ◌||◌, [], Some, None, Err, IfOk, OnErr, is_err, is_none};
+ghost use Rattle.std.specs.Prelude.{if◌then◌else◌};
 ghost use Rattle.std.specs.Option.{option_copied};
 ghost use Rattle.acct_streams.specs.Memory.{one_more, is_among};
 ghost use Rattle.acct_prog.specs.declared.take.TakeError.TheVariants.{Failed, NoMemory};
@@ -110,12 +111,17 @@ impl<S: Source + Drop, T: Sink + Drop> World for MemoryWorld<S, T> {
 
     ghost use Rattle.acct_prog.specs.Memory.{source_under, shown};
 
-    ghost seen = { λ w. shown w.name.items w.config w.events w.sink w.periods.items w.asked.items w.source_faults w.sink_faults };
+    ghost seen = { λ w.
+        shown w.name.items w.config w.events w.sink w.periods.items w.asked.items w.source_faults w.sink_faults };
 
     fn take_source(&mut self, name: &str) -> Result<S, TakeError>
-        ensures takes { TakesSource (shown self.old.name.items self.old.config self.old.events self.old.sink self.old.periods.items self.old.asked.items self.old.source_faults self.old.sink_faults)
-            (shown self.new.name.items self.new.config self.new.events self.new.sink self.new.periods.items self.new.asked.items self.new.source_faults self.new.sink_faults) name.now result }
-        ensures fails { result ≢ Err NoMemory → is_err result ≡ (is_among self.old.failing.items (one_more self.old.takes) || is_none (source_under self.old.name.items self.old.config self.old.events name.now)) }
+        ensures takes { TakesSource (shown self.old.name.items self.old.config self.old.events self.old.sink
+            self.old.periods.items self.old.asked.items self.old.source_faults self.old.sink_faults)
+            (shown self.new.name.items self.new.config self.new.events self.new.sink self.new.periods.items
+            self.new.asked.items self.new.source_faults self.new.sink_faults) name.now result }
+        ensures fails { result ≢ Err NoMemory
+            → is_err result ≡ (is_among self.old.failing.items (one_more self.old.takes) || is_none
+            (source_under self.old.name.items self.old.config self.old.events name.now)) }
         ensures number { result ≢ Err NoMemory → self.new.takes ≡ one_more self.old.takes }
         ensures failing { self.new.failing ≡ self.old.failing }
     {
@@ -149,9 +155,12 @@ impl<S: Source + Drop, T: Sink + Drop> World for MemoryWorld<S, T> {
     }
 
     fn take_sink(&mut self) -> Result<T, TakeError>
-        ensures takes { TakesSink (shown self.old.name.items self.old.config self.old.events self.old.sink self.old.periods.items self.old.asked.items self.old.source_faults self.old.sink_faults)
-            (shown self.new.name.items self.new.config self.new.events self.new.sink self.new.periods.items self.new.asked.items self.new.source_faults self.new.sink_faults) result }
-        ensures fails { result ≢ Err NoMemory → is_err result ≡ (is_among self.old.failing.items (one_more self.old.takes) || is_none self.old.sink) }
+        ensures takes { TakesSink (shown self.old.name.items self.old.config self.old.events self.old.sink
+            self.old.periods.items self.old.asked.items self.old.source_faults self.old.sink_faults)
+            (shown self.new.name.items self.new.config self.new.events self.new.sink self.new.periods.items
+            self.new.asked.items self.new.source_faults self.new.sink_faults) result }
+        ensures fails { result ≢ Err NoMemory
+            → is_err result ≡ (is_among self.old.failing.items (one_more self.old.takes) || is_none self.old.sink) }
         ensures number { result ≢ Err NoMemory → self.new.takes ≡ one_more self.old.takes }
         ensures failing { self.new.failing ≡ self.old.failing }
     {

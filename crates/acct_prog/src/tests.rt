@@ -11,20 +11,33 @@ use std::alloc::Global;
 use std::process::Abort;
 use std::test::Fail;
 
+mod objects;
+mod several;
 mod tables;
 
 const CONFIG: &str =
     "[domain]\nname = \"CORP\"\nsid = \"S-1-5-21-1-2-3\"\n[[listener]]\nname = \"a\"\naddress = \"tcp:127.0.0.1:4045\"\ntoken = [\"S-1-5-21-1-2-3-500\", \"S-1-1-0\", \"S-1-5-32-544\"]\n";
 
 /// The text of a line that has a name.
-fn line_of(name: &str) -> &'static str {
-    for line in tables::LINES.lines() {
+fn line_in(lines: &'static str, name: &str) -> Option<&'static str> {
+    for line in lines.lines() {
         let (known, text) = line.split_once(' ').unwrap_or((line, ""));
         if known == name {
-            return text;
+            return Some(text);
         }
     }
-    "a line without a name"
+    None
+}
+
+/// The text of a line that has a name, in the tables.
+fn line_of(name: &str) -> &'static str {
+    if let Some(text) = line_in(tables::LINES, name) {
+        return text;
+    }
+    if let Some(text) = line_in(objects::LINES, name) {
+        return text;
+    }
+    line_in(several::LINES, name).unwrap_or("a line without a name")
 }
 
 /// The lines of these names, each with its end.
@@ -68,8 +81,8 @@ fn config_of(alloc: Global, name: &str) -> Result<String, Fail> {
     }
 }
 
-/// How a run is made: which reads of the configuration and the events, which writes and which handings out fail, and how
-/// many bytes a read and a write take.
+/// How a run is made: which reads of the configuration and the events, which writes and which handings out fail, and
+/// how many bytes a read and a write take.
 #[derive(Clone, Copy)]
 struct Making {
     config_failing: u64,
@@ -237,14 +250,15 @@ fn tell(rt: &impl Abort, alloc: Global, row: &str) -> Result<(), Fail> {
     let (lines, rest) = column(rest);
     let (status, rest) = column(rest);
     let (history, _) = column(rest);
-    let config = config_of(alloc, config)?;
-    let mut world = world_of(alloc, config, lines_of(alloc, events)?, making_of(making))?;
-    let ended = account(alloc, &words_of(alloc, words)?, &mut world);
     let wanted = Wanted {
         lines,
         status,
         history,
     };
+    let words = words_of(alloc, words)?;
+    let config = config_of(alloc, config)?;
+    let mut world = world_of(alloc, config, lines_of(alloc, events)?, making_of(making))?;
+    let ended = account(alloc, &words, &mut world);
     compare(rt, alloc, row, ended, &world, wanted)
 }
 
@@ -258,6 +272,21 @@ fn tell_all(rt: &impl Abort, alloc: Global, table: &str) -> Result<(), Fail> {
 #[test]
 fn worked_runs(rt: HostRuntime) -> Result<(), Fail> {
     tell_all(&rt, rt.alloc(), tables::RUNS)
+}
+
+#[test]
+fn calls_of_the_policy(rt: HostRuntime) -> Result<(), Fail> {
+    tell_all(&rt, rt.alloc(), tables::POLICY)
+}
+
+#[test]
+fn domains_and_accounts_are_looked_up(rt: HostRuntime) -> Result<(), Fail> {
+    tell_all(&rt, rt.alloc(), objects::LOOKUPS)
+}
+
+#[test]
+fn several_connections_are_served(rt: HostRuntime) -> Result<(), Fail> {
+    tell_all(&rt, rt.alloc(), several::SEVERAL)
 }
 
 #[test]
@@ -280,13 +309,27 @@ fn faults_of_the_outside(rt: HostRuntime) -> Result<(), Fail> {
     tell_all(&rt, rt.alloc(), tables::FAULTS)
 }
 
+/// The text that was written.
+fn written_text(
+    alloc: Global,
+    world: &MemoryWorld<MemorySource, MemorySink>,
+) -> Result<String, Fail> {
+    let text = std::str::from_utf8(written(world)).ok().unwrap_or("");
+    Ok(String::from_str(alloc, text)?)
+}
+
 /// A run of the events as they are.
 fn run(alloc: Global, events: &str) -> Result<(Status, String), Fail> {
-    let events = String::from_str(alloc, events)?;
-    let mut world = world_of(alloc, config_of(alloc, "")?, events, making_of(""))?;
-    let status = account(alloc, &words_of(alloc, "replay first.toml")?, &mut world);
-    let text = std::str::from_utf8(written(&world)).ok().unwrap_or("");
-    Ok((status, String::from_str(alloc, text)?))
+    let words = words_of(alloc, "replay first.toml")?;
+    let config = config_of(alloc, "")?;
+    let mut world = world_of(
+        alloc,
+        config,
+        String::from_str(alloc, events)?,
+        making_of(""),
+    )?;
+    let status = account(alloc, &words, &mut world);
+    Ok((status, written_text(alloc, &world)?))
 }
 
 #[test]
@@ -367,11 +410,12 @@ fn a_source_above_the_limit_is_too_long(rt: HostRuntime) -> Result<(), Fail> {
 #[test]
 fn first_run_over_steady_parts(rt: HostRuntime) -> Result<(), Fail> {
     let alloc = rt.alloc();
+    let words = words_of(alloc, "replay first.toml")?;
     let name = b"first.toml".to_vec(alloc)?;
     let config = SteadySource::new(config_of(alloc, "")?.into_bytes());
     let events = SteadySource::new(lines_of(alloc, "OPEN BIND CONNECT CLOSE END")?.into_bytes());
     let mut world = MemoryWorld::new(alloc, name, config, events, SteadySink, Vec::new(alloc));
-    let status = account(alloc, &words_of(alloc, "replay first.toml")?, &mut world);
+    let status = account(alloc, &words, &mut world);
     assert_eq!(rt; status, Status::Done);
     assert_eq!(rt; world.periods().len(), 1);
     Ok(())
@@ -395,6 +439,15 @@ fn asked_text(
     Ok(text)
 }
 
+/// What a replay without events asks for, in words.
+fn asked_by(alloc: Global, failing: &str) -> Result<String, Fail> {
+    let words = words_of(alloc, "replay first.toml")?;
+    let config = config_of(alloc, "")?;
+    let mut world = world_of(alloc, config, String::new(alloc), making_of(failing))?;
+    account(alloc, &words, &mut world);
+    asked_text(alloc, &world)
+}
+
 #[test]
 fn the_world_is_asked_in_order(rt: HostRuntime) -> Result<(), Fail> {
     let alloc = rt.alloc();
@@ -404,10 +457,7 @@ fn the_world_is_asked_in_order(rt: HostRuntime) -> Result<(), Fail> {
         ("t2", "first.toml;-;"),
         ("t1", "first.toml;"),
     ] {
-        let config = config_of(alloc, "")?;
-        let mut world = world_of(alloc, config, String::new(alloc), making_of(failing))?;
-        account(alloc, &words_of(alloc, "replay first.toml")?, &mut world);
-        assert_eq!(rt; asked_text(alloc, &world)?.as_str(), wanted);
+        assert_eq!(rt; asked_by(alloc, failing)?.as_str(), wanted);
     }
     Ok(())
 }

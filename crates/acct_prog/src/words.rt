@@ -6,11 +6,12 @@ ghost use Rattle.acct_prog.specs.Words.{nul};
 use std::alloc::{AllocError, Global};
 use std::env::{Env, FillError};
 
-/// The text of a word. One that isn't UTF-8 is cut before its first byte that isn't, and ends in a NUL instead: no other
-/// word has one, and no file's name.
+/// The text of a word. One that isn't UTF-8 is cut before its first byte that isn't, and ends in a NUL instead: no
+/// other word has one, and no file's name.
 pub fn text_of(alloc: Global, word: &[u8]) -> Result<String, AllocError>
     ensures same { IsUtf8 word.now → IfOk result (λ text. string_bytes text ≡ word.now) }
-    ensures cut { (IsUtf8 word.now → ⊥) → IfOk result (λ text. (n : ℕ) × (string_bytes text ≡ take n word.now ++ nul ∷ [])) }
+    ensures cut { (IsUtf8 word.now → ⊥)
+        → IfOk result (λ text. (n : ℕ) × (string_bytes text ≡ take n word.now ++ nul ∷ [])) }
 {
     match std::str::from_utf8(word) {
         Ok(text) => String::from_str(alloc, text),

@@ -1,5 +1,6 @@
 -- Bytes that a sink took one after another, and clauses of results.
-use Rattle.std.proofs.Common.{◌≡◌, Result, Ok, Err, OnOk, OnErr, IfOk, is_err, true, false, ◌==◌, length, ℕ, arith, ◌∷◌, List, ◌++◌, Option, Some, None, refl, sym, ◌∙◌, ap, append_assoc, []}
+use Rattle.std.proofs.Common.{◌≡◌, Result, Ok, Err, OnOk, OnErr, IfOk, is_err, true, false, ◌==◌, length, ℕ, arith, ◌∷◌}
+use Rattle.std.proofs.Common.{List, ◌++◌, Option, Some, None, refl, sym, ◌∙◌, ap, append_assoc, []}
 use Rattle.std.proofs.lemmas.List.{append-nil}
 use Rattle.std.proofs.lemmas.Bool.Decides.{nat_tests}
 use Rattle.std.specs.Io.KnownBytes.{Appends}

@@ -1,5 +1,6 @@
 pub mod Bytes
 pub mod FirstLine
+pub mod Room
 pub mod Moves
 pub mod Closing
 pub mod Going
@@ -9,4 +10,4 @@ pub mod Heard
 pub mod Transcribing
 pub mod Denying
 pub mod Requesting
-pub mod Seeding
+pub mod Opening

@@ -1,5 +1,7 @@
 -- What a run does is the move of its line.
-use Rattle.std.proofs.Common.{◌≡◌, ℕ, ◌+◌, ◌==◌, ◌&&◌, true, List, [], ◌∷◌, ◌++◌, length, map, Option, Some, Result, Ok, Err, refl, sym, ◌∙◌, ap, subst, arith, append_assoc, slice_get, IfOk, inl, inr}
+use Rattle.std.proofs.Common.{◌≡◌, ℕ, ◌+◌, ◌==◌, ◌&&◌, true, List, [], ◌∷◌, ◌++◌, length, map, Option, Some, None}
+use Rattle.std.proofs.Common.{Result, Ok, Err, refl, sym, ◌∙◌, ap, subst, arith, append_assoc, slice_get, IfOk, inl}
+use Rattle.std.proofs.Common.{inr}
 use Rattle.std.proofs.lemmas.Bool.Decides.{nat_tests}
 use Rattle.std.proofs.lemmas.List.{append-nil}
 use Rattle.std.proofs.lemmas.List.Concat.{flat_map-append}
@@ -25,23 +27,39 @@ use Rattle.acct_stubs.specs.declared.errors.WireError.{WireError}
 use Rattle.acct_server.specs.declared.requests.Asked.{Asked}
 use Rattle.acct_server.specs.Transcript.{answer_bytes, undecoded_bytes}
 use Rattle.acct_server.specs.Answering.{Enters, AnswersCall, AnswersRequest, BeginsRequest}
-use Rattle.acct_server.specs.Replayed.{Standing, Move, Doing, Verdicts, Printed, Out, IsClosed, IsGone, on_listener, on_open, listener_from, nothing_heard, gone, number_of, peer_of, with_peer, line_bytes, on_end, on_event, quiet, on_heard, on_data, on_act, on_acts, on_request, on_call, prints_only, both, verdict_in, verdict_of}
+use Rattle.acct_server.specs.Replayed.{Standing, Move, Doing, Verdicts, Printed, Out, IsClosed, IsGone, on_listener}
+use Rattle.acct_server.specs.Replayed.{on_open, listener_from, nothing_heard, gone, number_of, peer_of, with_peer}
+use Rattle.acct_server.specs.Replayed.{line_bytes, on_end, on_event, quiet, on_heard, on_data, on_act, on_acts}
+use Rattle.acct_server.specs.Replayed.{on_request, on_call, prints_only, both, both_by, peer_behind, verdict_in}
+use Rattle.acct_server.specs.Replayed.{verdict_of}
 use Rattle.acct_server.specs.Running.{Running, standing, Ties, Acts, Began, Hears, Does, Refuses, MayStop}
+use Rattle.acct_server.proofs.Room.{both-open, both-none, both-behind, both-entries, others_by, acts-room}
 
 -- the move of an opening
 abbrev opening : Standing → ℕ → ℕ → Move
-opening s conn listener = record { effect = record { entries = Opened conn listener ∷ []; brings = []; prints = [] }; peers = s.peers ++ Open (nothing_heard conn) ∷ [] }
+opening s conn listener = record {
+  effect = record { entries = Opened conn listener ∷ []; brings = []; prints = []; full = None };
+  peers =
+      s.peers ++ Open (nothing_heard conn) ∷ [];
+}
 
-opens : (s : Standing) (conn listener : ℕ) (found : Option ℕ) → found ≡ Some listener → length s.peers ≡ 0 → conn ≡ 1 → on_listener s conn found ≡ Some (opening s conn listener)
-opens s conn listener found is none first =
-    let passes : (length s.peers == 0) && (conn == length s.peers + 1) ≡ true = grind (arith, nat_tests) in
+opens : (s : Standing) (conn listener : ℕ) (found : Option ℕ) → found ≡ Some listener → conn ≡ length s.peers + 1
+    → on_listener s conn found ≡ Some (opening s conn listener)
+opens s conn listener found is next =
+    let passes : (conn == length s.peers + 1) ≡ true = grind (arith, nat_tests) in
     rw (is, passes) refl
 
-pub open-does : (old new : Running) (conn given listener : ℕ) (name output : List ℕ) → listener_from 0 name old.machine.start.config.listeners ≡ Some listener → length old.peers ≡ 0 → conn ≡ 1 → given ≡ conn
-    → new.machine ≡ with_entry old.machine (Opened given listener) → new.peers ≡ old.peers ++ Open (nothing_heard conn) ∷ [] → output ≡ [] → Does (λ verdicts. on_open (standing old) conn name) old output new
-open-does old new conn given listener name output found none first same machine peers printed = record {
+pub open-does : (old new : Running) (conn given listener : ℕ) (name output : List ℕ)
+    → listener_from 0 name old.machine.start.config.listeners ≡ Some listener → conn ≡ length old.peers + 1
+    → given ≡ conn
+    → new.machine ≡ with_entry old.machine (Opened given listener)
+    → new.peers ≡ old.peers ++ Open (nothing_heard conn) ∷ [] → output ≡ []
+    → Does (λ verdicts. on_open (standing old) conn name) old output new
+open-does old new conn given listener name output found next same machine peers printed = record {
   move = opening (standing old) conn listener;
-  is = λ later. opens (standing old) conn listener (listener_from 0 name old.machine.start.config.listeners) found none first;
+  room = refl;
+  is = λ later. opens (standing old) conn listener (listener_from 0 name old.machine.start.config.listeners) found
+      next;
   history = ap (λ (m : Shown). m.history) machine ∙ ap (λ (n : ℕ). old.machine.history ++ Opened n listener ∷ []) same;
   peers = peers;
   start = ap (λ (m : Shown). m.start) machine;
@@ -51,30 +69,41 @@ open-does old new conn given listener name output found none first same machine 
 -- ---- acts
 
 -- an act that makes no entry
-pub prints-act : (what : Verdicts → Doing) (before now : List Entry) (lines : List Printed) (old_lines new_lines : List ℕ) → ((verdicts : Verdicts) → what verdicts ≡ prints_only lines) → now ≡ before
+pub prints-act : (what : Verdicts → Doing) (before now : List Entry) (lines : List Printed)
+    (old_lines new_lines : List ℕ) → ((verdicts : Verdicts) → what verdicts ≡ prints_only lines) → now ≡ before
     → new_lines ≡ old_lines ++ flat_map line_bytes lines → Acts what before now old_lines new_lines
 prints-act what before now lines old_lines new_lines is same printed = record {
   doing = prints_only lines;
+  room = refl;
   is = λ later. is (verdict_in (now ++ later));
   history = same ∙ sym (append-nil before);
   prints = printed;
 }
 
 -- a request that is no decoded call was answered
-undecoded-acts : (start : Start) (before now : List Entry) (conn : ℕ) (asked : Asked) (stub_size : ℕ) (e : WireError) (old_lines new_lines : List ℕ) → now ≡ before → new_lines ≡ old_lines ++ line_bytes (Out conn (undecoded_bytes asked e))
+undecoded-acts : (start : Start) (before now : List Entry) (conn : ℕ) (asked : Asked) (stub_size : ℕ) (e : WireError)
+    (old_lines new_lines : List ℕ) → now ≡ before
+    → new_lines ≡ old_lines ++ line_bytes (Out conn (undecoded_bytes asked e))
     → Acts (λ verdicts. on_request start verdicts before conn asked stub_size (Err e)) before now old_lines new_lines
 undecoded-acts start before now conn asked stub_size e old_lines new_lines same printed =
-    prints-act (λ verdicts. on_request start verdicts before conn asked stub_size (Err e)) before now (Out conn (undecoded_bytes asked e) ∷ []) old_lines new_lines
+    prints-act (λ verdicts. on_request start verdicts before conn asked stub_size (Err e)) before now
+    (Out conn (undecoded_bytes asked e) ∷ []) old_lines new_lines
     (λ verdicts. refl) same (printed ∙ ap (λ (bs : List ℕ). old_lines ++ bs) (sym (append-nil _)))
 
 -- bytes were answered without a call
-pub answered-acts : (start : Start) (before : List Entry) (conn : ℕ) (bytes old_lines new_lines : List ℕ) → new_lines ≡ old_lines ++ line_bytes (Out conn bytes) → Acts (λ verdicts. on_act start verdicts before conn (act.Answered bytes)) before before old_lines new_lines
+pub answered-acts : (start : Start) (before : List Entry) (conn : ℕ) (bytes old_lines new_lines : List ℕ)
+    → new_lines ≡ old_lines ++ line_bytes (Out conn bytes)
+    → Acts (λ verdicts. on_act start verdicts before conn (act.Answered bytes)) before before old_lines new_lines
 answered-acts start before conn bytes old_lines new_lines printed =
-    prints-act (λ verdicts. on_act start verdicts before conn (act.Answered bytes)) before before (Out conn bytes ∷ []) old_lines new_lines (λ verdicts. refl) refl (printed ∙ ap (λ (bs : List ℕ). old_lines ++ bs) (sym (append-nil _)))
+    prints-act (λ verdicts. on_act start verdicts before conn (act.Answered bytes)) before before (Out conn bytes ∷ [])
+    old_lines new_lines (λ verdicts. refl) refl
+    (printed ∙ ap (λ (bs : List ℕ). old_lines ++ bs) (sym (append-nil _)))
 
 -- no act was done yet
-pub none-done : (start : Start) (conn : ℕ) (before : List Entry) (lines : List ℕ) → lines ≡ [] → Acts (λ verdicts. on_acts start verdicts before conn []) before before [] lines
-none-done start conn before lines none = record { doing = prints_only []; is = λ later. refl; history = sym (append-nil before); prints = none }
+pub none-done : (start : Start) (conn : ℕ) (before : List Entry) (lines : List ℕ) → lines ≡ []
+    → Acts (λ verdicts. on_acts start verdicts before conn []) before before [] lines
+none-done start conn before lines none =
+    record { doing = prints_only []; room = refl; is = λ later. refl; history = sym (append-nil before); prints = none }
 
 -- memory was wanted before any entry
 pub begins-none : (what : Verdicts → Doing) (before now : List Entry) → now ≡ before → Began what before now
@@ -86,16 +115,20 @@ begins-none what before now same = record {
 }
 
 -- a verdict in its history
-slice_get-here : (history later : List Entry) (e : Entry) → slice_get ((history ++ e ∷ []) ++ later) (length history) ≡ Some e
+slice_get-here : (history later : List Entry) (e : Entry) → slice_get ((history ++ e ∷ []) ++ later) (length history)
+    ≡ Some e
 slice_get-here [] later e = refl
 slice_get-here (a ∷ history) later e = slice_get-here history later e
 
 -- what a call does that was entered
-call-is : (start : Start) (before now later : List Entry) (conn : ℕ) (asked : Asked) (stub_size : ℕ) (call : Call) (verdict : Verdict) → now ≡ before ++ Called conn call verdict stub_size ∷ []
-    → on_request start (verdict_in (now ++ later)) before conn asked stub_size (Ok call) ≡ on_call start before conn asked stub_size call verdict
+call-is : (start : Start) (before now later : List Entry) (conn : ℕ) (asked : Asked) (stub_size : ℕ) (call : Call)
+    (verdict : Verdict) → now ≡ before ++ Called conn call verdict stub_size ∷ []
+    → on_request start (verdict_in (now ++ later)) before conn asked stub_size (Ok call)
+    ≡ on_call start before conn asked stub_size call verdict
 call-is start before now later conn asked stub_size call verdict is =
     let at : verdict_in (now ++ later) (length before) ≡ verdict =
-    ap (λ (h : List Entry). verdict_in (h ++ later) (length before)) is ∙ ap (λ (o : Option Entry). verdict_of o) (slice_get-here before later (Called conn call verdict stub_size)) in
+    ap (λ (h : List Entry). verdict_in (h ++ later) (length before)) is
+    ∙ ap (λ (o : Option Entry). verdict_of o) (slice_get-here before later (Called conn call verdict stub_size)) in
     ap (λ (v : Verdict). on_call start before conn asked stub_size call v) at
 
 -- the machine as a gate finds just its history
@@ -103,64 +136,92 @@ abbrev pub Only : List Entry → List Entry → Type 0
 Only before found = found ≡ before
 
 -- the entry of a call stands
-enters-here : (start : Start) (before now : List Entry) (conn : ℕ) (call : Call) (stub_size : ℕ) → (enters : Enters start conn (Only before) now call stub_size) → now ≡ before ++ Called conn call enters.verdict stub_size ∷ []
-enters-here start before now conn call stub_size enters = enters.entered ∙ ap (λ (h : List Entry). h ++ Called conn call enters.verdict stub_size ∷ []) enters.finds_it
+enters-here : (start : Start) (before now : List Entry) (conn : ℕ) (call : Call) (stub_size : ℕ)
+    → (enters : Enters start conn (Only before) now call stub_size)
+    → now ≡ before ++ Called conn call enters.verdict stub_size ∷ []
+enters-here start before now conn call stub_size enters =
+    enters.entered ∙ ap (λ (h : List Entry). h ++ Called conn call enters.verdict stub_size ∷ []) enters.finds_it
 
-call-began : (start : Start) (before now : List Entry) (conn : ℕ) (asked : Asked) (stub_size : ℕ) (call : Call) → Enters start conn (Only before) now call stub_size
+call-began : (start : Start) (before now : List Entry) (conn : ℕ) (asked : Asked) (stub_size : ℕ) (call : Call)
+    → Enters start conn (Only before) now call stub_size
     → Began (λ verdicts. on_request start verdicts before conn asked stub_size (Ok call)) before now
 call-began start before now conn asked stub_size call enters =
     let history = enters-here start before now conn call stub_size enters in record {
       front = Called conn call enters.verdict stub_size ∷ [];
       history = history;
       others = λ later. [];
-      begins = λ later. ap (λ (d : Doing). d.entries) (call-is start before now later conn asked stub_size call enters.verdict history);
+      begins = λ later. ap (λ (d : Doing). d.entries)
+          (call-is start before now later conn asked stub_size call enters.verdict history);
     }
 
 -- a request was begun on the machine
-pub request-began : (start : Start) (before now : List Entry) (conn : ℕ) (asked : Asked) (stub_size : ℕ) (r : Result Call WireError) → BeginsRequest start conn (Only before) before now stub_size r
+pub request-began : (start : Start) (before now : List Entry) (conn : ℕ) (asked : Asked) (stub_size : ℕ)
+    (r : Result Call WireError) → BeginsRequest start conn (Only before) before now stub_size r
     → Began (λ verdicts. on_request start verdicts before conn asked stub_size r) before now
-request-began start before now conn asked stub_size (Err e) same = begins-none (λ verdicts. on_request start verdicts before conn asked stub_size (Err e)) before now same
-request-began start before now conn asked stub_size (Ok call) (inl same) = begins-none (λ verdicts. on_request start verdicts before conn asked stub_size (Ok call)) before now same
-request-began start before now conn asked stub_size (Ok call) (inr (inl same)) = begins-none (λ verdicts. on_request start verdicts before conn asked stub_size (Ok call)) before now same
-request-began start before now conn asked stub_size (Ok call) (inr (inr enters)) = call-began start before now conn asked stub_size call enters
+request-began start before now conn asked stub_size (Err e) same =
+    begins-none (λ verdicts. on_request start verdicts before conn asked stub_size (Err e)) before now same
+request-began start before now conn asked stub_size (Ok call) (inl same) =
+    begins-none (λ verdicts. on_request start verdicts before conn asked stub_size (Ok call)) before now same
+request-began start before now conn asked stub_size (Ok call) (inr (inl same)) =
+    begins-none (λ verdicts. on_request start verdicts before conn asked stub_size (Ok call)) before now same
+request-began start before now conn asked stub_size (Ok call) (inr (inr enters)) =
+    call-began start before now conn asked stub_size call enters
 
 -- one that was answered has begun
-pub answered-began : (start : Start) (before now : List Entry) (conn : ℕ) (asked : Asked) (stub_size : ℕ) (r : Result Call WireError) (bytes : List ℕ) → AnswersRequest start conn (Only before) before now asked stub_size r bytes
+pub answered-began : (start : Start) (before now : List Entry) (conn : ℕ) (asked : Asked) (stub_size : ℕ)
+    (r : Result Call WireError) (bytes : List ℕ)
+    → AnswersRequest start conn (Only before) before now asked stub_size r bytes
     → BeginsRequest start conn (Only before) before now stub_size r
 answered-began start before now conn asked stub_size (Err e) bytes answers = answers.0
 answered-began start before now conn asked stub_size (Ok call) bytes answers = inr (inr answers.enters)
 
 -- a call was answered
-call-acts : (start : Start) (before now : List Entry) (conn : ℕ) (asked : Asked) (stub_size : ℕ) (call : Call) (bytes old_lines new_lines : List ℕ) → AnswersCall start conn (Only before) now asked stub_size call bytes → new_lines ≡ old_lines ++ line_bytes (Out conn bytes)
+call-acts : (start : Start) (before now : List Entry) (conn : ℕ) (asked : Asked) (stub_size : ℕ) (call : Call)
+    (bytes old_lines new_lines : List ℕ) → AnswersCall start conn (Only before) now asked stub_size call bytes
+    → new_lines ≡ old_lines ++ line_bytes (Out conn bytes)
     → Acts (λ verdicts. on_request start verdicts before conn asked stub_size (Ok call)) before now old_lines new_lines
 call-acts start before now conn asked stub_size call bytes old_lines new_lines answers printed =
     let enters = answers.enters in
     let history = enters-here start before now conn call stub_size enters in record {
       doing = on_call start before conn asked stub_size call enters.verdict;
+      room = refl;
       is = λ later. call-is start before now later conn asked stub_size call enters.verdict history;
       history = history;
       prints =
           printed
-          ∙ ap (λ (bs : List ℕ). old_lines ++ line_bytes (Out conn bs)) (answers.bytes_are ∙ ap (λ (h : List Entry). answer_bytes asked call.opnum (acted (state_at start h) conn call enters.verdict).1) enters.finds_it)
+          ∙ ap (λ (bs : List ℕ). old_lines ++ line_bytes (Out conn bs))
+          (answers.bytes_are ∙ ap (λ (h : List Entry). answer_bytes asked call.face call.opnum
+          (acted (state_at start h) conn call enters.verdict).1) enters.finds_it)
           ∙ ap (λ (bs : List ℕ). old_lines ++ bs) (sym (append-nil _));
     }
 
 -- a request was answered on the machine
-pub request-acts : (start : Start) (before now : List Entry) (conn : ℕ) (asked : Asked) (stub_size : ℕ) (r : Result Call WireError) (bytes old_lines new_lines : List ℕ) → AnswersRequest start conn (Only before) before now asked stub_size r bytes
-    → new_lines ≡ old_lines ++ line_bytes (Out conn bytes) → Acts (λ verdicts. on_request start verdicts before conn asked stub_size r) before now old_lines new_lines
+pub request-acts : (start : Start) (before now : List Entry) (conn : ℕ) (asked : Asked) (stub_size : ℕ)
+    (r : Result Call WireError) (bytes old_lines new_lines : List ℕ)
+    → AnswersRequest start conn (Only before) before now asked stub_size r bytes
+    → new_lines ≡ old_lines ++ line_bytes (Out conn bytes)
+    → Acts (λ verdicts. on_request start verdicts before conn asked stub_size r) before now old_lines new_lines
 request-acts start before now conn asked stub_size (Err e) bytes old_lines new_lines answers printed =
-    undecoded-acts start before now conn asked stub_size e old_lines new_lines answers.0 (printed ∙ ap (λ (bs : List ℕ). old_lines ++ line_bytes (Out conn bs)) answers.1)
-request-acts start before now conn asked stub_size (Ok call) bytes old_lines new_lines answers printed = call-acts start before now conn asked stub_size call bytes old_lines new_lines answers printed
+    undecoded-acts start before now conn asked stub_size e old_lines new_lines answers.0
+    (printed ∙ ap (λ (bs : List ℕ). old_lines ++ line_bytes (Out conn bs)) answers.1)
+request-acts start before now conn asked stub_size (Ok call) bytes old_lines new_lines answers printed =
+    call-acts start before now conn asked stub_size call bytes old_lines new_lines answers printed
 
 -- the same connections are live after it
-same-live : (start : Start) (before now : List Entry) → now ≡ before → SameLive (state_at start before) (state_at start now)
-same-live start before now same = subst (λ (h : List Entry). SameLive (state_at start before) (state_at start h)) (sym same) (record { lives = λ k. refl; count = refl })
+same-live : (start : Start) (before now : List Entry) → now ≡ before
+    → SameLive (state_at start before) (state_at start now)
+same-live start before now same =
+    subst (λ (h : List Entry). SameLive (state_at start before) (state_at start h)) (sym same)
+    (record { lives = λ k. refl; count = refl })
 
-pub request-live : (start : Start) (before now : List Entry) (conn stub_size : ℕ) (r : Result Call WireError) → BeginsRequest start conn (Only before) before now stub_size r → SameLive (state_at start before) (state_at start now)
+pub request-live : (start : Start) (before now : List Entry) (conn stub_size : ℕ) (r : Result Call WireError)
+    → BeginsRequest start conn (Only before) before now stub_size r
+    → SameLive (state_at start before) (state_at start now)
 request-live start before now conn stub_size (Err e) same = same-live start before now same
 request-live start before now conn stub_size (Ok call) (inl same) = same-live start before now same
 request-live start before now conn stub_size (Ok call) (inr (inl same)) = same-live start before now same
-request-live start before now conn stub_size (Ok call) (inr (inr enters)) = subst (λ (h : List Entry). SameLive (state_at start h) (state_at start now)) enters.finds_it enters.live
+request-live start before now conn stub_size (Ok call) (inr (inr enters)) =
+    subst (λ (h : List Entry). SameLive (state_at start h) (state_at start now)) enters.finds_it enters.live
 
 pub ties-live : (peers : List Peer) (old new : State) → Ties peers old → SameLive old new → Ties peers new
 ties-live peers old new ties live = record {
@@ -170,54 +231,72 @@ ties-live peers old new ties live = record {
 }
 
 -- a refusal was answered
-pub close-acts : (old now : Shown) (conn place cause : ℕ) (bytes old_lines new_lines : List ℕ) → now ≡ with_entry old (Gone conn) → new_lines ≡ old_lines ++ (line_bytes (Out conn bytes) ++ line_bytes (IsClosed conn place cause))
-    → Acts (λ verdicts. on_act old.start verdicts old.history conn (act.Closed place cause bytes)) old.history now.history old_lines new_lines
+pub close-acts : (old now : Shown) (conn place cause : ℕ) (bytes old_lines new_lines : List ℕ)
+    → now ≡ with_entry old (Gone conn)
+    → new_lines ≡ old_lines ++ (line_bytes (Out conn bytes) ++ line_bytes (IsClosed conn place cause))
+    → Acts (λ verdicts. on_act old.start verdicts old.history conn (act.Closed place cause bytes)) old.history
+    now.history old_lines new_lines
 close-acts old now conn place cause bytes old_lines new_lines is printed = record {
-  doing = record { entries = Gone conn ∷ []; prints = Out conn bytes ∷ IsClosed conn place cause ∷ [] };
+  doing = record { entries = Gone conn ∷ []; prints = Out conn bytes ∷ IsClosed conn place cause ∷ []; full = None };
+  room = refl;
   is = λ later. refl;
   history = ap (λ (m : Shown). m.history) is;
-  prints = printed ∙ ap (λ (bs : List ℕ). old_lines ++ (line_bytes (Out conn bytes) ++ bs)) (sym (append-nil (line_bytes (IsClosed conn place cause))));
+  prints = printed ∙ ap (λ (bs : List ℕ). old_lines ++ (line_bytes (Out conn bytes) ++ bs))
+      (sym (append-nil (line_bytes (IsClosed conn place cause))));
 }
 
 -- what acts do one after the other, and then one more
-acts-both : (start : Start) (verdicts : Verdicts) (conn : ℕ) (first : List Act) (history : List Entry) (second : List Act)
-    → on_acts start verdicts history conn (first ++ second) ≡ both (on_acts start verdicts history conn first) (on_acts start verdicts (history ++ (on_acts start verdicts history conn first).entries) conn second)
-acts-both start verdicts conn [] history second = ap (λ (h : List Entry). on_acts start verdicts h conn second) (sym (append-nil history))
+acts-both : (start : Start) (verdicts : Verdicts) (conn : ℕ) (first : List Act) (history : List Entry)
+    (second : List Act)
+    → on_acts start verdicts history conn (first ++ second)
+    ≡ both (on_acts start verdicts history conn first)
+    (on_acts start verdicts (history ++ (on_acts start verdicts history conn first).entries) conn second)
+acts-both start verdicts conn [] history second =
+    ap (λ (h : List Entry). on_acts start verdicts h conn second) (sym (append-nil history))
 acts-both start verdicts conn (a ∷ first) history second =
     let one = on_act start verdicts history conn a in
     let now = history ++ one.entries in
     let others = on_acts start verdicts now conn first in
     let last = λ (h : List Entry). on_acts start verdicts h conn second in
     ap (λ (d : Doing). both one d) (acts-both start verdicts conn first now second)
-    ∙ ap (λ (h : List Entry). both one (both others (last h))) (append_assoc history one.entries others.entries)
-    ∙ both-assoc one others (last (history ++ (one.entries ++ others.entries)))
-  where
-    both-assoc : (x y z : Doing) → both x (both y z) ≡ both (both x y) z
-    both-assoc x y z = λ i. record { entries = sym (append_assoc x.entries y.entries z.entries) i; prints = sym (append_assoc x.prints y.prints z.prints) i }
+    ∙ both-behind one.full one others last history refl
 
-one-act : (start : Start) (verdicts : Verdicts) (history : List Entry) (conn : ℕ) (a : Act) → on_acts start verdicts history conn (a ∷ []) ≡ on_act start verdicts history conn a
-one-act start verdicts history conn a =
-    let d = on_act start verdicts history conn a in λ i. record { entries = append-nil d.entries i; prints = append-nil d.prints i }
+one-act : (start : Start) (verdicts : Verdicts) (history : List Entry) (conn : ℕ) (a : Act)
+    → on_acts start verdicts history conn (a ∷ []) ≡ on_act start verdicts history conn a
+one-act start verdicts history conn a = both-none (on_act start verdicts history conn a)
 
 -- what the acts before do, by whatever entries the history goes on, and one act more
-next-is : (start : Start) (conn : ℕ) (first : List Act) (a : Act) (before mid now : List Entry) (d e : Doing) → ((later : List Entry) → on_acts start (verdict_in (mid ++ later)) before conn first ≡ d) → mid ≡ before ++ d.entries → (more : List Entry) → now ≡ mid ++ more
-    → (later : List Entry) → on_act start (verdict_in (now ++ later)) mid conn a ≡ e → on_acts start (verdict_in (now ++ later)) before conn (first ++ a ∷ []) ≡ both d e
+next-is : (start : Start) (conn : ℕ) (first : List Act) (a : Act) (before mid now : List Entry) (d e : Doing)
+    → ((later : List Entry) → on_acts start (verdict_in (mid ++ later)) before conn first ≡ d)
+    → mid ≡ before ++ d.entries → (more : List Entry) → now ≡ mid ++ more
+    → (later : List Entry) → on_act start (verdict_in (now ++ later)) mid conn a ≡ e
+    → on_acts start (verdict_in (now ++ later)) before conn (first ++ a ∷ []) ≡ both d e
 next-is start conn first a before mid now d e is stands more longer later last =
     let v = verdict_in (now ++ later) in
     let earlier : on_acts start v before conn first ≡ d =
-    subst (λ (h : List Entry). on_acts start (verdict_in h) before conn first ≡ d) (sym (ap (λ (h : List Entry). h ++ later) longer ∙ append_assoc mid more later)) (is (more ++ later)) in
-    let from_mid : before ++ (on_acts start v before conn first).entries ≡ mid = ap (λ (x : Doing). before ++ x.entries) earlier ∙ sym stands in
+    subst (λ (h : List Entry). on_acts start (verdict_in h) before conn first ≡ d)
+    (sym (ap (λ (h : List Entry). h ++ later) longer ∙ append_assoc mid more later)) (is (more ++ later)) in
+    let from_mid : before ++ (on_acts start v before conn first).entries ≡ mid =
+    ap (λ (x : Doing). before ++ x.entries) earlier ∙ sym stands in
     acts-both start v conn first before (a ∷ [])
     ∙ ap (λ (h : List Entry). both (on_acts start v before conn first) (on_acts start v h conn (a ∷ []))) from_mid
     ∙ ap (λ (x : Doing). both x (on_acts start v mid conn (a ∷ []))) earlier
     ∙ ap (λ (x : Doing). both d x) (one-act start v mid conn a ∙ last)
 
-pub acts-go-on : (start : Start) (conn : ℕ) (first : List Act) (a : Act) (before mid now : List Entry) (old_lines mid_lines new_lines : List ℕ) → Acts (λ verdicts. on_acts start verdicts before conn first) before mid old_lines mid_lines
-    → Acts (λ verdicts. on_act start verdicts mid conn a) mid now mid_lines new_lines → Acts (λ verdicts. on_acts start verdicts before conn (first ++ a ∷ [])) before now old_lines new_lines
+pub acts-go-on : (start : Start) (conn : ℕ) (first : List Act) (a : Act) (before mid now : List Entry)
+    (old_lines mid_lines new_lines : List ℕ)
+    → Acts (λ verdicts. on_acts start verdicts before conn first) before mid old_lines mid_lines
+    → Acts (λ verdicts. on_act start verdicts mid conn a) mid now mid_lines new_lines
+    → Acts (λ verdicts. on_acts start verdicts before conn (first ++ a ∷ [])) before now old_lines new_lines
 acts-go-on start conn first a before mid now old_lines mid_lines new_lines done next = record {
-  doing = both done.doing next.doing;
-  is = λ later. next-is start conn first a before mid now done.doing next.doing done.is done.history next.doing.entries next.history later (next.is later);
-  history = next.history ∙ ap (λ (h : List Entry). h ++ next.doing.entries) done.history ∙ append_assoc before done.doing.entries next.doing.entries;
+  doing = both_by None done.doing next.doing;
+  room = next.room;
+  is = λ later.
+      next-is start conn first a before mid now done.doing next.doing done.is done.history next.doing.entries
+      next.history later (next.is later)
+      ∙ both-open done.doing next.doing done.room;
+  history = next.history ∙ ap (λ (h : List Entry). h ++ next.doing.entries) done.history
+      ∙ append_assoc before done.doing.entries next.doing.entries;
   prints =
       next.prints
       ∙ ap (λ (bs : List ℕ). bs ++ flat_map line_bytes next.doing.prints) done.prints
@@ -226,54 +305,83 @@ acts-go-on start conn first a before mid now old_lines mid_lines new_lines done 
 }
 
 -- memory was wanted at an act behind others, and more acts come behind it
-pub acts-stop : (start : Start) (conn : ℕ) (first : List Act) (a : Act) (rest : List Act) (before mid now : List Entry) (old_lines mid_lines : List ℕ) → Acts (λ verdicts. on_acts start verdicts before conn first) before mid old_lines mid_lines
-    → Began (λ verdicts. on_act start verdicts mid conn a) mid now → Began (λ verdicts. on_acts start verdicts before conn (first ++ a ∷ rest)) before now
+pub acts-stop : (start : Start) (conn : ℕ) (first : List Act) (a : Act) (rest : List Act) (before mid now : List Entry)
+    (old_lines mid_lines : List ℕ) → Acts (λ verdicts. on_acts start verdicts before conn first) before mid old_lines
+    mid_lines
+    → Began (λ verdicts. on_act start verdicts mid conn a) mid now
+    → Began (λ verdicts. on_acts start verdicts before conn (first ++ a ∷ rest)) before now
 acts-stop start conn first a rest before mid now old_lines mid_lines done began =
     let v = λ (later : List Entry). verdict_in (now ++ later) in
     let last = λ (later : List Entry). on_act start (v later) mid conn a in
-    let so_far = λ (later : List Entry). both done.doing (last later) in
-    let behind = λ (later : List Entry). (on_acts start (v later) (before ++ (on_acts start (v later) before conn (first ++ a ∷ [])).entries) conn rest).entries in
-    let all : (later : List Entry) → (on_acts start (v later) before conn (first ++ a ∷ rest)).entries ≡ (done.doing.entries ++ (last later).entries) ++ behind later =
+    let met = λ (later : List Entry). on_acts start (v later) before conn (first ++ a ∷ []) in
+    let behind = λ (later : List Entry). others_by (met later).full
+    (on_acts start (v later) (before ++ (met later).entries) conn rest) in
+    let all : (later : List Entry) → (on_acts start (v later) before conn (first ++ a ∷ rest)).entries
+    ≡ (done.doing.entries ++ (last later).entries) ++ behind later =
     λ later.
     ap (λ (as' : List Act). (on_acts start (v later) before conn as').entries) (sym (append_assoc first (a ∷ []) rest))
     ∙ ap (λ (d : Doing). d.entries) (acts-both start (v later) conn (first ++ a ∷ []) before rest)
-    ∙ ap (λ (d : Doing). d.entries ++ behind later) (next-is start conn first a before mid now done.doing (last later) done.is done.history began.front began.history later refl) in
+    ∙ both-entries (met later).full (met later) (on_acts start (v later) (before ++ (met later).entries) conn rest)
+    ∙ ap (λ (d : Doing). d.entries ++ behind later)
+    (next-is start conn first a before mid now done.doing (last later) done.is done.history began.front
+    began.history later refl)
+    ∙ ap (λ (d : Doing). d.entries ++ behind later) (both-open done.doing (last later) done.room) in
     record {
       front = done.doing.entries ++ began.front;
-      history = began.history ∙ ap (λ (h : List Entry). h ++ began.front) done.history ∙ append_assoc before done.doing.entries began.front;
+      history = began.history ∙ ap (λ (h : List Entry). h ++ began.front) done.history
+          ∙ append_assoc before done.doing.entries began.front;
       others = λ later. began.others later ++ behind later;
       begins = λ later.
           all later
           ∙ ap (λ (es : List Entry). (done.doing.entries ++ es) ++ behind later) (began.begins later)
           ∙ append_assoc done.doing.entries (began.front ++ began.others later) (behind later)
-          ∙ ap (λ (es : List Entry). done.doing.entries ++ es) (append_assoc began.front (began.others later) (behind later))
+          ∙ ap (λ (es : List Entry). done.doing.entries ++ es)
+          (append_assoc began.front (began.others later) (behind later))
           ∙ sym (append_assoc done.doing.entries began.front (began.others later ++ behind later));
     }
 
 -- ---- lines
 
 -- the move of bytes that were heard, once their acts were done
-pub data-does : (old mid new : Running) (conn : ℕ) (bytes output : List ℕ) (as' : List Act) → Hears conn bytes old as' mid → Acts (λ verdicts. on_acts mid.machine.start verdicts mid.machine.history conn as') mid.machine.history new.machine.history [] output
-    → new.peers ≡ mid.peers → new.machine.start ≡ mid.machine.start → Does (λ verdicts. on_data verdicts (standing old) conn bytes (peer_of conn old.peers)) old output new
+pub data-does : (old mid new : Running) (conn : ℕ) (bytes output : List ℕ) (as' : List Act)
+    → Hears conn bytes old as' mid → Acts (λ verdicts. on_acts mid.machine.start verdicts mid.machine.history conn as')
+    mid.machine.history new.machine.history [] output
+    → new.peers ≡ mid.peers → new.machine.start ≡ mid.machine.start
+    → Does (λ verdicts. on_data verdicts (standing old) conn bytes (peer_of conn old.peers)) old output new
 data-does old mid new conn bytes output as' hears done peers start =
     let heard = on hears.hearing bytes in
     let machine : mid.machine ≡ old.machine = ap (λ (r : Running). r.machine) hears.left in
     let same : mid.machine.history ≡ old.machine.history = ap (λ (m : Shown). m.history) machine in
     let d = done.doing in
-    let is : (later : List Entry) → on_acts old.machine.start (verdict_in (new.machine.history ++ later)) old.machine.history conn heard.acts ≡ d =
-    λ later. ap (λ (m : Shown). on_acts m.start (verdict_in (new.machine.history ++ later)) m.history conn heard.acts) (sym machine) ∙ ap (λ (x : List Act). on_acts mid.machine.start (verdict_in (new.machine.history ++ later)) mid.machine.history conn x) (sym hears.completed) ∙ done.is later in
+    let is : (later : List Entry) → on_acts old.machine.start (verdict_in (new.machine.history ++ later))
+    old.machine.history conn heard.acts ≡ d =
+    λ later. ap (λ (m : Shown). on_acts m.start (verdict_in (new.machine.history ++ later)) m.history conn heard.acts)
+    (sym machine) ∙ ap (λ (x : List Act). on_acts mid.machine.start (verdict_in (new.machine.history ++ later))
+    mid.machine.history conn x) (sym hears.completed) ∙ done.is later in
     record {
-      move = record { effect = record { entries = d.entries; brings = (conn, bytes) ∷ []; prints = d.prints }; peers = with_peer conn (Open heard.leaves) old.peers };
+      move = record {
+        effect = record { entries = d.entries; brings = (conn, bytes) ∷ []; prints = d.prints; full = d.full };
+        peers = with_peer conn (peer_behind d.full heard.leaves) old.peers;
+      };
+      room = done.room;
       is = λ later.
-          ap (λ (p : Option Peer). on_data (verdict_in (new.machine.history ++ later)) (standing old) conn bytes p) hears.stood
-          ∙ ap (λ (x : Doing). Some (record { effect = record { entries = x.entries; brings = (conn, bytes) ∷ []; prints = x.prints }; peers = with_peer conn (Open heard.leaves) old.peers })) (is later);
+          ap (λ (p : Option Peer). on_data (verdict_in (new.machine.history ++ later)) (standing old) conn bytes p)
+          hears.stood
+          ∙ ap (λ (x : Doing). Some (record {
+            effect = record { entries = x.entries; brings = (conn, bytes) ∷ []; prints = x.prints; full = x.full };
+            peers = with_peer conn (peer_behind x.full heard.leaves) old.peers;
+          })) (is later);
       history = done.history ∙ ap (λ (h : List Entry). h ++ d.entries) same;
-      peers = peers ∙ ap (λ (r : Running). r.peers) hears.left;
+      peers =
+          peers ∙ ap (λ (r : Running). r.peers) hears.left
+          ∙ ap (λ (o : Option ℕ). with_peer conn (peer_behind o heard.leaves) old.peers) (sym done.room);
       start = start ∙ ap (λ (r : Running). r.machine.start) hears.left;
       prints = done.prints;
     }
 
-pub data-stops : (old mid new : Running) (conn : ℕ) (bytes : List ℕ) (as' : List Act) → Hears conn bytes old as' mid → Began (λ verdicts. on_acts mid.machine.start verdicts mid.machine.history conn as') mid.machine.history new.machine.history
+pub data-stops : (old mid new : Running) (conn : ℕ) (bytes : List ℕ) (as' : List Act) → Hears conn bytes old as' mid
+    → Began (λ verdicts. on_acts mid.machine.start verdicts mid.machine.history conn as') mid.machine.history
+    new.machine.history
     → MayStop (λ verdicts. on_data verdicts (standing old) conn bytes (peer_of conn old.peers)) old new
 data-stops old mid new conn bytes as' hears began =
     let heard = on hears.hearing bytes in
@@ -283,19 +391,29 @@ data-stops old mid new conn bytes as' hears began =
       front = began.front;
       history = began.history ∙ ap (λ (h : List Entry). h ++ began.front) same;
       move = λ later. on_heard (verdict_in (new.machine.history ++ later)) (standing old) conn bytes heard;
-      is = λ later. ap (λ (p : Option Peer). on_data (verdict_in (new.machine.history ++ later)) (standing old) conn bytes p) hears.stood;
+      room = λ later. acts-room old.machine.start (verdict_in (new.machine.history ++ later)) heard.acts
+          old.machine.history conn;
+      is = λ later. ap (λ (p : Option Peer). on_data (verdict_in (new.machine.history ++ later)) (standing old) conn
+          bytes p) hears.stood;
       others = began.others;
       begins = λ later.
-          ap (λ (m : Shown). (on_acts m.start (verdict_in (new.machine.history ++ later)) m.history conn heard.acts).entries) (sym machine)
-          ∙ ap (λ (x : List Act). (on_acts mid.machine.start (verdict_in (new.machine.history ++ later)) mid.machine.history conn x).entries) (sym hears.completed)
+          ap (λ (m : Shown). (on_acts m.start (verdict_in (new.machine.history ++ later)) m.history conn
+          heard.acts).entries) (sym machine)
+          ∙ ap (λ (x : List Act). (on_acts mid.machine.start (verdict_in (new.machine.history ++ later))
+          mid.machine.history conn x).entries) (sym hears.completed)
           ∙ began.begins later;
     })
 
 -- the move of an end
-pub end-does : (old new : Running) (conn : ℕ) (h : Hearing) (output : List ℕ) → peer_of conn old.peers ≡ Some (Open h) → new.machine.history ≡ old.machine.history ++ map Gone (number_of conn (Some (Open h))) → new.machine.start ≡ old.machine.start
-    → new.peers ≡ with_peer conn Ended old.peers → output ≡ flat_map line_bytes (map IsGone (number_of conn (Some (Open h)))) → Does (λ verdicts. on_end (standing old) conn (peer_of conn old.peers)) old output new
+pub end-does : (old new : Running) (conn : ℕ) (h : Hearing) (output : List ℕ) → peer_of conn old.peers ≡ Some (Open h)
+    → new.machine.history ≡ old.machine.history ++ map Gone (number_of conn (Some (Open h)))
+    → new.machine.start ≡ old.machine.start
+    → new.peers ≡ with_peer conn Ended old.peers
+    → output ≡ flat_map line_bytes (map IsGone (number_of conn (Some (Open h))))
+    → Does (λ verdicts. on_end (standing old) conn (peer_of conn old.peers)) old output new
 end-does old new conn h output stands history start peers printed = record {
   move = record { effect = gone (number_of conn (Some (Open h))); peers = with_peer conn Ended old.peers };
+  room = refl;
   is = λ later. ap (λ (o : Option Peer). on_end (standing old) conn o) stands;
   history = history;
   peers = peers;
@@ -304,9 +422,11 @@ end-does old new conn h output stands history start peers printed = record {
 }
 
 -- the move of a line that says nothing
-pub nothing-does : (run : Running) (e : Event) (output : List ℕ) → e ≡ event.Nothing → output ≡ [] → Does (λ verdicts. on_event verdicts (standing run) (Some e)) run output run
+pub nothing-does : (run : Running) (e : Event) (output : List ℕ) → e ≡ event.Nothing → output ≡ []
+    → Does (λ verdicts. on_event verdicts (standing run) (Some e)) run output run
 nothing-does run e output is printed = record {
   move = quiet run.peers;
+  room = refl;
   is = λ later. ap (λ (x : Event). on_event (verdict_in (run.machine.history ++ later)) (standing run) (Some x)) is;
   history = sym (append-nil run.machine.history);
   peers = refl;
@@ -315,14 +435,21 @@ nothing-does run e output is printed = record {
 }
 
 -- the clauses of an event, by what the event is
-pub event-does : {O E : Type 0} (items : O → List ℕ) (old new : Running) (e known : Event) (r : Result O E) → e ≡ known → IfOk r (λ (o : O). Does (λ verdicts. on_event verdicts (standing old) (Some known)) old (items o) new)
+pub event-does : {O E : Type 0} (items : O → List ℕ) (old new : Running) (e known : Event) (r : Result O E) → e ≡ known
+    → IfOk r (λ (o : O). Does (λ verdicts. on_event verdicts (standing old) (Some known)) old (items o) new)
     → IfOk r (λ (o : O). Does (λ verdicts. on_event verdicts (standing old) (Some e)) old (items o) new)
-event-does items old new e known r is does = subst (λ (x : Event). IfOk r (λ o. Does (λ verdicts. on_event verdicts (standing old) (Some x)) old (items o) new)) (sym is) does
+event-does items old new e known r is does =
+    subst (λ (x : Event). IfOk r (λ o. Does (λ verdicts. on_event verdicts (standing old) (Some x)) old (items o) new))
+    (sym is) does
 
-pub event-refuses : (old new : Running) (e known : Event) (P : Type 0) → e ≡ known → (P → Refuses (λ verdicts. on_event verdicts (standing old) (Some known)) old new)
+pub event-refuses : (old new : Running) (e known : Event) (P : Type 0) → e ≡ known
+    → (P → Refuses (λ verdicts. on_event verdicts (standing old) (Some known)) old new)
     → P → Refuses (λ verdicts. on_event verdicts (standing old) (Some e)) old new
-event-refuses old new e known P is refuses p = subst (λ (x : Event). Refuses (λ verdicts. on_event verdicts (standing old) (Some x)) old new) (sym is) (refuses p)
+event-refuses old new e known P is refuses p =
+    subst (λ (x : Event). Refuses (λ verdicts. on_event verdicts (standing old) (Some x)) old new) (sym is) (refuses p)
 
-pub event-stops : (old new : Running) (e known : Event) (P : Type 0) → e ≡ known → (P → MayStop (λ verdicts. on_event verdicts (standing old) (Some known)) old new)
+pub event-stops : (old new : Running) (e known : Event) (P : Type 0) → e ≡ known
+    → (P → MayStop (λ verdicts. on_event verdicts (standing old) (Some known)) old new)
     → P → MayStop (λ verdicts. on_event verdicts (standing old) (Some e)) old new
-event-stops old new e known P is stops p = subst (λ (x : Event). MayStop (λ verdicts. on_event verdicts (standing old) (Some x)) old new) (sym is) (stops p)
+event-stops old new e known P is stops p =
+    subst (λ (x : Event). MayStop (λ verdicts. on_event verdicts (standing old) (Some x)) old new) (sym is) (stops p)

@@ -1,5 +1,7 @@
 -- The connections of a replay, one of which is put in another standing, and acts at their places.
-use Rattle.std.proofs.Common.{◌≡◌, ◌≢◌, inl, inr, ℕ, zero, suc, ◌+◌, ◌<◌, ◌^◌, Bool, true, false, List, [], ◌∷◌, ◌++◌, length, take, Option, Some, None, slice_get, slice_set, slice_index_or, refl, sym, ap, ◌∙◌, subst, arith}
+use Rattle.std.proofs.Common.{◌≡◌, ◌≢◌, inl, inr, ℕ, zero, suc, ◌+◌, ◌<◌, ◌^◌, Bool, true, false, List, [], ◌∷◌, ◌++◌}
+use Rattle.std.proofs.Common.{length, take, Option, Some, None, slice_get, slice_set, slice_index_or, refl, sym, ap}
+use Rattle.std.proofs.Common.{◌∙◌, subst, arith}
 use Rattle.std.proofs.lemmas.Bool.{cases_eq}
 use Rattle.acct_machine.specs.State.{State}
 use Rattle.acct_machine.specs.Machine.{OneLessLive}
@@ -12,7 +14,8 @@ use Rattle.acct_server.specs.Replayed.{peer_of, with_peer, is_served}
 use Rattle.acct_server.specs.Running.{IsClosing, Ties}
 use Rattle.acct_server.proofs.Closing.{length-set_peer}
 
-set_here : (i : ℕ) (peers : List Peer) (p q : Peer) → slice_get peers i ≡ Some q → slice_get (slice_set peers i p) i ≡ Some p
+set_here : (i : ℕ) (peers : List Peer) (p q : Peer) → slice_get peers i ≡ Some q
+    → slice_get (slice_set peers i p) i ≡ Some p
 set_here i [] p q is = absurd cc
 set_here zero (r ∷ peers) p q is = refl
 set_here (suc i) (r ∷ peers) p q is = set_here i peers p q is
@@ -24,7 +27,8 @@ set_there zero (suc j) (r ∷ peers) p other = refl
 set_there (suc i) zero (r ∷ peers) p other = refl
 set_there (suc i) (suc j) (r ∷ peers) p other = set_there i j peers p (λ same. other (ap suc same))
 
-pub peer-here : (c : ℕ) (peers : List Peer) (p q : Peer) → peer_of c peers ≡ Some q → peer_of c (with_peer c p peers) ≡ Some p
+pub peer-here : (c : ℕ) (peers : List Peer) (p q : Peer) → peer_of c peers ≡ Some q
+    → peer_of c (with_peer c p peers) ≡ Some p
 peer-here zero peers p q is = absurd cc
 peer-here (suc i) peers p q is = set_here i peers p q is
 
@@ -42,28 +46,33 @@ served-there None served = absurd cc
 served-there (Some peer) served = (peer, refl)
 
 -- a connection that is live no more was ended
-pub ties-ended : (conn : ℕ) (peers : List Peer) (peer : Peer) (old new : State) → peer_of conn peers ≡ Some peer → Ties peers old → OneLessLive old new conn → Ties (with_peer conn Ended peers) new
+pub ties-ended : (conn : ℕ) (peers : List Peer) (peer : Peer) (old new : State) → peer_of conn peers ≡ Some peer
+    → Ties peers old → OneLessLive old new conn → Ties (with_peer conn Ended peers) new
 ties-ended conn peers peer old new stands ties less = record {
   count = less.count ∙ ties.count ∙ sym (length-with_peer conn Ended peers);
   bounded = let bound = ties.bounded in subst (λ (n : ℕ). n < 2 ^ 32) (sym (length-with_peer conn Ended peers)) bound;
   lives = λ k served. elim (cases_eq conn k) [
     | inl same ↦
         let over : is_served (peer_of k (with_peer conn Ended peers)) ≡ false =
-        subst (λ (n : ℕ). is_served (peer_of n (with_peer conn Ended peers)) ≡ false) same (ap is_served (peer-here conn peers Ended peer stands)) in
+        subst (λ (n : ℕ). is_served (peer_of n (with_peer conn Ended peers)) ≡ false) same
+        (ap is_served (peer-here conn peers Ended peer stands)) in
         let clash : true ≡ false = sym served ∙ over in absurd cc
-    | inr other ↦ less.others k (λ is. other (sym is)) ∙ ties.lives k (sym (ap is_served (peer-there conn k peers Ended other)) ∙ served)
+    | inr other ↦ less.others k (λ is. other (sym is))
+        ∙ ties.lives k (sym (ap is_served (peer-there conn k peers Ended other)) ∙ served)
   ];
 }
 
 -- a connection was ended, and is perhaps still live
-pub ties-set : (conn : ℕ) (peers : List Peer) (peer : Peer) (s : State) → peer_of conn peers ≡ Some peer → Ties peers s → Ties (with_peer conn Ended peers) s
+pub ties-set : (conn : ℕ) (peers : List Peer) (peer : Peer) (s : State) → peer_of conn peers ≡ Some peer → Ties peers s
+    → Ties (with_peer conn Ended peers) s
 ties-set conn peers peer s stands ties = record {
   count = ties.count ∙ sym (length-with_peer conn Ended peers);
   bounded = let bound = ties.bounded in subst (λ (n : ℕ). n < 2 ^ 32) (sym (length-with_peer conn Ended peers)) bound;
   lives = λ k served. elim (cases_eq conn k) [
     | inl same ↦
         let over : is_served (peer_of k (with_peer conn Ended peers)) ≡ false =
-        subst (λ (n : ℕ). is_served (peer_of n (with_peer conn Ended peers)) ≡ false) same (ap is_served (peer-here conn peers Ended peer stands)) in
+        subst (λ (n : ℕ). is_served (peer_of n (with_peer conn Ended peers)) ≡ false) same
+        (ap is_served (peer-here conn peers Ended peer stands)) in
         let clash : true ≡ false = sym served ∙ over in absurd cc
     | inr other ↦ ties.lives k (sym (ap is_served (peer-there conn k peers Ended other)) ∙ served)
   ];
@@ -71,7 +80,8 @@ ties-set conn peers peer s stands ties = record {
 
 -- ---- acts at their places
 
-pub act-here : (i : ℕ) (acts : List Act) (x d : Act) → i < length acts → x ≡ slice_index_or acts i d → slice_get acts i ≡ Some x
+pub act-here : (i : ℕ) (acts : List Act) (x d : Act) → i < length acts → x ≡ slice_index_or acts i d
+    → slice_get acts i ≡ Some x
 act-here i [] x d lt is = absurd (omega arith)
 act-here zero (y ∷ acts) x d lt is = ap (λ (z : Act). Some z) (sym is)
 act-here (suc i) (y ∷ acts) x d lt is = act-here i acts x d (omega arith) is
@@ -84,17 +94,29 @@ pub record IsParted (i : ℕ) (acts : List Act) (x : Act) : Type 0 where
 
 pub parted : (i : ℕ) (acts : List Act) (x : Act) → slice_get acts i ≡ Some x → IsParted i acts x
 parted i [] x is = absurd cc
-parted zero (y ∷ acts) x is = let same : y ≡ x = cc in record { rest = acts; whole = ap (λ (z : Act). z ∷ acts) same; more = ap (λ (z : Act). z ∷ []) same }
-parted (suc i) (y ∷ acts) x is = let p = parted i acts x is in record { rest = p.rest; whole = ap (λ (xs : List Act). y ∷ xs) p.whole; more = ap (λ (xs : List Act). y ∷ xs) p.more }
+parted zero (y ∷ acts) x is = let same : y ≡ x =
+    cc in record { rest = acts; whole = ap (λ (z : Act). z ∷ acts) same; more = ap (λ (z : Act). z ∷ []) same }
+parted (suc i) (y ∷ acts) x is = let p =
+    parted i acts x is in record {
+      rest = p.rest;
+      whole = ap (λ (xs : List Act). y ∷ xs) p.whole;
+      more =
+          ap (λ (xs : List Act). y ∷ xs) p.more;
+    }
 
-pub one-more : (i : ℕ) (acts : List Act) (x : Act) → slice_get acts i ≡ Some x → take (i + 1) acts ≡ take i acts ++ x ∷ []
-one-more i acts x is = let next : suc i ≡ i + 1 = omega arith in subst (λ (n : ℕ). take n acts ≡ take i acts ++ x ∷ []) next (parted i acts x is).more
+pub one-more : (i : ℕ) (acts : List Act) (x : Act) → slice_get acts i ≡ Some x
+    → take (i + 1) acts ≡ take i acts ++ x ∷ []
+one-more i acts x is = let next : suc i ≡ i + 1 =
+    omega arith in subst (λ (n : ℕ). take n acts ≡ take i acts ++ x ∷ []) next (parted i acts x is).more
 
 -- what holds behind an act that is no refusal holds where another act follows
-pub not-last : (x : Act) (i count : ℕ) (served : Bool) (P : Type 0) → (is_refusal x ≡ false → P) → IsClosing served i count (Some x) → i + 1 < count → P
+pub not-last : (x : Act) (i count : ℕ) (served : Bool) (P : Type 0) → (is_refusal x ≡ false → P)
+    → IsClosing served i count (Some x) → i + 1 < count → P
 not-last (act.Answered bytes) i count served P holds closing lt = holds refl
 not-last (act.Call id context face opnum size stub) i count served P holds closing lt = holds refl
-not-last (act.Closed place cause bytes) i count served P holds closing lt = let last = (closing refl).0 in absurd (omega (arith, last, lt))
+not-last (act.Closed place cause bytes) i count served P holds closing lt = let last =
+    (closing refl).0 in absurd (omega (arith, last, lt))
 
-pub closing-here : (i count : ℕ) (served : Bool) (acts : List Act) (x : Act) → slice_get acts i ≡ Some x → IsClosing served i count (slice_get acts i) → IsClosing served i count (Some x)
+pub closing-here : (i count : ℕ) (served : Bool) (acts : List Act) (x : Act) → slice_get acts i ≡ Some x
+    → IsClosing served i count (slice_get acts i) → IsClosing served i count (Some x)
 closing-here i count served acts x is closing = subst (λ (o : Option Act). IsClosing served i count o) is closing

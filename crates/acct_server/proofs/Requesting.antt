@@ -12,12 +12,21 @@ use Rattle.acct_server.specs.Turns.{Turn, MachineActs}
 use Rattle.acct_server.specs.Answering.{AnswersRequest}
 
 -- a turn entered the call, and its reply was put into bytes
-pub call-answered : {T E : Type 0} (items : T → List ℕ) (r : Result T E) (start : Start) (k : ℕ) (finds : List Entry → Type 0) (known left : List Entry) (asked : Asked) (size : ℕ) (call : Call) (reply : Reply)
-    → Turn finds (MachineActs start k call size (acts.Reply reply)) left → IfOk r (λ x. items x ≡ answer_bytes asked call.opnum reply)
+pub call-answered : {T E : Type 0} (items : T → List ℕ) (r : Result T E) (start : Start) (k : ℕ)
+    (finds : List Entry → Type 0) (known left : List Entry) (asked : Asked) (size : ℕ) (call : Call) (reply : Reply)
+    → Turn finds (MachineActs start k call size (acts.Reply reply)) left
+    → IfOk r (λ x. items x ≡ answer_bytes asked call.face call.opnum reply)
     → IfOk r (λ x. AnswersRequest start k finds known left asked size (Ok call) (items x))
 call-answered items (Ok x) start k finds known left asked size call reply turn is =
     let acts = turn.does_it.acts in record {
-      enters = record { found = turn.found; finds_it = turn.finds_it; verdict = acts.0; entered = ap (λ (m : Shown). m.history) acts.1; live = turn.does_it.live };
-      bytes_are = is ∙ ap (λ (r : Reply). answer_bytes asked call.opnum r) acts.2;
+      enters = record {
+        found = turn.found;
+        finds_it = turn.finds_it;
+        verdict = acts.0;
+        entered =
+            ap (λ (m : Shown). m.history) acts.1;
+        live = turn.does_it.live;
+      };
+      bytes_are = is ∙ ap (λ (r : Reply). answer_bytes asked call.face call.opnum r) acts.2;
     }
 call-answered items (Err e) start k finds known left asked size call reply turn is = tt

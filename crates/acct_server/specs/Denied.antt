@@ -15,16 +15,21 @@ use Rattle.acct_machine.specs.Denial.{HasStatus, IsDenied}
 use Rattle.acct_machine.specs.Step.{acted, state_at}
 
 -- A call of an operation stands in the history behind these entries.
-pub record StandsBehind (before history : List Entry) (conn : ℕ) (call : Call) (verdict : Verdict) (o : Operation) : Type 0 where
+pub record StandsBehind (before history : List Entry) (conn : ℕ) (call : Call) (verdict : Verdict)
+    (o : Operation) : Type 0 where
   pub bytes : ℕ
   pub after : List Entry
   pub stands : history ≡ before ++ Called conn call verdict bytes ∷ after
   pub operation : operation_of call ≡ Some o
 
--- Each call that ran is answered STATUS_ACCESS_DENIED exactly where the recorded grant of its handle, or the access check of its opening,
+-- Each call that ran is answered STATUS_ACCESS_DENIED exactly where the recorded grant of its handle, or the access
+-- check of its opening,
 -- lacks a bit at the state before it; and each call that its handle's grant denies has run.
 pub record DeniesExactlyIn (start : Start) (history : List Entry) : Type 0 where
-  pub exactly : (before : List Entry) (conn : ℕ) (call : Call) (o : Operation) → StandsBehind before history conn call Ran o
-      → (HasStatus status_access_denied (acted (state_at start before) conn call Ran).1 ↔ IsDenied o (state_at start before) conn call)
-  pub ran : (before : List Entry) (conn : ℕ) (call : Call) (verdict : Verdict) (o : Operation) → StandsBehind before history conn call verdict o
+  pub exactly : (before : List Entry) (conn : ℕ) (call : Call) (o : Operation)
+      → StandsBehind before history conn call Ran o
+      → (HasStatus status_access_denied (acted (state_at start before) conn call Ran).1 ↔ IsDenied o
+      (state_at start before) conn call)
+  pub ran : (before : List Entry) (conn : ℕ) (call : Call) (verdict : Verdict) (o : Operation)
+      → StandsBehind before history conn call verdict o
       → access o (state_at start before) conn call ≡ Denied → verdict ≡ Ran

@@ -1,5 +1,6 @@
 -- The lines of an event file, and what each of them says.
-use Rattle.std.specs.Prelude.{ℕ, ◌+◌, ◌-◌, ◌*◌, ◌^◌, ◌≤◌, ◌==◌, Bool, false, ◌&&◌, not, List, [], ◌∷◌, length, codes, Option, Some, None, Result, Ok, Err, if◌then◌else◌, nat_lt, nat_le}
+use Rattle.std.specs.Prelude.{ℕ, ◌+◌, ◌-◌, ◌*◌, ◌^◌, ◌≤◌, ◌==◌, Bool, false, ◌&&◌, not, List, [], ◌∷◌, length, codes}
+use Rattle.std.specs.Prelude.{Option, Some, None, Result, Ok, Err, if◌then◌else◌, nat_lt, nat_le}
 use Rattle.std.specs.List.{before_first, after_first, position_or_len}
 use Rattle.std.specs.Str.{bytes_eq}
 use Rattle.hex.specs.Hex.{decode_of}
@@ -48,7 +49,8 @@ begins_with_zero (b ∷ bytes) = b == 48
 -- a number below 2 ^ 32 in one to ten decimal digits, without a leading zero
 unfoldable pub number_of : List ℕ → Option ℕ
 number_of word =
-    if nat_le 1 (length word) && nat_le (length word) 10 && not (begins_with_zero word) then below_2^32 (decimal_from 0 word) else None
+    if nat_le 1 (length word) && nat_le (length word) 10 && not (begins_with_zero word) then below_2^32
+    (decimal_from 0 word) else None
 
 abbrev pub opens : Option ℕ → List ℕ → Option Event
 opens None listener = None
@@ -72,7 +74,8 @@ of_two command (Some (word, rest)) =
 
 abbrev pub of_command : Option (List ℕ × List ℕ) → Option Event
 of_command None = None
-of_command (Some (command, rest)) = if bytes_eq command (codes "end") then ends (number_of rest) else of_two command (parted rest)
+of_command (Some (command, rest)) =
+    if bytes_eq command (codes "end") then ends (number_of rest) else of_two command (parted rest)
 
 -- what a line says: `open N LISTENER`, `data N HEX`, `end N`, or nothing in an empty line and behind a `#`
 unfoldable pub event_of : List ℕ → Option Event

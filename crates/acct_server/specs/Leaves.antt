@@ -1,11 +1,13 @@
 -- What a replay leaves, by its status.
-use Rattle.std.specs.Prelude.{◌≡◌, ℕ, ◌<◌, ◌≤◌, List, ◌∷◌, ◌++◌, ◌⊎◌, take, length, Option, Some, None, IfSome, if◌then◌else◌, nat_lt}
+use Rattle.std.specs.Prelude.{◌≡◌, ℕ, ◌<◌, ◌≤◌, List, ◌∷◌, ◌++◌, ◌⊎◌, take, length, Option, Some, None, IfSome}
+use Rattle.std.specs.Prelude.{if◌then◌else◌, nat_lt}
 use Rattle.std.specs.Io.KnownBytes.{Appends}
 use Rattle.acct_machine.specs.State.{Start}
 use Rattle.acct_config.specs.Rules.{first_broken}
 use Rattle.acct_machine.specs.declared.entry.Entry.{Entry}
 use Rattle.acct_server.specs.declared.status.Status.{Status}
-use Rattle.acct_server.specs.declared.status.Status.TheVariants.{Done, NoMemory, Config as ConfigBroken, ReadFault, WriteFault, EventLine, InputTooLong}
+use Rattle.acct_server.specs.declared.status.Status.TheVariants.{Done, NoMemory, Config as ConfigBroken, ReadFault}
+use Rattle.acct_server.specs.declared.status.Status.TheVariants.{WriteFault, EventLine, InputTooLong}
 use Rattle.acct_streams.specs.declared.whole.WholeError.{WholeError}
 use Rattle.acct_streams.specs.declared.whole.WholeError.TheVariants.{Fault, TooLong, Memory}
 use Rattle.acct_streams.specs.Causes.{Rose}
@@ -31,12 +33,14 @@ IsOfRun (EventLine n) = Unit {0}
 IsOfRun _ = ⊥
 
 -- The history, the bytes written and the status are those of the events, with the verdicts of the history.
-pub record Leaves (start : Start) (held now : Option (List ℕ)) (events : List ℕ) (history : List Entry) (status : Status) : Type 0 where
+pub record Leaves (start : Start) (held now : Option (List ℕ)) (events : List ℕ) (history : List Entry)
+    (status : Status) : Type 0 where
   pub entries : history ≡ entries_of (replayed start events history).effects
   pub lines : Appends held now (output_of (replayed start events history).effects)
   pub ends : status ≡ (replayed start events history).status
 
--- The sink failed at the lines of an event or of the end: the history has the entries up to this one's, the lines of the events
+-- The sink failed at the lines of an event or of the end: the history has the entries up to this one's, the lines of
+-- the events
 -- before are written whole, and of its own a front.
 pub record Breaks (start : Start) (held now : Option (List ℕ)) (events : List ℕ) (history : List Entry) : Type 0 where
   pub done : List Effect
@@ -73,7 +77,8 @@ IsLong left = IfSome left (λ bytes. most_bytes < length bytes)
 
 -- why the configuration wasn't taken, by what its source had left and by its counts before and after
 abbrev pub ConfigCause : Option (List ℕ) → ℕ → ℕ → Status → Type 0
-ConfigCause left before now (ConfigBroken n) = IfSome left (λ document. (first_broken document ≡ Some n) × (length document ≤ most_bytes))
+ConfigCause left before now (ConfigBroken n) =
+    IfSome left (λ document. (first_broken document ≡ Some n) × (length document ≤ most_bytes))
 ConfigCause left before now ReadFault = Rose before now
 ConfigCause left before now InputTooLong = IsLong left
 ConfigCause left before now NoMemory = Unit {0}

@@ -1,5 +1,6 @@
 -- What a replay of event lines leaves: the entries of the history, the lines that it prints, and the status.
-use Rattle.std.specs.Prelude.{ℕ, zero, suc, ◌+◌, ◌==◌, Bool, false, ◌&&◌, List, [], ◌∷◌, ◌++◌, length, codes, map, Option, Some, None, Result, Ok, Err, slice_get, slice_set, if◌then◌else◌}
+use Rattle.std.specs.Prelude.{ℕ, zero, suc, ◌+◌, ◌==◌, Bool, false, ◌&&◌, List, [], ◌∷◌, ◌++◌, length, codes, map}
+use Rattle.std.specs.Prelude.{Option, Some, None, Result, Ok, Err, slice_get, slice_set, if◌then◌else◌}
 use Rattle.std.specs.Fmt.{decimal}
 use Rattle.std.specs.List.{flat_map}
 use Rattle.std.specs.Str.{bytes_eq}
@@ -18,13 +19,15 @@ use Rattle.rpc_session.specs.declared.sessions.Session.TheVariants.{Unbound}
 use Rattle.rpc_session.specs.declared.hearing.Hearing.{Hearing}
 use Rattle.rpc_session.specs.declared.hearing.Hearing.TheVariants.{Going}
 use Rattle.rpc_session.specs.Hearings.{Heard, on, is_going}
+use Rattle.rpc_session.specs.Replies.{fault_bytes}
+use Rattle.acct_codes.specs.Faults.{fault_server_too_busy}
 use Rattle.acct_stubs.specs.declared.errors.WireError.{WireError}
 use Rattle.acct_server.specs.declared.events.Event.{Event}
 use Rattle.acct_server.specs.declared.events.Event.TheVariants as event
 use Rattle.acct_server.specs.declared.connections.Peer.{Peer}
 use Rattle.acct_server.specs.declared.connections.Peer.TheVariants.{Open, Ended}
 use Rattle.acct_server.specs.declared.status.Status.{Status}
-use Rattle.acct_server.specs.declared.status.Status.TheVariants.{Done, EventLine}
+use Rattle.acct_server.specs.declared.status.Status.TheVariants.{Done, EventLine, HistoryFull}
 use Rattle.acct_server.specs.Events.{event_of, lines_of}
 use Rattle.acct_server.specs.Requests.{call_on}
 use Rattle.acct_server.specs.declared.requests.Asked.{Asked}
@@ -32,12 +35,13 @@ use Rattle.acct_server.specs.Transcript.{answer_bytes, undecoded_bytes, asked_by
 
 -- ---- lines that are printed
 
--- bytes that are sent on a connection; a connection that the server closes, with the place in its stream and the cause of the PDU that it
--- refused; and a connection that is gone
+-- bytes that are sent on a connection; a connection that the server closes, with the place in its stream and the cause
+-- of the PDU that it refused; a connection that is gone; and a connection that found the history full
 pub data Printed : Type 0 where
   Out : ℕ → List ℕ → Printed
   IsClosed : ℕ → ℕ → ℕ → Printed
   IsGone : ℕ → Printed
+  FoundFull : ℕ → Printed
 
 unfoldable pub out_line : ℕ → List ℕ → List ℕ
 out_line conn bytes = codes "out " ++ decimal conn ++ 32 ∷ encode_lower bytes ++ 10 ∷ []
@@ -48,18 +52,24 @@ closed_line conn place cause = codes "closed " ++ decimal conn ++ 32 ∷ decimal
 unfoldable pub gone_line : ℕ → List ℕ
 gone_line conn = codes "gone " ++ decimal conn ++ 10 ∷ []
 
+unfoldable pub full_line : ℕ → List ℕ
+full_line conn = codes "full " ++ decimal conn ++ 10 ∷ []
+
 abbrev pub line_bytes : Printed → List ℕ
 line_bytes (Out conn bytes) = out_line conn bytes
 line_bytes (IsClosed conn place cause) = closed_line conn place cause
 line_bytes (IsGone conn) = gone_line conn
+line_bytes (FoundFull conn) = full_line conn
 
 -- ---- what a line of the events does
 
--- the entries that it makes, the bytes that come with it on a connection, and the lines that it prints
+-- the entries that it makes, the bytes that come with it on a connection, the lines that it prints, and where it found
+-- the history full, the count of what the history has
 pub record Effect : Type 0 where
   pub entries : List Entry
   pub brings : List (ℕ × List ℕ)
   pub prints : List Printed
+  pub full : Option ℕ
 
 -- the configuration, the history so far, and the connections, of which the first has number 1
 pub record Standing : Type 0 where
@@ -88,23 +98,42 @@ with_peer zero peer peers = peers
 with_peer (suc place) peer peers = slice_set peers place peer
 
 abbrev pub quiet : List Peer → Move
-quiet peers = record { effect = record { entries = []; brings = []; prints = [] }; peers = peers }
+quiet peers = record { effect = record { entries = []; brings = []; prints = []; full = None }; peers = peers }
 
 -- a connection of which no byte has come
 abbrev pub nothing_heard : ℕ → Hearing
 nothing_heard conn = Going conn 0 Unbound []
+
+-- What a history has that takes no further connection, and no further call of so many bytes. No limit is kept so far,
+-- so there is room in every history.
+abbrev pub full_of_conns : Start → List Entry → Option ℕ
+full_of_conns start history = None
+
+abbrev pub full_of_calls : Start → List Entry → ℕ → Option ℕ
+full_of_calls start history size = None
 
 -- the place of the listener of a name
 abbrev pub listener_from : ℕ → List ℕ → List Listener → Option ℕ
 listener_from n name [] = None
 listener_from n name (l ∷ listeners) = if bytes_eq l.name name then Some n else listener_from (n + 1) name listeners
 
--- Connections are opened in the order of their numbers; as far as is built, one is.
+-- An opening is entered; in a full history nothing is.
+abbrev pub opened : Standing → ℕ → ℕ → Option ℕ → Move
+opened s conn listener None = record {
+  effect = record { entries = Opened conn listener ∷ []; brings = []; prints = []; full = None };
+  peers = s.peers ++ Open (nothing_heard conn) ∷ [];
+}
+opened s conn listener (Some count) = record {
+  effect = record { entries = []; brings = []; prints = FoundFull conn ∷ []; full = Some count };
+  peers = s.peers;
+}
+
+-- Connections are opened in the order of their numbers.
 abbrev pub on_listener : Standing → ℕ → Option ℕ → Option Move
 on_listener s conn None = None
 on_listener s conn (Some listener) =
-    if (length s.peers == 0) && (conn == length s.peers + 1)
-    then Some (record { effect = record { entries = Opened conn listener ∷ []; brings = []; prints = [] }; peers = s.peers ++ Open (nothing_heard conn) ∷ [] })
+    if conn == length s.peers + 1
+    then Some (opened s conn listener (full_of_conns s.start s.history))
     else None
 
 abbrev pub on_open : Standing → ℕ → List ℕ → Option Move
@@ -112,46 +141,82 @@ on_open s conn name = on_listener s conn (listener_from 0 name s.start.config.li
 
 -- ---- what the bytes on a connection do
 
--- the entries that an act makes, and the lines that it prints
+-- the entries that an act makes, the lines that it prints, and where it found the history full, the count of what the
+-- history has
 pub record Doing : Type 0 where
   pub entries : List Entry
   pub prints : List Printed
+  pub full : Option ℕ
 
 abbrev pub prints_only : List Printed → Doing
-prints_only lines = record { entries = []; prints = lines }
+prints_only lines = record { entries = []; prints = lines; full = None }
+
+-- what one does, and then another; where the one found the history full, the other isn't done
+abbrev pub both_by : Option ℕ → Doing → Doing → Doing
+both_by None first second =
+    record { entries = first.entries ++ second.entries; prints = first.prints ++ second.prints; full = second.full }
+both_by (Some count) first second = first
 
 abbrev pub both : Doing → Doing → Doing
-both first second = record { entries = first.entries ++ second.entries; prints = first.prints ++ second.prints }
+both first second = both_by first.full first second
 
 -- a call, with its verdict
 abbrev pub on_call : Start → List Entry → ℕ → Asked → ℕ → Call → Verdict → Doing
 on_call start history conn asked stub_size call verdict =
-    let reply = (acted (state_at start history) conn call verdict).1 in
-    record { entries = Called conn call verdict stub_size ∷ []; prints = Out conn (answer_bytes asked call.opnum reply) ∷ [] }
+    let reply = (acted (state_at start history) conn call verdict).1 in record {
+      entries = Called conn call verdict stub_size ∷ [];
+      prints = Out conn (answer_bytes asked call.face call.opnum reply) ∷ [];
+      full = None;
+    }
+
+-- A call that finds the history full is answered that the server is too busy, and its connection is gone.
+abbrev pub on_full : ℕ → Asked → ℕ → Doing
+on_full conn asked count = record {
+  entries = Gone conn ∷ [];
+  prints = Out conn (fault_bytes asked.id asked.context fault_server_too_busy) ∷ FoundFull conn ∷ [];
+  full = Some count;
+}
+
+-- a decoded call, by what the history has where it is full
+abbrev pub on_decoded : Start → Verdicts → List Entry → ℕ → Asked → ℕ → Call → Option ℕ → Doing
+on_decoded start verdicts history conn asked stub_size call None =
+    on_call start history conn asked stub_size call (verdicts (length history))
+on_decoded start verdicts history conn asked stub_size call (Some count) = on_full conn asked count
 
 -- a request that is no decoded call is answered outside the history
 abbrev pub on_request : Start → Verdicts → List Entry → ℕ → Asked → ℕ → Result Call WireError → Doing
 on_request start verdicts history conn asked stub_size (Err e) = prints_only (Out conn (undecoded_bytes asked e) ∷ [])
-on_request start verdicts history conn asked stub_size (Ok call) = on_call start history conn asked stub_size call (verdicts (length history))
+on_request start verdicts history conn asked stub_size (Ok call) =
+    on_decoded start verdicts history conn asked stub_size call (full_of_calls start history stub_size)
 
 -- after a refusal the connection is gone
 abbrev pub on_act : Start → Verdicts → List Entry → ℕ → Act → Doing
 on_act start verdicts history conn (act.Answered bytes) = prints_only (Out conn bytes ∷ [])
-on_act start verdicts history conn (act.Call id context face opnum size stub) = on_request start verdicts history conn (asked_by id context face opnum size) (length stub) (call_on face opnum stub)
-on_act start verdicts history conn (act.Closed place cause bytes) = record { entries = Gone conn ∷ []; prints = Out conn bytes ∷ IsClosed conn place cause ∷ [] }
+on_act start verdicts history conn (act.Call id context face opnum size stub) =
+    let asked = asked_by id context face opnum size in
+    on_request start verdicts history conn asked (length stub) (call_on face opnum stub)
+on_act start verdicts history conn (act.Closed place cause bytes) =
+    record { entries = Gone conn ∷ []; prints = Out conn bytes ∷ IsClosed conn place cause ∷ []; full = None }
 
 -- one act after the other, each with the history that those before it left
 abbrev pub on_acts : Start → Verdicts → List Entry → ℕ → List Act → Doing
 on_acts start verdicts history conn [] = prints_only []
 on_acts start verdicts history conn (a ∷ acts) =
-    let first = on_act start verdicts history conn a in both first (on_acts start verdicts (history ++ first.entries) conn acts)
+    let first = on_act start verdicts history conn a in
+    both first (on_acts start verdicts (history ++ first.entries) conn acts)
+
+-- how a connection stands behind its acts: it is ended where they found the history full
+abbrev pub peer_behind : Option ℕ → Hearing → Peer
+peer_behind None leaves = Open leaves
+peer_behind (Some count) leaves = Ended
 
 -- the acts that the bytes complete; a connection that the server closed hears nothing more
 abbrev pub on_heard : Verdicts → Standing → ℕ → List ℕ → Heard → Move
 on_heard verdicts s conn bytes heard =
     let doing = on_acts s.start verdicts s.history conn heard.acts in record {
-      effect = record { entries = doing.entries; brings = (conn, bytes) ∷ []; prints = doing.prints };
-      peers = with_peer conn (Open heard.leaves) s.peers;
+      effect =
+          record { entries = doing.entries; brings = (conn, bytes) ∷ []; prints = doing.prints; full = doing.full };
+      peers = with_peer conn (peer_behind doing.full heard.leaves) s.peers;
     }
 
 abbrev pub on_data : Verdicts → Standing → ℕ → List ℕ → Option Peer → Option Move
@@ -172,12 +237,18 @@ abbrev pub number_of : ℕ → Option Peer → List ℕ
 number_of conn peer = if is_served peer then conn ∷ [] else []
 
 abbrev pub gone : List ℕ → Effect
-gone conns = record { entries = map (λ conn. Gone conn) conns; brings = []; prints = map (λ conn. IsGone conn) conns }
+gone conns = record {
+  entries = map (λ conn. Gone conn) conns;
+  brings = [];
+  prints = map (λ conn. IsGone conn) conns;
+  full = None;
+}
 
 abbrev pub on_end : Standing → ℕ → Option Peer → Option Move
 on_end s conn None = None
 on_end s conn (Some Ended) = None
-on_end s conn (Some (Open hearing)) = Some (record { effect = gone (number_of conn (Some (Open hearing))); peers = with_peer conn Ended s.peers })
+on_end s conn (Some (Open hearing)) =
+    Some (record { effect = gone (number_of conn (Some (Open hearing))); peers = with_peer conn Ended s.peers })
 
 -- ---- each line
 
@@ -216,10 +287,15 @@ behind effects t = record { effects = effects ++ t.effects; status = t.status }
 abbrev pub ends : Standing → Status → Trace
 ends s status = record { effects = ending s ∷ []; status = status }
 
+-- behind a line that found the history full nothing is run
+abbrev pub unless_full : Option ℕ → Standing → (Standing → Trace) → Trace
+unless_full None s later = later s
+unless_full (Some count) s later = ends s (HistoryFull count)
+
 -- a line that has no effect ends the replay with its number
 abbrev pub follow : Standing → ℕ → Option Move → (Standing → Trace) → Trace
 follow s n None later = ends s (EventLine n)
-follow s n (Some move) later = behind (move.effect ∷ []) (later (moved s move))
+follow s n (Some move) later = behind (move.effect ∷ []) (unless_full move.effect.full (moved s move) later)
 
 -- what the lines do from there on, of which the first has this number
 unfoldable pub trace_from : Verdicts → Standing → ℕ → List (List ℕ) → Trace

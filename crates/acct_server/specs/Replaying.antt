@@ -1,4 +1,5 @@
--- The contract of a replay, by the sources and the sink before and after it. The functions tell of a source the bytes that it has left and
+-- The contract of a replay, by the sources and the sink before and after it. The functions tell of a source the bytes
+-- that it has left and
 -- its count of faults, of a sink the bytes that it holds and its count.
 use Rattle.std.specs.Prelude.{◌≡◌, ℕ, ◌≤◌, ◌⊎◌, List, [], Option, IfSome, length}
 use Rattle.acct_config.specs.declared.config.Config.{Config}
@@ -12,7 +13,8 @@ use Rattle.acct_streams.specs.Whole.{most_bytes, IsWhole}
 use Rattle.acct_server.specs.Begun.{begun}
 use Rattle.acct_server.specs.Configured.{BreaksNone, IsConfigured}
 use Rattle.acct_server.specs.Leaves.{Leaves, Breaks, Stops, IsRunThrough, IsOfRun, ConfigCause, EventsCause, IsAsked}
-use Rattle.acct_server.specs.Connections.{Transcribes}
+use Rattle.acct_server.specs.Connections.{IsTranscribed, received, sent}
+use Rattle.acct_server.specs.Replayed.{replayed}
 use Rattle.acct_server.specs.Denied.{DeniesExactlyIn}
 
 -- what the parts of a replay tell
@@ -28,22 +30,31 @@ pub record Parts (S T : Type 0) : Type 0 where
   pub events : S
   pub out : T
 
--- The lines weren't run: nothing has happened and nothing was written. Either the configuration wasn't taken, and the events are
+-- The lines weren't run: nothing has happened and nothing was written. Either the configuration wasn't taken, and the
+-- events are
 -- untouched, or it was, and the events weren't.
-pub record HasNotRun {S T : Type 0} (told : Telling S T) (old new : Parts S T) (status : Status) (history : List Entry) : Type 0 where
+pub record HasNotRun {S T : Type 0} (told : Telling S T) (old new : Parts S T) (status : Status)
+    (history : List Entry) : Type 0 where
   pub nothing : history ≡ []
   pub out : new.out ≡ old.out
-  pub cause : (ConfigCause (told.left old.config) (told.read_faults old.config) (told.read_faults new.config) status × (new.events ≡ old.events))
-      ⊎ (BreaksNone (told.left old.config) × EventsCause (told.left old.events) (told.read_faults old.events) (told.read_faults new.events) status)
+  pub cause : (ConfigCause (told.left old.config) (told.read_faults old.config) (told.read_faults new.config) status
+      × (new.events ≡ old.events))
+      ⊎ (BreaksNone (told.left old.config)
+      × EventsCause (told.left old.events) (told.read_faults old.events) (told.read_faults new.events) status)
 
 -- Lines were run from one beginning.
-pub record RunsLines (start : Start) (events : List ℕ) (held now : Option (List ℕ)) (before after : ℕ) (status : Status) (history : List Entry) : Type 0 where
+pub record RunsLines (start : Start) (events : List ℕ) (held now : Option (List ℕ)) (before after : ℕ) (status : Status)
+    (history : List Entry) : Type 0 where
   pub possible : IsOfRun status
-  -- run to the end, or to a refused line: history, lines and status are those of the events, with the verdicts of the history
+  -- run to the end, or to a refused line: history, lines and status are those of the events, with the verdicts of the
+  -- history
   pub through : IsRunThrough status → Leaves start held now events history status
   -- what was sent on each connection is the transcript of the acts of what came, with the replies of its calls
-  pub transcribes : IsRunThrough status → (k : ℕ) → Transcribes start events history k
-  -- after a fault of the sink, whose count rose: the entries up to the event whose lines met it, and a front of its lines
+  pub transcribes : IsRunThrough status → (k : ℕ)
+      → IsTranscribed start history k (received k (replayed start events history).effects)
+      (sent k (replayed start events history).effects)
+  -- after a fault of the sink, whose count rose: the entries up to the event whose lines met it, and a front of its
+  -- lines
   pub breaks : status ≡ WriteFault → Breaks start held now events history
   pub write : status ≡ WriteFault → Rose before after
   -- after want of memory: a front of the entries, and a front of the lines
@@ -52,15 +63,18 @@ pub record RunsLines (start : Start) (events : List ℕ) (held now : Option (Lis
   pub legal : Legal start history
   pub denies : DeniesExactlyIn start history
 
--- The lines were run, from the seed rows, under the one configuration that the document spells and over the bytes of the events; where a
+-- The lines were run, from the seed rows, under the one configuration that the document spells and over the bytes of
+-- the events; where a
 -- source doesn't tell, under some right one, and over some bytes.
-pub record HasRunLines {S T : Type 0} (told : Telling S T) (old new : Parts S T) (status : Status) (history : List Entry) : Type 0 where
+pub record HasRunLines {S T : Type 0} (told : Telling S T) (old new : Parts S T) (status : Status)
+    (history : List Entry) : Type 0 where
   pub config : Config
   pub events : List ℕ
   pub configured : IsConfigured (told.left old.config) config
   pub short : IfSome (told.left old.config) (λ document. length document ≤ most_bytes)
   pub whole : IsWhole (told.left old.events) events
-  pub runs : RunsLines (begun config) events (told.held old.out) (told.held new.out) (told.write_faults old.out) (told.write_faults new.out) status history
+  pub runs : RunsLines (begun config) events (told.held old.out) (told.held new.out) (told.write_faults old.out)
+      (told.write_faults new.out) status history
 
 -- no count rose
 pub record AllQuiet {S T : Type 0} (told : Telling S T) (old new : Parts S T) : Type 0 where
@@ -68,10 +82,13 @@ pub record AllQuiet {S T : Type 0} (told : Telling S T) (old new : Parts S T) : 
   pub events : NotRisen (told.read_faults old.events) (told.read_faults new.events)
   pub out : NotRisen (told.write_faults old.out) (told.write_faults new.out)
 
-pub record IsReplay {S T : Type 0} (told : Telling S T) (old new : Parts S T) (status : Status) (history : List Entry) : Type 0 where
+pub record IsReplay {S T : Type 0} (told : Telling S T) (old new : Parts S T) (status : Status)
+    (history : List Entry) : Type 0 where
   pub leaves : HasNotRun told old new status history ⊎ HasRunLines told old new status history
   -- where no count rose, the status is the one that the configuration and the events ask for, or memory was wanted
-  pub complete : AllQuiet told old new → IfSome (told.left old.config) (λ document. IfSome (told.left old.events) (λ bytes. IsAsked document bytes history status))
+  pub complete : AllQuiet told old new
+      → IfSome (told.left old.config)
+      (λ document. IfSome (told.left old.events) (λ bytes. IsAsked document bytes history status))
   pub config_later : told.read_faults old.config ≤ told.read_faults new.config
   pub events_later : told.read_faults old.events ≤ told.read_faults new.events
   pub out_later : told.write_faults old.out ≤ told.write_faults new.out

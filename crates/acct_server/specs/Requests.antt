@@ -3,20 +3,28 @@ use Rattle.std.specs.Prelude.{ℕ, List, Result, Err, if◌then◌else◌}
 use Rattle.acct_calls.specs.declared.calls.Call.{Call}
 use Rattle.acct_calls.specs.declared.calls.Face.{Face}
 use Rattle.acct_calls.specs.declared.calls.Face.TheVariants.{Samr, Lsa}
-use Rattle.acct_stubs.specs.declared.errors.WireError.{WireError}
-use Rattle.acct_stubs.specs.declared.errors.WireError.TheVariants.{NotServed, BadStub, Memory}
 use Rattle.acct_codes.specs.Faults.{fault_operation_range, fault_bad_stub_data}
 use Rattle.acct_stubs.specs.Calls.{call_at}
-use Rattle.samr_wire.specs.Samr.{samr}
+use Rattle.acct_stubs.specs.Wire.{Wire}
+use Rattle.acct_stubs.specs.declared.errors.WireError.{WireError}
+use Rattle.acct_stubs.specs.declared.errors.WireError.TheVariants.{NotServed, BadStub, Memory}
 use Rattle.acct_operations.specs.Table.{has_operation}
+use Rattle.lsa_wire.specs.Wires.{lsa}
+use Rattle.samr_wire.specs.Samr.{samr}
 
--- The call that the stub spells. An operation that isn't in the table counts as not served, before its stub is read. Of LSARPC none is served
--- yet.
+-- how an interface spells its calls and replies
+abbrev pub wire_of : Face → Wire
+wire_of Samr = samr
+wire_of Lsa = lsa
+
+-- The call that the stub spells. An operation that the table doesn't have on this interface counts as not served, and
+-- its stub isn't read.
 abbrev pub call_on : Face → ℕ → List ℕ → Result Call WireError
-call_on Samr opnum stub = if has_operation Samr opnum then call_at samr opnum stub else Err (NotServed opnum)
-call_on Lsa opnum stub = Err (NotServed opnum)
+call_on face opnum stub =
+    if has_operation face opnum then call_at (wire_of face) opnum stub else Err (NotServed opnum)
 
--- operation range (C706 appendix E, nca_s_op_rng_error), or bad stub data (MS-ERREF 2.2, RPC_X_BAD_STUB_DATA); a definition of a reading wants no memory
+-- operation range (C706 appendix E, nca_s_op_rng_error), or bad stub data (MS-ERREF 2.2, RPC_X_BAD_STUB_DATA); the
+-- definition of a reading wants no memory
 abbrev pub undecoded_status : WireError → ℕ
 undecoded_status (NotServed opnum) = fault_operation_range
 undecoded_status (BadStub place) = fault_bad_stub_data

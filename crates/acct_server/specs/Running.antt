@@ -1,5 +1,6 @@
 -- A run of event lines so far, and what a line does to it.
-use Rattle.std.specs.Prelude.{◌≡◌, ℕ, ◌^◌, ◌<◌, ◌≤◌, ◌+◌, Bool, true, false, List, ◌++◌, ◌⊎◌, Option, Some, None, length}
+use Rattle.std.specs.Prelude.{◌≡◌, ℕ, ◌^◌, ◌<◌, ◌≤◌, ◌+◌, Bool, true, false, List, ◌++◌, ◌⊎◌, Option, Some, None}
+use Rattle.std.specs.Prelude.{length}
 use Rattle.std.specs.List.{flat_map}
 use Rattle.acct_machine.specs.declared.entry.Entry.{Entry}
 use Rattle.acct_machine.specs.Shown.{Shown}
@@ -10,7 +11,8 @@ use Rattle.rpc_session.specs.declared.hearing.Hearing.{Hearing}
 use Rattle.rpc_session.specs.declared.sessions.Act.{Act}
 use Rattle.rpc_session.specs.Hearings.{on}
 use Rattle.rpc_session.specs.Acts.{acts, is_refusal, IsSoFar}
-use Rattle.acct_server.specs.Replayed.{Standing, Move, Doing, Verdicts, peer_of, with_peer, is_served, verdict_in, line_bytes, ending}
+use Rattle.acct_server.specs.Replayed.{Standing, Move, Doing, Verdicts, peer_of, with_peer, is_served, verdict_in}
+use Rattle.acct_server.specs.Replayed.{line_bytes, ending}
 
 -- the machine, and the connections
 pub record Running : Type 0 where
@@ -29,16 +31,20 @@ pub record Ties (peers : List Peer) (s : State) : Type 0 where
 -- what a connection that wasn't ended has heard is a stream of at most so many bytes
 abbrev pub HasHeard : ℕ → ℕ → Option Peer → Type 0
 HasHeard most conn None = Unit {0}
-HasHeard most conn (Some (Open hearing)) = (stream : List ℕ) × IsSoFar conn stream hearing (acts conn stream) × (length stream ≤ most)
+HasHeard most conn (Some (Open hearing)) = (stream : List ℕ) × IsSoFar conn stream hearing (acts conn stream)
+    × (length stream ≤ most)
 HasHeard most conn (Some Ended) = Unit {0}
 
 -- and so it is with every connection
 abbrev pub AllHeard : ℕ → List Peer → Type 0
 AllHeard most peers = (conn : ℕ) → HasHeard most conn (peer_of conn peers)
 
--- Acts were done, by whatever entries the history goes on: their entries stand, and their lines were added.
+-- Acts were done, by whatever entries the history goes on: none found it full, their entries stand, and their lines
+-- were
+-- added.
 pub record Acts (what : Verdicts → Doing) (before now : List Entry) (old_lines new_lines : List ℕ) : Type 0 where
   pub doing : Doing
+  pub room : doing.full ≡ None
   pub is : (later : List Entry) → what (verdict_in (now ++ later)) ≡ doing
   pub history : now ≡ before ++ doing.entries
   pub prints : new_lines ≡ old_lines ++ flat_map line_bytes doing.prints
@@ -62,9 +68,10 @@ abbrev pub IsClosing : Bool → ℕ → ℕ → Option Act → Type 0
 IsClosing served i count None = Unit {0}
 IsClosing served i count (Some act) = is_refusal act ≡ true → (i + 1 ≡ count) × (served ≡ false)
 
--- The run goes on by the move that a line makes, by whatever entries the history goes on.
+-- The run goes on by the move that a line makes, by whatever entries the history goes on, and it wasn't found full.
 pub record Does (what : Verdicts → Option Move) (old : Running) (output : List ℕ) (new : Running) : Type 0 where
   pub move : Move
+  pub room : move.effect.full ≡ None
   pub is : (later : List Entry) → what (verdict_in (new.machine.history ++ later)) ≡ Some move
   pub history : new.machine.history ≡ old.machine.history ++ move.effect.entries
   pub peers : new.peers ≡ move.peers
@@ -81,6 +88,7 @@ pub record Enters (what : Verdicts → Option Move) (old new : Running) : Type 0
   pub front : List Entry
   pub history : new.machine.history ≡ old.machine.history ++ front
   pub move : List Entry → Move
+  pub room : (later : List Entry) → (move later).effect.full ≡ None
   pub is : (later : List Entry) → what (verdict_in (new.machine.history ++ later)) ≡ Some (move later)
   pub others : List Entry → List Entry
   pub begins : (later : List Entry) → (move later).effect.entries ≡ front ++ others later

@@ -9,14 +9,14 @@ use Rattle.rpc_session.specs.declared.sessions.Act.TheVariants as act
 use Rattle.rpc_session.specs.Replies.{fault_bytes, reply_bytes}
 use Rattle.acct_stubs.specs.declared.errors.WireError.{WireError}
 use Rattle.acct_stubs.specs.Replies.{spell_reply}
-use Rattle.samr_wire.specs.Samr.{samr}
 use Rattle.acct_server.specs.declared.requests.Asked.{Asked}
-use Rattle.acct_server.specs.Requests.{call_on, undecoded_status}
+use Rattle.acct_server.specs.Requests.{wire_of, call_on, undecoded_status}
 
--- the answer to a decoded call of an operation, by its reply
-unfoldable pub answer_bytes : Asked → ℕ → Reply → List ℕ
-answer_bytes asked opnum (Fault status) = fault_bytes asked.id asked.context status
-answer_bytes asked opnum (Done status outs) = reply_bytes asked.id asked.context asked.size (spell_reply samr opnum (Done status outs))
+-- the answer to a decoded call of an interface and an opnum, by its reply
+unfoldable pub answer_bytes : Asked → Face → ℕ → Reply → List ℕ
+answer_bytes asked face opnum (Fault status) = fault_bytes asked.id asked.context status
+answer_bytes asked face opnum (Done status outs) =
+    reply_bytes asked.id asked.context asked.size (spell_reply (wire_of face) opnum (Done status outs))
 
 -- the answer to a request that is no decoded call
 abbrev pub undecoded_bytes : Asked → WireError → List ℕ
@@ -26,7 +26,7 @@ undecoded_bytes asked error = fault_bytes asked.id asked.context (undecoded_stat
 abbrev pub answered : Asked → Result Call WireError → List Reply → (List Reply → List ℕ) → List ℕ
 answered asked (Err e) replies later = undecoded_bytes asked e ++ later replies
 answered asked (Ok call) [] later = []
-answered asked (Ok call) (reply ∷ replies) later = answer_bytes asked call.opnum reply ++ later replies
+answered asked (Ok call) (reply ∷ replies) later = answer_bytes asked call.face call.opnum reply ++ later replies
 
 -- what a request asks for, and where its answer goes
 abbrev pub asked_by : ℕ → ℕ → Face → ℕ → ℕ → Asked
@@ -47,5 +47,6 @@ with_call (Ok call) size others = (call, size) ∷ others
 abbrev pub decoded_calls : List Act → List (Call × ℕ)
 decoded_calls [] = []
 decoded_calls (act.Answered bytes ∷ acts) = decoded_calls acts
-decoded_calls (act.Call id context face opnum size stub ∷ acts) = with_call (call_on face opnum stub) (length stub) (decoded_calls acts)
+decoded_calls (act.Call id context face opnum size stub ∷ acts) =
+    with_call (call_on face opnum stub) (length stub) (decoded_calls acts)
 decoded_calls (act.Closed place cause bytes ∷ acts) = decoded_calls acts

@@ -1,8 +1,10 @@
 // What the lines of an event file say.
-ghost use Rattle.std.specs.Prelude.{◌≡◌, ◌+◌, ◌≤◌, Some, None, Ok, Err, IfOk, IfSome, ◌<◌, MatchOption, length, drop, option_map};
+ghost use Rattle.std.specs.Prelude.{◌≡◌, ◌+◌, ◌≤◌, Some, None, Ok, Err, IfOk, IfSome, ◌<◌, MatchOption, length, drop};
+ghost use Rattle.std.specs.Prelude.{option_map};
 ghost use Rattle.std.specs.List.{position_or_len};
 ghost use Rattle.acct_server.specs.declared.events.LineError.TheVariants.{NoMemory, Refused};
-ghost use Rattle.acct_server.specs.Events.{is_space, parted, decimal_from, number_of, brings, of_two, of_command, event_of, DataFits};
+ghost use Rattle.acct_server.specs.Events.{is_space, parted, decimal_from, number_of, brings, of_two, of_command};
+ghost use Rattle.acct_server.specs.Events.{event_of, DataFits};
 ghost use Rattle.hex.specs.Hex.{decode_of};
 
 use acct_base::{Seq, is_same, rest_of};

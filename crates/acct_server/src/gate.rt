@@ -6,7 +6,7 @@ ghost use Rattle.acct_machine.specs.declared.machine.Opened.{Opened};
 ghost use Rattle.acct_machine.specs.Calls.{IsCall};
 ghost use Rattle.acct_machine.specs.Machine.{Shaped};
 ghost use Rattle.acct_machine.specs.Passing.{Passes};
-ghost use Rattle.acct_server.specs.Turns.{Turn, MachineOpens, MachineActs, MachineEnds, IfConn};
+ghost use Rattle.acct_server.specs.Turns.{Turn, MachineOpens, MachineActs, MachineEnds, HasNoCall, IfConn};
 
 use acct_machine::{Acted, Call, Opened};
 
@@ -34,12 +34,13 @@ pub trait Gate {
     /// What an opening does to the gate besides.
     ghost opens: { Self → Opened → Self → Type 0 };
 
-    /// Opens a connection at a listener, by its place in the configuration from 0.
+    /// Opens a connection at a listener, by its place in the configuration from 0. It has made no call yet.
     fn open_conn(&mut self, listener: u32) -> Opened
         requires ready { ready self.old }
         requires configured { listener < length (start self.old).config.listeners }
         ensures turn { Turn (finds self.old) (MachineOpens (start self.old) listener result) (known self.new) }
         ensures served { IfConn result (serves self.new) }
+        ensures silent { IfConn result (HasNoCall (start self.new) (known self.new)) }
         ensures ready { ready self.new }
         ensures opens { opens self.old result self.new }
         ensures start { start self.new ≡ start self.old };
@@ -62,7 +63,8 @@ pub trait Gate {
         ensures start { start self.new ≡ start self.old };
 
     /// Whatever is said of a connection that it serves is in a history that a turn finds as it is in what is known.
-    ghost passes: { (g : Self) (k : ℕ) (found : List Entry) → serves g k → finds g found → Passes (start g) k (known g) found };
+    ghost passes: { (g : Self) (k : ℕ) (found : List Entry) → serves g k → finds g found
+        → Passes (start g) k (known g) found };
 
     ghost stays: { (g : Self) (k : ℕ) → moves g k g };
 

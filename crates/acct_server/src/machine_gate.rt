@@ -2,7 +2,7 @@
 ghost use Rattle.std.specs.Prelude.{◌≡◌, true};
 
 use crate::gate::Gate;
-use acct_machine::{Acted, Call, Machine, Opened};
+use acct_machine::{Acted, Call, Machine, Opened, others_change_nothing};
 
 impl Gate for Machine {
     ghost use Rattle.acct_machine.specs.State.{is_live};
@@ -24,6 +24,7 @@ impl Gate for Machine {
     ghost opens = { λ m answer n. Unit {0} };
 
     fn open_conn(&mut self, listener: u32) -> Opened {
+        others_change_nothing();
         self.open_conn(listener)
     }
 

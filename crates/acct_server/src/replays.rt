@@ -4,7 +4,8 @@ ghost use Rattle.acct_server.specs.declared.status.Status.TheVariants.{NoMemory,
 ghost use Rattle.acct_streams.specs.Causes.{Rose};
 ghost use Rattle.acct_streams.specs.Whole.{most_bytes};
 ghost use Rattle.acct_server.specs.Configured.{IsConfigured, refused_status};
-ghost use Rattle.acct_server.specs.Leaves.{Leaves, ConfigCause, unread_status, Breaks, Stops, Finishes, FinishBreaks, IsRunThrough, IsOfRun};
+ghost use Rattle.acct_server.specs.Leaves.{Leaves, ConfigCause, unread_status, Breaks, Stops, Finishes, FinishBreaks};
+ghost use Rattle.acct_server.specs.Leaves.{IsRunThrough, IsOfRun};
 ghost use Rattle.acct_server.specs.Replaying.{IsReplay, RunsLines};
 
 use crate::events::LineError;
@@ -83,9 +84,12 @@ fn run_lines<T: Sink>(alloc: Global, run: &mut Run, bytes: &[u8], out: &mut T) -
     requires history { run.old.machine.history ≡ [] }
     requires peers { run.old.peers ≡ [] }
     requires short { length bytes.now < 2 ^ 32 }
-    ensures through { IsRunThrough result → Leaves run.old.machine.start (T.held out.old) (T.held out.new) bytes.now run.new.machine.history result }
-    ensures breaks { result ≡ WriteFault → Breaks run.old.machine.start (T.held out.old) (T.held out.new) bytes.now run.new.machine.history }
-    ensures stops { result ≡ NoMemory → Stops run.old.machine.start (T.held out.old) (T.held out.new) bytes.now run.new.machine.history }
+    ensures through { IsRunThrough result
+        → Leaves run.old.machine.start (T.held out.old) (T.held out.new) bytes.now run.new.machine.history result }
+    ensures breaks { result ≡ WriteFault
+        → Breaks run.old.machine.start (T.held out.old) (T.held out.new) bytes.now run.new.machine.history }
+    ensures stops { result ≡ NoMemory
+        → Stops run.old.machine.start (T.held out.old) (T.held out.new) bytes.now run.new.machine.history }
     ensures write { result ≡ WriteFault → Rose (T.faults out.old) (T.faults out.new) }
     ensures later { T.faults out.old ≤ T.faults out.new }
     ensures start { run.new.machine.start ≡ run.old.machine.start }
@@ -128,7 +132,8 @@ fn run_events<T: Sink>(alloc: Global, mut run: Run, events: &[u8], out: &mut T) 
     requires history { run.machine.history ≡ [] }
     requires peers { run.peers ≡ [] }
     requires short { length events.now < 2 ^ 32 }
-    ensures runs { RunsLines run.machine.start events.now (T.held out.old) (T.held out.new) (T.faults out.old) (T.faults out.new) result.status result.history }
+    ensures runs { RunsLines run.machine.start events.now (T.held out.old) (T.held out.new) (T.faults out.old)
+        (T.faults out.new) result.status result.history }
     ensures later { T.faults out.old ≤ T.faults out.new }
 {
     let status = run_lines(alloc, &mut run, events, out);
@@ -149,7 +154,8 @@ pub fn replay<S: Source, T: Sink>(
     out: &mut T,
 ) -> Replayed
     ensures { IsReplay (record { left = S.left; read_faults = S.faults; held = T.held; write_faults = T.faults })
-        (record { config = config.old; events = events.old; out = out.old }) (record { config = config.new; events = events.new; out = out.new }) result.status result.history }
+        (record { config = config.old; events = events.old; out = out.old })
+        (record { config = config.new; events = events.new; out = out.new }) result.status result.history }
 {
     let configuration = match read_configuration(alloc, config) {
         Ok(configuration) => configuration,

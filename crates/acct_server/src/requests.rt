@@ -1,19 +1,20 @@
 // Requests: which call each of them is, and its answer over a gate.
 ghost use Rattle.std.specs.Prelude.{◌≡◌, ◌≤◌, OnErr, OnOk, IfOk, Ok, Err, Result, length};
 ghost use Rattle.acct_calls.specs.declared.calls.Call.{Call};
+ghost use Rattle.acct_layouts.specs.ReplyShapes.{HasShape};
 ghost use Rattle.acct_machine.specs.Calls.{IsCall};
 ghost use Rattle.acct_stubs.specs.declared.errors.WireError.{WireError};
-ghost use Rattle.acct_stubs.specs.Calls.{Answers};
-ghost use Rattle.acct_server.specs.Requests.{call_on, undecoded_status};
+ghost use Rattle.acct_stubs.specs.Calls.{ReadsStub};
+ghost use Rattle.acct_stubs.specs.Replies.{spell_reply};
+ghost use Rattle.acct_server.specs.Requests.{wire_of, call_on, undecoded_status};
 ghost use Rattle.acct_server.specs.Transcript.{answer_bytes, undecoded_bytes};
 ghost use Rattle.acct_server.specs.Answering.{AnswersRequest, BeginsRequest, IsAnswerOf};
 
 use crate::gate::Gate;
 use acct_codes::fault::{NCA_S_OP_RNG_ERROR, RPC_X_BAD_STUB_DATA};
 use acct_machine::{Acted, Call, Face, Reply, has_operation};
+use acct_stubs::WireError;
 use rpc_session::{fault_bytes, reply_bytes};
-use samr_wire::laws::calls_are_spelled;
-use samr_wire::{WireError, read_call, write_reply};
 use std::alloc::{AllocError, Global};
 
 /// What a request asks for, and where its answer goes: the call id and context that it answers, the size of its
@@ -27,24 +28,27 @@ pub struct Asked {
     pub opnum: u16,
 }
 
-/// The call of a request on an interface, or why it is none. Of LSARPC no operation is served yet. `Memory` comes only
-/// where memory is wanted.
+/// The call of a request on an interface, or why it is none. Which opnum of which interface is served, the table of
+/// operations says. `Memory` comes only where memory is wanted.
 pub fn read_request(alloc: Global, face: Face, opnum: u16, stub: &[u8]) -> Result<Call, WireError>
-    ensures value { Answers result (call_on face opnum stub.now) }
+    ensures value { ReadsStub result (call_on face opnum stub.now) }
     ensures call { IfOk result IsCall }
-    ensures ours { IfOk result (λ call. call.face ≡ Face.Samr) }
+    ensures face { IfOk result (λ call. call.face ≡ face) }
+    ensures opnum { IfOk result (λ call. call.opnum ≡ opnum) }
 {
-    calls_are_spelled();
+    if !has_operation(face, opnum) {
+        return Err(WireError::NotServed(opnum));
+    }
     match face {
-        Face::Samr if has_operation(face, opnum) => read_call(alloc, opnum, stub),
-        Face::Samr | Face::Lsa => Err(WireError::NotServed(opnum)),
+        Face::Samr => samr_wire::read_call(alloc, opnum, stub),
+        Face::Lsa => lsa_wire::read_call(alloc, opnum, stub),
     }
 }
 
 /// The status of the fault that answers a request that is no decoded call. An error says that memory was wanted.
 pub fn undecoded_status(error: WireError) -> Result<u32, AllocError>
     ensures status { IfOk result (λ status. status ≡ undecoded_status error) }
-    ensures told { OnOk result ((r : Result Call WireError) → Answers (Err error) r → r ≡ Err error) }
+    ensures told { OnOk result ((r : Result Call WireError) → ReadsStub (Err error) r → r ≡ Err error) }
 {
     match error {
         WireError::NotServed(_) => Ok(NCA_S_OP_RNG_ERROR),
@@ -53,23 +57,35 @@ pub fn undecoded_status(error: WireError) -> Result<u32, AllocError>
     }
 }
 
-// The answer to a call of an operation, by its reply. The reply's stub is copied once, into its fragments.
+// The stub of a reply that is no fault.
+fn reply_stub(alloc: Global, face: Face, opnum: u16, reply: &Reply) -> Result<Vec<u8>, AllocError>
+    requires { HasShape face opnum reply.now }
+    ensures { IfOk result (λ stub. stub.items ≡ spell_reply (wire_of face) opnum reply.now) }
+{
+    match face {
+        Face::Samr => samr_wire::write_reply(alloc, opnum, reply),
+        Face::Lsa => lsa_wire::write_reply(alloc, opnum, reply),
+    }
+}
+
+// The answer to a call of an interface and an opnum, by its reply. The reply's stub is copied once, into its fragments.
 #[tactic(auto, unfolding(crate::specs::Transcript::answer_bytes))]
 fn answer_bytes(
     alloc: Global,
     asked: Asked,
+    face: Face,
     opnum: u16,
     reply: &Reply,
 ) -> Result<Vec<u8>, AllocError>
     requires low { 1432 ≤ asked.size }
     requires high { asked.size ≤ 4280 }
-    requires shaped { IsAnswerOf Face.Samr opnum reply.now }
-    ensures { IfOk result (λ bytes. bytes.items ≡ answer_bytes asked opnum reply.now) }
+    requires shaped { IsAnswerOf face opnum reply.now }
+    ensures { IfOk result (λ bytes. bytes.items ≡ answer_bytes asked face opnum reply.now) }
 {
     match reply {
         Reply::Fault(status) => fault_bytes(asked.id, asked.context, *status).to_vec(alloc),
         Reply::Done { .. } => {
-            let stub = write_reply(alloc, opnum, reply)?;
+            let stub = reply_stub(alloc, face, opnum, reply)?;
             reply_bytes(alloc, asked.id, asked.context, asked.size, &stub)
         }
     }
@@ -88,16 +104,17 @@ fn make_call<G: Gate>(
     requires low { 1432 ≤ asked.size }
     requires high { asked.size ≤ 4280 }
     requires spelled { IsCall call }
-    requires ours { call.face ≡ Face.Samr }
-    ensures answers { IfOk result (λ bytes. AnswersRequest (G.start gate.old) conn (G.finds gate.old) (G.known gate.old) (G.known gate.new) asked stub_size (Ok call) bytes.items) }
-    ensures begins { OnErr result (BeginsRequest (G.start gate.old) conn (G.finds gate.old) (G.known gate.old) (G.known gate.new) stub_size (Ok call)) }
+    ensures answers { IfOk result (λ bytes. AnswersRequest (G.start gate.old) conn (G.finds gate.old) (G.known gate.old)
+        (G.known gate.new) asked stub_size (Ok call) bytes.items) }
+    ensures begins { OnErr result (BeginsRequest (G.start gate.old) conn (G.finds gate.old) (G.known gate.old)
+        (G.known gate.new) stub_size (Ok call)) }
     ensures serves { G.serves gate.new conn }
     ensures moves { G.moves gate.old conn gate.new }
     ensures start { G.start gate.new ≡ G.start gate.old }
 {
-    let opnum = call.opnum;
+    let (face, opnum) = (call.face, call.opnum);
     match gate.act(conn, call, stub_size) {
-        Acted::Reply(reply) => answer_bytes(alloc, asked, opnum, &reply),
+        Acted::Reply(reply) => answer_bytes(alloc, asked, face, opnum, &reply),
         Acted::NoMemory => Err(AllocError),
     }
 }
@@ -105,7 +122,7 @@ fn make_call<G: Gate>(
 // The fault that answers a request that is no decoded call.
 fn undecoded_bytes(alloc: Global, asked: Asked, error: WireError) -> Result<Vec<u8>, AllocError>
     ensures bytes { IfOk result (λ bytes. bytes.items ≡ undecoded_bytes asked error) }
-    ensures told { OnOk result ((r : Result Call WireError) → Answers (Err error) r → r ≡ Err error) }
+    ensures told { OnOk result ((r : Result Call WireError) → ReadsStub (Err error) r → r ≡ Err error) }
 {
     let status = undecoded_status(error)?;
     fault_bytes(asked.id, asked.context, status).to_vec(alloc)
@@ -124,8 +141,10 @@ pub fn request<G: Gate>(
     requires low { 1432 ≤ asked.size }
     requires high { asked.size ≤ 4280 }
     requires short { length stub.now ≤ 1048576 }
-    ensures answers { IfOk result (λ bytes. AnswersRequest (G.start gate.old) conn (G.finds gate.old) (G.known gate.old) (G.known gate.new) asked (length stub.now) (call_on asked.face asked.opnum stub.now) bytes.items) }
-    ensures begins { OnErr result (BeginsRequest (G.start gate.old) conn (G.finds gate.old) (G.known gate.old) (G.known gate.new) (length stub.now) (call_on asked.face asked.opnum stub.now)) }
+    ensures answers { IfOk result (λ bytes. AnswersRequest (G.start gate.old) conn (G.finds gate.old) (G.known gate.old)
+        (G.known gate.new) asked (length stub.now) (call_on asked.face asked.opnum stub.now) bytes.items) }
+    ensures begins { OnErr result (BeginsRequest (G.start gate.old) conn (G.finds gate.old) (G.known gate.old)
+        (G.known gate.new) (length stub.now) (call_on asked.face asked.opnum stub.now)) }
     ensures serves { G.serves gate.new conn }
     ensures moves { G.moves gate.old conn gate.new }
     ensures start { G.start gate.new ≡ G.start gate.old }

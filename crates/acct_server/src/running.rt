@@ -1,5 +1,7 @@
 // A machine with the connections of a replay.
-ghost use Rattle.std.specs.Prelude.{◌≡◌, ◌≢◌, ◌⊎◌, ◌+◌, ◌≤◌, ◌<◌, ◌^◌, ℕ, true, false, [], ◌++◌, ◌∷◌, if◌then◌else◌, length, take, Some, None, Ok, Err, OnOk, OnErr, IfOk, IfSome, IsSome, slice_get, slice_set, map, All, option_map};
+ghost use Rattle.std.specs.Prelude.{◌≡◌, ◌≢◌, ◌⊎◌, ◌+◌, ◌≤◌, ◌<◌, ◌^◌, ℕ, true, false, [], ◌++◌, ◌∷◌, if◌then◌else◌};
+ghost use Rattle.std.specs.Prelude.{length, take, Some, None, Ok, Err, OnOk, OnErr, IfOk, IfSome, IsSome, slice_get};
+ghost use Rattle.std.specs.Prelude.{slice_set, map, All, option_map};
 ghost use Rattle.std.specs.List.{flat_map};
 ghost use Rattle.acct_config.specs.Right.{IsRight};
 ghost use Rattle.acct_machine.specs.State.{is_live};
@@ -14,15 +16,19 @@ ghost use Rattle.acct_server.specs.declared.connections.Peer.TheVariants as peer
 ghost use Rattle.acct_server.specs.Begun.{begun};
 ghost use Rattle.acct_server.specs.Requests.{call_on};
 ghost use Rattle.acct_server.specs.Events.{DataFits};
-ghost use Rattle.acct_server.specs.Replayed.{Out, IsClosed, IsGone, peer_of, with_peer, nothing_heard, is_served, number_of, served_from, ending, line_bytes, listener_from, on_open, on_request, on_act, on_acts, on_data, on_end, on_event, on_line};
-ghost use Rattle.acct_server.specs.Running.{standing, AllHeard, Acts, Began, Hears, IsClosing, Does, Refuses, MayStop, Closes};
+ghost use Rattle.acct_server.specs.Replayed.{Out, IsClosed, IsGone, peer_of, with_peer, nothing_heard, is_served};
+ghost use Rattle.acct_server.specs.Replayed.{number_of, served_from, ending, line_bytes, listener_from, on_open};
+ghost use Rattle.acct_server.specs.Replayed.{on_request, on_act, on_acts, on_data, on_end, on_event, on_line};
+ghost use Rattle.acct_server.specs.Running.{standing, AllHeard, Acts, Began, Hears, IsClosing, Does, Refuses, MayStop};
+ghost use Rattle.acct_server.specs.Running.{Closes};
 
 use crate::connections::{Peer, heard, is_served, new_peer};
 use crate::events::{Event, LineError, event_of};
+use crate::gate::Gate;
 use crate::printing::{closed_line, gone_line, out_line};
 use crate::requests::{Asked, request};
 use acct_base::is_same;
-use acct_machine::{Config, Entry, Listener, Machine, Opened, Rows};
+use acct_machine::{Config, Entry, Listener, Machine, Opened, seed_rows};
 use rpc_session::{Act, calls_fit, refusals_are_last, room_by_length, streams_are_cut_anywhere};
 use std::alloc::{AllocError, Global};
 use std::marker::Model;
@@ -58,7 +64,8 @@ fn push_closed(
     cause: u8,
     bytes: &[u8],
 ) -> Result<(), AllocError>
-    ensures { OnOk result (lines.new.items ≡ lines.old.items ++ (line_bytes (Out conn bytes.now) ++ line_bytes (IsClosed conn place cause))) }
+    ensures { OnOk result (lines.new.items
+        ≡ lines.old.items ++ (line_bytes (Out conn bytes.now) ++ line_bytes (IsClosed conn place cause))) }
 {
     push_out(lines, alloc, conn, bytes)?;
     lines.extend_from_slice(&closed_line(alloc, conn, place, cause)?)?;
@@ -67,7 +74,8 @@ fn push_closed(
 
 // The line of a connection, if it is served.
 fn push_gone(lines: &mut Vec<u8>, alloc: Global, conn: u32, served: bool) -> Result<(), AllocError>
-    ensures { OnOk result (lines.new.items ≡ lines.old.items ++ flat_map line_bytes (map IsGone (if served then conn ∷ [] else []))) }
+    ensures { OnOk result (lines.new.items
+        ≡ lines.old.items ++ flat_map line_bytes (map IsGone (if served then conn ∷ [] else []))) }
 {
     if served {
         lines.extend_from_slice(&gone_line(alloc, conn)?)?;
@@ -109,11 +117,11 @@ impl Run {
     /// A run to which nothing has happened, from the seed rows of the configured domain.
     pub fn new(alloc: Global, config: &Config) -> Result<Run, AllocError>
         requires { IsRight config.now }
-        ensures { IfOk result (λ run. run ≡ record { machine = record { start = begun config.now; history = [] }; peers = [] }) }
+        ensures { IfOk result (λ run. run
+            ≡ record { machine = record { start = begun config.now; history = [] }; peers = [] }) }
     {
-        let rows = Rows::seed(alloc, &config.name, config.sid)?;
         Ok(Run {
-            machine: Machine::new(alloc, config, rows)?,
+            machine: Machine::new(alloc, config, seed_rows(alloc, config)?)?,
             peers: Vec::new(alloc),
         })
     }
@@ -138,8 +146,10 @@ impl Run {
     }
 
     fn open(&mut self, alloc: Global, conn: u32, name: &[u8]) -> Result<Vec<u8>, LineError>
-        ensures does { IfOk result (λ output. Does (λ verdicts. on_open (standing self.old) conn name.now) self.old output.items self.new) }
-        ensures refused { result ≡ Err Refused → Refuses (λ verdicts. on_open (standing self.old) conn name.now) self.old self.new }
+        ensures does { IfOk result (λ output. Does (λ verdicts. on_open (standing self.old) conn name.now) self.old
+            output.items self.new) }
+        ensures refused { result ≡ Err Refused
+            → Refuses (λ verdicts. on_open (standing self.old) conn name.now) self.old self.new }
         ensures start { self.new.machine.start ≡ self.old.machine.start }
         ensures memory { result ≡ Err NoMemory → self.new.machine.history ≡ self.old.machine.history }
         ensures hears { (most : ℕ) → AllHeard most self.old.peers → OnOk result (AllHeard most self.new.peers) }
@@ -148,11 +158,11 @@ impl Run {
         let Some(listener) = listener_place(listeners, name) else {
             return Err(LineError::Refused);
         };
-        if !self.peers.is_empty() || conn != 1 {
+        if conn as usize != self.peers.len() + 1 {
             return Err(LineError::Refused);
         }
         self.peers.reserve(1)?;
-        match self.machine.open_conn(listener) {
+        match Gate::open_conn(&mut self.machine, listener) {
             Opened::Conn(_) => match self.peers.push(new_peer(alloc, conn)) {
                 Ok(()) => Ok(Vec::new(alloc)),
                 Err(_) => unreachable!(),
@@ -174,8 +184,14 @@ impl Run {
         requires low { 1432 ≤ asked.size }
         requires high { asked.size ≤ 4280 }
         requires short { length stub.now ≤ 1048576 }
-        ensures acts { OnOk result (Acts (λ verdicts. on_request self.old.machine.start verdicts self.old.machine.history conn asked (length stub.now) (call_on asked.face asked.opnum stub.now)) self.old.machine.history self.new.machine.history lines.old.items lines.new.items) }
-        ensures began { OnErr result (Began (λ verdicts. on_request self.old.machine.start verdicts self.old.machine.history conn asked (length stub.now) (call_on asked.face asked.opnum stub.now)) self.old.machine.history self.new.machine.history) }
+        ensures acts { OnOk result (Acts
+            (λ verdicts. on_request self.old.machine.start verdicts self.old.machine.history conn asked
+            (length stub.now) (call_on asked.face asked.opnum stub.now)) self.old.machine.history
+            self.new.machine.history lines.old.items lines.new.items) }
+        ensures began { OnErr result (Began
+            (λ verdicts. on_request self.old.machine.start verdicts self.old.machine.history conn asked
+            (length stub.now) (call_on asked.face asked.opnum stub.now)) self.old.machine.history
+            self.new.machine.history) }
         ensures live { is_live conn (state_of self.new.machine).conns ≡ true }
         ensures peers { self.new.peers ≡ self.old.peers }
         ensures start { self.new.machine.start ≡ self.old.machine.start }
@@ -197,7 +213,8 @@ impl Run {
         requires live { is_live conn (state_of self.old.machine).conns ≡ true }
         requires closed { is_served (peer_of conn self.old.peers) ≡ false }
         ensures machine { OnOk result (self.new.machine ≡ with_entry self.old.machine (Gone conn)) }
-        ensures lines { OnOk result (lines.new.items ≡ lines.old.items ++ (line_bytes (Out conn bytes.now) ++ line_bytes (IsClosed conn place cause))) }
+        ensures lines { OnOk result (lines.new.items
+            ≡ lines.old.items ++ (line_bytes (Out conn bytes.now) ++ line_bytes (IsClosed conn place cause))) }
         ensures peers { self.new.peers ≡ self.old.peers }
         ensures err { OnErr result (self.new ≡ self.old) }
     {
@@ -217,8 +234,12 @@ impl Run {
         requires live { is_live conn (state_of self.old.machine).conns ≡ true }
         requires fits { IsFit act.now }
         requires closed { is_refusal act.now ≡ true → is_served (peer_of conn self.old.peers) ≡ false }
-        ensures acts { OnOk result (Acts (λ verdicts. on_act self.old.machine.start verdicts self.old.machine.history conn act.now) self.old.machine.history self.new.machine.history lines.old.items lines.new.items) }
-        ensures began { OnErr result (Began (λ verdicts. on_act self.old.machine.start verdicts self.old.machine.history conn act.now) self.old.machine.history self.new.machine.history) }
+        ensures acts { OnOk result (Acts
+            (λ verdicts. on_act self.old.machine.start verdicts self.old.machine.history conn act.now)
+            self.old.machine.history self.new.machine.history lines.old.items lines.new.items) }
+        ensures began { OnErr result (Began
+            (λ verdicts. on_act self.old.machine.start verdicts self.old.machine.history conn act.now)
+            self.old.machine.history self.new.machine.history) }
         ensures live { is_refusal act.now ≡ false → is_live conn (state_of self.new.machine).conns ≡ true }
         ensures peers { self.new.peers ≡ self.old.peers }
         ensures start { self.new.machine.start ≡ self.old.machine.start }
@@ -254,9 +275,14 @@ impl Run {
     fn act_all(&mut self, alloc: Global, conn: u32, acts: &[Act]) -> Result<Vec<u8>, AllocError>
         requires live { 0 < length acts.now → is_live conn (state_of self.old.machine).conns ≡ true }
         requires fits { All IsFit acts.now }
-        requires closed { (i : ℕ) → IsClosing (is_served (peer_of conn self.old.peers)) i (length acts.now) (slice_get acts.now i) }
-        ensures acts { IfOk result (λ lines. Acts (λ verdicts. on_acts self.old.machine.start verdicts self.old.machine.history conn acts.now) self.old.machine.history self.new.machine.history [] lines.items) }
-        ensures began { OnErr result (Began (λ verdicts. on_acts self.old.machine.start verdicts self.old.machine.history conn acts.now) self.old.machine.history self.new.machine.history) }
+        requires closed { (i : ℕ) → IsClosing (is_served (peer_of conn self.old.peers)) i (length acts.now)
+            (slice_get acts.now i) }
+        ensures acts { IfOk result (λ lines. Acts
+            (λ verdicts. on_acts self.old.machine.start verdicts self.old.machine.history conn acts.now)
+            self.old.machine.history self.new.machine.history [] lines.items) }
+        ensures began { OnErr result (Began
+            (λ verdicts. on_acts self.old.machine.start verdicts self.old.machine.history conn acts.now)
+            self.old.machine.history self.new.machine.history) }
         ensures peers { self.new.peers ≡ self.old.peers }
         ensures start { self.new.machine.start ≡ self.old.machine.start }
     {
@@ -272,11 +298,16 @@ impl Run {
         requires heard { AllHeard (2 ^ 32) self.old.peers }
         requires short { length bytes.now ≤ 2 ^ 32 }
         ensures acts { IfOk result (λ acts. Hears conn bytes.now self.old acts.items self.new) }
-        ensures live { IfOk result (λ acts. 0 < length acts.items → is_live conn (state_of self.new.machine).conns ≡ true) }
+        ensures live { IfOk result (λ acts. 0 < length acts.items → is_live conn (state_of self.new.machine).conns
+            ≡ true) }
         ensures fits { IfOk result (λ acts. All IsFit acts.items) }
-        ensures closed { IfOk result (λ acts. (i : ℕ) → IsClosing (is_served (peer_of conn self.new.peers)) i (length acts.items) (slice_get acts.items i)) }
-        ensures hears { (most : ℕ) → AllHeard most self.old.peers → OnOk result (AllHeard (most + length bytes.now) self.new.peers) }
-        ensures refused { result ≡ Err Refused → Refuses (λ verdicts. on_data verdicts (standing self.old) conn bytes.now (peer_of conn self.old.peers)) self.old self.new }
+        ensures closed { IfOk result (λ acts. (i : ℕ)
+            → IsClosing (is_served (peer_of conn self.new.peers)) i (length acts.items) (slice_get acts.items i)) }
+        ensures hears { (most : ℕ) → AllHeard most self.old.peers
+            → OnOk result (AllHeard (most + length bytes.now) self.new.peers) }
+        ensures refused { result ≡ Err Refused
+            → Refuses (λ verdicts. on_data verdicts (standing self.old) conn bytes.now (peer_of conn self.old.peers))
+            self.old self.new }
         ensures machine { self.new.machine ≡ self.old.machine }
     {
         calls_fit();
@@ -296,11 +327,18 @@ impl Run {
     fn data(&mut self, alloc: Global, conn: u32, bytes: &[u8]) -> Result<Vec<u8>, LineError>
         requires heard { AllHeard (2 ^ 32) self.old.peers }
         requires short { length bytes.now ≤ 2 ^ 32 }
-        ensures does { IfOk result (λ output. Does (λ verdicts. on_data verdicts (standing self.old) conn bytes.now (peer_of conn self.old.peers)) self.old output.items self.new) }
-        ensures refused { result ≡ Err Refused → Refuses (λ verdicts. on_data verdicts (standing self.old) conn bytes.now (peer_of conn self.old.peers)) self.old self.new }
+        ensures does { IfOk result (λ output. Does
+            (λ verdicts. on_data verdicts (standing self.old) conn bytes.now (peer_of conn self.old.peers)) self.old
+            output.items self.new) }
+        ensures refused { result ≡ Err Refused
+            → Refuses (λ verdicts. on_data verdicts (standing self.old) conn bytes.now (peer_of conn self.old.peers))
+            self.old self.new }
         ensures start { self.new.machine.start ≡ self.old.machine.start }
-        ensures memory { result ≡ Err NoMemory → MayStop (λ verdicts. on_data verdicts (standing self.old) conn bytes.now (peer_of conn self.old.peers)) self.old self.new }
-        ensures hears { (most : ℕ) → AllHeard most self.old.peers → OnOk result (AllHeard (most + length bytes.now) self.new.peers) }
+        ensures memory { result ≡ Err NoMemory
+            → MayStop (λ verdicts. on_data verdicts (standing self.old) conn bytes.now (peer_of conn self.old.peers))
+            self.old self.new }
+        ensures hears { (most : ℕ) → AllHeard most self.old.peers
+            → OnOk result (AllHeard (most + length bytes.now) self.new.peers) }
     {
         let acts = self.hear(alloc, conn, bytes)?;
         Ok(self.act_all(alloc, conn, &acts)?)
@@ -318,9 +356,11 @@ impl Run {
 
     // Ends a connection, if it is served.
     fn end_if_served(&mut self, conn: u32)
-        ensures history { self.new.machine.history ≡ self.old.machine.history ++ map Gone (number_of conn (peer_of conn self.old.peers)) }
+        ensures history { self.new.machine.history
+            ≡ self.old.machine.history ++ map Gone (number_of conn (peer_of conn self.old.peers)) }
         ensures start { self.new.machine.start ≡ self.old.machine.start }
-        ensures peers { (self.new.peers ≡ self.old.peers) ⊎ (self.new.peers ≡ with_peer conn peer.Ended self.old.peers) }
+        ensures peers { (self.new.peers ≡ self.old.peers)
+            ⊎ (self.new.peers ≡ with_peer conn peer.Ended self.old.peers) }
     {
         if self.peer(conn).is_some_and(|peer| is_served(peer)) {
             self.end_served(conn);
@@ -329,8 +369,11 @@ impl Run {
 
     // Ends a connection that was opened and not ended.
     fn end(&mut self, alloc: Global, conn: u32) -> Result<Vec<u8>, LineError>
-        ensures does { IfOk result (λ output. Does (λ verdicts. on_end (standing self.old) conn (peer_of conn self.old.peers)) self.old output.items self.new) }
-        ensures refused { result ≡ Err Refused → Refuses (λ verdicts. on_end (standing self.old) conn (peer_of conn self.old.peers)) self.old self.new }
+        ensures does { IfOk result (λ output. Does
+            (λ verdicts. on_end (standing self.old) conn (peer_of conn self.old.peers))
+            self.old output.items self.new) }
+        ensures refused { result ≡ Err Refused
+            → Refuses (λ verdicts. on_end (standing self.old) conn (peer_of conn self.old.peers)) self.old self.new }
         ensures start { self.new.machine.start ≡ self.old.machine.start }
         ensures memory { result ≡ Err NoMemory → self.new.machine.history ≡ self.old.machine.history }
         ensures hears { (most : ℕ) → AllHeard most self.old.peers → OnOk result (AllHeard most self.new.peers) }
@@ -349,11 +392,15 @@ impl Run {
     fn event(&mut self, alloc: Global, event: Event) -> Result<Vec<u8>, LineError>
         requires heard { AllHeard (2 ^ 32) self.old.peers }
         requires short { DataFits (2 ^ 32) event }
-        ensures does { IfOk result (λ output. Does (λ verdicts. on_event verdicts (standing self.old) (Some event)) self.old output.items self.new) }
-        ensures refused { result ≡ Err Refused → Refuses (λ verdicts. on_event verdicts (standing self.old) (Some event)) self.old self.new }
+        ensures does { IfOk result (λ output. Does (λ verdicts. on_event verdicts (standing self.old) (Some event))
+            self.old output.items self.new) }
+        ensures refused { result ≡ Err Refused
+            → Refuses (λ verdicts. on_event verdicts (standing self.old) (Some event)) self.old self.new }
         ensures start { self.new.machine.start ≡ self.old.machine.start }
-        ensures memory { result ≡ Err NoMemory → MayStop (λ verdicts. on_event verdicts (standing self.old) (Some event)) self.old self.new }
-        ensures hears { (most : ℕ) → (more : ℕ) → AllHeard most self.old.peers → DataFits more event → OnOk result (AllHeard (most + more) self.new.peers) }
+        ensures memory { result ≡ Err NoMemory
+            → MayStop (λ verdicts. on_event verdicts (standing self.old) (Some event)) self.old self.new }
+        ensures hears { (most : ℕ) → (more : ℕ) → AllHeard most self.old.peers → DataFits more event
+            → OnOk result (AllHeard (most + more) self.new.peers) }
     {
         match event {
             Event::Nothing => Ok(Vec::new(alloc)),
@@ -369,11 +416,15 @@ impl Run {
     pub fn line(&mut self, alloc: Global, line: &[u8]) -> Result<Vec<u8>, LineError>
         requires heard { AllHeard (2 ^ 32) self.old.peers }
         requires short { length line.now < 2 ^ 32 }
-        ensures does { IfOk result (λ output. Does (λ verdicts. on_line verdicts (standing self.old) line.now) self.old output.items self.new) }
-        ensures refused { result ≡ Err Refused → Refuses (λ verdicts. on_line verdicts (standing self.old) line.now) self.old self.new }
+        ensures does { IfOk result (λ output. Does (λ verdicts. on_line verdicts (standing self.old) line.now) self.old
+            output.items self.new) }
+        ensures refused { result ≡ Err Refused
+            → Refuses (λ verdicts. on_line verdicts (standing self.old) line.now) self.old self.new }
         ensures start { self.new.machine.start ≡ self.old.machine.start }
-        ensures memory { result ≡ Err NoMemory → MayStop (λ verdicts. on_line verdicts (standing self.old) line.now) self.old self.new }
-        ensures hears { (most : ℕ) → AllHeard most self.old.peers → OnOk result (AllHeard (most + length line.now) self.new.peers) }
+        ensures memory { result ≡ Err NoMemory
+            → MayStop (λ verdicts. on_line verdicts (standing self.old) line.now) self.old self.new }
+        ensures hears { (most : ℕ) → AllHeard most self.old.peers
+            → OnOk result (AllHeard (most + length line.now) self.new.peers) }
     {
         let event = event_of(alloc, line)?;
         self.event(alloc, event)

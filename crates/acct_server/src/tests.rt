@@ -1,73 +1,57 @@
 // Requests of operations that are built, and of others.
 use crate::requests::read_request;
-use acct_machine::{Args, Call, Face, Handle};
-use samr_wire::WireError;
+use acct_machine::Face;
+use std::alloc::Global;
+use std::process::Abort;
+use std::test::Fail;
 
-/// A handle, and behind it a byte more.
-const CLOSE: [u8; 21] = [
-    0, 0, 0, 0, 0, 0, 0, 0, 0, 0, 1, 0, 0, 0, 0, 0, 0, 0, 0, 1, 9,
-];
+/// Each row: the interface, the opnum, the stub, and its call or why it is none. The stubs of LsarOpenPolicy2 are
+/// Samba's; the handle is the first of the first connection. The last rows are of operations that aren't built or never
+/// served, with stubs that aren't read, and of opnums that the other interface has.
+const REQUESTS: &str = "samr|57|0000000031000000|0 Access(49)
+samr|57|0000000001|BadStub(4)
+samr|1|000000000000000000000100000000000000000109|18446744073709551617 Nothing
+lsa|44|0000000018000000000000000000000000000000000000000000000000000002|0 Policy { rooted: false, access: 33554432 }
+lsa|44|000000001800000000000200000000000000000000000000000000000000000000000002|0 Policy { rooted: true, access: 33554432 }
+lsa|44|00000000180000000000000000000000000000000000000000000000|BadStub(28)
+lsa|0|0000000000000000000001000000000000000001|18446744073709551617 Nothing
+samr|8|00|NotServed(8)
+samr|44|0000000018000000000000000000000000000000000000000000000000000002|NotServed(44)
+samr|0|0000000000000000000001000000000000000001|NotServed(0)
+lsa|57|0000000031000000|NotServed(57)
+lsa|1|0000000000000000000001000000000000000001|NotServed(1)
+lsa|15|00|NotServed(15)";
 
-#[test]
-fn operations_that_are_built_are_read(rt: HostRuntime) {
-    let alloc = rt.alloc();
-    let connect = [0, 0, 0, 0, 0x31, 0, 0, 0];
-    assert!(rt;
-        matches!(
-            read_request(alloc, Face::Samr, 57, &connect),
-            Ok(Call {
-                face: Face::Samr,
-                opnum: 57,
-                handle: Handle { number: 0 },
-                args: Args::Access(0x31),
-            })
-        )
-    );
-    assert!(rt;
-        matches!(
-            read_request(alloc, Face::Samr, 1, &CLOSE),
-            Ok(Call {
-                face: Face::Samr,
-                opnum: 1,
-                handle: Handle {
-                    number: 0x1_0000_0000_0000_0001
-                },
-                args: Args::Nothing,
-            })
-        )
-    );
-    assert!(rt;
-        matches!(
-            read_request(alloc, Face::Samr, 57, &[0, 0, 0, 0, 1]),
-            Err(WireError::BadStub(4))
-        )
-    );
+/// What a request is, in words.
+fn told(alloc: Global, face: Face, opnum: u16, stub: &[u8]) -> Result<String, Fail> {
+    Ok(match read_request(alloc, face, opnum, stub) {
+        Ok(call) => format!(in alloc; "{} {:?}", call.handle.number, call.args)?,
+        Err(error) => format!(in alloc; "{error:?}")?,
+    })
+}
+
+/// A column of a row, and those behind it.
+fn column(row: &str) -> (&str, &str) {
+    row.split_once('|').unwrap_or((row, ""))
+}
+
+fn tell(rt: &impl Abort, alloc: Global, row: &str) -> Result<(), Fail> {
+    let (face, rest) = column(row);
+    let (opnum, rest) = column(rest);
+    let (stub, wanted) = column(rest);
+    let face = if face == "lsa" { Face::Lsa } else { Face::Samr };
+    let opnum = opnum.parse::<u16>().ok().unwrap_or(0);
+    let stub = hex::decode(alloc, stub.as_bytes())
+        .ok()
+        .unwrap_or(Vec::new(alloc));
+    assert_eq!(rt; told(alloc, face, opnum, &stub)?.as_str(), wanted, "{row}");
+    Ok(())
 }
 
 #[test]
-fn others_are_not_served(rt: HostRuntime) {
-    let alloc = rt.alloc();
-    // SamrLookupDomainInSamServer isn't built yet; its stub, which is cut, isn't read.
-    assert!(rt;
-        matches!(
-            read_request(alloc, Face::Samr, 5, &[0]),
-            Err(WireError::NotServed(5))
-        )
-    );
-    // SamrGetUserDomainPasswordInformation is never served.
-    assert!(rt;
-        matches!(
-            read_request(alloc, Face::Samr, 44, &CLOSE),
-            Err(WireError::NotServed(44))
-        )
-    );
-    // LsarLookupSids, and LsarDelete, which has the opnum of SamrCloseHandle.
-    for opnum in [15, 1] {
-        assert!(rt;
-            matches!(
-                read_request(alloc, Face::Lsa, opnum, &CLOSE),
-                Err(WireError::NotServed(served)) if served == opnum
-            )
-        );
+fn requests_of_both_interfaces(rt: HostRuntime) -> Result<(), Fail> {
+    for row in REQUESTS.lines() {
+        tell(&rt, rt.alloc(), row)?;
     }
+    Ok(())
 }

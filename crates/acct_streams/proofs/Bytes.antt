@@ -1,5 +1,6 @@
 -- Bytes that a sink took one after another, and bytes that a source has left.
-use Rattle.std.proofs.Common.{◌≡◌, ℕ, zero, suc, zero-add, arith, ◌∷◌, ◌+◌, List, ◌++◌, take, drop, Option, Some, None, refl, sym, ◌∙◌, ap, append_assoc, []}
+use Rattle.std.proofs.Common.{◌≡◌, ℕ, zero, suc, zero-add, arith, ◌∷◌, ◌+◌, List, ◌++◌, take, drop, Option, Some, None}
+use Rattle.std.proofs.Common.{refl, sym, ◌∙◌, ap, append_assoc, []}
 use Rattle.std.proofs.lemmas.List.{take_all, take-append-drop, drop-drop, drop_all}
 use Rattle.std.specs.Io.KnownBytes.{Appends}
 
@@ -13,12 +14,18 @@ Appends-then (Some xs) (Some ys) (Some zs) x y p q = q ∙ ap (λ (t : List ℕ)
 pub take-more : (i n : ℕ) (bytes : List ℕ) → take (i + n) bytes ≡ take i bytes ++ take n (drop i bytes)
 take-more zero n bytes = rw zero-add refl
 take-more (suc i) n [] = take_all (suc i + n) [] (omega arith) ∙ sym (take_all n [] (omega arith))
-take-more (suc i) n (b ∷ bytes) = let up : suc i + n ≡ suc (i + n) = omega arith in rw up (ap (λ (bs : List ℕ). b ∷ bs) (take-more i n bytes))
+take-more (suc i) n (b ∷ bytes) = let up : suc i + n ≡ suc (i + n) =
+    omega arith in rw up (ap (λ (bs : List ℕ). b ∷ bs) (take-more i n bytes))
 
 -- what is read from a place on, and what is left behind it
-pub read-splits : (place n : ℕ) (bytes rest : List ℕ) → rest ≡ drop place bytes → drop place bytes ≡ take n rest ++ drop (place + n) bytes
+pub read-splits : (place n : ℕ) (bytes rest : List ℕ) → rest ≡ drop place bytes
+    → drop place bytes ≡ take n rest ++ drop (place + n) bytes
 read-splits place n bytes rest is =
-    sym (take-append-drop n (drop place bytes)) ∙ ap (λ (xs : List ℕ). take n (drop place bytes) ++ xs) (drop-drop n place bytes) ∙ ap (λ (xs : List ℕ). take n xs ++ drop (place + n) bytes) (sym is)
+    sym (take-append-drop n (drop place bytes))
+    ∙ ap (λ (xs : List ℕ). take n (drop place bytes) ++ xs) (drop-drop n place bytes)
+    ∙ ap (λ (xs : List ℕ). take n xs ++ drop (place + n) bytes) (sym is)
 
-pub none-behind : (place n : ℕ) (bytes rest : List ℕ) → rest ≡ drop place bytes → n ≡ 0 → rest ≡ [] → drop (place + n) bytes ≡ []
-none-behind place n bytes rest is no_more none = sym (drop-drop n place bytes) ∙ ap (λ (xs : List ℕ). drop n xs) (sym is ∙ none) ∙ drop_all n [] (omega arith)
+pub none-behind : (place n : ℕ) (bytes rest : List ℕ) → rest ≡ drop place bytes → n ≡ 0 → rest ≡ []
+    → drop (place + n) bytes ≡ []
+none-behind place n bytes rest is no_more none = sym (drop-drop n place bytes)
+    ∙ ap (λ (xs : List ℕ). drop n xs) (sym is ∙ none) ∙ drop_all n [] (omega arith)

@@ -3,7 +3,8 @@ use Rattle.std.specs.Prelude.{◌≡◌, ℕ, ◌+◌, ◌-◌, ◌^◌, ◌==�
 use Rattle.std.specs.declared.result.Result.{Result}
 use Rattle.std.specs.List.{list_any}
 
--- the bytes that are left, whether a read has answered the end, how many reads have failed, how many were made, and the numbers of those
+-- the bytes that are left, whether a read has answered the end, how many reads have failed, how many were made, and the
+-- numbers of those
 -- that fail
 pub record SourceInMemory : Type 0 where
   pub left : List ℕ
@@ -17,7 +18,8 @@ pub record SteadyInMemory : Type 0 where
   pub left : List ℕ
   pub ended : Bool
 
--- the bytes that were taken, the room for all of them, how many writes have failed, how many were made, and the numbers of those that fail
+-- the bytes that were taken, the room for all of them, how many writes have failed, how many were made, and the numbers
+-- of those that fail
 pub record SinkInMemory : Type 0 where
   pub held : List ℕ
   pub room : ℕ
@@ -44,4 +46,5 @@ pub record WritesInMemory {E : Type 0} (old new : SinkInMemory) (bytes : List �
   pub number : new.writes ≡ one_more old.writes
   pub failing : new.failing ≡ old.failing
   pub room : new.room ≡ old.room
-  pub fails : is_err result ≡ (is_among old.failing (one_more old.writes) || nat_lt (old.room - length old.held) (length bytes))
+  pub fails : is_err result ≡ (is_among old.failing (one_more old.writes) || nat_lt (old.room - length old.held)
+      (length bytes))

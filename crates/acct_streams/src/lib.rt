@@ -1,9 +1,9 @@
 //! What the server reads from and writes to: sources and sinks, read to their end and written whole, and those in
 //! memory.
 //!
-//! It stands on `acct_base`. The layers above use the contracts of [`Source`] and [`Sink`], by which a fault is answered
-//! only where the object's count of faults rose, and those of [`read_whole`] and [`write_all`], which say which bytes
-//! were read, and which were written also after a fault.
+//! It stands on `acct_base`. The layers above use the contracts of [`Source`] and [`Sink`], by which a fault is
+//! answered only where the object's count of faults rose, and those of [`read_whole`] and [`write_all`], which say
+//! which bytes were read, and which were written also after a fault.
 #![tactic(auto)]
 
 mod memory;

@@ -48,7 +48,13 @@ impl Model for MemorySource {
 
     ghost Value = { SourceInMemory };
 
-    ghost view = { λ s. record { left = drop s.place s.bytes.items; ended = s.has_ended; faults = s.fault_count; reads = s.reads; failing = s.failing.items } };
+    ghost view = { λ s. record {
+      left = drop s.place s.bytes.items;
+      ended = s.has_ended;
+      faults = s.fault_count;
+      reads = s.reads;
+      failing = s.failing.items;
+    } };
 
     ghost invariant = { λ s. (s.place ≤ vec_len s.bytes) × (0 < s.most) };
 }
@@ -57,7 +63,8 @@ impl MemorySource {
     /// A source that gives at most so many bytes a read.
     pub fn new(bytes: Vec<u8>, most: usize, failing: Vec<u64>) -> Self
         requires { 0 < most }
-        ensures { result ≡ record { left = bytes.items; ended = false; faults = 0; reads = 0; failing = failing.items } }
+        ensures { result
+            ≡ record { left = bytes.items; ended = false; faults = 0; reads = 0; failing = failing.items } }
     {
         MemorySource {
             bytes,
@@ -115,7 +122,13 @@ impl Model for MemorySink {
 
     ghost Value = { SinkInMemory };
 
-    ghost view = { λ s. record { held = s.bytes.items; room = s.room; faults = s.fault_count; writes = s.writes; failing = s.failing.items } };
+    ghost view = { λ s. record {
+      held = s.bytes.items;
+      room = s.room;
+      faults = s.fault_count;
+      writes = s.writes;
+      failing = s.failing.items;
+    } };
 
     ghost invariant = { λ s. (vec_len s.bytes ≤ s.room) × (s.room ≤ vec_capacity s.bytes) × (0 < s.most) };
 }
@@ -129,7 +142,8 @@ impl MemorySink {
         failing: Vec<u64>,
     ) -> Result<Self, AllocError>
         requires { 0 < most }
-        ensures { IfOk result (λ sink. sink ≡ record { held = []; room = room; faults = 0; writes = 0; failing = failing.items }) }
+        ensures { IfOk result (λ sink. sink
+            ≡ record { held = []; room = room; faults = 0; writes = 0; failing = failing.items }) }
     {
         Ok(MemorySink {
             bytes: Vec::with_capacity(alloc, room)?,

@@ -7,7 +7,9 @@ returns-in-Err g c =
     let t = g.W.T.Sink in
     let w = g.W.World in
     record {
-      commanded = config-not-handed-out (record { left = s.left; read_faults = s.faults; held = t.held; write_faults = t.faults }) c.args.name.now (w.seen c.args.world.now) (w.seen c.take_source.new.self)
+      commanded = config-not-handed-out
+          (record { left = s.left; read_faults = s.faults; held = t.held; write_faults = t.faults }) c.args.name.now
+          (w.seen c.args.world.now) (w.seen c.take_source.new.self)
           c.in-Err.e c.read_status.result c.in-Err.ensures.takes c.read_status.ensures;
     }
 
@@ -17,8 +19,12 @@ returns-in-Err-take_source g c =
     let t = g.W.T.Sink in
     let w = g.W.World in
     record {
-      commanded = events-not-handed-out (record { left = s.left; read_faults = s.faults; held = t.held; write_faults = t.faults }) c.args.name.now (w.seen c.args.world.now) (w.seen c.take_source.new.self) (w.seen c.take_source-2.new.self) (w.seen c.give_source.new.self)
-          c.in-Ok.config c.in-Err-take_source.e c.read_status-in-Err-take_source.result c.requires c.in-Ok.ensures.takes c.in-Err-take_source.ensures.takes c.give_source.ensures.gives c.read_status-in-Err-take_source.ensures;
+      commanded = events-not-handed-out
+          (record { left = s.left; read_faults = s.faults; held = t.held; write_faults = t.faults }) c.args.name.now
+          (w.seen c.args.world.now) (w.seen c.take_source.new.self) (w.seen c.take_source-2.new.self)
+          (w.seen c.give_source.new.self)
+          c.in-Ok.config c.in-Err-take_source.e c.read_status-in-Err-take_source.result c.requires c.in-Ok.ensures.takes
+          c.in-Err-take_source.ensures.takes c.give_source.ensures.gives c.read_status-in-Err-take_source.ensures;
     }
 
 pub returns-in-Err-take_sink : goal.returns-in-Err-take_sink
@@ -27,9 +33,15 @@ returns-in-Err-take_sink g c =
     let t = g.W.T.Sink in
     let w = g.W.World in
     record {
-      commanded = sink-not-handed-out (record { left = s.left; read_faults = s.faults; held = t.held; write_faults = t.faults }) c.args.name.now (w.seen c.args.world.now) (w.seen c.take_source.new.self) (w.seen c.take_source-2.new.self) (w.seen c.take_sink.new.self)
-          (w.seen c.give_source-in-Err-take_sink.new.self) (w.seen c.give_source-in-Err-take_sink-2.new.self) c.in-Ok.config c.in-Ok-take_source.events c.in-Err-take_sink.e c.write_status.result c.requires
-          c.in-Ok.ensures.takes c.in-Ok-take_source.ensures.takes c.in-Err-take_sink.ensures.takes c.give_source-in-Err-take_sink.ensures.gives c.give_source-in-Err-take_sink-2.ensures.gives c.write_status.ensures;
+      commanded = sink-not-handed-out
+          (record { left = s.left; read_faults = s.faults; held = t.held; write_faults = t.faults }) c.args.name.now
+          (w.seen c.args.world.now) (w.seen c.take_source.new.self) (w.seen c.take_source-2.new.self)
+          (w.seen c.take_sink.new.self)
+          (w.seen c.give_source-in-Err-take_sink.new.self) (w.seen c.give_source-in-Err-take_sink-2.new.self)
+          c.in-Ok.config c.in-Ok-take_source.events c.in-Err-take_sink.e c.write_status.result c.requires
+          c.in-Ok.ensures.takes c.in-Ok-take_source.ensures.takes c.in-Err-take_sink.ensures.takes
+          c.give_source-in-Err-take_sink.ensures.gives c.give_source-in-Err-take_sink-2.ensures.gives
+          c.write_status.ensures;
     }
 
 pub returns : goal.returns
@@ -38,6 +50,10 @@ returns g c =
     let t = g.W.T.Sink in
     let w = g.W.World in
     record {
-      commanded = has-run (record { left = s.left; read_faults = s.faults; held = t.held; write_faults = t.faults }) c.args.name.now (w.seen c.args.world.now) (w.seen c.take_source.new.self) (w.seen c.take_source-2.new.self) (w.seen c.take_sink.new.self) (w.seen c.run_parts.new.world)
-          c.in-Ok.config c.in-Ok-take_source.events c.in-Ok-take_sink.out c.run_parts.result c.requires c.in-Ok.ensures.takes c.in-Ok-take_source.ensures.takes c.in-Ok-take_sink.ensures.takes c.run_parts.ensures;
+      commanded = has-run (record { left = s.left; read_faults = s.faults; held = t.held; write_faults = t.faults })
+          c.args.name.now (w.seen c.args.world.now) (w.seen c.take_source.new.self) (w.seen c.take_source-2.new.self)
+          (w.seen c.take_sink.new.self) (w.seen c.run_parts.new.world)
+          c.in-Ok.config c.in-Ok-take_source.events c.in-Ok-take_sink.out c.run_parts.result c.requires
+          c.in-Ok.ensures.takes c.in-Ok-take_source.ensures.takes c.in-Ok-take_sink.ensures.takes
+          c.run_parts.ensures;
     }

@@ -4,6 +4,8 @@ use Rattle.acct_server.proofs.events.data_of.Goals as goal
 
 pub returns-in-Ok-clause-short : goal.returns-in-Ok-clause-short
 returns-in-Ok-clause-short c =
-    let twice : length c.args.digits.now ≡ 2 * length c.in-Ok.bytes.items = (decode_of-ok c.args.digits.now c.in-Ok.bytes.items c.in-Ok.ensures.ok).2 in
-    let same : length c.from_vec.result ≡ length c.in-Ok.bytes.items = ap (λ (bs : List ℕ). length bs) c.from_vec.ensures in
+    let twice : length c.args.digits.now ≡ 2 * length c.in-Ok.bytes.items =
+    (decode_of-ok c.args.digits.now c.in-Ok.bytes.items c.in-Ok.ensures.ok).2 in
+    let same : length c.from_vec.result ≡ length c.in-Ok.bytes.items =
+    ap (λ (bs : List ℕ). length bs) c.from_vec.ensures in
     omega (arith, twice, same)

@@ -14,9 +14,12 @@ returns-in-Err g c =
     let t = g.T.Sink in
     let a = c.args in
     let new = c.read_configuration.new.source in
-    config-not-taken (record { left = s.left; read_faults = s.faults; held = t.held; write_faults = t.faults }) (record { config = a.config.now; events = a.events.now; out = a.out.now }) (record { config = new; events = a.events.now; out = a.out.now })
+    config-not-taken (record { left = s.left; read_faults = s.faults; held = t.held; write_faults = t.faults })
+    (record { config = a.config.now; events = a.events.now; out = a.out.now })
+    (record { config = new; events = a.events.now; out = a.out.now })
     c.not_run.result.status c.not_run.result.history c.not_run.ensures.history refl refl
-    (subst (λ (x : Status). ConfigCause (s.left a.config.now) (s.faults a.config.now) (s.faults new) x) (sym c.not_run.ensures.status) c.in-Err.ensures.cause) c.in-Err.ensures.later
+    (subst (λ (x : Status). ConfigCause (s.left a.config.now) (s.faults a.config.now) (s.faults new) x)
+    (sym c.not_run.ensures.status) c.in-Err.ensures.cause) c.in-Err.ensures.later
 
 pub returns-in-Err-read_whole : goal.returns-in-Err-read_whole
 returns-in-Err-read_whole g c =
@@ -26,10 +29,15 @@ returns-in-Err-read_whole g c =
     let config = c.read_configuration.new.source in
     let events = c.read_whole.new.source in
     let ends = c.not_run-in-Err-read_whole in
-    events-not-taken (record { left = s.left; read_faults = s.faults; held = t.held; write_faults = t.faults }) (record { config = a.config.now; events = a.events.now; out = a.out.now }) (record { config = config; events = events; out = a.out.now })
-    ends.result.status ends.result.history ends.ensures.history refl (breaks_none (s.left a.config.now) c.in-Ok.configuration c.in-Ok.ensures.configured)
-    (subst (λ (x : Status). EventsCause (s.left a.events.now) (s.faults a.events.now) (s.faults events) x) (sym (ends.ensures.status ∙ c.unread.ensures))
-    (events-whole (s.left a.events.now) (s.faults a.events.now) (s.faults events) c.in-Err-read_whole.e c.in-Err-read_whole.ensures.cause))
+    events-not-taken (record { left = s.left; read_faults = s.faults; held = t.held; write_faults = t.faults })
+    (record { config = a.config.now; events = a.events.now; out = a.out.now })
+    (record { config = config; events = events; out = a.out.now })
+    ends.result.status ends.result.history ends.ensures.history refl
+    (breaks_none (s.left a.config.now) c.in-Ok.configuration c.in-Ok.ensures.configured)
+    (subst (λ (x : Status). EventsCause (s.left a.events.now) (s.faults a.events.now) (s.faults events) x)
+    (sym (ends.ensures.status ∙ c.unread.ensures))
+    (events-whole (s.left a.events.now) (s.faults a.events.now) (s.faults events) c.in-Err-read_whole.e
+    c.in-Err-read_whole.ensures.cause))
     c.in-Ok.ensures.later c.in-Err-read_whole.ensures.later
 
 pub returns-in-Err-new : goal.returns-in-Err-new
@@ -40,9 +48,13 @@ returns-in-Err-new g c =
     let config = c.read_configuration.new.source in
     let events = c.read_whole.new.source in
     let ends = c.not_run-in-Err-new in
-    events-not-taken (record { left = s.left; read_faults = s.faults; held = t.held; write_faults = t.faults }) (record { config = a.config.now; events = a.events.now; out = a.out.now }) (record { config = config; events = events; out = a.out.now })
-    ends.result.status ends.result.history ends.ensures.history refl (breaks_none (s.left a.config.now) c.in-Ok.configuration c.in-Ok.ensures.configured)
-    (subst (λ (x : Status). EventsCause (s.left a.events.now) (s.faults a.events.now) (s.faults events) x) (sym ends.ensures.status) tt)
+    events-not-taken (record { left = s.left; read_faults = s.faults; held = t.held; write_faults = t.faults })
+    (record { config = a.config.now; events = a.events.now; out = a.out.now })
+    (record { config = config; events = events; out = a.out.now })
+    ends.result.status ends.result.history ends.ensures.history refl
+    (breaks_none (s.left a.config.now) c.in-Ok.configuration c.in-Ok.ensures.configured)
+    (subst (λ (x : Status). EventsCause (s.left a.events.now) (s.faults a.events.now) (s.faults events) x)
+    (sym ends.ensures.status) tt)
     c.in-Ok.ensures.later c.in-Ok-read_whole.ensures.later
 
 pub returns : goal.returns
@@ -51,14 +63,19 @@ returns g c =
     let t = g.T.Sink in
     let a = c.args in
     let run = c.run_events in
-    lines-run (record { left = s.left; read_faults = s.faults; held = t.held; write_faults = t.faults }) (record { config = a.config.now; events = a.events.now; out = a.out.now })
-    (record { config = c.read_configuration.new.source; events = c.read_whole.new.source; out = run.new.out }) run.result.status run.result.history
+    lines-run (record { left = s.left; read_faults = s.faults; held = t.held; write_faults = t.faults })
+    (record { config = a.config.now; events = a.events.now; out = a.out.now })
+    (record { config = c.read_configuration.new.source; events = c.read_whole.new.source; out = run.new.out })
+    run.result.status run.result.history
     (record {
       config = c.in-Ok.configuration;
       events = c.deref.result.now;
       configured = c.in-Ok.ensures.configured;
       short = c.in-Ok.ensures.short;
-      whole = subst (λ (bs : List ℕ). IsWhole (s.left a.events.now) bs) (sym c.deref.ensures.value) c.in-Ok-read_whole.ensures.whole;
-      runs = subst (λ (x : Start). RunsLines x c.deref.result.now (t.held a.out.now) (t.held run.new.out) (t.faults a.out.now) (t.faults run.new.out) run.result.status run.result.history) (ap (λ (r : Running). r.machine.start) c.in-Ok-new.ensures) run.ensures.runs;
+      whole = subst (λ (bs : List ℕ). IsWhole (s.left a.events.now) bs) (sym c.deref.ensures.value)
+          c.in-Ok-read_whole.ensures.whole;
+      runs = subst (λ (x : Start). RunsLines x c.deref.result.now (t.held a.out.now) (t.held run.new.out)
+          (t.faults a.out.now) (t.faults run.new.out) run.result.status run.result.history)
+          (ap (λ (r : Running). r.machine.start) c.in-Ok-new.ensures) run.ensures.runs;
     })
     c.in-Ok.ensures.later c.in-Ok-read_whole.ensures.later run.ensures.later

@@ -5,4 +5,5 @@ use Rattle.acct_server.proofs.running.gone_lines.Given as goal
 
 abbrev pub invariant-loop-i : goal.invariant-loop-i
 invariant-loop-i l =
-    l.lines.items ++ flat_map line_bytes (map IsGone (served_from (l.i + 1) (drop l.i l.peers))) ≡ flat_map line_bytes (map IsGone (served_from 1 l.peers))
+    l.lines.items ++ flat_map line_bytes (map IsGone (served_from (l.i + 1) (drop l.i l.peers)))
+    ≡ flat_map line_bytes (map IsGone (served_from 1 l.peers))

@@ -9,7 +9,12 @@ loop-at-preserved g c = record {
   held =
       let t = g.T.Sink in
       let rest : c.rest_of.result.now ≡ drop c.loop-at.at c.args.bytes.now = c.rest_of.ensures.value in
-      let piece : Appends (t.held c.loop-at.out) (t.held c.write.new.self) (take c.in_ok-at.field-0 (drop c.loop-at.at c.args.bytes.now)) = subst (λ (bs : List ℕ). Appends (t.held c.loop-at.out) (t.held c.write.new.self) (take c.in_ok-at.field-0 bs)) rest c.in_ok-at.ensures.bytes in
-      rw take-more (Appends-then (t.held c.args.out.now) (t.held c.loop-at.out) (t.held c.write.new.self) (take c.loop-at.at c.args.bytes.now) (take c.in_ok-at.field-0 (drop c.loop-at.at c.args.bytes.now)) c.loop-at.invariant.held piece);
+      let piece : Appends (t.held c.loop-at.out) (t.held c.write.new.self)
+      (take c.in_ok-at.field-0 (drop c.loop-at.at c.args.bytes.now)) =
+      subst (λ (bs : List ℕ). Appends (t.held c.loop-at.out) (t.held c.write.new.self) (take c.in_ok-at.field-0 bs))
+      rest c.in_ok-at.ensures.bytes in
+      rw take-more (Appends-then (t.held c.args.out.now) (t.held c.loop-at.out) (t.held c.write.new.self)
+      (take c.loop-at.at c.args.bytes.now) (take c.in_ok-at.field-0 (drop c.loop-at.at c.args.bytes.now))
+      c.loop-at.invariant.held piece);
   later = omega (arith, c.write.ensures.cause.later);
 }

@@ -14,7 +14,8 @@ use Rattle.acct_server.proofs.running.Run.act_all.Goals as goal
 
 pub loop-i-init : goal.loop-i-init
 loop-i-init c = record {
-  done = none-done c.args.self.now.machine.start c.args.conn c.args.self.now.machine.history c.new-lines.result.items c.new-lines.ensures.items;
+  done = none-done c.args.self.now.machine.start c.args.conn c.args.self.now.machine.history c.new-lines.result.items
+      c.new-lines.ensures.items;
   live = c.requires.live;
   peers = refl;
   start = refl;
@@ -29,17 +30,24 @@ act-requires-clause-closed c = λ is.
     let x = c.index-acts-i.result in
     let here = act-here c.loop-i.i a.acts.now x x c.loop-i-test.true c.index-acts-i.is in
     subst (λ (ps : List Peer). is_served (peer_of a.conn ps) ≡ false) (sym c.loop-i.invariant.peers)
-    (closing-here c.loop-i.i (length a.acts.now) (is_served (peer_of a.conn a.self.now.peers)) a.acts.now x here (c.requires.closed c.loop-i.i) is).1
+    (closing-here c.loop-i.i (length a.acts.now) (is_served (peer_of a.conn a.self.now.peers)) a.acts.now x here
+    (c.requires.closed c.loop-i.i) is).1
 
 pub returns-in_err-act-clause-began : goal.returns-in_err-act-clause-began
 returns-in_err-act-clause-began c =
     let a = c.args in
     let x = c.index-acts-i.result in
-    let parts = parted c.loop-i.i a.acts.now x (act-here c.loop-i.i a.acts.now x x c.loop-i-test.true c.index-acts-i.is) in
+    let parts = parted c.loop-i.i a.acts.now x
+    (act-here c.loop-i.i a.acts.now x x c.loop-i-test.true c.index-acts-i.is) in
     let before = a.self.now.machine.history in
-    on-err c.from_residual.result (subst (λ (as' : List Act). Began (λ verdicts. on_acts a.self.now.machine.start verdicts before a.conn as') before c.act.new.self.machine.history) (sym parts.whole)
-    (acts-stop a.self.now.machine.start a.conn (take c.loop-i.i a.acts.now) x parts.rest before c.loop-i.self.machine.history c.act.new.self.machine.history [] c.loop-i.lines.items c.loop-i.invariant.done
-    (subst (λ (k : Start). Began (λ verdicts. on_act k verdicts c.loop-i.self.machine.history a.conn x) c.loop-i.self.machine.history c.act.new.self.machine.history) c.loop-i.invariant.start c.in_err-act.ensures.began)))
+    on-err c.from_residual.result (subst
+    (λ (as' : List Act). Began (λ verdicts. on_acts a.self.now.machine.start verdicts before a.conn as') before
+    c.act.new.self.machine.history) (sym parts.whole)
+    (acts-stop a.self.now.machine.start a.conn (take c.loop-i.i a.acts.now) x parts.rest before
+    c.loop-i.self.machine.history c.act.new.self.machine.history [] c.loop-i.lines.items c.loop-i.invariant.done
+    (subst (λ (k : Start). Began (λ verdicts. on_act k verdicts c.loop-i.self.machine.history a.conn x)
+    c.loop-i.self.machine.history c.act.new.self.machine.history) c.loop-i.invariant.start
+    c.in_err-act.ensures.began)))
 
 pub returns-in_err-act-clause-peers : goal.returns-in_err-act-clause-peers
 returns-in_err-act-clause-peers c = c.act.ensures.peers ∙ c.loop-i.invariant.peers
@@ -54,11 +62,18 @@ loop-i-preserved c =
     let before = a.self.now.machine.history in
     let here = act-here c.loop-i.i a.acts.now x x c.loop-i-test.true c.index-acts-i.is in
     record {
-      done = subst (λ (as' : List Act). Acts (λ verdicts. on_acts a.self.now.machine.start verdicts before a.conn as') before c.act.new.self.machine.history [] c.act.new.lines.items) (sym (one-more c.loop-i.i a.acts.now x here))
-          (acts-go-on a.self.now.machine.start a.conn (take c.loop-i.i a.acts.now) x before c.loop-i.self.machine.history c.act.new.self.machine.history [] c.loop-i.lines.items c.act.new.lines.items c.loop-i.invariant.done
-          (subst (λ (k : Start). Acts (λ verdicts. on_act k verdicts c.loop-i.self.machine.history a.conn x) c.loop-i.self.machine.history c.act.new.self.machine.history c.loop-i.lines.items c.act.new.lines.items) c.loop-i.invariant.start c.in_ok-act.ensures.acts));
-      live = not-last x c.loop-i.i (length a.acts.now) (is_served (peer_of a.conn a.self.now.peers)) (is_live a.conn (state_of c.act.new.self.machine).conns ≡ true) c.act.ensures.live
-          (closing-here c.loop-i.i (length a.acts.now) (is_served (peer_of a.conn a.self.now.peers)) a.acts.now x here (c.requires.closed c.loop-i.i));
+      done = subst (λ (as' : List Act). Acts (λ verdicts. on_acts a.self.now.machine.start verdicts before a.conn as')
+          before c.act.new.self.machine.history [] c.act.new.lines.items) (sym (one-more c.loop-i.i a.acts.now x here))
+          (acts-go-on a.self.now.machine.start a.conn (take c.loop-i.i a.acts.now) x before
+          c.loop-i.self.machine.history c.act.new.self.machine.history [] c.loop-i.lines.items c.act.new.lines.items
+          c.loop-i.invariant.done
+          (subst (λ (k : Start). Acts (λ verdicts. on_act k verdicts c.loop-i.self.machine.history a.conn x)
+          c.loop-i.self.machine.history c.act.new.self.machine.history c.loop-i.lines.items c.act.new.lines.items)
+          c.loop-i.invariant.start c.in_ok-act.ensures.acts));
+      live = not-last x c.loop-i.i (length a.acts.now) (is_served (peer_of a.conn a.self.now.peers))
+          (is_live a.conn (state_of c.act.new.self.machine).conns ≡ true) c.act.ensures.live
+          (closing-here c.loop-i.i (length a.acts.now) (is_served (peer_of a.conn a.self.now.peers)) a.acts.now x here
+          (c.requires.closed c.loop-i.i));
       peers = c.act.ensures.peers ∙ c.loop-i.invariant.peers;
       start = c.act.ensures.start ∙ c.loop-i.invariant.start;
     }
@@ -68,7 +83,9 @@ returns-clause-acts c =
     let a = c.args in
     let before = a.self.now.machine.history in
     let ends = c.loop-i-test.false in
-    subst (λ (as' : List Act). Acts (λ verdicts. on_acts a.self.now.machine.start verdicts before a.conn as') before c.loop-i.self.machine.history [] c.loop-i.lines.items) (take_all c.loop-i.i a.acts.now (omega (arith, ends))) c.loop-i.invariant.done
+    subst (λ (as' : List Act). Acts (λ verdicts. on_acts a.self.now.machine.start verdicts before a.conn as') before
+    c.loop-i.self.machine.history [] c.loop-i.lines.items) (take_all c.loop-i.i a.acts.now (omega (arith, ends)))
+    c.loop-i.invariant.done
 
 pub returns-clause-peers : goal.returns-clause-peers
 returns-clause-peers c = c.loop-i.invariant.peers

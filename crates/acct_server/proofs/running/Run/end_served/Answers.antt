@@ -12,7 +12,10 @@ pub invariant_of-self : goal.invariant_of-self
 invariant_of-self c =
     let conn = c.args.conn in
     let peers = c.self.inside.peers.items in
-    let served = subst (λ (r : Running). is_served (peer_of conn r.peers) ≡ true) (sym c.self.view_is) c.requires.served in
+    let served = subst (λ (r : Running). is_served (peer_of conn r.peers) ≡ true) (sym c.self.view_is)
+    c.requires.served in
     let there = served-there (peer_of conn peers) served in
-    subst (λ (ps : List Peer). Ties ps (state_at c.gone.new.self.start c.gone.new.self.history)) (sym (peer-set conn peers there.0 Ended there.1))
-    (ties-ended conn peers there.0 (state_at c.self.inside.machine.start c.self.inside.machine.history) (state_at c.gone.new.self.start c.gone.new.self.history) there.1 c.self.invariant c.gone.ensures.live)
+    subst (λ (ps : List Peer). Ties ps (state_at c.gone.new.self.start c.gone.new.self.history))
+    (sym (peer-set conn peers there.0 Ended there.1))
+    (ties-ended conn peers there.0 (state_at c.self.inside.machine.start c.self.inside.machine.history)
+    (state_at c.gone.new.self.start c.gone.new.self.history) there.1 c.self.invariant c.gone.ensures.live)

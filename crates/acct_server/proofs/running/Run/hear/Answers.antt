@@ -1,4 +1,5 @@
-use Rattle.std.proofs.Common.{◌≡◌, ℕ, ◌^◌, ◌+◌, ◌-◌, List, Option, Some, All, length, slice_get, slice_set, sym, ap, ◌∙◌, subst}
+use Rattle.std.proofs.Common.{◌≡◌, ℕ, ◌^◌, ◌+◌, ◌-◌, List, Option, Some, All, length, slice_get, slice_set, sym, ap}
+use Rattle.std.proofs.Common.{◌∙◌, subst}
 use Rattle.rpc_session.specs.declared.sessions.Act.{Act}
 use Rattle.rpc_session.specs.declared.hearing.Hearing.{Hearing}
 use Rattle.rpc_session.specs.Hearings.{on, is_going}
@@ -15,37 +16,50 @@ use Rattle.acct_server.proofs.running.Run.hear.Goals as goal
 stands : (c : goal.In_ok-heard-in-Open) → peer_of c.args.conn c.args.self.now.peers ≡ Some (peer.Open c.in-Open.stream)
 stands c =
     let found = sym c.in-Some-Open.ensures.value in
-    let known = subst (λ (r : Running). peer_of c.args.conn r.peers ≡ Some c.in-Some-Open.field-0.now) (sym c.self.view_is) found in
-    let same : c.index_mut.result.now ≡ c.in-Some-Open.field-0.now = c.index_mut.ensures.value ∙ peer-got c.args.conn c.self.inside.peers.items c.in-Some-Open.field-0.now c.index_mut.result.now known in
+    let known = subst (λ (r : Running). peer_of c.args.conn r.peers ≡ Some c.in-Some-Open.field-0.now)
+    (sym c.self.view_is) found in
+    let same : c.index_mut.result.now ≡ c.in-Some-Open.field-0.now = c.index_mut.ensures.value
+    ∙ peer-got c.args.conn c.self.inside.peers.items c.in-Some-Open.field-0.now c.index_mut.result.now known in
     found ∙ ap (λ (p : Peer). Some p) (sym same ∙ c.in-Open.is)
 
 -- the connections behind it
-left : (c : goal.In_ok-heard-in-Open) → slice_set c.self.inside.peers.items (c.args.conn - 1) (peer.Open c.heard.new.stream) ≡ with_peer c.args.conn (peer.Open (on c.in-Open.stream c.args.bytes.now).leaves) c.args.self.now.peers
+left : (c : goal.In_ok-heard-in-Open)
+    → slice_set c.self.inside.peers.items (c.args.conn - 1) (peer.Open c.heard.new.stream)
+    ≡ with_peer c.args.conn (peer.Open (on c.in-Open.stream c.args.bytes.now).leaves) c.args.self.now.peers
 left c =
     let same : c.self.inside.peers.items ≡ c.args.self.now.peers = ap (λ (r : Running). r.peers) c.self.view_is in
     let new : Peer = peer.Open (on c.in-Open.stream c.args.bytes.now).leaves in
-    ap (λ (h : Hearing). slice_set c.self.inside.peers.items (c.args.conn - 1) (peer.Open h)) c.in_ok-heard-in-Open.ensures.leaves
+    ap (λ (h : Hearing). slice_set c.self.inside.peers.items (c.args.conn - 1) (peer.Open h))
+    c.in_ok-heard-in-Open.ensures.leaves
     ∙ ap (λ (ps : List Peer). slice_set ps (c.args.conn - 1) new) same
     ∙ peer-set c.args.conn c.args.self.now.peers (peer.Open c.in-Open.stream) new (stands c)
 
-heard : (c : goal.In_ok-heard-in-Open) (most : ℕ) → AllHeard most c.args.self.now.peers → HasHeard most c.args.conn (Some (peer.Open c.in-Open.stream))
+heard : (c : goal.In_ok-heard-in-Open) (most : ℕ) → AllHeard most c.args.self.now.peers
+    → HasHeard most c.args.conn (Some (peer.Open c.in-Open.stream))
 heard c most all = subst (λ (p : Option Peer). HasHeard most c.args.conn p) (stands c) (all c.args.conn)
 
 pub returns-clause-fits : goal.returns-clause-fits
 returns-clause-fits c =
     subst (λ (as' : List Act). All IsFit as') (sym c.in_ok-heard-in-Open.ensures.acts)
-    (piece-acts-fit c.streams_are_cut_anywhere.ensures c.calls_fit.ensures (2 ^ 32) c.args.conn c.in-Open.stream c.args.bytes.now (heard c (2 ^ 32) c.requires.heard))
+    (piece-acts-fit c.streams_are_cut_anywhere.ensures c.calls_fit.ensures (2 ^ 32) c.args.conn c.in-Open.stream
+    c.args.bytes.now (heard c (2 ^ 32) c.requires.heard))
 
 pub returns-clause-closed : goal.returns-clause-closed
 returns-clause-closed c = λ i.
     let new = peer.Open (on c.in-Open.stream c.args.bytes.now).leaves in
-    let here : peer_of c.args.conn (slice_set c.self.inside.peers.items (c.args.conn - 1) (peer.Open c.heard.new.stream)) ≡ Some new =
-    ap (λ (ps : List Peer). peer_of c.args.conn ps) (left c) ∙ peer-here c.args.conn c.args.self.now.peers new (peer.Open c.in-Open.stream) (stands c) in
-    let closes = piece-closes c.streams_are_cut_anywhere.ensures c.refusals_are_last.ensures (2 ^ 32) c.args.conn c.in-Open.stream c.args.bytes.now (heard c (2 ^ 32) c.requires.heard) i in
-    subst (λ (p : Option Peer). IsClosing (is_served p) i (length c.in_ok-heard-in-Open.field-0.items) (slice_get c.in_ok-heard-in-Open.field-0.items i)) (sym here)
-    (subst (λ (as' : List Act). IsClosing (is_going (on c.in-Open.stream c.args.bytes.now).leaves) i (length as') (slice_get as' i)) (sym c.in_ok-heard-in-Open.ensures.acts) closes)
+    let here : peer_of c.args.conn (slice_set c.self.inside.peers.items (c.args.conn - 1)
+    (peer.Open c.heard.new.stream)) ≡ Some new =
+    ap (λ (ps : List Peer). peer_of c.args.conn ps) (left c)
+    ∙ peer-here c.args.conn c.args.self.now.peers new (peer.Open c.in-Open.stream) (stands c) in
+    let closes = piece-closes c.streams_are_cut_anywhere.ensures c.refusals_are_last.ensures (2 ^ 32) c.args.conn
+    c.in-Open.stream c.args.bytes.now (heard c (2 ^ 32) c.requires.heard) i in
+    subst (λ (p : Option Peer). IsClosing (is_served p) i (length c.in_ok-heard-in-Open.field-0.items)
+    (slice_get c.in_ok-heard-in-Open.field-0.items i)) (sym here)
+    (subst (λ (as' : List Act). IsClosing (is_going (on c.in-Open.stream c.args.bytes.now).leaves) i (length as')
+    (slice_get as' i)) (sym c.in_ok-heard-in-Open.ensures.acts) closes)
 
 pub returns-clause-hears : goal.returns-clause-hears
 returns-clause-hears c = λ most all.
     subst (λ (ps : List Peer). AllHeard (most + length c.args.bytes.now) ps) (sym (left c))
-    (all-heard c.streams_are_cut_anywhere.ensures most c.args.conn c.in-Open.stream c.args.bytes.now c.args.self.now.peers (stands c) all)
+    (all-heard c.streams_are_cut_anywhere.ensures most c.args.conn c.in-Open.stream c.args.bytes.now
+    c.args.self.now.peers (stands c) all)

@@ -1,15 +1,15 @@
 use Rattle.std.proofs.Common.{◌≡◌, ◌+◌, [], ◌∷◌, ◌++◌, List, Some, length, ap, ◌∙◌, sym, arith, subst}
 use Rattle.std.proofs.lemmas.Bool.Decides.{nat_tests}
 use Rattle.std.proofs.lemmas.Grind.{common_steps}
-use Rattle.acct_server.specs.Replayed.{nothing_heard}
-use Rattle.acct_server.specs.declared.connections.Peer.TheVariants.{Open}
-use Rattle.acct_server.specs.Replayed.{on_open, listener_from}
-use Rattle.acct_server.specs.Running.{Running, standing, Does}
+use Rattle.acct_machine.specs.declared.machine.Opened.TheVariants as opens
 use Rattle.acct_server.specs.declared.connections.Peer.{Peer}
-use Rattle.acct_server.specs.Running.{AllHeard}
+use Rattle.acct_server.specs.declared.connections.Peer.TheVariants.{Open}
+use Rattle.acct_server.specs.Replayed.{nothing_heard, on_open, listener_from}
+use Rattle.acct_server.specs.Running.{Running, standing, Does, AllHeard}
+use Rattle.acct_server.proofs.Configuring.{few_listeners}
 use Rattle.acct_server.proofs.Heard.{all-heard-pushed}
 use Rattle.acct_server.proofs.Moves.{open-does}
-use Rattle.acct_server.proofs.Configuring.{few_listeners}
+use Rattle.acct_server.proofs.Opening.{turn-opens}
 use Rattle.acct_server.proofs.running.Run.open.Goals as goal
 
 pub listener_place-requires : goal.listener_place-requires
@@ -19,18 +19,22 @@ pub returns-in-Ok-clause-does : goal.returns-in-Ok-clause-does
 returns-in-Ok-clause-does c =
     let old : Running = record { machine = c.self.inside.machine; peers = c.self.inside.peers.items } in
     let new : Running = record { machine = c.open_conn.new.self; peers = c.push.new.self.items } in
+    let made = turn-opens old.machine new.machine c.in-Some.listener (opens.Conn c.in-Conn.field-0)
+    c.in-Conn.ensures.turn c.open_conn.ensures.start in
     let found : listener_from 0 c.args.name.now old.machine.start.config.listeners ≡ Some c.in-Some.listener = cc in
-    let none : length old.peers ≡ 0 = grind (arith, nat_tests) in
-    let same : c.in-Conn.field-0 ≡ c.args.conn = c.in-Conn.ensures.opens.0 ∙ ap (λ n. n + 1) (c.self.invariant.count ∙ none) ∙ sym c.if-conn-ne1.false in
+    let next : c.args.conn ≡ length old.peers + 1 = grind (arith, nat_tests) in
+    let same : c.in-Conn.field-0 ≡ c.args.conn = made.0 ∙ ap (λ n. n + 1) c.self.invariant.count ∙ sym next in
     let added : new.peers ≡ old.peers ++ Open (nothing_heard c.args.conn) ∷ [] = grind (arith, common_steps) in
-    subst (λ (r : Running). Does (λ verdicts. on_open (standing r) c.args.conn c.args.name.now) r c.new.result.items new) c.self.view_is
-    (open-does old new c.args.conn c.in-Conn.field-0 c.in-Some.listener c.args.name.now c.new.result.items found none c.if-conn-ne1.false same c.in-Conn.ensures.opens.1 added c.new.ensures.items)
+    subst (λ (r : Running). Does (λ verdicts. on_open (standing r) c.args.conn c.args.name.now) r c.new.result.items
+    new) c.self.view_is
+    (open-does old new c.args.conn c.in-Conn.field-0 c.in-Some.listener c.args.name.now c.new.result.items found next
+    same made.1 added c.new.ensures.items)
 
 pub returns-in-Ok-clause-hears : goal.returns-in-Ok-clause-hears
 returns-in-Ok-clause-hears c = λ most all.
     let peers = c.self.inside.peers.items in
     let before : peers ≡ c.args.self.now.peers = ap (λ (r : Running). r.peers) c.self.view_is in
-    let none : length peers ≡ 0 = grind (arith, nat_tests) in
     let added : c.push.new.self.items ≡ peers ++ Open (nothing_heard c.args.conn) ∷ [] = grind (arith, common_steps) in
-    let first : c.args.conn ≡ length peers + 1 = c.if-conn-ne1.false ∙ sym (ap (λ n. n + 1) none) in
-    subst (λ (ps : List Peer). AllHeard most ps) (sym added) (all-heard-pushed most c.args.conn peers first (subst (λ (ps : List Peer). AllHeard most ps) (sym before) all))
+    let first : c.args.conn ≡ length peers + 1 = grind (arith, nat_tests) in
+    subst (λ (ps : List Peer). AllHeard most ps) (sym added)
+    (all-heard-pushed most c.args.conn peers first (subst (λ (ps : List Peer). AllHeard most ps) (sym before) all))

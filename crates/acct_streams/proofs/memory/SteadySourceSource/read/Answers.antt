@@ -6,9 +6,12 @@ use Rattle.acct_streams.proofs.memory.SteadySourceSource.read.Goals as goal
 pub returns-clause-bytes : goal.returns-clause-bytes
 returns-clause-bytes c =
     let s = c.self.inside in
-    let rest : c.rest_of.result.now ≡ drop s.place s.bytes.items = c.rest_of.ensures.value ∙ ap (λ (bytes : List ℕ). drop s.place bytes) c.deref.ensures.value in
+    let rest : c.rest_of.result.now ≡ drop s.place s.bytes.items = c.rest_of.ensures.value
+    ∙ ap (λ (bytes : List ℕ). drop s.place bytes) c.deref.ensures.value in
     let n = c.copy_front-count.result in (
-      sym (ap (λ (seen : SteadyInMemory). seen.left) c.self.view_is) ∙ read-splits s.place n s.bytes.items c.rest_of.result.now rest
+      sym (ap (λ (seen : SteadyInMemory). seen.left) c.self.view_is)
+          ∙ read-splits s.place n s.bytes.items c.rest_of.result.now rest
           ∙ ap (λ (front : List ℕ). front ++ drop (s.place + n) s.bytes.items) (sym c.copy_front-count.ensures.copied),
-      λ at_zero some. none-behind s.place n s.bytes.items c.rest_of.result.now rest at_zero (c.copy_front-count.ensures.all at_zero some),
+      λ at_zero some. none-behind s.place n s.bytes.items c.rest_of.result.now rest at_zero
+          (c.copy_front-count.ensures.all at_zero some),
     )

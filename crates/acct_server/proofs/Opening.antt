@@ -1,0 +1,37 @@
+-- The opening of a connection over a gate, and over the machine itself.
+use Rattle.std.proofs.Common.{◌≡◌, ℕ, List, [], sym, ◌∙◌, subst}
+use Rattle.acct_machine.specs.declared.entry.Entry.{Entry}
+use Rattle.acct_machine.specs.declared.machine.Opened.{Opened}
+use Rattle.acct_machine.specs.declared.machine.Opened.TheVariants as opens
+use Rattle.acct_machine.specs.Machine.{Opens, OpensFresh, SameCalls}
+use Rattle.acct_machine.specs.Passing.{OthersChangeNothing}
+use Rattle.acct_machine.specs.Shown.{Shown}
+use Rattle.acct_server.specs.Turns.{shown, Turn, MachineOpens, HasNoCall, IfConn}
+use Rattle.acct_server.proofs.Moves.{Only}
+
+-- a connection that no entry before is of has made no call
+pub silent-opened : OthersChangeNothing → (old new : Shown) (answer : Opened) → OpensFresh old answer
+    → SameCalls old new
+    → IfConn answer (HasNoCall new.start new.history)
+silent-opened others old new (opens.Conn conn) fresh same =
+    let passes = others old.start conn [] old.history fresh in
+    record { calls = same.calls conn ∙ passes.calls; replies = same.replies conn ∙ passes.replies }
+silent-opened others old new opens.NoMemory fresh same = tt
+
+-- what a turn of the machine does that finds its history
+found-here : (old new : Shown) (listener : ℕ) (answer : Opened)
+    → Turn (Only old.history) (MachineOpens old.start listener answer) new.history
+    → MachineOpens old.start listener answer old.history new.history
+found-here old new listener answer turn =
+    subst (λ (h : List Entry). MachineOpens old.start listener answer h new.history) turn.finds_it turn.does_it
+
+-- the machine after it begins where it began
+begun-there : (old new : Shown) → new.start ≡ old.start → shown old.start new.history ≡ new
+begun-there old new start = λ i. record { start = sym start i; history = new.history }
+
+pub turn-opens : (old new : Shown) (listener : ℕ) (answer : Opened)
+    → Turn (Only old.history) (MachineOpens old.start listener answer) new.history → new.start ≡ old.start
+    → Opens old listener answer new
+turn-opens old new listener answer turn start =
+    subst (λ (m : Shown). Opens old listener answer m) (begun-there old new start)
+    (found-here old new listener answer turn).opens
