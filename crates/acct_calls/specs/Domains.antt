@@ -2,6 +2,7 @@
 use Rattle.std.specs.Prelude.{ℕ, Bool, not, ◌&&◌, nat_le, codes, chars, List, [], ◌∷◌, length}
 use Rattle.acct_codes.specs.declared.kind.Kind.TheVariants.{Group}
 use Rattle.acct_codes.specs.Limits.{most_domain_name, most_domain_subs}
+use Rattle.acct_codes.specs.Rids.{security_nt_authority, security_builtin_domain_rid}
 use Rattle.dtyp_sid.specs.Value.{SidValue}
 use Rattle.dtyp_sid.specs.Order.{sid_eq}
 use Rattle.acct_calls.specs.CodePoints.{units_of}
@@ -17,7 +18,7 @@ abbrev pub builtin_name : List ℕ
 builtin_name = name_of_text (codes "BUILTIN")
 
 abbrev pub builtin_sid : SidValue
-builtin_sid = record { authority = 5; subs = 32 ∷ [] }
+builtin_sid = record { authority = security_nt_authority; subs = security_builtin_domain_rid ∷ [] }
 
 -- the name of the domain of the well-known SIDs of S-1-5 (MS-DTYP 2.4.2.4)
 abbrev pub authority_name : List ℕ

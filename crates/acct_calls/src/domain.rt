@@ -5,6 +5,7 @@ ghost use Rattle.acct_calls.specs.Domains.{builtin_sid, is_domain_name, is_domai
 use crate::{Name, NoMemory};
 use acct_codes::Kind;
 use acct_codes::limit::{MOST_DOMAIN_NAME, MOST_DOMAIN_SUBS};
+use acct_codes::rid::{SECURITY_BUILTIN_DOMAIN_RID, SECURITY_NT_AUTHORITY};
 use dtyp_sid::Sid;
 use std::alloc::Global;
 
@@ -15,7 +16,7 @@ pub const BUILTIN_NAME: &str = "BUILTIN";
 pub fn builtin_sid() -> Sid
     ensures { result ≡ builtin_sid }
 {
-    match Sid::new(5, &[32]) {
+    match Sid::new(SECURITY_NT_AUTHORITY, &[SECURITY_BUILTIN_DOMAIN_RID]) {
         Ok(sid) => sid,
         Err(_) => unreachable!(),
     }
@@ -43,6 +44,7 @@ pub fn is_domain_name(alloc: Global, name: &Name) -> Result<bool, NoMemory>
 pub fn is_domain_sid(sid: &Sid) -> bool
     ensures { result ≡ is_domain_sid sid.now }
 {
-    let is_builtin = sid.authority() == 5 && sid.subs() == [32].as_slice();
+    let is_builtin = sid.authority() == SECURITY_NT_AUTHORITY
+        && sid.subs() == [SECURITY_BUILTIN_DOMAIN_RID].as_slice();
     1 <= sid.subs().len() && sid.subs().len() <= MOST_DOMAIN_SUBS && !is_builtin
 }

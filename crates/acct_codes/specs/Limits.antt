@@ -1,4 +1,4 @@
--- The limits of connections and of rows: sizes of fragments (C706 12.6.3.1) and this project's own.
+-- The limits of connections, of lists in calls and of rows: those of the standards, and this project's own.
 use Rattle.std.specs.Prelude.{ℕ}
 
 -- MUST_RECV_FRAG_SIZE: the size of fragment that every receiver takes (C706 12.6.3.1)
@@ -36,3 +36,27 @@ page_entry_cost = 12
 -- the most that a page costs, whatever length is preferred
 abbrev pub most_page : ℕ
 most_page = 65_536
+
+-- the most names or RIDs of one SAMR look-up (MS-SAMR 3.1.5.11.2, 3.1.5.11.3)
+abbrev pub most_searched : ℕ
+most_searched = 1_000
+
+-- the most SIDs whose membership is asked for at once (MS-SAMR 2.2.7.19)
+abbrev pub most_member_sids : ℕ
+most_member_sids = 1_024
+
+-- the most names of one set of rights (MS-LSAD 2.2.5.1)
+abbrev pub most_rights : ℕ
+most_rights = 256
+
+-- the most privileges of one set (MS-LSAD 2.2.5.5)
+abbrev pub most_privileges : ℕ
+most_privileges = 1_000
+
+-- the most names that are translated at once (MS-LSAT 3.1.4.8)
+abbrev pub most_translated_names : ℕ
+most_translated_names = 1_000
+
+-- the most SIDs that are translated at once (MS-LSAT 2.2.17)
+abbrev pub most_translated_sids : ℕ
+most_translated_sids = 20_480

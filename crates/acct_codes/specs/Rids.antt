@@ -1,6 +1,14 @@
 -- Well-known relative identifiers of accounts (MS-DTYP 2.4.2.4), and the bounds of those that are given out.
 use Rattle.std.specs.Prelude.{ℕ}
 
+-- the identifier authority of Windows, S-1-5
+abbrev pub security_nt_authority : ℕ
+security_nt_authority = 5
+
+-- the domain BUILTIN, S-1-5-32
+abbrev pub security_builtin_domain_rid : ℕ
+security_builtin_domain_rid = 32
+
 -- the user Administrator
 abbrev pub domain_user_rid_admin : ℕ
 domain_user_rid_admin = 500

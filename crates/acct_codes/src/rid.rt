@@ -1,10 +1,15 @@
 //! Well-known relative identifiers of accounts (MS-DTYP 2.4.2.4), and the bounds of those that are given out.
 ghost use Rattle.std.specs.Prelude.{◌≡◌};
+ghost use Rattle.acct_codes.specs.Rids.{security_nt_authority, security_builtin_domain_rid};
 ghost use Rattle.acct_codes.specs.Rids.{domain_user_rid_admin, domain_user_rid_guest, domain_group_rid_admins};
 ghost use Rattle.acct_codes.specs.Rids.{domain_group_rid_users, domain_group_rid_guests};
 ghost use Rattle.acct_codes.specs.Rids.{domain_alias_rid_admins, domain_alias_rid_users};
 ghost use Rattle.acct_codes.specs.Rids.{domain_alias_rid_guests, first_created_rid, most_rid};
 
+/// The identifier authority of Windows, S-1-5.
+pub const SECURITY_NT_AUTHORITY: u64 = 5;
+/// The domain BUILTIN, S-1-5-32.
+pub const SECURITY_BUILTIN_DOMAIN_RID: u32 = 32;
 /// The user Administrator.
 pub const DOMAIN_USER_RID_ADMIN: u32 = 500;
 /// The user Guest.
@@ -28,6 +33,8 @@ pub const MOST_RID: u32 = 0x3FFF_FFFF;
 
 /// Each relative identifier is the one of the standard (MS-DTYP 2.4.2.4), and each bound is set.
 pub fn rids_are_the_standards()
+    ensures security_nt_authority { SECURITY_NT_AUTHORITY ≡ security_nt_authority }
+    ensures security_builtin_domain_rid { SECURITY_BUILTIN_DOMAIN_RID ≡ security_builtin_domain_rid }
     ensures domain_user_rid_admin { DOMAIN_USER_RID_ADMIN ≡ domain_user_rid_admin }
     ensures domain_user_rid_guest { DOMAIN_USER_RID_GUEST ≡ domain_user_rid_guest }
     ensures domain_group_rid_admins { DOMAIN_GROUP_RID_ADMINS ≡ domain_group_rid_admins }
