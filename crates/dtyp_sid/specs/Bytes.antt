@@ -5,7 +5,7 @@ use Rattle.std.specs.Int.{w32, w64, bytes_high_first, to_le_bytes, from_le_bytes
 use Rattle.std.specs.List.{flat_map}
 use Rattle.std.specs.declared.result.Result.{Result}
 use Rattle.std.specs.declared.result.Result.TheVariants.{Ok, Err}
-use Rattle.dtyp_sid.specs.Value.{SidValue, IsSid}
+use Rattle.dtyp_sid.specs.Value.{SidValue, IsSid, sid_max_sub_authorities}
 use Rattle.dtyp_sid.specs.declared.errors.BytesError.{BytesError}
 use Rattle.dtyp_sid.specs.declared.errors.BytesError.TheVariants.{Short, Revision, Count}
 
@@ -35,7 +35,7 @@ unfoldable pub sid_of_bytes : List ℕ → Result SidValue BytesError
 sid_of_bytes bytes =
     if nat_lt (length bytes) 8 then Err Short
     else (if not (slice_index bytes 0 == 1) then Err Revision
-    else (if nat_lt 15 (slice_index bytes 1) then Err Count
+    else (if nat_lt sid_max_sub_authorities (slice_index bytes 1) then Err Count
     else (if nat_lt (length bytes) (8 + 4 * slice_index bytes 1) then Err Short
     else Ok (record { authority = authority_at_front (drop 2 bytes); subs = subs_at_front (slice_index bytes 1) (drop 8 bytes) }))))
 

@@ -2,14 +2,14 @@
 use Rattle.std.specs.Prelude.{ℕ, ◌^◌, List, [], ◌∷◌, ◌++◌, length, nat_lt, nat_le, if◌then◌else◌}
 use Rattle.std.specs.declared.result.Result.{Result}
 use Rattle.std.specs.declared.result.Result.TheVariants.{Ok, Err}
-use Rattle.dtyp_sid.specs.Value.{SidValue}
+use Rattle.dtyp_sid.specs.Value.{SidValue, sid_max_sub_authorities}
 use Rattle.dtyp_sid.specs.declared.errors.SidError.{SidError}
 use Rattle.dtyp_sid.specs.declared.errors.SidError.TheVariants.{TooMany, AuthorityRange}
 
 -- the SID of an authority and its sub-authorities, or the first limit that they pass
 abbrev pub sid_of : ℕ → List ℕ → Result SidValue SidError
 sid_of authority subs =
-    if nat_lt 15 (length subs) then Err TooMany
+    if nat_lt sid_max_sub_authorities (length subs) then Err TooMany
     else (if nat_le (2 ^ 48) authority then Err AuthorityRange else Ok (record { authority = authority; subs = subs }))
 
 -- the SID with one more sub-authority behind

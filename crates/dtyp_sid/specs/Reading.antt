@@ -3,7 +3,7 @@ use Rattle.std.specs.Prelude.{◌≡◌, ℕ, ◌+◌, ◌-◌, ◌*◌, ◌^◌
 use Rattle.std.specs.Char.{is_ascii_digit, digit_value, is_digit}
 use Rattle.std.specs.declared.option.Option.{Option}
 use Rattle.std.specs.declared.option.Option.TheVariants.{Some, None}
-use Rattle.dtyp_sid.specs.Value.{SidValue}
+use Rattle.dtyp_sid.specs.Value.{SidValue, sid_max_sub_authorities}
 use Rattle.dtyp_sid.specs.Text.{IsText}
 use Rattle.dtyp_sid.specs.Made.{with_last, authority_alone}
 use Rattle.dtyp_sid.specs.declared.reading.Stage.{Stage}
@@ -31,7 +31,8 @@ stage_after (Hexadecimal count number) byte =
     else (if byte == 45 then Some (Dashed (authority_alone number)) else None)
 stage_after (Dashed sid) byte = option_map (Sub sid) (first_digit byte)
 stage_after (Sub sid number) byte =
-    if byte == 45 then (if nat_lt (length sid.subs) 14 then Some (Dashed (with_last sid number)) else None)
+    if byte == 45 then
+    (if nat_lt (length sid.subs) (sid_max_sub_authorities - 1) then Some (Dashed (with_last sid number)) else None)
     else option_map (Sub sid) (more_digits number byte)
 
 -- the stage after the bytes, where a text may go on so
@@ -56,8 +57,8 @@ abbrev pub IsStage : Stage → Type 0
 IsStage (Opening count) = count ≤ 4
 IsStage (Decimal number) = Unit {0}
 IsStage (Hexadecimal count number) = (count ≤ 12) × (number < 16 ^ count)
-IsStage (Dashed sid) = length sid.subs < 15
-IsStage (Sub sid number) = length sid.subs < 15
+IsStage (Dashed sid) = length sid.subs < sid_max_sub_authorities
+IsStage (Sub sid number) = length sid.subs < sid_max_sub_authorities
 
 -- the function from texts to SIDs gives a SID exactly for its texts
 abbrev pub ReadTextsAreTexts : Type 0

@@ -1,6 +1,10 @@
 -- The value of a SID (MS-DTYP 2.4.2): an identifier authority of 48 bits, and at most fifteen sub-authorities of 32 bits
 use Rattle.std.specs.Prelude.{ℕ, ◌^◌, ◌<◌, ◌≤◌, List, length, All}
 
+-- SID_MAX_SUB_AUTHORITIES: the most sub-authorities of a SID
+abbrev pub sid_max_sub_authorities : ℕ
+sid_max_sub_authorities = 15
+
 -- what contracts see of a SID
 pub record SidValue : Type 0 where
   pub authority : ℕ
@@ -9,5 +13,5 @@ pub record SidValue : Type 0 where
 -- the limits of a SID
 pub record IsSid (sid : SidValue) : Type 0 where
   pub authority_fits : sid.authority < 2 ^ 48
-  pub count_fits : length sid.subs ≤ 15
+  pub count_fits : length sid.subs ≤ sid_max_sub_authorities
   pub subs_fit : All (λ sub. sub < 2 ^ 32) sid.subs

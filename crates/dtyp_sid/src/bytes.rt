@@ -3,7 +3,7 @@ ghost use Rattle.std.specs.Prelude.{◌≡◌, ◌+◌, ◌*◌, ◌^◌, ◌<�
 ghost use Rattle.std.specs.Int.{w32, from_le_bytes};
 ghost use Rattle.dtyp_sid.specs.Bytes.{bytes_of, sid_of_bytes, authority_at_front, BeginWithSid};
 
-use crate::{BytesError, Sid};
+use crate::{BytesError, SID_MAX_SUB_AUTHORITIES, Sid};
 use acct_base::rest_of;
 
 impl Sid {
@@ -20,7 +20,7 @@ impl Sid {
             return Err(BytesError::Revision);
         }
         let count = usize::from(bytes[1]);
-        if count > 15 {
+        if count > SID_MAX_SUB_AUTHORITIES {
             return Err(BytesError::Count);
         }
         if bytes.len() < 8 + 4 * count {

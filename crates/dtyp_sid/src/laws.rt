@@ -1,8 +1,17 @@
 //! Laws of SIDs, their texts and bytes, each the contract of a function that does nothing.
+ghost use Rattle.std.specs.Prelude.{◌≡◌};
+ghost use Rattle.dtyp_sid.specs.Value.{sid_max_sub_authorities};
 ghost use Rattle.dtyp_sid.specs.Text.{TextsAreOfOne, WrittenTextsAreTexts, WrittenTextsDiffer};
 ghost use Rattle.dtyp_sid.specs.Reading.{ReadTextsAreTexts};
 ghost use Rattle.dtyp_sid.specs.Bytes.{WrittenBytesAreRead, WrittenBytesHaveLengths, ReadBytesAreWritten};
 ghost use Rattle.dtyp_sid.specs.Order.{EqualSidsAreOne};
+
+use crate::SID_MAX_SUB_AUTHORITIES;
+
+/// A SID has as many sub-authorities as the standard lets it have.
+pub fn limit_is_set()
+    ensures { SID_MAX_SUB_AUTHORITIES ≡ sid_max_sub_authorities }
+{}
 
 /// No text is that of two SIDs.
 pub fn texts_are_of_one()

@@ -16,7 +16,7 @@ mod text;
 
 pub use errors::{BadText, BytesError, SidError};
 pub use reading::parse_text;
-pub use sid::Sid;
+pub use sid::{SID_MAX_SUB_AUTHORITIES, Sid};
 
 #[cfg(test)]
 mod tests;

@@ -3,8 +3,9 @@ ghost use Rattle.std.specs.Prelude.{◌≡◌, ◌<◌, ◌≤◌, ◌^◌, leng
 ghost use Rattle.std.specs.Result.{result_ok};
 ghost use Rattle.dtyp_sid.specs.Reading.{first_digit, more_digits, stage_after, finished, IsStage, sid_of_text};
 ghost use Rattle.dtyp_sid.specs.Text.{IsText, IsBadPlace};
+ghost use Rattle.dtyp_sid.specs.Value.{sid_max_sub_authorities};
 
-use crate::{BadText, Sid};
+use crate::{BadText, SID_MAX_SUB_AUTHORITIES, Sid};
 
 /// How far a text is read.
 #[derive(Clone, Copy)]
@@ -120,12 +121,12 @@ fn step_hexadecimal(count: usize, number: u64, byte: u8) -> Option<Stage>
 
 #[tactic(auto, unfolding(crate::specs::Reading::stage_after))]
 fn step_sub(sid: Sid, number: u32, byte: u8) -> Option<Stage>
-    requires { length sid.subs < 15 }
+    requires { length sid.subs < sid_max_sub_authorities }
     ensures value { result ≡ stage_after (Stage.Sub sid number) byte }
     ensures stage { IfSome result IsStage }
 {
     if byte == b'-' {
-        if sid.subs().len() < 14 {
+        if sid.subs().len() < SID_MAX_SUB_AUTHORITIES - 1 {
             match sid.with_rid(number) {
                 Some(longer) => Some(Stage::Dashed(longer)),
                 None => None,

@@ -1,11 +1,14 @@
 // The value of a SID.
 ghost use Rattle.std.specs.Prelude.{◌≡◌, ◌+◌, ◌*◌, ◌<◌, ◌≤◌, ◌^◌, [], length, MatchOption, Some, None};
-ghost use Rattle.dtyp_sid.specs.Value.{IsSid};
+ghost use Rattle.dtyp_sid.specs.Value.{IsSid, sid_max_sub_authorities};
 
 use crate::bytes::sub_at_front;
 use crate::errors::SidError;
 use acct_base::rest_of;
 use std::marker::Model;
+
+/// The most sub-authorities of a SID (MS-DTYP 2.4.2).
+pub const SID_MAX_SUB_AUTHORITIES: usize = 15;
 
 /// A security identifier (MS-DTYP 2.4.2): an identifier authority below 2^48, and at most 15 sub-authorities. It
 /// holds no heap memory. SIDs are ordered by authority, and then by their sub-authorities as lists.
@@ -13,10 +16,10 @@ use std::marker::Model;
 pub struct Sid {
     // below 2^48
     authority: u64,
-    // at most 15
+    // at most SID_MAX_SUB_AUTHORITIES
     count: usize,
     // those behind the count are 0
-    slots: [u32; 15],
+    slots: [u32; SID_MAX_SUB_AUTHORITIES],
 }
 
 impl Model for Sid {
@@ -45,13 +48,13 @@ impl Sid {
     pub fn new(authority: u64, subs: &[u32]) -> Result<Sid, SidError>
         ensures { result ≡ sid_of authority subs.now }
     {
-        if subs.len() > 15 {
+        if subs.len() > SID_MAX_SUB_AUTHORITIES {
             return Err(SidError::TooMany);
         }
         if authority >= 1 << 48 {
             return Err(SidError::AuthorityRange);
         }
-        let mut slots = [0; 15];
+        let mut slots = [0; SID_MAX_SUB_AUTHORITIES];
         slots[..subs.len()].copy_from_slice(subs);
         Ok(Sid {
             authority,
@@ -68,18 +71,18 @@ impl Sid {
         Sid {
             authority,
             count: 0,
-            slots: [0; 15],
+            slots: [0; SID_MAX_SUB_AUTHORITIES],
         }
     }
 
     /// The SID of an authority, and of so many sub-authorities in four bytes each.
     pub(crate) fn from_front(authority: u64, bytes: &[u8], count: usize) -> Sid
         requires authority { authority < 2 ^ 48 }
-        requires few { count ≤ 15 }
+        requires few { count ≤ sid_max_sub_authorities }
         requires there { 4 * count ≤ length bytes.now }
         ensures { result ≡ record { authority = authority; subs = subs_at_front count bytes.now } }
     {
-        let mut slots = [0; 15];
+        let mut slots = [0; SID_MAX_SUB_AUTHORITIES];
         for place in 0..count {
             slots[place] = sub_at_front(rest_of(bytes, 4 * place));
         }
@@ -101,7 +104,7 @@ impl Sid {
     /// The sub-authorities in order, at most 15.
     pub fn subs(&self) -> &[u32]
         ensures value { result.now ≡ self.now.subs }
-        ensures count { length result.now ≤ 15 }
+        ensures count { length result.now ≤ sid_max_sub_authorities }
     {
         &self.slots[..self.count]
     }
@@ -133,10 +136,10 @@ impl Sid {
 
     /// The SID with one more sub-authority behind. There is none where the SID has 15.
     pub fn with_rid(&self, rid: u32) -> Option<Sid>
-        ensures { MatchOption result (length self.now.subs ≡ 15)
-            (λ sid. (length self.now.subs < 15) × (sid ≡ with_last self.now rid)) }
+        ensures { MatchOption result (length self.now.subs ≡ sid_max_sub_authorities)
+            (λ sid. (length self.now.subs < sid_max_sub_authorities) × (sid ≡ with_last self.now rid)) }
     {
-        if self.count == 15 {
+        if self.count == SID_MAX_SUB_AUTHORITIES {
             return None;
         }
         let mut slots = self.slots;
@@ -152,7 +155,7 @@ impl Sid {
 /// An authority and sub-authorities within their limits are those of a SID.
 fn limits_of(authority: u64, subs: &[u32])
     requires authority { authority < 2 ^ 48 }
-    requires count { length subs.now ≤ 15 }
+    requires count { length subs.now ≤ sid_max_sub_authorities }
     ensures { IsSid (record { authority = authority; subs = subs.now }) }
 {
     let _count = subs.len();

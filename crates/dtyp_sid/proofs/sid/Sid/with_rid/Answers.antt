@@ -4,4 +4,5 @@ use Rattle.dtyp_sid.proofs.sid.Sid.with_rid.Goals as goal
 
 pub invariant_of-result : goal.invariant_of-result
 invariant_of-result c =
-    (omega arith, pushed _ _ _ c.self.invariant.1 (omega (arith, c.self.invariant.1.count_fits, c.if-self-eq15.false)))
+    let most = c.self.invariant.1.count_fits in
+    (omega arith, pushed _ _ _ c.self.invariant.1 (omega (arith, most, c.if-self-eq-SID_MAX_SUB_AUTHORITIES.false)))
