@@ -2,6 +2,7 @@
 -- before them.
 use Rattle.std.specs.Prelude.{ℕ, ◌^◌, ◌<◌, ◌≤◌, All, List, length, Option, Some, None, FitsSigned}
 use Rattle.std.specs.Int.{w32}
+use Rattle.acct_codes.specs.Limits.{most_privileges}
 use Rattle.dtyp_sid.specs.Value.{IsSid}
 use Rattle.acct_calls.specs.declared.handle.Handle.{Handle}
 use Rattle.acct_calls.specs.declared.lists.Privilege.{Privilege}
@@ -35,7 +36,7 @@ abbrev pub IsPrivilege : Privilege → Type 0
 IsPrivilege privilege = (privilege.low < 2 ^ 32) × (privilege.high < 2 ^ 32) × (privilege.attributes < 2 ^ 32)
 
 abbrev pub IsPrivilegeSet : List Privilege → Type 0
-IsPrivilegeSet privileges = (length privileges ≤ 1000) × All IsPrivilege privileges
+IsPrivilegeSet privileges = (length privileges ≤ most_privileges) × All IsPrivilege privileges
 
 abbrev pub IsAccount : RidName → Type 0
 IsAccount account = (account.rid < 2 ^ 32) × IsText account.name

@@ -8,6 +8,8 @@ use Rattle.acct_calls.specs.declared.calls.Call.{Call}
 use Rattle.acct_calls.specs.declared.handle.Handle.{Handle}
 use Rattle.acct_calls.specs.declared.info.Info.{Info}
 use Rattle.acct_calls.specs.declared.info.Info.TheVariants as info
+use Rattle.acct_codes.specs.Limits.{most_searched, most_member_sids, most_rights}
+use Rattle.acct_codes.specs.Limits.{most_translated_names, most_translated_sids}
 use Rattle.acct_codes.specs.UserControl.{user_normal_account}
 use Rattle.acct_layouts.specs.Bounds.{IsHandle, IsLong, IsText, IsPrivilegeSet, IfThere}
 use Rattle.acct_layouts.specs.Classes.{set_arm, is_password_class}
@@ -49,14 +51,14 @@ ArePlainArgs plain.OpenDomain (args.AccessSid access s) = IsLong access × IsSid
 ArePlainArgs plain.OpenAccount (args.AccessRid access rid) = IsLong access × IsLong rid
 ArePlainArgs _ _ = ⊥
 
--- Only a page of users has a filter. At most 1,024 SIDs are looked for, and at most 1,000 names or numbers.
+-- Only a page of users has a filter.
 abbrev pub AreSearchArgs : Search → Args → Type 0
 AreSearchArgs search.Page (args.Page context filter preferred) = IsLong context × (filter ≡ 0) × IsLong preferred
 AreSearchArgs search.FilteredPage (args.Page context filter preferred) =
     IsLong context × IsLong filter × IsLong preferred
-AreSearchArgs search.Sids (args.SidList sids) = (length sids ≤ 1024) × All IsSid sids
-AreSearchArgs search.Names (args.NameList names) = (length names ≤ 1000) × All IsText names
-AreSearchArgs search.Rids (args.RidList rids) = (length rids ≤ 1000) × All IsLong rids
+AreSearchArgs search.Sids (args.SidList sids) = (length sids ≤ most_member_sids) × All IsSid sids
+AreSearchArgs search.Names (args.NameList names) = (length names ≤ most_searched) × All IsText names
+AreSearchArgs search.Rids (args.RidList rids) = (length rids ≤ most_searched) × All IsLong rids
 AreSearchArgs _ _ = ⊥
 
 -- A group and an alias begin with no control bits, a user with those of a normal account or with those that the call
@@ -70,7 +72,7 @@ abbrev pub AreCreationArgs : Creation → Args → Type 0
 AreCreationArgs c (args.Make name bits access) = IsText name × IsNewBits c bits × IsLong access
 AreCreationArgs c _ = ⊥
 
--- What is added isn't `all`. At most 256 rights are named, and a set has at most 1,000 privileges.
+-- What is added isn't `all`.
 abbrev pub ArePolicyArgs : PolicyFields → Args → Type 0
 ArePolicyArgs policy.Account (args.AccessSid access s) = IsLong access × IsSid s
 ArePolicyArgs policy.AddPrivileges (args.Privileges false (Some privileges)) = IsPrivilegeSet privileges
@@ -78,16 +80,15 @@ ArePolicyArgs policy.RemovePrivileges (args.Privileges all privileges) = IfThere
 ArePolicyArgs policy.SystemAccess (args.Bits bits) = IsLong bits
 ArePolicyArgs policy.Luid (args.Luid low high) = IsLong low × IsLong high
 ArePolicyArgs policy.Right (args.OneName name) = IfThere IsText name
-ArePolicyArgs policy.AddRights (args.Rights s false names) = IsSid s × (length names ≤ 256) × All IsText names
-ArePolicyArgs policy.RemoveRights (args.Rights s all names) = IsSid s × (length names ≤ 256) × All IsText names
+ArePolicyArgs policy.AddRights (args.Rights s false names) = IsSid s × (length names ≤ most_rights) × All IsText names
+ArePolicyArgs policy.RemoveRights (args.Rights s all names) = IsSid s × (length names ≤ most_rights) × All IsText names
 ArePolicyArgs _ _ = ⊥
 
--- At most 1,000 names or 20,480 SIDs are translated.
 abbrev pub AreTranslationArgs : Translation → Args → Type 0
 AreTranslationArgs translation.Names (args.LookNames level names) =
-    (level < 2 ^ 16) × (length names ≤ 1000) × All IsText names
+    (level < 2 ^ 16) × (length names ≤ most_translated_names) × All IsText names
 AreTranslationArgs translation.Sids (args.LookSids level sids) =
-    (level < 2 ^ 16) × (length sids ≤ 20480) × All IsSid sids
+    (level < 2 ^ 16) × (length sids ≤ most_translated_sids) × All IsSid sids
 AreTranslationArgs _ _ = ⊥
 
 -- A class has 16 bits, and none that carries a password is served.

@@ -4,6 +4,7 @@ use Rattle.std.proofs.lemmas.Bool.{leb-true}
 use Rattle.ndr_core.specs.Parts.{Part, PartFits, flat, list, list_of, whole}
 use Rattle.ndr_core.specs.Shapes.{u32}
 use Rattle.dtyp_sid.specs.Value.{SidValue}
+use Rattle.acct_codes.specs.Limits.{most_searched}
 use Rattle.acct_calls.specs.declared.lists.RidBits.{RidBits}
 use Rattle.acct_calls.specs.declared.lists.RidName.{RidName}
 use Rattle.acct_layouts.specs.Bounds.{IfThere, IsAccount, IsListed, IsMember, IsText}
@@ -31,7 +32,7 @@ pub short_part : (us : List ℕ) → text.head.Fits (text.head_of us) → IsShor
 unfolding text
 short_part us h = omega (arith, h.0.0)
 
-pub sought_count : {S A : Type 0} (p : Part S A) (xs : List A) → (sought p).Fits xs → length xs ≤ 1000
+pub sought_count : {S A : Type 0} (p : Part S A) (xs : List A) → (sought p).Fits xs → length xs ≤ most_searched
 unfolding sought
 sought_count p xs h = leb-true _ _ h.0.0.1
 

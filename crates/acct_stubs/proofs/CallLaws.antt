@@ -4,8 +4,7 @@ use Rattle.std.proofs.Common.{refl, ◌⊎◌, inl, inr, sym, ap, subst, ◌∙�
 use Rattle.std.specs.Prelude.{IfOk}
 use Rattle.std.proofs.lemmas.List.{append-nil}
 use Rattle.std.proofs.lemmas.List.Elements.{All-nil}
-use Rattle.ndr_core.specs.Cursor.{Cursor, both}
-use Rattle.ndr_core.specs.Parts.{there, whole}
+use Rattle.ndr_core.specs.Cursor.{Cursor}
 use Rattle.ndr_core.specs.Shapes.{u16}
 use Rattle.ndr_core.specs.Steps.{ok_is}
 use Rattle.ndr_core.specs.Written.{IsByte, IsBytes}

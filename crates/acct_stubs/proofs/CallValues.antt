@@ -6,6 +6,7 @@ use Rattle.std.specs.Prelude.{nat_le}
 use Rattle.std.proofs.lemmas.Bool.{le-leb, eq-eqb}
 use Rattle.ndr_core.specs.Parts.{Part, PartFits, flat}
 use Rattle.ndr_core.specs.Shapes.{u32}
+use Rattle.acct_codes.specs.Limits.{most_searched, most_member_sids}
 use Rattle.acct_calls.specs.declared.calls.Args.{Args}
 use Rattle.acct_calls.specs.declared.calls.Args.TheVariants as args
 use Rattle.acct_calls.specs.declared.calls.Call.{Call}
@@ -68,19 +69,19 @@ plain_fits _ _ is = absurd is
 -- ---- lists
 
 sought_kind : {S A : Type 0} {P : A → Type 0} (p : Part S A) → Has p P → (xs : List A) → (sought p).Fits xs
-    → (length xs ≤ 1000) × All P xs
+    → (length xs ≤ most_searched) × All P xs
 unfolding sought
 sought_kind {P = P} p q xs f =
     let a = f.0.1.0.1.0.1.0.1.0 in
     (sought_count p xs f, all_as {P = PartFits p} {Q = P} xs q.kind (array_all p (length xs) xs a.0 a.1).1)
 
-sought_fits : {S A : Type 0} {P : A → Type 0} (p : Part S A) → Has p P → (xs : List A) → (length xs ≤ 1000) × All P xs
-    → (sought p).Fits xs
+sought_fits : {S A : Type 0} {P : A → Type 0} (p : Part S A) → Has p P → (xs : List A)
+    → (length xs ≤ most_searched) × All P xs → (sought p).Fits xs
 unfolding sought
 sought_fits {P = P} p q xs is =
     let n = length xs in
     let small : n < 2 ^ 32 = omega (arith, is.0) in
-    let few : nat_le n 1000 ≡ true = le-leb n 1000 is.0 in
+    let few : nat_le n most_searched ≡ true = le-leb n most_searched is.0 in
     let a = array_fits p xs (all_as {P = P} {Q = PartFits p} xs q.fits is.1) in (
       (
         (small, few),
@@ -97,7 +98,7 @@ unfolding searched
 search_kind search.Page (args.Page context filter preferred) f = (f.0.0, (let e : 0 ≡ filter = cc f.1 in sym e), f.0.1)
 search_kind search.FilteredPage (args.Page context filter preferred) f = (f.0.0, f.0.1.0, f.0.1.1)
 search_kind search.Sids (args.SidList sids) f =
-    let k = (list_values 1024 sid_pointer sid_pointer_has sids).0 f.0 in (k.0, k.2)
+    let k = (list_values most_member_sids sid_pointer sid_pointer_has sids).0 f.0 in (k.0, k.2)
 search_kind search.Names (args.NameList names) f = sought_kind text text_has names f.0
 search_kind search.Rids (args.RidList rids) f = sought_kind (flat u32) long_has rids f.0
 search_kind _ _ f = absurd (cc f.1)
@@ -108,7 +109,7 @@ search_fits search.Page (args.Page context filter preferred) is =
     ((is.0, is.2), ap (λ (n : ℕ). args.Page context n preferred) (sym is.1))
 search_fits search.FilteredPage (args.Page context filter preferred) is = ((is.0, (is.1, is.2)), refl)
 search_fits search.Sids (args.SidList sids) is =
-    ((list_values 1024 sid_pointer sid_pointer_has sids).1 (is.0, omega (arith, is.0), is.1), refl)
+    ((list_values most_member_sids sid_pointer sid_pointer_has sids).1 (is.0, omega (arith, is.0), is.1), refl)
 search_fits search.Names (args.NameList names) is = (sought_fits text text_has names is, refl)
 search_fits search.Rids (args.RidList rids) is = (sought_fits (flat u32) long_has rids is, refl)
 search_fits _ _ is = absurd is

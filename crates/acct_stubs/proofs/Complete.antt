@@ -11,6 +11,7 @@ use Rattle.ndr_core.specs.Cursor.{is_zero, second}
 use Rattle.ndr_core.specs.Parts.{Part, PartFits, array, flat, join, there, times, whole}
 use Rattle.ndr_core.specs.Shapes.{chain, ignored, u32, u32_such, unspelled}
 use Rattle.dtyp_sid.specs.Value.{IsSid}
+use Rattle.acct_codes.specs.Limits.{most_searched, most_member_sids}
 use Rattle.acct_calls.specs.declared.calls.Args.TheVariants as args
 use Rattle.acct_calls.specs.declared.info.Info.TheVariants as info
 use Rattle.acct_layouts.specs.Bounds.{IsLong, IsText}
@@ -18,8 +19,6 @@ use Rattle.acct_layouts.specs.Classes.{set_arm}
 use Rattle.acct_layouts.specs.declared.classes.Arm.{Arm}
 use Rattle.acct_layouts.specs.declared.classes.Arm.TheVariants as arm
 use Rattle.acct_layouts.specs.declared.classes.Subject.{Subject}
-use Rattle.acct_layouts.specs.declared.fields.Connect.{Connect}
-use Rattle.acct_layouts.specs.declared.fields.Creation.{Creation}
 use Rattle.acct_layouts.specs.declared.fields.Fields.{Fields}
 use Rattle.acct_layouts.specs.declared.fields.Fields.TheVariants as fields
 use Rattle.acct_layouts.specs.declared.fields.Plain.{Plain}
@@ -76,14 +75,14 @@ plain_complete plain.OpenAccount =
 -- what stands behind the count
 abbrev after_count : {S A : Type 0} → Part S A → ℕ → Codec (List A)
 after_count p count =
-    ignored 1000 (u32_such (λ maximum. nat_le count maximum))
+    ignored most_searched (u32_such (λ maximum. nat_le count maximum))
     (ignored 0 (u32_such is_zero) (ignored count (u32_such (λ actual. actual == count)) (whole (array count p))))
 
 sought_complete : {S A : Type 0} {P : A → Type 0} (p : Part S A) → Has p P → IsComplete (sought p)
 unfolding sought
 sought_complete p q =
-    led_by_complete length (such_complete 4 (λ count. nat_le count 1000) u32_complete)
-    (λ count f. ignored_complete 1000 (such_complete 4 (λ maximum. nat_le count maximum) u32_complete)
+    led_by_complete length (such_complete 4 (λ count. nat_le count most_searched) u32_complete)
+    (λ count f. ignored_complete most_searched (such_complete 4 (λ maximum. nat_le count maximum) u32_complete)
     (ignored_complete 0 (such_complete 4 is_zero u32_complete)
     (ignored_same count (such_complete 4 (λ actual. actual == count) u32_complete) (array_complete p q count)
     (λ actual h. eqb-true actual count h.1))
@@ -91,7 +90,7 @@ sought_complete p q =
     (λ count xs f h.
     let a = h.0.1.0.1.0.1.0 in
     let len : length xs ≡ count = (array_all p count xs a.0 a.1).0 in (
-      subst (λ (k : ℕ). (u32_such (λ n. nat_le n 1000)).Fits k) (sym len) f,
+      subst (λ (k : ℕ). (u32_such (λ n. nat_le n most_searched)).Fits k) (sym len) f,
       subst (λ (k : ℕ). (after_count p k).Fits xs) (sym len) h,
     ))
 
@@ -104,7 +103,7 @@ searched_complete search.FilteredPage =
     made_complete (λ x. args.Page x.0 x.1.0 x.1.1) filtered_page_in
     (chain_complete u32_complete (λ x h. chain_complete u32_complete (λ y k. u32_complete))) (λ x h. (h, refl))
 searched_complete search.Sids =
-    made_complete args.SidList sids_in (list_complete 1024 sid_pointer sid_pointer_has) (λ x h. (h, refl))
+    made_complete args.SidList sids_in (list_complete most_member_sids sid_pointer sid_pointer_has) (λ x h. (h, refl))
 searched_complete search.Names = made_complete args.NameList names_in (sought_complete text text_has) (λ x h. (h, refl))
 searched_complete search.Rids =
     made_complete args.RidList rids_in (sought_complete (flat u32) long_has) (λ x h. (h, refl))

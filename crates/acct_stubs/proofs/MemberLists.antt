@@ -10,7 +10,7 @@ use Rattle.std.proofs.Math.ListN.{get_or-map}
 use Rattle.std.proofs.lemmas.List.Elements.{All-nil, All-cons, All-tail}
 use Rattle.ndr_core.proofs.Complete.{IsComplete, chain_complete, given_complete, ignored_same, made_complete}
 use Rattle.ndr_core.proofs.Complete.{pointer_complete, such_complete, times_complete, times_length, u32_complete}
-use Rattle.ndr_core.specs.Parts.{Part, PartFits, pointer_to, there, times, whole}
+use Rattle.ndr_core.specs.Parts.{Part, PartFits, pointer_to, times, whole}
 use Rattle.ndr_core.specs.Shapes.{given, u32}
 use Rattle.acct_calls.specs.declared.lists.RidBits.{RidBits}
 use Rattle.acct_layouts.specs.Bounds.{IfThere, IsListed, IsLong, IsMember}

@@ -3,10 +3,11 @@ use Rattle.std.proofs.Common.{◌≡◌, ℕ, Bool, true, false, cond, List, [],
 use Rattle.std.proofs.Common.{arith}
 use Rattle.ndr_core.specs.Codec.{Codec}
 use Rattle.ndr_core.specs.Cursor.{Cursor, is_zero}
-use Rattle.ndr_core.specs.Parts.{Part, array, flat, list_of, pointer_to, there, whole}
-use Rattle.ndr_core.specs.Shapes.{chain, u16, u32, unspelled}
+use Rattle.ndr_core.specs.Parts.{Part, array, flat, list_of, pointer_to, whole}
+use Rattle.ndr_core.specs.Shapes.{chain, u32, unspelled}
 use Rattle.ndr_core.specs.declared.error.NdrError.{NdrError}
 use Rattle.ndr_core.specs.declared.error.NdrError.TheVariants as ndr
+use Rattle.acct_codes.specs.Limits.{most_searched, most_member_sids}
 use Rattle.acct_calls.specs.declared.calls.Args.{Args}
 use Rattle.acct_calls.specs.declared.calls.Args.TheVariants as args
 use Rattle.acct_calls.specs.declared.calls.Call.{Call}
@@ -21,8 +22,6 @@ use Rattle.acct_layouts.specs.Table.{layout_of}
 use Rattle.acct_layouts.specs.declared.classes.Arm.{Arm}
 use Rattle.acct_layouts.specs.declared.classes.Arm.TheVariants as arm
 use Rattle.acct_layouts.specs.declared.classes.Subject.{Subject}
-use Rattle.acct_layouts.specs.declared.fields.Connect.{Connect}
-use Rattle.acct_layouts.specs.declared.fields.Creation.{Creation}
 use Rattle.acct_layouts.specs.declared.fields.Fields.{Fields}
 use Rattle.acct_layouts.specs.declared.fields.Fields.TheVariants as fields
 use Rattle.acct_layouts.specs.declared.fields.Plain.{Plain}
@@ -42,7 +41,7 @@ use Rattle.ndr_types.proofs.Onward.{rid_names_onward, sid_list_onward, sid_onwar
 use Rattle.ndr_types.proofs.Onward.{such_long, takes_padding}
 use Rattle.ndr_types.proofs.Onward.{takes_given, takes_ignored, takes_join, takes_led_by, takes_made, takes_pointer}
 use Rattle.ndr_types.proofs.Onward.{takes_pointer_to, takes_sid_pointer, takes_such, takes_text, takes_times, takes_u16}
-use Rattle.ndr_types.proofs.Onward.{takes_u32, takes_varying, takes_whole, text_list_onward, text_onward}
+use Rattle.ndr_types.proofs.Onward.{takes_varying, takes_whole, text_list_onward, text_onward}
 use Rattle.ndr_types.specs.Accounts.{any}
 use Rattle.ndr_types.specs.Handles.{handle}
 use Rattle.ndr_types.specs.Laws.{Onward}
@@ -95,7 +94,7 @@ unfolding sought
 sought_onward p q =
     takes_led_by 0 length (such_long _)
     (λ count.
-    takes_ignored 0 1000 (such_long _)
+    takes_ignored 0 most_searched (such_long _)
     (takes_ignored 0 0 (such_long is_zero)
     (takes_ignored 0 count (such_long _) (takes_whole (array count p) (takes_array count p q)))))
 
@@ -103,7 +102,7 @@ searched_onward : (s : Search) → Takes 0 (searched s)
 unfolding searched
 searched_onward search.Page = takes_made 0 _ _ (takes_chain 0 long (λ x. long))
 searched_onward search.FilteredPage = takes_made 0 _ _ (takes_chain 0 long (λ x. takes_chain 0 long (λ y. long)))
-searched_onward search.Sids = takes_made 0 _ _ (sid_list_onward 1024)
+searched_onward search.Sids = takes_made 0 _ _ (sid_list_onward most_member_sids)
 searched_onward search.Names = takes_made 0 _ _ (sought_onward text takes_text)
 searched_onward search.Rids = takes_made 0 _ _ (sought_onward (flat u32) (takes_flat u32 long))
 

@@ -1,5 +1,5 @@
 -- Each operation has a layout that is shared or its interface's own.
-use Rattle.std.proofs.Common.{◌≡◌, ℕ, Bool, true, false, cond, List, [], ◌∷◌, Option, Some, None, refl, subst}
+use Rattle.std.proofs.Common.{◌≡◌, ℕ, Bool, true, false, cond, List, [], ◌∷◌, Option, Some, refl, subst}
 use Rattle.std.specs.Prelude.{◌==◌, ◌||◌, ◌&&◌}
 use Rattle.acct_calls.specs.declared.calls.Face.{Face}
 use Rattle.acct_calls.specs.declared.calls.Face.TheVariants.{Lsa, Samr}

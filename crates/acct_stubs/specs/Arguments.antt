@@ -10,6 +10,7 @@ use Rattle.acct_calls.specs.declared.calls.Args.{Args}
 use Rattle.acct_calls.specs.declared.calls.Args.TheVariants as args
 use Rattle.acct_calls.specs.declared.info.Info.{Info}
 use Rattle.acct_calls.specs.declared.info.Info.TheVariants as info
+use Rattle.acct_codes.specs.Limits.{most_searched, most_member_sids}
 use Rattle.acct_layouts.specs.declared.fields.Fields.{Fields}
 use Rattle.acct_layouts.specs.declared.fields.Fields.TheVariants as fields
 use Rattle.acct_layouts.specs.declared.fields.Plain.{Plain}
@@ -97,8 +98,8 @@ plain_args plain.OpenAccount = made (λ (access, rid). args.AccessRid access rid
 -- as 1,000 (the size in the IDL), an offset of 0, the count again, and so many.
 unfoldable pub sought : {S A : Type 0} → Part S A → Codec (List A)
 sought p =
-    led_by length (u32_such (λ count. nat_le count 1000))
-    (λ count. ignored 1000 (u32_such (λ maximum. nat_le count maximum))
+    led_by length (u32_such (λ count. nat_le count most_searched))
+    (λ count. ignored most_searched (u32_such (λ maximum. nat_le count maximum))
     (ignored 0 (u32_such is_zero) (ignored count (u32_such (λ actual. actual == count)) (whole (array count p)))))
 
 unfoldable pub searched : Search → Codec Args
@@ -109,7 +110,7 @@ searched search.FilteredPage =
     made (λ (context, (filter, preferred)). args.Page context filter preferred) filtered_page_in
     (chain u32 (λ _. chain u32 (λ _. u32)))
 -- SidArray
-searched search.Sids = made args.SidList sids_in (sid_list 1024)
+searched search.Sids = made args.SidList sids_in (sid_list most_member_sids)
 -- Count, Names
 searched search.Names = made args.NameList names_in (sought text)
 -- Count, RelativeIds

@@ -1,5 +1,5 @@
 -- How the value of a class of information stands in a stub (MS-SAMR 2.2.3 to 2.2.6, MS-LSAD 2.2.4).
-use Rattle.std.specs.Prelude.{ℕ, Bool, true, false, ◌==◌, ◌||◌, List, [], Option, Some, None, if◌then◌else◌}
+use Rattle.std.specs.Prelude.{ℕ, Bool, true, false, ◌==◌, List, [], Option, Some, None}
 use Rattle.ndr_core.specs.Codec.{Codec}
 use Rattle.ndr_core.specs.Cursor.{is_zero}
 use Rattle.ndr_core.specs.Parts.{Part, flat, join, pointer_to, whole}
@@ -11,7 +11,7 @@ use Rattle.acct_layouts.specs.Classes.{set_arm, shown_arm}
 use Rattle.acct_layouts.specs.declared.classes.Arm.{Arm}
 use Rattle.acct_layouts.specs.declared.classes.Arm.TheVariants as arm
 use Rattle.acct_layouts.specs.declared.classes.Subject.{Subject}
-use Rattle.ndr_types.specs.Sids.{authority, sid, sid_pointer}
+use Rattle.ndr_types.specs.Sids.{sid, sid_pointer}
 use Rattle.ndr_types.specs.Texts.{text, text_tail, units}
 use Rattle.acct_stubs.specs.Members.{members}
 

@@ -1,5 +1,5 @@
 -- What an interface owes for the codecs of the layouts that it has alone.
-use Rattle.std.specs.Prelude.{◌≡◌, ℕ, true}
+use Rattle.std.specs.Prelude.{◌≡◌, true}
 use Rattle.ndr_core.specs.Cursor.{Cursor}
 use Rattle.ndr_core.specs.Written.{IsBytes}
 use Rattle.acct_calls.specs.declared.calls.Args.{Args}
@@ -8,9 +8,7 @@ use Rattle.acct_layouts.specs.CallShapes.{AreArguments}
 use Rattle.acct_layouts.specs.ReplyShapes.{IsReplyOf, RefersRightly}
 use Rattle.acct_layouts.specs.declared.fields.Fields.{Fields}
 use Rattle.acct_layouts.specs.declared.outputs.Outputs.{Outputs}
-use Rattle.ndr_types.proofs.Spelled.{writable}
 use Rattle.ndr_types.specs.Laws.{GoesOnward, IsWritable}
-use Rattle.acct_stubs.specs.Calls.{start}
 use Rattle.acct_stubs.specs.Shared.{are_own, own_outputs}
 use Rattle.acct_stubs.specs.Wire.{Wire}
 

@@ -2,7 +2,7 @@
 use Rattle.std.specs.Prelude.{ℕ, Bool, true, false, ◌==◌, ◌||◌, Option, List, [], length, map}
 use Rattle.std.specs.List.{zip}
 use Rattle.ndr_core.specs.Codec.{Codec}
-use Rattle.ndr_core.specs.Parts.{Part, is_there_list, list, pointer_to, there, times, whole}
+use Rattle.ndr_core.specs.Parts.{Part, is_there_list, list, pointer_to, times, whole}
 use Rattle.ndr_core.specs.Shapes.{chain, given, ignored, made, pointer_such, u32, u32_such}
 use Rattle.acct_calls.specs.declared.lists.RidBits.{RidBits}
 use Rattle.ndr_types.specs.Members.{rid_bits_of}

@@ -8,6 +8,7 @@ use crate::infos::{read_class_set, write_class_set};
 use crate::interface::Interface;
 use acct_base::Seq;
 use acct_calls::{Args, Names};
+use acct_codes::limit::{MOST_MEMBER_SIDS, MOST_SEARCHED};
 use acct_layouts::{Fields, Plain, Search};
 use ndr_core::{In, NdrError, Out};
 use ndr_types::{
@@ -84,7 +85,7 @@ fn read_sought<X: Embedded>(alloc: Global, from: &mut In<'_>) -> Result<Seq<X>, 
     ensures { ReadsIfRoom result from.new ((sought X.part).read from.old) }
 {
     let count = from.u32()?;
-    if count > 1000 {
+    if count > MOST_SEARCHED {
         return Err(from.broken(4));
     }
     let maximum = from.conformant()?;
@@ -108,7 +109,7 @@ fn write_sought<X: Embedded>(to: &mut Out, values: &[X]) -> Result<(), NoMemory>
 {
     let count = values.len() as u32;
     to.u32(count)?;
-    to.conformant(1000)?;
+    to.conformant(MOST_SEARCHED)?;
     to.u32(0)?;
     to.u32(count)?;
     write_heads(to, values)?;
@@ -140,7 +141,7 @@ fn read_searched(alloc: Global, from: &mut In<'_>, layout: Search) -> Result<Arg
             })
         }
         Search::Sids => {
-            let sids = read_sid_list(alloc, from, 1024)?;
+            let sids = read_sid_list(alloc, from, MOST_MEMBER_SIDS)?;
             Ok(Args::SidList(sids))
         }
         Search::Names => {

@@ -1,22 +1,20 @@
 -- What the writers of texts, privileges and lists ask for, from what the shapes' values are.
 use Rattle.std.proofs.Common.{ℕ, ◌^◌, ◌<◌, ◌≤◌, All, List, length, Option, Some, None, arith}
 use Rattle.ndr_core.specs.Parts.{PartFits, flat}
+use Rattle.acct_codes.specs.Limits.{most_privileges, most_translated_names}
 use Rattle.acct_calls.specs.declared.lists.Place.{Place}
 use Rattle.acct_calls.specs.declared.lists.Privilege.{Privilege}
 use Rattle.acct_calls.specs.declared.lists.RidName.{RidName}
 use Rattle.acct_calls.specs.declared.lists.TranslatedName.{TranslatedName}
 use Rattle.acct_calls.specs.declared.lists.TranslatedSid.{TranslatedSid}
 use Rattle.acct_layouts.specs.Bounds.{IfThere, IsAccount, IsDomain, IsListed, IsPrivilegeSet, IsText, IsTranslatedName}
-use Rattle.dtyp_sid.specs.Value.{SidValue}
 use Rattle.ndr_types.specs.Accounts.{any}
 use Rattle.ndr_types.specs.Bounds.{HasShortName, HasShortText, IsShort, IsShortPlace}
 use Rattle.ndr_types.specs.Domains.{referenced}
 use Rattle.ndr_types.specs.Laws.{IsListOf}
-use Rattle.ndr_types.specs.Lists.{sid_list, text_list}
 use Rattle.ndr_types.specs.Pointers.{IsFew, text_pointer, privilege_set_pointer}
 use Rattle.ndr_types.specs.Privileges.{privilege_set}
 use Rattle.ndr_types.specs.PrivilegeNames.{privilege_names}
-use Rattle.ndr_types.specs.Sids.{sid_pointer}
 use Rattle.ndr_types.specs.Texts.{text}
 use Rattle.ndr_types.specs.Translations.{translated_name, translated_names, translated_sid, translated_sids}
 use Rattle.ndr_types.proofs.Entries.{privilege_names_values, privilege_set_pointer_values, text_pointer_values}
@@ -24,12 +22,11 @@ use Rattle.ndr_types.proofs.Entries.{translated_name_has, translated_sid_has}
 use Rattle.ndr_types.proofs.Parts.{all_as}
 use Rattle.ndr_types.proofs.Records.{privilege_set_kind}
 use Rattle.ndr_types.proofs.ShapeValues.{list_values, referenced_values}
-use Rattle.ndr_types.proofs.Sids.{sid_pointer_has}
 use Rattle.ndr_types.proofs.Texts.{text_has}
 use Rattle.lsa_wire.specs.Arguments.{counted}
 use Rattle.lsa_wire.specs.FieldValues.{counted_few, counted_all}
 
-pub few_privileges : (privileges : List Privilege) → privilege_set.Fits privileges → length privileges ≤ 1000
+pub few_privileges : (privileges : List Privilege) → privilege_set.Fits privileges → length privileges ≤ most_privileges
 few_privileges privileges h = (privilege_set_kind privileges h).0
 
 -- ---- what a pointer may leave out
@@ -76,10 +73,10 @@ domains_listed domains h = short_places domains ((referenced_values domains).0 h
 
 -- ---- arrays behind their counts
 
-pub names_counted : (names : List (List ℕ)) → (counted 1000 text).Fits names → length names < 2 ^ 32
-names_counted names h = omega (arith, counted_few 1000 text names h)
+pub names_counted : (names : List (List ℕ)) → (counted most_translated_names text).Fits names → length names < 2 ^ 32
+names_counted names h = omega (arith, counted_few most_translated_names text names h)
 
-pub names_short : (names : List (List ℕ)) → (counted 1000 text).Fits names → All IsShort names
+pub names_short : (names : List (List ℕ)) → (counted most_translated_names text).Fits names → All IsShort names
 names_short names h =
     all_as {P = PartFits text} {Q = IsShort} names (λ us fits. (text_has.kind us fits).0)
-    (counted_all 1000 text names h)
+    (counted_all most_translated_names text names h)

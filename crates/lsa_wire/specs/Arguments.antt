@@ -7,6 +7,7 @@ use Rattle.ndr_core.specs.Cursor.{is_there}
 use Rattle.ndr_core.specs.Shapes.{u8, u16, u32, u32_such, unspelled, chain, made, led_by, ignored, followed}
 use Rattle.ndr_core.specs.Parts.{Part, whole, array}
 use Rattle.dtyp_sid.specs.Value.{SidValue}
+use Rattle.acct_codes.specs.Limits.{most_rights, most_translated_names, most_translated_sids}
 use Rattle.acct_calls.specs.declared.calls.Args.{Args}
 use Rattle.acct_calls.specs.declared.calls.Args.TheVariants as args
 use Rattle.acct_calls.specs.declared.lists.Privilege.{Privilege}
@@ -108,10 +109,12 @@ policy_args policy.Luid = made (λ (low, high). args.Luid low high) luid_in (cha
 -- UserRight
 policy_args policy.Right = made args.OneName right_in text_pointer
 -- AccountSid, UserRights
-policy_args policy.AddRights = made (λ (s, names). args.Rights s false names) rights_in (chain sid (λ _. text_list 256))
+policy_args policy.AddRights =
+    made (λ (s, names). args.Rights s false names) rights_in (chain sid (λ _. text_list most_rights))
 -- AccountSid, AllRights, UserRights
 policy_args policy.RemoveRights =
-    made (λ (s, (all, names)). args.Rights s all names) all_rights_in (chain sid (λ _. chain flag (λ _. text_list 256)))
+    made (λ (s, (all, names)). args.Rights s all names) all_rights_in
+    (chain sid (λ _. chain flag (λ _. text_list most_rights)))
 
 -- A count of at most so many, and a conformant array: the same count, and so many.
 unfoldable pub counted : {S A : Type 0} → ℕ → Part S A → Codec (List A)
@@ -122,14 +125,14 @@ counted most p =
 unfoldable pub translation_args : Translation → Codec Args
 -- Count, Names, TranslatedSids, LookupLevel, MappedCount; of the translations and the last count nothing is kept
 translation_args translation.Names =
-    made
-    (λ (names, level). args.LookNames level names)
-    names_in (chain (counted 1000 text) (λ _. ignored [] (translated_sids 1000) (followed 0 u32 u16)))
+    made (λ (names, level). args.LookNames level names) names_in
+    (chain (counted most_translated_names text)
+    (λ _. ignored [] (translated_sids most_translated_names) (followed 0 u32 u16)))
 -- SidEnumBuffer, TranslatedNames, LookupLevel, MappedCount
 translation_args translation.Sids =
-    made
-    (λ (sids, level). args.LookSids level sids)
-    sids_in (chain (sid_list 20480) (λ _. ignored [] (translated_names 20480) (followed 0 u32 u16)))
+    made (λ (sids, level). args.LookSids level sids) sids_in
+    (chain (sid_list most_translated_sids)
+    (λ _. ignored [] (translated_names most_translated_sids) (followed 0 u32 u16)))
 
 -- behind the handle, if the operation takes one
 unfoldable pub own_fields : Fields → Codec Args

@@ -11,6 +11,7 @@ use Rattle.ndr_core.specs.Shapes.{followed, u16, u32, u32_such, ignored}
 use Rattle.ndr_core.specs.Parts.{Part, whole, array, flat}
 use Rattle.ndr_core.proofs.Complete.{IsComplete, u8_complete, u16_complete, u32_complete, such_complete, chain_complete}
 use Rattle.ndr_core.proofs.Complete.{made_complete, led_by_complete, followed_complete, ignored_complete, ignored_same}
+use Rattle.acct_codes.specs.Limits.{most_rights, most_translated_names, most_translated_sids}
 use Rattle.acct_calls.specs.declared.calls.Args.TheVariants as args
 use Rattle.acct_layouts.specs.declared.fields.Connect.{Connect}
 use Rattle.acct_layouts.specs.declared.fields.Connect.TheVariants as connect
@@ -101,13 +102,14 @@ policy_complete policy.Luid =
 policy_complete policy.Right = made_complete args.OneName right_in text_pointer_complete (λ x h. (h, refl))
 policy_complete policy.AddRights =
     made_complete
-    (λ x. args.Rights x.0 false x.1) rights_in (chain_complete sid_complete (λ x h. list_complete 256 text text_has))
+    (λ x. args.Rights x.0 false x.1) rights_in
+    (chain_complete sid_complete (λ x h. list_complete most_rights text text_has))
     (λ x h. (h, refl))
 policy_complete policy.RemoveRights =
     made_complete
     (λ x. args.Rights x.0 x.1.0 x.1.1)
     all_rights_in (chain_complete sid_complete
-    (λ x h. chain_complete flag_complete (λ y k. list_complete 256 text text_has))) (λ x h. (h, refl))
+    (λ x h. chain_complete flag_complete (λ y k. list_complete most_rights text text_has))) (λ x h. (h, refl))
 
 -- ---- translations
 
@@ -131,23 +133,27 @@ counted_complete {A = A} most p q =
 level_complete : IsComplete (followed 0 u32 u16)
 level_complete = followed_complete 0 u16_complete u32_complete (lit< tt)
 
-pub no_sids_fit : (translated_sids 1000).Fits []
-no_sids_fit = (list_values 1000 (flat translated_sid) translated_sid_has []).1 (omega arith, lit< tt, All-nil _)
+pub no_sids_fit : (translated_sids most_translated_names).Fits []
+no_sids_fit =
+    (list_values most_translated_names (flat translated_sid) translated_sid_has []).1 (omega arith, lit< tt, All-nil _)
 
-pub no_names_fit : (translated_names 20480).Fits []
-no_names_fit = (list_values 20480 translated_name translated_name_has []).1 (omega arith, lit< tt, All-nil _)
+pub no_names_fit : (translated_names most_translated_sids).Fits []
+no_names_fit =
+    (list_values most_translated_sids translated_name translated_name_has []).1 (omega arith, lit< tt, All-nil _)
 
 translation_complete : (t : Translation) → IsComplete (translation_args t)
 unfolding translation_args
 translation_complete translation.Names =
     made_complete (λ x. args.LookNames x.1 x.0) names_in
-    (chain_complete (counted_complete 1000 text text_has)
+    (chain_complete (counted_complete most_translated_names text text_has)
     (λ x h. ignored_complete []
-    (list_complete 1000 (flat translated_sid) translated_sid_has) level_complete no_sids_fit)) (λ x h. (h, refl))
+    (list_complete most_translated_names (flat translated_sid) translated_sid_has) level_complete no_sids_fit))
+    (λ x h. (h, refl))
 translation_complete translation.Sids =
     made_complete (λ x. args.LookSids x.1 x.0) sids_in
-    (chain_complete (list_complete 20480 sid_pointer sid_pointer_has)
-    (λ x h. ignored_complete [] (list_complete 20480 translated_name translated_name_has) level_complete no_names_fit))
+    (chain_complete (list_complete most_translated_sids sid_pointer sid_pointer_has)
+    (λ x h. ignored_complete [] (list_complete most_translated_sids translated_name translated_name_has)
+    level_complete no_names_fit))
     (λ x h. (h, refl))
 
 pub fields_complete : (f : Fields) → IsComplete (own_fields f)

@@ -3,6 +3,7 @@ use Rattle.std.proofs.Common.{◌≡◌, ℕ, ◌^◌, ◌<◌, ◌≤◌, Bool,
 use Rattle.std.proofs.Common.{arith, lit<}
 use Rattle.std.proofs.lemmas.Bool.{leb-true, le-leb, eq-eqb}
 use Rattle.ndr_core.specs.Parts.{Part, PartFits, list_of}
+use Rattle.acct_codes.specs.Limits.{most_rights, most_translated_names, most_translated_sids}
 use Rattle.acct_calls.specs.declared.calls.Args.{Args}
 use Rattle.acct_calls.specs.declared.calls.Args.TheVariants as args
 use Rattle.acct_calls.specs.declared.calls.Face.TheVariants.{Lsa}
@@ -50,11 +51,13 @@ unfolding flag
 flag_fits true = (lit< tt, refl)
 flag_fits false = (lit< tt, refl)
 
-short_list_kind : (names : List (List ℕ)) → (list_of 256 text).Fits names → (length names ≤ 256) × All IsText names
-short_list_kind names f = let k = (list_values 256 text text_has names).0 f in (k.0, k.2)
+short_list_kind : (names : List (List ℕ)) → (list_of most_rights text).Fits names
+    → (length names ≤ most_rights) × All IsText names
+short_list_kind names f = let k = (list_values most_rights text text_has names).0 f in (k.0, k.2)
 
-short_list_fits : (names : List (List ℕ)) → length names ≤ 256 → All IsText names → (list_of 256 text).Fits names
-short_list_fits names few all = (list_values 256 text text_has names).1 (few, omega (arith, few), all)
+short_list_fits : (names : List (List ℕ)) → length names ≤ most_rights → All IsText names
+    → (list_of most_rights text).Fits names
+short_list_fits names few all = (list_values most_rights text text_has names).1 (few, omega (arith, few), all)
 
 policy_kind : (p : PolicyFields) (a : Args) → (policy_args p).Fits a → ArePolicyArgs p a
 unfolding policy_args
@@ -95,25 +98,25 @@ pub counted_all : {S A : Type 0} (most : ℕ) (p : Part S A) (xs : List A) → (
 unfolding counted
 counted_all most p xs h = let a = h.0.1.0.1.0 in (array_all p (length xs) xs a.0 a.1).1
 
-counted_fits : {S A : Type 0} {P : A → Type 0} (p : Part S A) → Has p P → (xs : List A) → length xs ≤ 1000 → All P xs
-    → (counted 1000 p).Fits xs
+counted_fits : {S A : Type 0} {P : A → Type 0} (p : Part S A) → Has p P → (xs : List A)
+    → length xs ≤ most_translated_names → All P xs → (counted most_translated_names p).Fits xs
 unfolding counted
 counted_fits {P = P} p q xs few all =
     let n = length xs in
     let small : n < 2 ^ 32 = omega (arith, few) in
     let a = array_fits p xs (all_as {P = P} {Q = PartFits p} xs q.fits all) in
-    (((small, le-leb n 1000 few), (((small, eq-eqb n n refl), (a, refl)), refl)), refl)
+    (((small, le-leb n most_translated_names few), (((small, eq-eqb n n refl), (a, refl)), refl)), refl)
 
 translation_kind : (t : Translation) (a : Args) → (translation_args t).Fits a → AreTranslationArgs t a
 unfolding translation_args
 translation_kind translation.Names (args.LookNames level names) f = (
   f.0.1.0.1.0.0,
-  counted_few 1000 text names f.0.0,
+  counted_few most_translated_names text names f.0.0,
   all_as {P = PartFits text} {Q = IsText} names text_has.kind
-      (counted_all 1000 text names f.0.0),
+      (counted_all most_translated_names text names f.0.0),
 )
 translation_kind translation.Sids (args.LookSids level sids) f =
-    let k = (list_values 20480 sid_pointer sid_pointer_has sids).0 f.0.0 in
+    let k = (list_values most_translated_sids sid_pointer sid_pointer_has sids).0 f.0.0 in
     (f.0.1.0.1.0.0, k.0, k.2)
 translation_kind _ _ f = absurd (cc f.1)
 
@@ -123,7 +126,7 @@ translation_fits translation.Names (args.LookNames level names) is =
     ((counted_fits text text_has names is.1 is.2, ((no_sids_fit, ((is.0, lit< tt), refl)), refl)), refl)
 translation_fits translation.Sids (args.LookSids level sids) is = (
   (
-    (list_values 20480 sid_pointer sid_pointer_has sids).1 (is.1, omega (arith, is.1), is.2),
+    (list_values most_translated_sids sid_pointer sid_pointer_has sids).1 (is.1, omega (arith, is.1), is.2),
     ((no_names_fit, ((is.0, lit< tt), refl)), refl),
   ),
   refl,

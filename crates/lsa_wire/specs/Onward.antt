@@ -1,7 +1,8 @@
 -- Reading goes onward: of each layout that this interface has alone, from the shapes that it is made of.
-use Rattle.std.proofs.Common.{ℕ, Bool, false, [], length, None, arith}
-use Rattle.ndr_core.specs.Shapes.{followed, u8, u16, u32, pointer_such, unspelled}
+use Rattle.std.proofs.Common.{ℕ, Bool, false, [], length, None}
+use Rattle.ndr_core.specs.Shapes.{followed, u8, u16, u32, pointer_such}
 use Rattle.ndr_core.specs.Parts.{Part, array}
+use Rattle.acct_codes.specs.Limits.{most_rights, most_translated_names, most_translated_sids}
 use Rattle.acct_layouts.specs.declared.fields.Connect.{Connect}
 use Rattle.acct_layouts.specs.declared.fields.Connect.TheVariants as connect
 use Rattle.acct_layouts.specs.declared.fields.Fields.{Fields}
@@ -16,11 +17,11 @@ use Rattle.acct_layouts.specs.declared.outputs.PolicyOutputs.{PolicyOutputs}
 use Rattle.acct_layouts.specs.declared.outputs.PolicyOutputs.TheVariants as outs
 use Rattle.ndr_types.specs.Accounts.{any}
 use Rattle.ndr_types.specs.Texts.{text}
-use Rattle.ndr_types.proofs.Onward.{Takes, TakesPart, any_size, long, short, takes_followed, takes_u8, takes_u16}
+use Rattle.ndr_types.proofs.Onward.{Takes, TakesPart, any_size, long, short, takes_followed, takes_u8}
 use Rattle.ndr_types.proofs.Onward.{takes_u32}
 use Rattle.ndr_types.proofs.Onward.{takes_pointer}
 use Rattle.ndr_types.proofs.Onward.{takes_given, takes_such, takes_chain, takes_made, takes_led_by, takes_ignored}
-use Rattle.ndr_types.proofs.Onward.{takes_varying, takes_times, takes_whole, takes_array, takes_some, takes_pointer_to}
+use Rattle.ndr_types.proofs.Onward.{takes_whole, takes_array, takes_some}
 use Rattle.ndr_types.proofs.Onward.{takes_text, sid_onward, sid_list_onward, text_list_onward, privilege_set_onward}
 use Rattle.ndr_types.proofs.Onward.{referenced_onward}
 use Rattle.ndr_types.proofs.OnwardEntries.{privilege_names_onward, privilege_set_pointer_onward, text_pointer_onward}
@@ -84,9 +85,9 @@ policy_onward policy.RemovePrivileges = takes_made 0 _ _ (takes_chain 0 flag_onw
 policy_onward policy.SystemAccess = takes_made 0 _ _ long
 policy_onward policy.Luid = takes_made 0 _ _ (takes_chain 0 long (λ x. long))
 policy_onward policy.Right = takes_made 0 _ _ text_pointer_onward
-policy_onward policy.AddRights = takes_made 0 _ _ (takes_chain 0 sid_onward (λ x. text_list_onward 256))
+policy_onward policy.AddRights = takes_made 0 _ _ (takes_chain 0 sid_onward (λ x. text_list_onward most_rights))
 policy_onward policy.RemoveRights =
-    takes_made 0 _ _ (takes_chain 0 sid_onward (λ x. takes_chain 0 flag_onward (λ y. text_list_onward 256)))
+    takes_made 0 _ _ (takes_chain 0 sid_onward (λ x. takes_chain 0 flag_onward (λ y. text_list_onward most_rights)))
 
 -- ---- translations
 
@@ -104,11 +105,12 @@ translation_onward : (t : Translation) → Takes 0 (translation_args t)
 unfolding translation_args
 translation_onward translation.Names =
     takes_made 0 _ _
-    (takes_chain 0 (counted_onward 1000 text takes_text)
-    (λ x. takes_ignored 0 [] (translated_sids_onward 1000) level_onward))
+    (takes_chain 0 (counted_onward most_translated_names text takes_text)
+    (λ x. takes_ignored 0 [] (translated_sids_onward most_translated_names) level_onward))
 translation_onward translation.Sids =
     takes_made 0 _ _
-    (takes_chain 0 (sid_list_onward 20480) (λ x. takes_ignored 0 [] (translated_names_onward 20480) level_onward))
+    (takes_chain 0 (sid_list_onward most_translated_sids)
+    (λ x. takes_ignored 0 [] (translated_names_onward most_translated_sids) level_onward))
 
 pub fields_onward : (f : Fields) → Takes 0 (own_fields f)
 unfolding own_fields

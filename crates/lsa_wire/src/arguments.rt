@@ -2,6 +2,7 @@
 ghost use Rattle.std.specs.Prelude.{◌≡◌, ◌<◌, ◌^◌, ℕ, [], All, OnOk, length};
 ghost use Rattle.ndr_core.specs.Cursor.{Reads};
 ghost use Rattle.ndr_core.specs.Shapes.{followed, u16, u32};
+ghost use Rattle.acct_codes.specs.Limits.{most_translated_names, most_translated_sids};
 ghost use Rattle.lsa_wire.specs.Arguments.{counted, flag, own_fields, policy_args, translation_args};
 ghost use Rattle.ndr_types.specs.Outcomes.{ReadsIfRoom};
 ghost use Rattle.ndr_types.specs.Translations.{translated_names, translated_sids};
@@ -10,6 +11,7 @@ use crate::NoMemory;
 use crate::opening::{read_connect, write_connect};
 use acct_base::Seq;
 use acct_calls::{Args, Names};
+use acct_codes::limit::{MOST_RIGHTS, MOST_TRANSLATED_NAMES, MOST_TRANSLATED_SIDS};
 use acct_layouts::{Fields, PolicyFields, Translation};
 use ndr_core::{In, NdrError, Out};
 use ndr_types::{
@@ -75,7 +77,7 @@ fn read_policy(alloc: Global, from: &mut In<'_>, row: PolicyFields) -> Result<Ar
         }
         PolicyFields::AddRights => {
             let sid = read_sid(from)?;
-            let names = read_text_list(alloc, from, 256)?;
+            let names = read_text_list(alloc, from, MOST_RIGHTS)?;
             Ok(Args::Rights {
                 sid,
                 all: false,
@@ -85,7 +87,7 @@ fn read_policy(alloc: Global, from: &mut In<'_>, row: PolicyFields) -> Result<Ar
         PolicyFields::RemoveRights => {
             let sid = read_sid(from)?;
             let all = read_flag(from)?;
-            let names = read_text_list(alloc, from, 256)?;
+            let names = read_text_list(alloc, from, MOST_RIGHTS)?;
             Ok(Args::Rights { sid, all, names })
         }
     }
@@ -178,7 +180,7 @@ fn write_level(to: &mut Out, level: u16) -> Result<(), NoMemory>
 /// An empty list of translated names, which has a count of 0 and a null pointer.
 #[tactic(auto, unfolding(ndr_core::specs::Parts::list_of, ndr_core::specs::Parts::list))]
 fn write_no_sids(to: &mut Out) -> Result<(), NoMemory>
-    ensures { OnOk result (to.new ≡ (translated_sids 1000).write [] to.old) }
+    ensures { OnOk result (to.new ≡ (translated_sids most_translated_names).write [] to.old) }
 {
     to.u32(0)?;
     to.pointer(false)
@@ -187,7 +189,7 @@ fn write_no_sids(to: &mut Out) -> Result<(), NoMemory>
 /// An empty list of translated SIDs.
 #[tactic(auto, unfolding(ndr_core::specs::Parts::list_of, ndr_core::specs::Parts::list))]
 fn write_no_names(to: &mut Out) -> Result<(), NoMemory>
-    ensures { OnOk result (to.new ≡ (translated_names 20480).write [] to.old) }
+    ensures { OnOk result (to.new ≡ (translated_names most_translated_sids).write [] to.old) }
 {
     to.u32(0)?;
     to.pointer(false)
@@ -199,8 +201,8 @@ fn read_sought(alloc: Global, from: &mut In<'_>, row: Translation) -> Result<Arg
 {
     match row {
         Translation::Names => {
-            let names = read_counted(alloc, from, 1000)?;
-            read_translated_sids(alloc, from, 1000)?;
+            let names = read_counted(alloc, from, MOST_TRANSLATED_NAMES)?;
+            read_translated_sids(alloc, from, MOST_TRANSLATED_NAMES)?;
             let level = read_level(from)?;
             Ok(Args::LookNames {
                 level,
@@ -208,8 +210,8 @@ fn read_sought(alloc: Global, from: &mut In<'_>, row: Translation) -> Result<Arg
             })
         }
         Translation::Sids => {
-            let sids = read_sid_list(alloc, from, 20480)?;
-            read_translated_names(alloc, from, 20480)?;
+            let sids = read_sid_list(alloc, from, MOST_TRANSLATED_SIDS)?;
+            read_translated_names(alloc, from, MOST_TRANSLATED_SIDS)?;
             let level = read_level(from)?;
             Ok(Args::LookSids { level, sids })
         }

@@ -1,16 +1,14 @@
 -- Which translated entries, names of privileges and pointers can be written, and that what some bytes spell can be.
-use Rattle.std.proofs.Common.{◌≡◌, ℕ, ℤ, ◌^◌, ◌<◌, List, Option, refl, sym, ap, subst, lit<}
+use Rattle.std.proofs.Common.{ℕ, ℤ, ◌^◌, ◌<◌, refl, sym, ap, subst, lit<}
 use Rattle.std.specs.Prelude.{FitsSigned}
 use Rattle.std.specs.Int.{w32, cast_signed, cast_unsigned}
 use Rattle.std.proofs.Math.Facts.{Fits-of_z, Fits-lt-pow, Fits-of_lt, sfits_to_z}
 use Rattle.std.proofs.lemmas.Int.{of_z-to_z, to_z-of_z}
-use Rattle.std.proofs.lemmas.Bool.{eqb-true}
 use Rattle.ndr_core.specs.Cursor.{is_zero}
 use Rattle.ndr_core.specs.Shapes.{u16}
 use Rattle.ndr_core.specs.Parts.{Part, whole, join, flat, pointer_to}
 use Rattle.ndr_core.proofs.Complete.{IsComplete, u16_complete, u32_complete, such_complete, chain_complete}
 use Rattle.ndr_core.proofs.Complete.{made_complete, ignored_complete, padding_complete}
-use Rattle.acct_calls.specs.declared.lists.Privilege.{Privilege}
 use Rattle.acct_calls.specs.declared.lists.TranslatedSid.{TranslatedSid}
 use Rattle.ndr_types.specs.Accounts.{any}
 use Rattle.acct_layouts.specs.Bounds.{IfThere, IsAccount, IsLong, IsPrivilegeSet, IsText, IsTranslatedName}

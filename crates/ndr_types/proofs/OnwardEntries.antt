@@ -1,8 +1,8 @@
 -- Reading goes onward: of translated entries, of names of privileges, and of pointers.
-use Rattle.std.proofs.Common.{ℕ, ℤ, arith}
+use Rattle.std.proofs.Common.{ℕ}
 use Rattle.ndr_core.specs.Cursor.{is_zero}
-use Rattle.ndr_core.specs.Shapes.{u16, u32}
-use Rattle.ndr_core.specs.Parts.{Part, whole, join, flat, pointer_to}
+use Rattle.ndr_core.specs.Shapes.{u16}
+use Rattle.ndr_core.specs.Parts.{Part, whole, flat, pointer_to}
 use Rattle.ndr_types.specs.Accounts.{any}
 use Rattle.ndr_types.specs.Pointers.{text_pointer, privilege_set_pointer}
 use Rattle.ndr_types.specs.Privileges.{privilege_set}

@@ -9,6 +9,7 @@ use Rattle.ndr_core.specs.Parts.{PartFits, times, whole, join, flat, pointer_to,
 use Rattle.ndr_core.proofs.Complete.{IsComplete, u32_complete, pointer_complete, given_complete, such_complete}
 use Rattle.ndr_core.proofs.Complete.{chain_complete, made_complete, led_by_complete, ignored_complete, ignored_same}
 use Rattle.ndr_core.proofs.Complete.{times_complete, times_length}
+use Rattle.acct_codes.specs.Limits.{most_privileges}
 use Rattle.acct_calls.specs.declared.lists.Privilege.{Privilege}
 use Rattle.acct_calls.specs.declared.lists.Place.{Place}
 use Rattle.acct_calls.specs.declared.lists.RidBits.{RidBits}
@@ -43,13 +44,14 @@ privilege_complete = made_complete privilege_of parts_of_privilege
 
 -- what stands behind the maximum count
 abbrev after_maximum : ℕ → Codec (List Privilege)
-after_maximum n = ignored n (u32_such (λ count. (count == n) && nat_le count 1000)) (ignored 0 u32 (times n privilege))
+after_maximum n =
+    ignored n (u32_such (λ count. (count == n) && nat_le count most_privileges)) (ignored 0 u32 (times n privilege))
 
 pub privilege_set_fits : (ps : List Privilege) → IsPrivilegeSet ps → privilege_set.Fits ps
 unfolding privilege_set
 privilege_set_fits ps h =
     let n = length ps in
-    let passes = and_both (n == n) (nat_le n 1000) (eq-eqb n n refl) (le-leb n 1000 h.0) in
+    let passes = and_both (n == n) (nat_le n most_privileges) (eq-eqb n n refl) (le-leb n most_privileges h.0) in
     let all = times_fit privilege ps (all_as {P = IsPrivilege} {Q = privilege.Fits} ps privilege_fits h.1) in
     ((omega (arith, h.0), (((omega (arith, h.0), passes), ((lit< tt, all), refl)), refl)), refl)
 
@@ -57,7 +59,7 @@ pub privilege_set_kind : (ps : List Privilege) → privilege_set.Fits ps → IsP
 unfolding privilege_set
 privilege_set_kind ps h =
     let n = length ps in (
-      leb-true n 1000 (and_right (n == n) (nat_le n 1000) h.0.1.0.0.1),
+      leb-true n most_privileges (and_right (n == n) (nat_le n most_privileges) h.0.1.0.0.1),
       all_as {P = privilege.Fits} {Q = IsPrivilege} ps
           privilege_kind (times_all n privilege ps h.0.1.0.1.0.1),
     )
@@ -66,9 +68,9 @@ pub privilege_set_complete : IsComplete privilege_set
 unfolding privilege_set
 privilege_set_complete =
     led_by_complete length u32_complete
-    (λ n f. ignored_same n (such_complete 4 (λ count. (count == n) && nat_le count 1000) u32_complete)
+    (λ n f. ignored_same n (such_complete 4 (λ count. (count == n) && nat_le count most_privileges) u32_complete)
     (ignored_complete 0 u32_complete (times_complete n privilege_complete) (lit< tt))
-    (λ count k. eqb-true count n (and_left (count == n) (nat_le count 1000) k.1)))
+    (λ count k. eqb-true count n (and_left (count == n) (nat_le count most_privileges) k.1)))
     (λ n ps f h.
     let len = times_length n privilege ps h.0.1.0.1 in
     (subst (λ (k : ℕ). k < 2 ^ 32) (sym len) f, subst (λ (k : ℕ). (after_maximum k).Fits ps) (sym len) h))

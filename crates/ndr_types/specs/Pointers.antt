@@ -2,6 +2,7 @@
 use Rattle.std.specs.Prelude.{ℕ, ◌≤◌, Option, List, length}
 use Rattle.ndr_core.specs.Codec.{Codec}
 use Rattle.ndr_core.specs.Parts.{whole, pointer_to}
+use Rattle.acct_codes.specs.Limits.{most_privileges}
 use Rattle.acct_calls.specs.declared.lists.Privilege.{Privilege}
 use Rattle.ndr_types.specs.Privileges.{privilege_set}
 use Rattle.ndr_types.specs.Texts.{text}
@@ -16,4 +17,4 @@ privilege_set_pointer = whole (pointer_to privilege_set)
 
 -- A set of privileges has at most 1,000.
 abbrev pub IsFew : List Privilege → Type 0
-IsFew privileges = length privileges ≤ 1000
+IsFew privileges = length privileges ≤ most_privileges

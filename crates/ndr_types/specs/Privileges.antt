@@ -4,6 +4,7 @@ use Rattle.std.specs.Prelude.{ℕ, List, length, ◌==◌, ◌&&◌, nat_le}
 use Rattle.ndr_core.specs.Codec.{Codec}
 use Rattle.ndr_core.specs.Shapes.{u32, u32_such, conformant, chain, made, led_by, ignored}
 use Rattle.ndr_core.specs.Parts.{times}
+use Rattle.acct_codes.specs.Limits.{most_privileges}
 use Rattle.acct_calls.specs.declared.lists.Privilege.{Privilege}
 
 abbrev pub privilege_of : ℕ × (ℕ × ℕ) → Privilege
@@ -20,4 +21,5 @@ privilege = made privilege_of parts_of_privilege (chain u32 (λ _. chain u32 (λ
 -- many privileges.
 unfoldable pub privilege_set : Codec (List Privilege)
 privilege_set = led_by length conformant
-    (λ n. ignored n (u32_such (λ count. (count == n) && nat_le count 1000)) (ignored 0 u32 (times n privilege)))
+    (λ n. ignored n (u32_such (λ count. (count == n) && nat_le count most_privileges))
+    (ignored 0 u32 (times n privilege)))

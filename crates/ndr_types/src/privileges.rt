@@ -1,5 +1,6 @@
 // Sets of privileges.
 ghost use Rattle.std.specs.Prelude.{◌≡◌, ◌≤◌, OnOk, length};
+ghost use Rattle.acct_codes.specs.Limits.{most_privileges};
 ghost use Rattle.ndr_core.specs.Parts.{flat, times};
 ghost use Rattle.ndr_types.specs.Bounds.{AnyValue};
 ghost use Rattle.ndr_types.specs.Outcomes.{ReadsIfRoom};
@@ -8,6 +9,7 @@ ghost use Rattle.ndr_types.specs.Privileges.{privilege, privilege_set};
 use crate::array::{read_heads, write_heads};
 use crate::{Embedded, NoMemory};
 use acct_calls::{Privilege, PrivilegeSet};
+use acct_codes::limit::MOST_PRIVILEGES;
 use ndr_core::{In, NdrError, Out};
 use std::alloc::Global;
 
@@ -57,7 +59,7 @@ pub fn read_privilege_set(alloc: Global, from: &mut In<'_>) -> Result<PrivilegeS
 {
     let maximum = from.conformant()?;
     let count = from.u32()?;
-    if count != maximum || count > 1000 {
+    if count != maximum || count > MOST_PRIVILEGES {
         return Err(from.broken(4));
     }
     from.u32()?;
@@ -67,7 +69,7 @@ pub fn read_privilege_set(alloc: Global, from: &mut In<'_>) -> Result<PrivilegeS
 /// A set of privileges, with a control word of 0.
 #[tactic(auto, using(crate::proofs::Arrays::map_same), unfolding(crate::specs::Privileges::privilege_set))]
 pub fn write_privilege_set(to: &mut Out, value: &PrivilegeSet) -> Result<(), NoMemory>
-    requires { length value.now ≤ 1000 }
+    requires { length value.now ≤ most_privileges }
     ensures { OnOk result (to.new ≡ privilege_set.write value.now to.old) }
 {
     let count = value.as_slice().len() as u32;

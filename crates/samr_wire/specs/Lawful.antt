@@ -1,8 +1,7 @@
 -- The codecs of this interface's own layouts are lawful.
-use Rattle.std.proofs.Common.{◌≡◌, ℕ, true, false, List, refl, sym, ap, ◌∙◌, lit<}
+use Rattle.std.proofs.Common.{◌≡◌, ℕ, true, false, refl, sym, ap, ◌∙◌, lit<}
 use Rattle.ndr_core.proofs.Complete.{IsComplete, chain_complete, followed_complete, ignored_complete, made_complete}
 use Rattle.ndr_core.proofs.Complete.{u32_complete}
-use Rattle.ndr_core.specs.Codec.{Codec}
 use Rattle.ndr_core.specs.Shapes.{made, u32}
 use Rattle.acct_calls.specs.declared.calls.Args.{Args}
 use Rattle.acct_calls.specs.declared.calls.Args.TheVariants as args
@@ -22,13 +21,10 @@ use Rattle.ndr_types.proofs.Onward.{Takes, long, such_long, takes_chain, takes_f
 use Rattle.ndr_types.proofs.Onward.{takes_made, text_onward}
 use Rattle.ndr_types.proofs.Parts.{whole_fits, whole_kind}
 use Rattle.ndr_types.proofs.ShapeValues.{text_complete}
-use Rattle.ndr_types.proofs.Spelled.{writable}
 use Rattle.ndr_types.proofs.Texts.{text_has}
 use Rattle.ndr_types.specs.Texts.{text}
 use Rattle.acct_stubs.proofs.Complete.{server_name_complete, server_name_fits, unspelled_complete}
-use Rattle.acct_stubs.proofs.Onward.{reply_onward, server_name_onward, takes_unspelled}
-use Rattle.acct_stubs.proofs.ReplyValues.{reply_kind}
-use Rattle.acct_stubs.specs.Calls.{start}
+use Rattle.acct_stubs.proofs.Onward.{server_name_onward, takes_unspelled}
 use Rattle.acct_stubs.specs.Lawful.{IsLawful}
 use Rattle.acct_stubs.specs.Outputs.{is_one}
 use Rattle.acct_stubs.specs.Shared.{are_own, opens_server, own_outputs}

@@ -1,5 +1,5 @@
 -- What the openings of the server bring (MS-SAMR 3.1.5.1.1 to 3.1.5.1.3): none of them takes a handle.
-use Rattle.std.specs.Prelude.{◌≡◌, ℕ, Bool, ◌==◌, List, length, Option, None, Result, Ok, Err}
+use Rattle.std.specs.Prelude.{ℕ}
 use Rattle.ndr_core.specs.Codec.{Codec}
 use Rattle.ndr_core.specs.Shapes.{followed, given, ignored, made, u32, u32_such, unspelled}
 use Rattle.acct_calls.specs.declared.calls.Args.{Args}

@@ -1,5 +1,4 @@
 -- The interface of the account database: the layouts that it has alone.
-use Rattle.std.specs.Prelude.{ℕ}
 use Rattle.ndr_core.specs.Codec.{Codec}
 use Rattle.ndr_core.specs.Shapes.{unspelled}
 use Rattle.acct_calls.specs.declared.calls.Args.{Args}
