@@ -4,7 +4,7 @@ use std::process::Abort;
 use std::test::Fail;
 
 /// The value of a hexadecimal digit.
-fn digit_of(letter: u8) -> Option<u8> {
+pub fn digit_of(letter: u8) -> Option<u8> {
     match letter {
         b'0'..=b'9' => Some(letter - b'0'),
         b'a'..=b'f' => Some(letter - b'a' + 10),

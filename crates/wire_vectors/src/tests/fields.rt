@@ -2,32 +2,31 @@
 // padding that are written, and the second is impacket's 0.10 (Debian's python3-impacket), whose referents and padding
 // are arbitrary; a row with one stub is from a worked example of the operation. The number in front is the most that a
 // list may have; 65535 stands for no limit.
-use super::digits::{joined, numbered};
+use super::digits::joined;
+use super::places::lines_are_bad;
 use super::tables::{Row, beginnings_are_bad, table_is_right};
-use super::wires::{Heard, Wire};
+use super::wires::Wire;
 use acct_calls::Name;
 use ndr_core::Out;
 use ndr_types::{write_referenced, write_text};
-use std::alloc::Global;
-use std::process::Abort;
 use std::test::Fail;
 
 const TEXTS: &str = "
 0 text
-text 'CORP'
+'CORP'
 2244442222
 08000800 00000200 04000000 00000000 04000000 43004f00 52005000
 08000800 e7520000 04000000 00000000 04000000 43004f00 52005000
 
 0 text, null or there, and null with a maximum
-text ''
+''
 224
 00000000 00000000
 00000000 a8f20000 00000000 00000000 00000000
 00000900 00000000
 
 0 text, with a maximum above the actual count
-text 'a'
+'a'
 2244442
 02000200 00000200 01000000 00000000 01000000 6100
 02000900 00000200 05000000 00000000 01000000 6100
@@ -36,24 +35,24 @@ text 'a'
 /// As MS-DTYP 2.4.2.2 packs them, behind their maximum counts.
 const SIDS: &str = "
 0 SID
-SID S-1-5-21-1-2-3
+S-1-5-21-1-2-3
 4111111114444
 04000000 01040000 00000005 15000000 01000000 02000000 03000000
 
 0 SID
-SID S-1-1-0
+S-1-1-0
 4111111114
 01000000 01010000 00000001 00000000
 
 0 SID
-SID S-1-0x010203040506
+S-1-0x010203040506
 411111111
 00000000 01000102 03040506
 ";
 
 const SID_LISTS: &str = "
 3 SIDs, of SamrGetAliasMembership
-SIDs S-1-5-21-1-2-3-500 S-1-5-18 S-1-1-0
+[ S-1-5-21-1-2-3-500 S-1-5-18 S-1-1-0 ]
 4444444111111114444441111111144111111114
 03000000 00000200 03000000 04000200 08000200 0c000200 05000000 01050000 00000005 15000000 01000000 02000000 \
     03000000 f4010000 01000000 01010000 00000005 12000000 01000000 01010000 00000001 00000000
@@ -61,7 +60,7 @@ SIDs S-1-5-21-1-2-3-500 S-1-5-18 S-1-1-0
     03000000 f4010000 01000000 01010000 00000005 12000000 01000000 01010000 00000001 00000000
 
 0 SIDs, null or there
-SIDs
+[ ]
 44
 00000000 00000000
 00000000 00000200 00000000
@@ -69,29 +68,29 @@ SIDs
 
 const NUMBER_LISTS: &str = "
 3 numbers, of the reply to SamrLookupNamesInDomain
-numbers 1000 0 1000
+[ 1000 0 1000 ]
 444444
 03000000 00000200 03000000 e8030000 00000000 e8030000
 
 65535 numbers
-numbers 1 8 1
+[ 1 8 1 ]
 444444
 03000000 00000200 03000000 01000000 08000000 01000000
 
 65535 numbers, of the reply to SamrGetAliasMembership
-numbers 544 545
+[ 544 545 ]
 44444
 02000000 00000200 02000000 20020000 21020000
 
 65535 numbers
-numbers
+[ ]
 44
 00000000 00000000
 ";
 
 const TEXT_LISTS: &str = "
 3 texts, of the reply to SamrLookupIdsInDomain, the second empty and there
-texts 'alice' '' 'bob'
+Names [ 'alice' '' 'bob' ]
 44422422422444422222..444222
 03000000 00000200 03000000 0a000a00 04000200 00000000 00000000 06000600 08000200 05000000 00000000 05000000 \
     61006c00 69006300 65000000 03000000 00000000 03000000 62006f00 6200
@@ -101,7 +100,7 @@ texts 'alice' '' 'bob'
 
 const PRIVILEGES: &str = "
 0 privileges, of LsarAddPrivilegesToAccount, also with a control word
-privileges of 2 0 0x3 23 0 0x0
+[ Privilege 2 0 0x3 Privilege 23 0 0x0 ]
 444444444
 02000000 02000000 00000000 02000000 00000000 03000000 17000000 00000000 00000000
 02000000 02000000 01000000 02000000 00000000 03000000 17000000 00000000 00000000
@@ -109,7 +108,7 @@ privileges of 2 0 0x3 23 0 0x0
 
 const ACCOUNTS: &str = "
 0 accounts, of the reply to SamrEnumerateUsersInDomain
-accounts 500 'Administrator' 1000 'alice'
+[ RidName 500 'Administrator' RidName 1000 'alice' ]
 4444422442244442222222222222..44422222
 00000200 02000000 04000200 02000000 f4010000 1a001a00 08000200 e8030000 0a000a00 0c000200 0d000000 00000000 \
     0d000000 41006400 6d006900 6e006900 73007400 72006100 74006f00 72000000 05000000 00000000 05000000 61006c00 \
@@ -119,19 +118,19 @@ da0e0000 02000000 32950000 02000000 f4010000 1a001a00 e3e80000 e8030000 0a000a00
     69006300 6500
 
 0 accounts, null
-no accounts
+None
 4
 00000000
 
 0 accounts, empty
-accounts
+[ ]
 444
 00000200 00000000 00000000
 ";
 
 const DOMAINS: &str = "
 0 domains, of the reply to LsarLookupSids, the last name empty and there, with a maximum of 32 entries
-domains of 'CORP' S-1-5-21-1-2-3 'BUILTIN' S-1-5-32 '' S-1-1
+[ Place 'CORP' S-1-5-21-1-2-3 Place 'BUILTIN' S-1-5-32 Place '' S-1-1 ]
 44444224422442244444222241111111144444442222222..4111111114411111111
 00000200 03000000 04000200 03000000 03000000 08000800 08000200 0c000200 0e000e00 10000200 14000200 00000000 \
     00000000 18000200 04000000 00000000 04000000 43004f00 52005000 04000000 01040000 00000005 15000000 01000000 \
@@ -143,7 +142,7 @@ e3110000 03000000 0e6b0000 20000000 03000000 08000800 39170000 128d0000 0e000e00
     20000000 00000000 00000000 00000000 00000000 01000000 00000001
 
 0 domains, empty or null
-domains of
+[ ]
 4444
 00000200 00000000 00000000 00000000
 00000000
@@ -184,32 +183,7 @@ fn lists_are_read_and_written(rt: HostRuntime) -> Result<(), Fail> {
     Ok(())
 }
 
-/// A line of a table of refusals: the most that a list may have, `short` or `count`, the place, and the stub.
-fn line_is_refused(rt: &impl Abort, alloc: Global, wire: Wire, line: &str) -> Result<(), Fail> {
-    let (most, rest) = numbered(rt, line);
-    let (kind, rest) = rest.split_once(' ').unwrap_or((rest, ""));
-    let (place, stub) = numbered(rt, rest);
-    let stub = joined(alloc, stub, "")?;
-    let place = usize::from(place);
-    let right = match wire.heard(alloc, most, &stub)? {
-        Heard::Short(short) => kind == "short" && short == place,
-        Heard::Bad(count) => kind == "count" && count == place,
-        _ => false,
-    };
-    assert!(rt; right, "{line}");
-    Ok(())
-}
-
-fn lines_are_refused(rt: &impl Abort, alloc: Global, wire: Wire, table: &str) -> Result<u32, Fail> {
-    let mut count: u32 = 0;
-    for line in table.trim().lines() {
-        if !line.starts_with('#') {
-            line_is_refused(rt, alloc, wire, line)?;
-            count = count.wrapping_add(1);
-        }
-    }
-    Ok(count)
-}
+// The lines of tables of refusals have the form of those in `places`.
 
 const BAD_TEXTS: &str = "
 0 count 0 03000400 00000200 02000000 00000000 02000000 61006200
@@ -273,34 +247,25 @@ const BAD_DOMAINS: &str = "
 #[test]
 fn bad_texts_and_sids_have_their_places(rt: HostRuntime) -> Result<(), Fail> {
     let alloc = rt.alloc();
-    assert_eq!(rt; lines_are_refused(&rt, alloc, Wire::Text, BAD_TEXTS)?, 8);
-    assert_eq!(rt; lines_are_refused(&rt, alloc, Wire::Sid, BAD_SIDS)?, 5);
-    assert_eq!(rt;
-        lines_are_refused(&rt, alloc, Wire::SidList, BAD_SID_LISTS)?,
-        9
-    );
+    assert_eq!(rt; lines_are_bad(&rt, alloc, Wire::Text, BAD_TEXTS)?, 8);
+    assert_eq!(rt; lines_are_bad(&rt, alloc, Wire::Sid, BAD_SIDS)?, 5);
+    assert_eq!(rt; lines_are_bad(&rt, alloc, Wire::SidList, BAD_SID_LISTS)?, 9);
     Ok(())
 }
 
 #[test]
 fn bad_lists_have_their_places(rt: HostRuntime) -> Result<(), Fail> {
     let alloc = rt.alloc();
+    assert_eq!(rt; lines_are_bad(&rt, alloc, Wire::NumberList, BAD_LISTS)?, 1);
     assert_eq!(rt;
-        lines_are_refused(&rt, alloc, Wire::NumberList, BAD_LISTS)?,
+        lines_are_bad(&rt, alloc, Wire::TextList, BAD_TEXT_LISTS)?,
         1
     );
     assert_eq!(rt;
-        lines_are_refused(&rt, alloc, Wire::TextList, BAD_TEXT_LISTS)?,
-        1
-    );
-    assert_eq!(rt;
-        lines_are_refused(&rt, alloc, Wire::Privileges, BAD_PRIVILEGES)?,
+        lines_are_bad(&rt, alloc, Wire::Privileges, BAD_PRIVILEGES)?,
         4
     );
-    assert_eq!(rt;
-        lines_are_refused(&rt, alloc, Wire::Domains, BAD_DOMAINS)?,
-        4
-    );
+    assert_eq!(rt; lines_are_bad(&rt, alloc, Wire::Domains, BAD_DOMAINS)?, 4);
     Ok(())
 }
 

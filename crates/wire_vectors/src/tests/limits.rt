@@ -2,6 +2,7 @@
 use super::digits::{add_bytes, joined, numbered};
 use super::tables::{HANDLE_WRITTEN, Row, handle_of, stub_is_right};
 use super::wires::{Heard, Wire};
+use super::words::spelled;
 use std::alloc::Global;
 use std::process::Abort;
 use std::test::Fail;
@@ -112,8 +113,10 @@ fn a_thousand_names_are_taken(rt: HostRuntime) -> Result<(), Fail> {
     let stub = names_stub(rt.alloc())?;
     assert_eq!(rt; stub.len(), 32036);
     let mut words = String::new(rt.alloc());
-    words.push_str("NameList")?;
+    words.push_str("NameList Names [")?;
     tell_thousand(&mut words, " 'nobody'")?;
+    words.push_str(" ]")?;
+    let words = spelled(&rt, rt.alloc(), words.as_str())?;
     let row = Row {
         wire: Wire::SamrCalls,
         opnum: 17,
@@ -133,10 +136,12 @@ fn a_thousand_names_are_answered(rt: HostRuntime) -> Result<(), Fail> {
     let stub = joined(rt.alloc(), NONE_MAPPED, "")?;
     assert_eq!(rt; stub.len(), 8028);
     let mut words = String::new(rt.alloc());
-    words.push_str("0xc0000073 RidUses")?;
+    words.push_str("Done 0xc0000073 RidUses [")?;
     tell_thousand(&mut words, " 0")?;
-    words.push_str(" used")?;
+    words.push_str(" ] [")?;
     tell_thousand(&mut words, " 8")?;
+    words.push_str(" ]")?;
+    let words = spelled(&rt, rt.alloc(), words.as_str())?;
     let row = Row {
         wire: Wire::SamrReplies,
         opnum: 17,

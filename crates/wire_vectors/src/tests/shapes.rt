@@ -2,11 +2,7 @@
 ghost use Rattle.std.specs.Prelude.{All, IsTrue};
 ghost use Rattle.ndr_types.specs.Bounds.{HasShortName, IsShort, IsShortPlace};
 
-use super::wires::Heard;
-use super::words::{
-    tell_accounts, tell_domains, tell_name, tell_names, tell_numbers, tell_privileges, tell_sid,
-    tell_sids,
-};
+use super::wires::{Heard, told};
 use acct_calls::{Name, Place, RidName};
 use ndr_core::{In, NdrError, Out};
 use ndr_types::{
@@ -15,6 +11,7 @@ use ndr_types::{
     write_rid_names, write_sid, write_sid_list, write_text, write_text_list,
 };
 use std::alloc::Global;
+use std::fmt::Debug;
 use std::test::Fail;
 
 fn broken(error: NdrError) -> Heard {
@@ -34,15 +31,17 @@ fn most_of(number: u16) -> u32 {
 }
 
 /// A value that ends where its stub ends.
-fn whole(end: usize, stub: &[u8], words: String, to: Out) -> Heard {
+fn whole<T: Debug>(
+    alloc: Global,
+    end: usize,
+    stub: &[u8],
+    value: &T,
+    to: Out,
+) -> Result<Heard, Fail> {
     if end != stub.len() {
-        return Heard::EndsAt(end);
+        return Ok(Heard::EndsAt(end));
     }
-    Heard::Value {
-        handle: 0,
-        words,
-        written: to.into_bytes(),
-    }
+    told(alloc, 0, value, to.into_bytes())
 }
 
 // ---- what the writers ask for, looked at before each call
@@ -72,13 +71,10 @@ fn are_short_places(places: &[Place]) -> bool
 pub fn text(alloc: Global, stub: &[u8]) -> Result<Heard, Fail> {
     let mut from = In::new(stub);
     let mut to = Out::new(alloc);
-    let mut words = String::new(alloc);
     match read_text(alloc, &mut from) {
         Ok(name) if name.units().len() <= 32767 => {
-            words.push_str("text")?;
-            tell_name(&mut words, &name)?;
             write_text(&mut to, &name)?;
-            Ok(whole(from.place(), stub, words, to))
+            whole(alloc, from.place(), stub, &name, to)
         }
         Ok(_) => Ok(Heard::Long),
         Err(error) => Ok(broken(error)),
@@ -88,13 +84,10 @@ pub fn text(alloc: Global, stub: &[u8]) -> Result<Heard, Fail> {
 pub fn sid(alloc: Global, stub: &[u8]) -> Result<Heard, Fail> {
     let mut from = In::new(stub);
     let mut to = Out::new(alloc);
-    let mut words = String::new(alloc);
     match read_sid(&mut from) {
         Ok(sid) => {
-            words.push_str("SID")?;
-            tell_sid(alloc, &mut words, &sid)?;
             write_sid(&mut to, &sid)?;
-            Ok(whole(from.place(), stub, words, to))
+            whole(alloc, from.place(), stub, &sid, to)
         }
         Err(error) => Ok(broken(error)),
     }
@@ -103,13 +96,10 @@ pub fn sid(alloc: Global, stub: &[u8]) -> Result<Heard, Fail> {
 pub fn sids(alloc: Global, most: u16, stub: &[u8]) -> Result<Heard, Fail> {
     let mut from = In::new(stub);
     let mut to = Out::new(alloc);
-    let mut words = String::new(alloc);
     match read_sid_list(alloc, &mut from, most_of(most)) {
         Ok(sids) if sids.as_slice().len() <= 1000 => {
-            words.push_str("SIDs")?;
-            tell_sids(alloc, &mut words, sids.as_slice())?;
             write_sid_list(&mut to, &sids)?;
-            Ok(whole(from.place(), stub, words, to))
+            whole(alloc, from.place(), stub, &sids, to)
         }
         Ok(_) => Ok(Heard::Long),
         Err(error) => Ok(broken(error)),
@@ -119,13 +109,10 @@ pub fn sids(alloc: Global, most: u16, stub: &[u8]) -> Result<Heard, Fail> {
 pub fn rids(alloc: Global, most: u16, stub: &[u8]) -> Result<Heard, Fail> {
     let mut from = In::new(stub);
     let mut to = Out::new(alloc);
-    let mut words = String::new(alloc);
     match read_rid_list(alloc, &mut from, most_of(most)) {
         Ok(rids) if rids.as_slice().len() <= 1000 => {
-            words.push_str("numbers")?;
-            tell_numbers(&mut words, rids.as_slice())?;
             write_rid_list(&mut to, &rids)?;
-            Ok(whole(from.place(), stub, words, to))
+            whole(alloc, from.place(), stub, &rids, to)
         }
         Ok(_) => Ok(Heard::Long),
         Err(error) => Ok(broken(error)),
@@ -135,13 +122,10 @@ pub fn rids(alloc: Global, most: u16, stub: &[u8]) -> Result<Heard, Fail> {
 pub fn texts(alloc: Global, most: u16, stub: &[u8]) -> Result<Heard, Fail> {
     let mut from = In::new(stub);
     let mut to = Out::new(alloc);
-    let mut words = String::new(alloc);
     match read_text_list(alloc, &mut from, most_of(most)) {
         Ok(names) if names.as_slice().len() <= 1000 && are_short(names.as_slice()) => {
-            words.push_str("texts")?;
-            tell_names(&mut words, names.as_slice())?;
             write_text_list(&mut to, &names)?;
-            Ok(whole(from.place(), stub, words, to))
+            whole(alloc, from.place(), stub, &names, to)
         }
         Ok(_) => Ok(Heard::Long),
         Err(error) => Ok(broken(error)),
@@ -151,13 +135,10 @@ pub fn texts(alloc: Global, most: u16, stub: &[u8]) -> Result<Heard, Fail> {
 pub fn privileges(alloc: Global, stub: &[u8]) -> Result<Heard, Fail> {
     let mut from = In::new(stub);
     let mut to = Out::new(alloc);
-    let mut words = String::new(alloc);
     match read_privilege_set(alloc, &mut from) {
         Ok(set) if set.as_slice().len() <= 1000 => {
-            words.push_str("privileges")?;
-            tell_privileges(&mut words, set.as_slice())?;
             write_privilege_set(&mut to, &set)?;
-            Ok(whole(from.place(), stub, words, to))
+            whole(alloc, from.place(), stub, &set, to)
         }
         Ok(_) => Ok(Heard::Long),
         Err(error) => Ok(broken(error)),
@@ -168,18 +149,14 @@ pub fn privileges(alloc: Global, stub: &[u8]) -> Result<Heard, Fail> {
 pub fn accounts(alloc: Global, stub: &[u8]) -> Result<Heard, Fail> {
     let mut from = In::new(stub);
     let mut to = Out::new(alloc);
-    let mut words = String::new(alloc);
     match read_rid_names(alloc, &mut from) {
         Ok(None) => {
-            words.push_str("no accounts")?;
             write_rid_names(&mut to, None)?;
-            Ok(whole(from.place(), stub, words, to))
+            whole(alloc, from.place(), stub, &None::<u32>, to)
         }
         Ok(Some(list)) if list.as_slice().len() <= 1000 && have_short_names(list.as_slice()) => {
-            words.push_str("accounts")?;
-            tell_accounts(&mut words, list.as_slice())?;
             write_rid_names(&mut to, Some(&list))?;
-            Ok(whole(from.place(), stub, words, to))
+            whole(alloc, from.place(), stub, &list, to)
         }
         Ok(_) => Ok(Heard::Long),
         Err(error) => Ok(broken(error)),
@@ -190,13 +167,10 @@ pub fn accounts(alloc: Global, stub: &[u8]) -> Result<Heard, Fail> {
 pub fn domains(alloc: Global, stub: &[u8]) -> Result<Heard, Fail> {
     let mut from = In::new(stub);
     let mut to = Out::new(alloc);
-    let mut words = String::new(alloc);
     match read_referenced(alloc, &mut from) {
         Ok(list) if list.as_slice().len() <= 1000 && are_short_places(list.as_slice()) => {
-            words.push_str("domains")?;
-            tell_domains(alloc, &mut words, list.as_slice())?;
             write_referenced(&mut to, Some(&list))?;
-            Ok(whole(from.place(), stub, words, to))
+            whole(alloc, from.place(), stub, &list, to)
         }
         Ok(_) => Ok(Heard::Long),
         Err(error) => Ok(broken(error)),

@@ -1,6 +1,7 @@
 // Tables of stubs, told row by row.
 use super::digits::{cut, joined, numbered};
 use super::wires::{Heard, Wire};
+use super::words::spelled;
 use std::alloc::Global;
 use std::process::Abort;
 use std::test::Fail;
@@ -141,10 +142,11 @@ fn row_is_right(rt: &impl Abort, alloc: Global, wire: Wire, text: &str) -> Resul
     let (fields, rest) = cut(rest);
     let (first, others) = cut(rest);
     let written = joined(alloc, handle_of(wire, opnum, HANDLE_WRITTEN), first)?;
+    let words = spelled(rt, alloc, words)?;
     let row = Row {
         wire,
         opnum,
-        words,
+        words: words.as_str(),
         written: &written,
     };
     stub_is_right(rt, alloc, &row, &written)?;

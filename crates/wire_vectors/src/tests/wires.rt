@@ -4,11 +4,12 @@ ghost use Rattle.std.specs.Prelude.{◌≡◌, IsTrue, []};
 ghost use Rattle.acct_layouts.specs.ReplyShapes.{RefersRightly, domains_of};
 
 use super::shapes;
-use super::words::{tell_args, tell_reply};
+use super::words::tell;
 use acct_calls::{Call, Outs, Reply};
 use acct_layouts::is_refusal;
 use samr_wire::WireError;
 use std::alloc::Global;
+use std::fmt::Debug;
 use std::test::Fail;
 
 /// What a stub is read as: one of the two directions of one of the two interfaces, or a shape alone.
@@ -57,10 +58,14 @@ fn refused(error: WireError) -> Heard {
     }
 }
 
-fn called(alloc: Global, call: &Call, written: Vec<u8>) -> Result<Heard, Fail> {
-    let mut words = String::new(alloc);
-    tell_args(alloc, &mut words, &call.args)?;
-    let handle = call.handle.number;
+/// A value in words, and its stub.
+pub fn told<T: Debug>(
+    alloc: Global,
+    handle: u128,
+    value: &T,
+    written: Vec<u8>,
+) -> Result<Heard, Fail> {
+    let words = tell(alloc, value)?;
     Ok(Heard::Value {
         handle,
         words,
@@ -68,14 +73,8 @@ fn called(alloc: Global, call: &Call, written: Vec<u8>) -> Result<Heard, Fail> {
     })
 }
 
-fn replied(alloc: Global, reply: &Reply, written: Vec<u8>) -> Result<Heard, Fail> {
-    let mut words = String::new(alloc);
-    tell_reply(alloc, &mut words, reply)?;
-    Ok(Heard::Value {
-        handle: 0,
-        words,
-        written,
-    })
+fn called(alloc: Global, call: &Call, written: Vec<u8>) -> Result<Heard, Fail> {
+    told(alloc, call.handle.number, &call.args, written)
 }
 
 fn samr_call(alloc: Global, opnum: u16, stub: &[u8]) -> Result<Heard, Fail> {
@@ -87,7 +86,12 @@ fn samr_call(alloc: Global, opnum: u16, stub: &[u8]) -> Result<Heard, Fail> {
 
 fn samr_reply(alloc: Global, opnum: u16, stub: &[u8]) -> Result<Heard, Fail> {
     match samr_wire::read_reply(alloc, opnum, stub) {
-        Ok(reply) => replied(alloc, &reply, samr_wire::write_reply(alloc, opnum, &reply)?),
+        Ok(reply) => told(
+            alloc,
+            0,
+            &reply,
+            samr_wire::write_reply(alloc, opnum, &reply)?,
+        ),
         Err(error) => Ok(refused(error)),
     }
 }
@@ -125,9 +129,14 @@ fn lsa_reply(alloc: Global, opnum: u16, stub: &[u8]) -> Result<Heard, Fail> {
     match lsa_wire::read_reply(alloc, opnum, stub) {
         Ok(reply) => {
             if !refers_rightly(&reply) {
-                return replied(alloc, &reply, Vec::new(alloc));
+                return told(alloc, 0, &reply, Vec::new(alloc));
             }
-            replied(alloc, &reply, lsa_wire::write_reply(alloc, opnum, &reply)?)
+            told(
+                alloc,
+                0,
+                &reply,
+                lsa_wire::write_reply(alloc, opnum, &reply)?,
+            )
         }
         Err(error) => Ok(refused(error)),
     }
