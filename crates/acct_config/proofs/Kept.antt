@@ -1,6 +1,7 @@
 -- A document that breaks no rule spells a configuration that is right.
-use Rattle.std.proofs.Common.{◌≡◌, ℕ, zero, suc, codes, ℤ, pos, negsuc, ◌&&◌, Bool, true, false, List, [], ◌∷◌, map, length, Option, Some, None, refl, ap, ◌∙◌, nat_le, is_some, unwrap_or, option_map}
+use Rattle.std.proofs.Common.{◌≡◌, ℕ, zero, suc, codes, ℤ, pos, negsuc, ◌&&◌, Bool, true, false, List, [], ◌∷◌, map, length, drop, Option, Some, None, refl, ◌≤◌, arith, ap, ◌∙◌, nat_le, is_some, unwrap_or, option_map}
 use Rattle.std.proofs.lemmas.Bool.{and_parts, and_from}
+use Rattle.std.proofs.lemmas.Bool.Decides.{nat_tests}
 use Rattle.std.proofs.lemmas.List.{length-map}
 use Rattle.std.proofs.lemmas.Simd.{map-map}
 use Rattle.std.specs.List.{list_all, slice_get, filter_map, cons_option}
@@ -8,12 +9,15 @@ use Rattle.std.specs.Option.{option_map_or}
 use Rattle.toml.specs.Data.{Data, get}
 use Rattle.acct_codes.specs.declared.kind.Kind.{Kind}
 use Rattle.dtyp_sid.specs.Value.{SidValue}
+use Rattle.acct_config.specs.declared.limits.Limit.{Limit}
+use Rattle.acct_config.specs.declared.limits.Limit.TheVariants.{Calls, Bytes, Conns, Read, Periods}
 use Rattle.acct_config.specs.Document.{elements, elements_of}
 use Rattle.acct_config.specs.Kinds.{kinds}
-use Rattle.acct_config.specs.Right.{IsRight, is_right_listener, is_right_list, is_right_descriptor}
-use Rattle.acct_config.specs.Rules.{first_broken_from, kept, domain_sid, listeners, listener_name, have_names, has_address, sid_of, is_sid, token_texts, has_token, is_number_within, workers, links, has_counts, descriptor_table, is_ace, ace_texts, has_aces, aces_are_entries}
+use Rattle.acct_config.specs.Ranges.{each_limit, range_of}
+use Rattle.acct_config.specs.Right.{IsRight, AreLimits, IsInRange, is_right_listener, is_right_list, is_right_descriptor}
+use Rattle.acct_config.specs.Rules.{first_broken_from, kept, domain_sid, listeners, listener_name, have_names, has_address, sid_of, is_sid, token_texts, has_token, is_number_within, workers, links, has_counts, descriptor_table, is_ace, ace_texts, has_aces, aces_are_entries, limit_number, is_in_range}
 use Rattle.acct_config.specs.Shape.{found}
-use Rattle.acct_config.specs.Spelled.{count_of, listener_of, ace_at, acl_of, descriptor_of, config_of}
+use Rattle.acct_config.specs.Spelled.{count_of, listener_of, ace_at, acl_of, descriptor_of, limit_of, limits_of, config_of}
 use Rattle.acct_calls.specs.Domains.{is_domain_sid}
 use Rattle.acct_config.specs.Values.{administrators, is_listener_name, are_distinct}
 use Rattle.acct_config.specs.Words.{is_within}
@@ -88,6 +92,30 @@ descriptors-kept d (kind ∷ ks) all =
     let both = and_parts _ _ all in
     and_from _ _ (descriptor-kept (descriptor_table d kind) both.0) (descriptors-kept d ks both.1)
 
+le-kept : (m n : ℕ) → nat_le m n ≡ true → m ≤ n
+le-kept m n le = grind (arith, nat_tests)
+
+limit-kept : (d : Data) (limit : Limit) → is_in_range d limit ≡ true → IsInRange limit (limit_of d limit)
+limit-kept d limit is =
+    let within = within-kept (range_of limit).low (range_of limit).high (limit_number d limit) is in
+    let both = and_parts (nat_le (range_of limit).low (limit_of d limit)) (nat_le (limit_of d limit) (range_of limit).high) within in
+    (le-kept (range_of limit).low (limit_of d limit) both.0, le-kept (limit_of d limit) (range_of limit).high both.1)
+
+limits-kept : (d : Data) → list_all (is_in_range d) each_limit ≡ true → AreLimits (limits_of d)
+limits-kept d all =
+    let calls = and_parts (is_in_range d Calls) (list_all (is_in_range d) (drop 1 each_limit)) all in
+    let bytes = and_parts (is_in_range d Bytes) (list_all (is_in_range d) (drop 2 each_limit)) calls.1 in
+    let conns = and_parts (is_in_range d Conns) (list_all (is_in_range d) (drop 3 each_limit)) bytes.1 in
+    let read = and_parts (is_in_range d Read) (list_all (is_in_range d) (drop 4 each_limit)) conns.1 in
+    let periods = and_parts (is_in_range d Periods) (list_all (is_in_range d) (drop 5 each_limit)) read.1 in
+    record {
+      calls = limit-kept d Calls calls.0;
+      bytes = limit-kept d Bytes bytes.0;
+      conns = limit-kept d Conns conns.0;
+      read = limit-kept d Read read.0;
+      periods = limit-kept d Periods periods.0;
+    }
+
 pub right-read : (d : Data) → first_broken_from 1 (kept d) ≡ None → IsRight (config_of d)
 unfolding kept
 right-read d none =
@@ -102,5 +130,5 @@ right-read d none =
       names_differ = simp (map-map) parts.1;
       descriptor_count = refl;
       descriptors = descriptors-kept d kinds (nth_kept 1 (kept d) 8 _ none refl);
-      limits = refl;
+      limits = limits-kept d (nth_kept 1 (kept d) 9 _ none refl);
     }

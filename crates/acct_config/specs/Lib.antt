@@ -5,6 +5,7 @@ pub mod Errors
 pub mod Grammar
 pub mod Kinds
 pub mod Laws
+pub mod Ranges
 pub mod Right
 pub mod Rules
 pub mod Shape

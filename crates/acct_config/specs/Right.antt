@@ -1,13 +1,16 @@
 -- Which configurations are right: what each that is read keeps, and a server may rely on.
-use Rattle.std.specs.Prelude.{◌≡◌, Bool, true, ◌&&◌, List, length, map, Option, Some, None}
+use Rattle.std.specs.Prelude.{◌≡◌, ℕ, ◌≤◌, Bool, true, ◌&&◌, List, length, map, Option, Some, None}
 use Rattle.std.specs.List.{list_all}
 use Rattle.dtyp_access.specs.declared.ace.Ace.{Ace}
 use Rattle.dtyp_access.specs.declared.descriptor.Descriptor.{Descriptor}
 use Rattle.acct_config.specs.declared.config.Config.{Config}
 use Rattle.acct_config.specs.declared.config.Listener.{Listener}
+use Rattle.acct_config.specs.declared.limits.Limit.{Limit}
+use Rattle.acct_config.specs.declared.limits.Limit.TheVariants.{Calls, Bytes, Conns, Read, Periods}
 use Rattle.acct_config.specs.declared.limits.Limits.{Limits}
 use Rattle.acct_config.specs.Address.{is_address}
 use Rattle.acct_config.specs.Kinds.{kinds}
+use Rattle.acct_config.specs.Ranges.{range_of}
 use Rattle.acct_calls.specs.Domains.{is_domain_name, is_domain_sid}
 use Rattle.acct_config.specs.Values.{is_listener_name, are_distinct}
 use Rattle.acct_config.specs.Words.{is_within}
@@ -26,11 +29,17 @@ is_right_list (Some aces) = is_within 0 800 (length aces)
 abbrev pub is_right_descriptor : Descriptor → Bool
 is_right_descriptor descriptor = is_right_list descriptor.acl
 
--- the ranges of the limits
-abbrev pub are_right_limits : Limits → Bool
-are_right_limits limits =
-    is_within 1 1000000 limits.max_calls && is_within 1 1073741824 limits.max_bytes && is_within 1 65536 limits.max_conns
-    && is_within 1 1099511627776 limits.max_read && is_within 1 1000000 limits.max_periods
+-- a number in the range of a limit
+abbrev pub IsInRange : Limit → ℕ → Type 0
+IsInRange limit number = ((range_of limit).low ≤ number) × (number ≤ (range_of limit).high)
+
+-- each limit is in its range
+pub record AreLimits (limits : Limits) : Type 0 where
+  pub calls : IsInRange Calls limits.max_calls
+  pub bytes : IsInRange Bytes limits.max_bytes
+  pub conns : IsInRange Conns limits.max_conns
+  pub read : IsInRange Read limits.max_read
+  pub periods : IsInRange Periods limits.max_periods
 
 pub record IsRight (config : Config) : Type 0 where
   pub name : is_domain_name config.name ≡ true
@@ -40,4 +49,4 @@ pub record IsRight (config : Config) : Type 0 where
   pub names_differ : are_distinct (map (λ listener. listener.name) config.listeners) ≡ true
   pub descriptor_count : length config.descriptors ≡ length kinds
   pub descriptors : list_all is_right_descriptor config.descriptors ≡ true
-  pub limits : are_right_limits config.limits ≡ true
+  pub limits : AreLimits config.limits

@@ -7,10 +7,12 @@ use Rattle.toml.specs.Data.{Data, get}
 use Rattle.dtyp_sid.specs.Value.{SidValue}
 use Rattle.dtyp_sid.specs.Reading.{sid_of_text}
 use Rattle.acct_codes.specs.declared.kind.Kind.{Kind}
+use Rattle.acct_config.specs.declared.limits.Limit.{Limit}
 use Rattle.acct_config.specs.Address.{is_address}
 use Rattle.acct_config.specs.Document.{document, whole, get_in, text_of, number_of, elements_of}
 use Rattle.acct_config.specs.Entries.{ace_of_text}
 use Rattle.acct_config.specs.Kinds.{kinds, kind_name}
+use Rattle.acct_config.specs.Ranges.{each_limit, limit_key, range_of}
 use Rattle.acct_config.specs.Shape.{is_document, found}
 use Rattle.acct_calls.specs.Domains.{name_of_text, is_domain_name, is_domain_sid}
 use Rattle.acct_config.specs.Values.{is_listener_name, are_distinct}
@@ -111,11 +113,21 @@ aces_are_entries d kind = found true has_aces (descriptor_table d kind)
 abbrev pub have_aces : Data → Bool
 have_aces d = list_all (aces_are_entries d) kinds
 
+-- rule 10: each limit is in its range. Where no key sets it, it is what the table of limits says
+abbrev pub limit_number : Data → Limit → ℤ
+limit_number d limit = number_of (range_of limit).absent (get_in (codes "limits") (limit_key limit) d)
+
+abbrev pub is_in_range : Data → Limit → Bool
+is_in_range d limit = is_number_within (range_of limit).low (range_of limit).high (limit_number d limit)
+
+abbrev pub have_limits : Data → Bool
+have_limits d = list_all (is_in_range d) each_limit
+
 -- which of the rules from 1 on a parsed document keeps, in order
 unfoldable pub kept : Data → List Bool
 kept d =
     is_document d ∷ has_domain_name d ∷ has_domain_sid d ∷ have_names (listeners d) ∷ list_all has_address (listeners d)
-    ∷ list_all has_token (listeners d) ∷ list_all has_counts (listeners d) ∷ have_owners d ∷ have_aces d ∷ []
+    ∷ list_all has_token (listeners d) ∷ list_all has_counts (listeners d) ∷ have_owners d ∷ have_aces d ∷ have_limits d ∷ []
 
 -- which of the rules bytes keep, in order: rule 0 is that they spell a document
 abbrev pub rules : List ℕ → List Bool

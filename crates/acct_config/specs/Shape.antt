@@ -4,6 +4,7 @@ use Rattle.std.specs.List.{list_all, list_any}
 use Rattle.toml.specs.Data.{Data, Members, get, as_str, as_integer, as_array, as_table}
 use Rattle.acct_config.specs.Document.{elements, keys}
 use Rattle.acct_config.specs.Kinds.{kinds, kind_name, kind_names}
+use Rattle.acct_config.specs.Ranges.{each_limit, limit_key, limit_keys}
 
 -- whether the key is one of the names
 abbrev pub is_among : List (List ℕ) → List ℕ → Bool
@@ -57,8 +58,11 @@ is_descriptor d =
 unfoldable pub are_descriptors : Data → Bool
 are_descriptors d = has_only kind_names d && list_all (λ kind. optional is_descriptor (kind_name kind) d) kinds
 
+unfoldable pub are_limits : Data → Bool
+are_limits d = has_only limit_keys d && list_all (λ limit. optional is_number (limit_key limit) d) each_limit
+
 unfoldable pub is_document : Data → Bool
 is_document d =
-    has_only (codes "domain" ∷ codes "listener" ∷ codes "descriptor" ∷ []) d
+    has_only (codes "domain" ∷ codes "listener" ∷ codes "descriptor" ∷ codes "limits" ∷ []) d
     && required is_domain (codes "domain") d && required (is_array_of is_listener) (codes "listener") d
-    && optional are_descriptors (codes "descriptor") d
+    && optional are_descriptors (codes "descriptor") d && optional are_limits (codes "limits") d

@@ -6,11 +6,14 @@ use Rattle.dtyp_access.specs.declared.ace.Ace.{Ace}
 use Rattle.dtyp_access.specs.declared.descriptor.Descriptor.{Descriptor}
 use Rattle.acct_config.specs.declared.config.Config.{Config}
 use Rattle.acct_config.specs.declared.config.Listener.{Listener}
+use Rattle.acct_config.specs.declared.limits.Limit.{Limit}
+use Rattle.acct_config.specs.declared.limits.Limit.TheVariants.{Calls, Bytes, Conns, Read, Periods}
 use Rattle.acct_config.specs.declared.limits.Limits.{Limits}
 use Rattle.acct_config.specs.Document.{whole, text_of, elements}
 use Rattle.acct_config.specs.Entries.{ace_of_text}
 use Rattle.acct_config.specs.Kinds.{kinds}
-use Rattle.acct_config.specs.Rules.{kept, first_broken_from, first_broken, domain_name, domain_sid, listeners, listener_name, listener_address, sid_of, token_texts, workers, links, descriptor_table, owner}
+use Rattle.acct_config.specs.Ranges.{range_of}
+use Rattle.acct_config.specs.Rules.{kept, first_broken_from, first_broken, domain_name, domain_sid, listeners, listener_name, listener_address, sid_of, token_texts, workers, links, descriptor_table, owner, limit_number}
 use Rattle.acct_calls.specs.Domains.{name_of_text}
 use Rattle.acct_config.specs.Values.{administrators}
 
@@ -44,14 +47,17 @@ descriptor_of (Some descriptor) = record {
   acl = option_map acl_of (get (codes "aces") descriptor);
 }
 
--- the limits that hold where a configuration names none
-abbrev pub default_limits : Limits
-default_limits = record {
-  max_calls = 65536;
-  max_bytes = 67108864;
-  max_conns = 1024;
-  max_read = 4294967296;
-  max_periods = 1;
+-- the limits: each as its key says, and else what it is where no key sets it
+abbrev pub limit_of : Data → Limit → ℕ
+limit_of d limit = count_of (range_of limit).high (limit_number d limit)
+
+abbrev pub limits_of : Data → Limits
+limits_of d = record {
+  max_calls = limit_of d Calls;
+  max_bytes = limit_of d Bytes;
+  max_conns = limit_of d Conns;
+  max_read = limit_of d Read;
+  max_periods = limit_of d Periods;
 }
 
 -- the configuration that a document spells
@@ -61,7 +67,7 @@ config_of d = record {
   sid = unwrap_or (domain_sid d) administrators;
   listeners = map listener_of (listeners d);
   descriptors = map (λ kind. descriptor_of (descriptor_table d kind)) kinds;
-  limits = default_limits;
+  limits = limits_of d;
 }
 
 -- a document that breaks no rule from 1 on, and its configuration

@@ -2,13 +2,16 @@
 use Rattle.std.specs.Prelude.{ℕ, Bool, true, not, ◌&&◌, ◌||◌, List, [], ◌∷◌, length}
 use Rattle.std.specs.List.{list_all, list_any}
 use Rattle.std.specs.Str.{bytes_eq}
-use Rattle.acct_codes.specs.Rids.{domain_alias_rid_admins}
+use Rattle.acct_codes.specs.Rids.{security_nt_authority, security_builtin_domain_rid, domain_alias_rid_admins}
 use Rattle.dtyp_sid.specs.Value.{SidValue}
 use Rattle.acct_config.specs.Words.{is_within}
 
 -- the SID of the administrators, S-1-5-32-544 (MS-DTYP 2.4.2.4)
 abbrev pub administrators : SidValue
-administrators = record { authority = 5; subs = 32 ∷ domain_alias_rid_admins ∷ [] }
+administrators = record {
+  authority = security_nt_authority;
+  subs = security_builtin_domain_rid ∷ domain_alias_rid_admins ∷ [];
+}
 
 -- a listener's name: 1 to 32 lower-case letters and digits
 abbrev pub is_name_byte : ℕ → Bool

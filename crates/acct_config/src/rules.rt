@@ -3,13 +3,14 @@ ghost use Rattle.std.specs.Prelude.{◌≡◌, map, option_map, IfOk};
 ghost use Rattle.std.specs.List.{list_all, list_any};
 ghost use Rattle.std.specs.Str.{bytes_eq};
 ghost use Rattle.toml.specs.View.{view};
-ghost use Rattle.acct_config.specs.Rules.{domain_name, domain_sid, has_domain_name, has_domain_sid, listeners, listener_name, listener_address, have_names, has_address, sid_of, is_sid, has_token, is_number_within, workers, links, has_counts, descriptor_table, owner, owner_is_sid, is_ace, aces_are_entries, kept, first_broken_from};
+ghost use Rattle.acct_config.specs.Rules.{domain_name, domain_sid, has_domain_name, has_domain_sid, listeners, listener_name, listener_address, have_names, has_address, sid_of, is_sid, has_token, is_number_within, workers, links, has_counts, descriptor_table, owner, owner_is_sid, is_ace, aces_are_entries, limit_number, is_in_range, kept, first_broken_from};
 ghost use Rattle.acct_config.specs.Values.{is_listener_name, are_distinct};
 
 use crate::address::is_address;
 use crate::document::{elements_of, get_in, number_of, text_of};
 use crate::entries::{ace_of_text, sid_of_text};
 use crate::kinds::{KINDS, kind_name};
+use crate::limits::{EACH_LIMIT, Limit, limit_key, range_of};
 use crate::shape::is_document;
 use crate::values::is_listener_name;
 use acct_calls::Name;
@@ -273,6 +274,34 @@ fn have_aces(document: &Value, kinds: &[Kind]) -> bool
     true
 }
 
+/// The number that a document gives for a limit.
+pub fn limit_number(document: &Value, limit: Limit) -> i64
+    ensures { result ≡ limit_number (view document.now) limit }
+{
+    number_of(
+        range_of(limit).absent,
+        get_in(document, "limits", limit_key(limit)),
+    )
+}
+
+fn is_in_range(document: &Value, limit: Limit) -> bool
+    ensures { result ≡ is_in_range (view document.now) limit }
+{
+    let range = range_of(limit);
+    is_number_within(range.low, range.high, limit_number(document, limit))
+}
+
+fn have_limits(document: &Value, limits: &[Limit]) -> bool
+    ensures { result ≡ list_all (is_in_range (view document.now)) limits.now }
+{
+    for limit in limits {
+        if !is_in_range(document, *limit) {
+            return false;
+        }
+    }
+    true
+}
+
 /// The first rule from 1 on that a parsed document breaks.
 #[tactic(auto, unfolding(crate::specs::Rules::kept))]
 pub fn first_broken(alloc: Global, document: &Value) -> Result<Option<u32>, AllocError>
@@ -305,6 +334,9 @@ pub fn first_broken(alloc: Global, document: &Value) -> Result<Option<u32>, Allo
     }
     if !have_aces(document, &KINDS) {
         return Ok(Some(9));
+    }
+    if !have_limits(document, &EACH_LIMIT) {
+        return Ok(Some(10));
     }
     Ok(None)
 }

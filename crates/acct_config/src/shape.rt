@@ -4,10 +4,12 @@ ghost use Rattle.std.specs.List.{list_all};
 ghost use Rattle.toml.specs.View.{view, table_view};
 ghost use Rattle.acct_config.specs.Document.{keys};
 ghost use Rattle.acct_config.specs.Kinds.{kind_name};
-ghost use Rattle.acct_config.specs.Shape.{is_among, has_only, required, optional, is_text, is_number, is_array_of, is_domain, is_listener, is_descriptor, are_descriptors, is_document};
+ghost use Rattle.acct_config.specs.Ranges.{limit_key};
+ghost use Rattle.acct_config.specs.Shape.{is_among, has_only, required, optional, is_text, is_number, is_array_of, is_domain, is_listener, is_descriptor, are_descriptors, are_limits, is_document};
 
 use crate::document::elements;
 use crate::kinds::{KIND_NAMES, KINDS, kind_name};
+use crate::limits::{EACH_LIMIT, LIMIT_KEYS, Limit, limit_key};
 use acct_codes::Kind;
 use toml::{Table, Value};
 
@@ -182,13 +184,41 @@ fn allows_descriptors(value: &Value, key: &str) -> bool
     }
 }
 
+fn each_allows_number(value: &Value, limits: &[Limit]) -> bool
+    ensures { result ≡ list_all (λ limit. optional is_number (limit_key limit) (view value.now)) limits.now }
+{
+    for limit in limits {
+        if !allows_number(value, limit_key(*limit)) {
+            return false;
+        }
+    }
+    true
+}
+
+#[tactic(auto, unfolding(crate::specs::Shape::are_limits))]
+fn are_limits(value: &Value) -> bool
+    ensures { result ≡ are_limits (view value.now) }
+{
+    has_only(value, &LIMIT_KEYS) && each_allows_number(value, &EACH_LIMIT)
+}
+
+fn allows_limits(value: &Value, key: &str) -> bool
+    ensures { result ≡ optional are_limits key.now (view value.now) }
+{
+    match value.get(key) {
+        Some(found) => are_limits(found),
+        None => true,
+    }
+}
+
 /// Whether the document has only the keys that a configuration has, with their types, and those that it needs.
 #[tactic(auto, unfolding(crate::specs::Shape::is_document))]
 pub fn is_document(value: &Value) -> bool
     ensures { result ≡ is_document (view value.now) }
 {
-    has_only(value, &["domain", "listener", "descriptor"])
+    has_only(value, &["domain", "listener", "descriptor", "limits"])
         && requires_domain(value, "domain")
         && requires_listeners(value, "listener")
         && allows_descriptors(value, "descriptor")
+        && allows_limits(value, "limits")
 }

@@ -3,18 +3,18 @@ ghost use Rattle.std.specs.Prelude.{◌≡◌, map, option_map, IfOk};
 ghost use Rattle.std.specs.List.{filter_map};
 ghost use Rattle.toml.specs.View.{view};
 ghost use Rattle.acct_config.specs.Rules.{sid_of, descriptor_table};
-ghost use Rattle.acct_config.specs.Spelled.{count_of, listener_of, ace_at, acl_of, descriptor_of, config_of};
+ghost use Rattle.acct_config.specs.Spelled.{count_of, listener_of, ace_at, acl_of, descriptor_of, limit_of, limits_of, config_of};
 
 use crate::document::{elements, elements_of, text_of};
 use crate::entries::ace_of_text;
 use crate::kinds::KINDS;
-use crate::limits::default_limits;
+use crate::limits::{Limit, range_of};
 use crate::rules::{
-    descriptor_table, domain_name, domain_sid, links, listener_address, listener_name, listeners,
-    owner, sid_of, workers,
+    descriptor_table, domain_name, domain_sid, limit_number, links, listener_address,
+    listener_name, listeners, owner, sid_of, workers,
 };
 use crate::values::administrators;
-use crate::{Config, Listener, Text};
+use crate::{Config, Limits, Listener, Text};
 use acct_base::Seq;
 use acct_calls::Name;
 use acct_codes::Kind;
@@ -118,6 +118,24 @@ fn descriptors_of(
     Ok(made)
 }
 
+fn limit_of(document: &Value, limit: Limit) -> u64
+    ensures { result ≡ limit_of (view document.now) limit }
+{
+    count_of(range_of(limit).high, limit_number(document, limit))
+}
+
+fn limits_of(document: &Value) -> Limits
+    ensures { result ≡ limits_of (view document.now) }
+{
+    Limits {
+        max_calls: limit_of(document, Limit::Calls) as u32,
+        max_bytes: limit_of(document, Limit::Bytes),
+        max_conns: limit_of(document, Limit::Conns) as u32,
+        max_read: limit_of(document, Limit::Read),
+        max_periods: limit_of(document, Limit::Periods) as u32,
+    }
+}
+
 /// The configuration that a parsed document spells.
 pub fn config_of(alloc: Global, document: &Value) -> Result<Config, AllocError>
     ensures { IfOk result (λ config. config ≡ config_of (view document.now)) }
@@ -127,6 +145,6 @@ pub fn config_of(alloc: Global, document: &Value) -> Result<Config, AllocError>
         sid: domain_sid(document).unwrap_or(administrators()),
         listeners: listeners_of(alloc, listeners(document))?,
         descriptors: descriptors_of(alloc, document, &KINDS)?,
-        limits: default_limits(),
+        limits: limits_of(document),
     })
 }

@@ -1,5 +1,5 @@
 // Documents and the rule that each breaks, and what the documents that break none spell.
-use crate::{Config, ConfigError, Listener, Text, laws, read_config};
+use crate::{Config, ConfigError, Limits, Listener, Text, laws, read_config};
 use acct_codes::Kind;
 use dtyp_access::{Ace, AceKind, Descriptor, make_token, opening};
 use dtyp_sid::{Sid, parse_text};
@@ -36,8 +36,18 @@ const RULES: &str = r#"0|[domain]|[domain
 1|"S-1-1-0"|1
 1|["S-1-5-21-1-2-3-500", "S-1-1-0", "S-1-5-32-544"]|"S-1-1-0"
 1|[domain]|port = 1;[domain]
-1|[domain]|[limits];[domain]
+1|[domain]|[limit];[domain]
 1|[domain]|[hook];[domain]
+1|[domain]|limits = 65536;[domain]
+1|[domain]|[[limits]];[domain]
+1|[domain]|[limits];max_call = 1;[domain]
+1|[domain]|[limits];max_calls = "65536";[domain]
+1|[domain]|[limits];max_bytes = 1.0;[domain]
+1|[domain]|[limits];max_conns = true;[domain]
+1|[domain]|[limits];max_read = [1];[domain]
+1|[domain]|[limits];max_periods = 2026-11-27;[domain]
+1|[domain]|max_calls = 65536;[domain]
+1|name = "CORP"|name = "CORP";max_calls = 65536
 1|name = "CORP"|name = "CORP";oem = ""
 1|name = "a"|name = "a";workers = "1"
 1|name = "a"|name = "a";workers = 1.0
@@ -103,6 +113,20 @@ const RULES: &str = r#"0|[domain]|[domain
 9|[[listener]]|[descriptor.user];owner = "S-1-5-18";aces = ["Allow 0x00000010 0 S-1-1-0"];[[listener]]
 9|[[listener]]|[descriptor.user];owner = "S-1-5-18";aces = ["allow 0x00000010 0 S-1-1-0 "];[[listener]]
 9|[[listener]]|[descriptor.user];owner = "S-1-5-18";aces = ["allow 0x00000010 0"];[[listener]]
+10|[domain]|[limits];max_calls = 0;[domain]
+10|[domain]|[limits];max_calls = -1;[domain]
+10|[domain]|[limits];max_calls = 1000001;[domain]
+10|[domain]|[limits];max_calls = 4294967297;[domain]
+10|[domain]|[limits];max_bytes = 0;[domain]
+10|[domain]|[limits];max_bytes = 1073741825;[domain]
+10|[domain]|[limits];max_conns = 0;[domain]
+10|[domain]|[limits];max_conns = 65537;[domain]
+10|[domain]|[limits];max_read = 0;[domain]
+10|[domain]|[limits];max_read = 1099511627777;[domain]
+10|[domain]|[limits];max_read = 9223372036854775807;[domain]
+10|[domain]|[limits];max_periods = 0;[domain]
+10|[domain]|[limits];max_periods = 1000001;[domain]
+10|[domain]|[limits];max_calls = 1;max_periods = -9223372036854775808;[domain]
 -|[domain]|# a comment;[domain]
 -|[domain];name = "CORP";sid = "S-1-5-21-1-2-3"|domain = { name = "CORP", sid = "S-1-5-21-1-2-3" }
 -|[domain];name = "CORP";sid|domain.name = "\u0043ORP";domain.sid
@@ -213,9 +237,11 @@ fn documents_with_many_of_the_same(rt: HostRuntime) -> Result<(), Fail> {
 }
 
 /// A document whose last listener is the plain one, and in which a later rule is broken by what stands before it.
-const LAST_BROKEN: &str = r#"[[listener]]|[descriptor.user]
+const LAST_BROKEN: &str = r#"[[listener]]|[limits]
+max_periods = 0
+[descriptor.user]
 owner = "S-1-1-0"
-aces = [""]
+aces = []
 [descriptor.alias]
 owner = "S-1-1-1"
 [[listener]]
@@ -225,7 +251,8 @@ token = ["S-1-1-0"]
 [[listener]]"#;
 
 /// One change after the other, each of which breaks an earlier rule than those before it.
-const EARLIER: &str = r#"9|CORP|CORP
+const EARLIER: &str = r#"10|CORP|CORP
+9|aces = []|aces = [""]
 8|S-1-1-1|
 7|name = "b"|name = "b";links = -1
 6|"S-1-5-21-1-2-3-500"|"S-1"
@@ -233,7 +260,7 @@ const EARLIER: &str = r#"9|CORP|CORP
 4|name = "a"|name = ""
 3|sid = "S-1-5-21-1-2-3"|sid = ""
 2|CORP|
-1|[domain]|[limits];[domain]
+1|max_periods|max_period
 0|[domain]|[domain"#;
 
 /// Each rule is asked of all listeners and tables before the next one.
@@ -342,6 +369,14 @@ fn shown_descriptor(alloc: Global, descriptor: &Descriptor) -> Result<String, Fa
     Ok(text)
 }
 
+/// Each limit.
+fn shown_limits(alloc: Global, limits: &Limits) -> Result<String, Fail> {
+    Ok(format!(in alloc;
+        "{} {} {} {} {}",
+        limits.max_calls, limits.max_bytes, limits.max_conns, limits.max_read, limits.max_periods
+    )?)
+}
+
 fn shown_descriptors(alloc: Global, descriptors: &[Descriptor]) -> Result<String, Fail> {
     let mut text = String::new(alloc);
     for descriptor in descriptors {
@@ -356,7 +391,7 @@ fn shown(alloc: Global, config: &Config, part: &str) -> Result<String, Fail> {
         "domain" => shown_domain(alloc, config),
         "listeners" => shown_listeners(alloc, config.listeners.as_slice()),
         "descriptors" => shown_descriptors(alloc, config.descriptors.as_slice()),
-        _ => Ok(format!(in alloc; "{:?}", config.limits)?),
+        _ => shown_limits(alloc, &config.limits),
     }
 }
 
@@ -371,7 +406,7 @@ fn says(alloc: Global, document: &str, line: &str) -> Result<bool, Fail> {
 const PLAIN_SAYS: &str = r#"domain|43 4f 52 50 S-1-5-21-1-2-3
 listeners|(a tcp:127.0.0.1:4045 1 0 S-1-5-21-1-2-3-500 S-1-1-0 S-1-5-32-544)
 descriptors|~~~~~~~
-limits|Limits { max_calls: 65536, max_bytes: 67108864, max_conns: 1024, max_read: 4294967296, max_periods: 1 }"#;
+limits|65536 67108864 1024 4294967296 1"#;
 
 /// A configuration with all that may stand in one.
 const WHOLE: &str = r#"# The account domain: its name and SID.
@@ -438,6 +473,35 @@ fn configurations_say_these_values(rt: HostRuntime) -> Result<(), Fail> {
         for line in open.as_str().lines() {
             assert!(rt; says(alloc, document, line)?, "{line}");
         }
+    }
+    Ok(())
+}
+
+/// In each line what stands before the plain document, and the limits that it then says.
+const LIMITS: &str = r#"[limits]|65536 67108864 1024 4294967296 1
+[limits];max_calls = 4|4 67108864 1024 4294967296 1
+[limits];max_bytes = 5|65536 5 1024 4294967296 1
+[limits];max_conns = 6|65536 67108864 6 4294967296 1
+[limits];max_read = 7|65536 67108864 1024 7 1
+[limits];max_periods = 8|65536 67108864 1024 4294967296 8
+limits.max_conns = 0x10;limits.max_calls = 2_000|2000 67108864 16 4294967296 1
+limits = { max_periods = 5, max_read = 4, max_conns = 3, max_bytes = 2, max_calls = 1 }|1 2 3 4 5
+[limits];max_calls = 1;max_bytes = 1;max_conns = 1;max_read = 1;max_periods = 1|1 1 1 1 1
+[limits];max_calls = 1000000;max_bytes = 1073741824|1000000 1073741824 1024 4294967296 1
+[limits];max_conns = 65536;max_read = 1099511627776;max_periods = 1000000|65536 67108864 65536 1099511627776 1000000"#;
+
+#[test]
+fn limits_are_those_of_the_document(rt: HostRuntime) -> Result<(), Fail> {
+    let alloc = rt.alloc();
+    for line in LIMITS.lines() {
+        let (front, limits) = line.split_once('|').ok_or("no limits")?;
+        let lines = front.replace(alloc, ";", "\n")?;
+        let document = format!(in alloc; "{}\n{PLAIN}", lines.as_str())?;
+        let says_them = format!(in alloc; "limits|{limits}")?;
+        assert!(rt;
+            says(alloc, document.as_str(), says_them.as_str())?,
+            "{line}"
+        );
     }
     Ok(())
 }

@@ -3,14 +3,17 @@ ghost use Rattle.std.specs.Prelude.{◌≡◌};
 ghost use Rattle.std.specs.List.{list_all};
 ghost use Rattle.acct_config.specs.Values.{administrators, is_name_byte, is_listener_name};
 
-use acct_codes::rid::DOMAIN_ALIAS_RID_ADMINS;
+use acct_codes::rid::{
+    DOMAIN_ALIAS_RID_ADMINS, SECURITY_BUILTIN_DOMAIN_RID, SECURITY_NT_AUTHORITY,
+};
 use dtyp_sid::Sid;
 
 /// The SID of the administrators.
 pub fn administrators() -> Sid
     ensures { result ≡ administrators }
 {
-    match Sid::new(5, &[32, DOMAIN_ALIAS_RID_ADMINS]) {
+    let subs = [SECURITY_BUILTIN_DOMAIN_RID, DOMAIN_ALIAS_RID_ADMINS];
+    match Sid::new(SECURITY_NT_AUTHORITY, &subs) {
         Ok(sid) => sid,
         Err(_) => unreachable!(),
     }
