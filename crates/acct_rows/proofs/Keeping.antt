@@ -1,5 +1,5 @@
 -- Each row of a table that ascends is found at its key, so that what holds of what is found holds of each row.
-use Rattle.std.proofs.Common.{◌≡◌, ℕ, Bool, true, cond, All, List, [], ◌∷◌, Some, None, sym, ap, subst, ◌∙◌}
+use Rattle.std.proofs.Common.{◌≡◌, ℕ, true, cond, All, List, [], ◌∷◌, Some, None, sym, ap, subst, ◌∙◌}
 use Rattle.std.proofs.Common.{inl, inr}
 use Rattle.std.proofs.lemmas.List.Elements.{All-nil, All-cons}
 use Rattle.std.specs.Cmp.{first_so, second_so}

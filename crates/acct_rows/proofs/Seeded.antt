@@ -1,6 +1,6 @@
 -- The rows that a database without rows begins with are sound
 use Rattle.std.proofs.Common.{◌≡◌, ℕ, ◌+◌, ◌^◌, ◌<◌, ◌≤◌, ◌==◌, nat_lt, nat_le, Bool, true, false, not, cond, ◌&&◌, ◌||◌, codes}
-use Rattle.std.proofs.Common.{All, List, [], ◌∷◌, ◌++◌, map, length, is_some, Some, refl, sym, ap, subst, ◌∙◌, arith}
+use Rattle.std.proofs.Common.{List, [], ◌∷◌, ◌++◌, map, length, is_some, Some, refl, sym, ap, subst, ◌∙◌, arith}
 use Rattle.std.proofs.lemmas.Bool.Decides.{nat_tests}
 use Rattle.std.proofs.lemmas.List.Elements.{All-nil, All-cons, All-push}
 use Rattle.std.specs.List.{list_all}
@@ -29,7 +29,7 @@ use Rattle.acct_rows.specs.declared.row.AccountRow.{AccountRow}
 use Rattle.acct_rows.specs.declared.row.MemberRow.{MemberRow}
 use Rattle.acct_rows.specs.declared.row.AliasRow.{AliasRow}
 use Rattle.acct_calls.specs.Domains.{name_of_text, builtin_name, is_domain_name, is_domain_sid}
-use Rattle.acct_rows.specs.Sound.{control_is_good, IsGoodDomain, IsGoodRow}
+use Rattle.acct_rows.specs.Sound.{control_is_good, IsGoodDomain}
 use Rattle.acct_rows.specs.Sound.{IsGoodAccount, IsGoodMember, IsSoundRows}
 use Rattle.acct_rows.specs.Seed.{guest_control, seed_user, seed_group, seed_alias, seed_domains, seed_accounts}
 use Rattle.acct_rows.specs.Seed.{seed_members, seed_aliases, seed_lists}

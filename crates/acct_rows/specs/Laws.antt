@@ -7,7 +7,8 @@ use Rattle.acct_codes.specs.Rids.{domain_group_rid_users}
 use Rattle.dtyp_sid.specs.Value.{SidValue, IsSid}
 use Rattle.dtyp_sid.specs.Order.{sid_eq}
 use Rattle.acct_calls.specs.Folding.{is_same}
-use Rattle.acct_rows.specs.Rows.{Lists, domain_at, account_at, member_at, find_name, same_kind, is_of}
+use Rattle.acct_rows.specs.Rows.{Lists, domain_at, account_at, member_at, alias_row_at, lsa_at, find_name, same_kind}
+use Rattle.acct_rows.specs.Rows.{is_of}
 use Rattle.acct_rows.specs.Rows.{put_row, remove_row, removed}
 use Rattle.acct_rows.specs.Objects.{kind_of, domain_of, rid_of, exists, same_object}
 use Rattle.acct_rows.specs.Sound.{is_account_kind, next_rid_of, IsGoodDomain, IsGoodRow, IsGoodAccount}
@@ -30,6 +31,17 @@ pub record Keeps (gone : Object → Bool) (lists later : Lists) : Type 0 where
 
 abbrev pub nothing : Object → Bool
 nothing x = false
+
+-- a row that was put is found at its key
+pub record PutIsFound (lists : Lists) : Type 0 where
+  pub domain : (d : DomainRow) → domain_at (put_row (rows.Domain d) lists) d.number ≡ Some d
+  pub account : (a : AccountRow) → account_at (put_row (rows.Account a) lists) a.domain a.rid ≡ Some a
+  pub member : (m : MemberRow) → member_at (put_row (rows.Member m) lists) m.group m.user ≡ Some m
+  pub alias : (a : AliasRow) → alias_row_at (put_row (rows.Alias a) lists) a.domain a.alias a.member ≡ Some a
+  pub lsa : (l : LsaRow) → lsa_at (put_row (rows.Lsa l) lists) l.sid ≡ Some l
+
+abbrev pub PutsAreFound : Type 0
+PutsAreFound = (lists : Lists) → PutIsFound lists
 
 -- a domain's row is replaced by one that keeps the rules and whose next RID is not lower
 abbrev pub DomainsStaySound : Type 0

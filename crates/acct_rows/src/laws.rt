@@ -4,7 +4,12 @@ ghost use Rattle.acct_rows.specs.Laws.{DomainsStaySound, NextIsFree, AddedAccoun
 ghost use Rattle.acct_rows.specs.Laws.{ReplacedAccountsStaySound, OwnNameIsFree, UnusedNameIsFree, NameFoundIsFree};
 ghost use Rattle.acct_rows.specs.Laws.{MembersStaySound, RemovedMembersStaySound, AliasRowsStaySound};
 ghost use Rattle.acct_rows.specs.Laws.{RemovedAliasRowsStaySound, LsaAccountsStaySound, RemovedLsaAccountsStaySound};
-ghost use Rattle.acct_rows.specs.Laws.{OthersAreNoPrimary, RemovedAccountsStaySound, EachIsGood};
+ghost use Rattle.acct_rows.specs.Laws.{OthersAreNoPrimary, RemovedAccountsStaySound, EachIsGood, PutsAreFound};
+
+/// A row that was put is found at its key.
+pub fn puts_are_found()
+    ensures { PutsAreFound }
+{}
 
 /// Rows stay sound when a domain's row is replaced by one that keeps the rules, with a next RID that is not lower.
 pub fn domains_stay_sound()

@@ -1,5 +1,5 @@
 // The rows.
-ghost use Rattle.std.specs.Prelude.{◌≡◌, ◌+◌, ◌<◌, ◌≤◌, true, [], ◌∷◌, IfOk, OnOk, length, find};
+ghost use Rattle.std.specs.Prelude.{◌≡◌, ◌+◌, ◌<◌, ◌≤◌, true, [], ◌∷◌, IfOk, OnOk, OnErr, length, find};
 ghost use Rattle.acct_calls.specs.Domains.{is_domain_name, is_domain_sid};
 ghost use Rattle.acct_rows.specs.Sound.{IsSoundRows};
 ghost use Rattle.acct_rows.specs.Seed.{seed_lists};
@@ -213,11 +213,13 @@ impl Rows {
 }
 
 impl Rows {
-    /// Makes room for as many puts. A list that would reach 2^32 rows is want of memory.
+    /// Makes room for as many puts. A list that would reach 2^32 rows is want of memory; where there is room it takes
+    /// none.
     pub fn reserve(&mut self, puts: usize) -> Result<(), NoMemory>
         ensures lists { self.new.lists ≡ self.old.lists }
         ensures ok { OnOk result (puts ≤ self.new.spare) }
         ensures kept { self.old.spare ≤ self.new.spare }
+        ensures short { OnErr result (self.old.spare < puts) }
     {
         if self.spare < puts {
             self.domains.reserve(puts)?;

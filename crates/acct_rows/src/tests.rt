@@ -2,6 +2,8 @@
 ghost use Rattle.std.specs.Prelude.{IfOk};
 ghost use Rattle.acct_rows.specs.Sound.{IsSoundRows};
 
+mod accounts;
+mod removals;
 mod sound;
 mod tables;
 

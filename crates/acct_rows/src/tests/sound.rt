@@ -13,7 +13,7 @@ use std::alloc::Global;
 use std::process::Abort;
 use std::test::Fail;
 
-fn is_of(row: Option<&AccountRow>, kind: Kind) -> bool
+pub fn is_of(row: Option<&AccountRow>, kind: Kind) -> bool
     ensures { result ≡ is_of kind (option_copied row.entry) }
 {
     match row {
