@@ -1,5 +1,5 @@
 -- The operations that connect and close are right, and change no row.
-use Rattle.std.proofs.Common.{◌≡◌, ℕ, Bool, true, is_some, Some, refl}
+use Rattle.std.proofs.Common.{◌≡◌, ℕ, true, is_some, refl}
 use Rattle.acct_calls.specs.declared.calls.Face.{Face}
 use Rattle.acct_calls.specs.declared.replies.Outs.TheVariants as outs
 use Rattle.acct_calls.specs.declared.replies.Reply.TheVariants.{Done}

@@ -1,5 +1,5 @@
 -- The operations that open the server of the account database and the policy.
-use Rattle.std.specs.Prelude.{ℕ, Bool, false, [], ◌∷◌}
+use Rattle.std.specs.Prelude.{Bool, false, [], ◌∷◌}
 use Rattle.acct_calls.specs.declared.calls.Args.{Args}
 use Rattle.acct_calls.specs.declared.calls.Args.TheVariants as args
 use Rattle.acct_codes.specs.Statuses.{status_invalid_parameter}

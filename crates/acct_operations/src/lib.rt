@@ -16,3 +16,6 @@ mod table;
 
 pub use laws::{operations_are_right, operations_keep_rows};
 pub use table::{Work, decide, has_operation, profile_of, work_of, works};
+
+#[cfg(test)]
+mod tests;
