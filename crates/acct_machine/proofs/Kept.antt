@@ -1,7 +1,7 @@
 -- What the parts of a machine keep, with one more event.
-use Rattle.std.proofs.Common.{◌≡◌, ℕ, ◌+◌, ◌≤◌, ◌<◌, ◌^◌, true, List, [], ◌∷◌, ◌++◌, length, refl, sym, ◌∙◌, ap, subst}
+use Rattle.std.proofs.Common.{◌≡◌, ℕ, ◌+◌, ◌≤◌, ◌<◌, ◌^◌, true, None, List, [], ◌∷◌, ◌++◌, length, refl, sym, ◌∙◌, ap}
+use Rattle.std.proofs.Common.{subst}
 use Rattle.std.proofs.Common.{arith}
-use Rattle.std.proofs.Common.{length-append}
 use Rattle.std.proofs.lemmas.List.{append-nil}
 use Rattle.acct_config.specs.declared.config.Config.{Config}
 use Rattle.acct_rows.specs.Rows.{Lists}
@@ -12,35 +12,34 @@ use Rattle.acct_machine.specs.declared.entry.Entry.TheVariants.{Opened, Called, 
 use Rattle.acct_machine.specs.State.{State, Start, first, is_live}
 use Rattle.acct_machine.specs.Step.{new_conn, acted, step, state_at}
 use Rattle.acct_machine.specs.Calls.{IsCall}
+use Rattle.acct_machine.specs.Room.{opened_count, call_count, stub_bytes, conns_full, TakesCall}
 use Rattle.acct_machine.specs.Legal.{MayHave, May, Legal, calls_of, replies}
 use Rattle.acct_machine.specs.Sound.{AreConnected, KeepsConnected}
 use Rattle.acct_machine.specs.Shown.{Shown, IsKept, begins, live_count}
 use Rattle.acct_machine.specs.Machine.{state_of, with_entry, SameLive, OneMoreLive, OneLessLive, SameCalls, OneMoreCall}
 use Rattle.acct_machine.proofs.Conns.{live-ended-same, live-ended-other, length-ended, live-push, length-push}
-use Rattle.acct_machine.proofs.Conns.{live-above, live-new}
+use Rattle.acct_machine.proofs.Conns.{live-above, live-new, count-ended-live}
+use Rattle.acct_machine.proofs.Counting.{calls-push, bytes-push, opened-at, ends-at, limits-are-kept}
+use Rattle.acct_machine.proofs.Counting.{takes-calls, takes-bytes}
 use Rattle.acct_machine.proofs.Cases.{acted-cases}
 use Rattle.acct_machine.proofs.Lives.{same_live-acted}
 use Rattle.acct_machine.proofs.History.{state_after-push, LegalAfter-push, calls_of-append, replies-append}
 
--- the parts after one more event, with a counter and a capacity that are enough
-pub IsKept-push : (start : Start) (history : List Entry) (s : State) (live capacity : ℕ) (e : Entry) (s' : State)
-    (live' capacity' : ℕ)
-    → IsKept start history s live capacity → May start history e → step s e ≡ s'
-    → live_count s'.conns ≤ live' → live' ≤ length s'.conns → length history + 1 + live' ≤ capacity'
-    → IsKept start (history ++ e ∷ []) s' live' capacity'
-IsKept-push start history s live capacity e s' live' capacity' kept may is counted bounded room =
-    let after : state_at start (history ++ e ∷ []) ≡ s' =
-    state_after-push (first start) history e ∙ ap (λ (x : State). step x e) kept.state ∙ is in
-    let longer : length (history ++ e ∷ []) ≡ length history + 1 = omega (arith, length-append history (e ∷ [])) in
-    record {
-      right = kept.right;
-      rows = kept.rows;
-      legal = LegalAfter-push start [] history e kept.legal may;
-      state = after;
-      counted = counted;
-      bounded = bounded;
-      room = rw longer room;
-    }
+-- the parts after one more event, with its call and its bytes counted
+pub IsKept-push : (start : Start) (history : List Entry) (s : State) (calls bytes capacity : ℕ) (e : Entry) (s' : State)
+    (calls' bytes' capacity' : ℕ)
+    → IsKept start history s calls bytes capacity → May start history e → step s e ≡ s'
+    → calls + call_count (e ∷ []) ≡ calls' → bytes + stub_bytes (e ∷ []) ≡ bytes' → capacity ≤ capacity'
+    → IsKept start (history ++ e ∷ []) s' calls' bytes' capacity'
+IsKept-push start history s calls bytes capacity e s' calls' bytes' capacity' kept may is more longer grows = record {
+  right = kept.right;
+  rows = kept.rows;
+  legal = LegalAfter-push start [] history e kept.legal may;
+  state = state_after-push (first start) history e ∙ ap (λ (x : State). step x e) kept.state ∙ is;
+  calls_are = omega (arith, calls-push history e, kept.calls_are, more);
+  bytes_are = omega (arith, bytes-push history e, kept.bytes_are, longer);
+  room = omega (arith, kept.room, grows);
+}
 
 -- the live connections after one more event of a history
 pub same_live-push : (start : Start) (history : List Entry) (conn : ℕ) (call : Call) (verdict : Verdict) (bytes : ℕ)
@@ -102,21 +101,23 @@ one_more_call start history conn call verdict bytes = record {
 -- the condition of an opening, on the parts
 pub may-opened : (start : Start) (history : List Entry) (s : State) (conn listener : ℕ) → state_at start history ≡ s
     → conn ≡ length s.conns + 1 → conn < 2 ^ 32
-    → listener < length start.config.listeners → May start history (Opened conn listener)
-may-opened start history s conn listener is count small fits =
-    (omega (arith, count, ap (λ (x : State). length x.conns) is), small, fits)
+    → listener < length start.config.listeners → conns_full start history ≡ None
+    → May start history (Opened conn listener)
+may-opened start history s conn listener is count small fits taken =
+    (omega (arith, count, ap (λ (x : State). length x.conns) is), small, fits, taken)
 
 -- the condition of a call, on the parts
 pub may-called : (start : Start) (history : List Entry) (s : State) (conn : ℕ) (call : Call) (verdict : Verdict)
     (bytes : ℕ)
     → state_at start history ≡ s → is_live conn s.conns ≡ true → IsCall call → bytes < 2 ^ 32
-    → MayHave s conn call verdict
+    → MayHave s conn call verdict → TakesCall start history bytes
     → May start history (Called conn call verdict bytes)
-may-called start history s conn call verdict bytes is live spelled small may = (
+may-called start history s conn call verdict bytes is live spelled small may taken = (
   subst (λ (x : State). is_live conn x.conns ≡ true) (sym is) live,
   spelled,
   small,
   subst (λ (x : State). MayHave x conn call verdict) (sym is) may,
+  taken,
 )
 
 -- ---- what a machine shows, by its parts
@@ -152,17 +153,74 @@ shown-more old s s' rows history more e view is longer =
     (begins-same s s' rows e is)
     ∙ ap (λ (x : List Entry). shown s' rows x) (sym longer))
 
-pub kept-more : (s s' : State) (rows : Lists) (history more : List Entry) (live capacity live' capacity' : ℕ)
-    (e : Entry)
-    → IsKept (begins s rows) history s live capacity
-    → May (begins s rows) history e → s' ≡ step s e → more ≡ history ++ e ∷ [] → live_count s'.conns ≤ live'
-    → live' ≤ length s'.conns → length history + 1 + live' ≤ capacity'
-    → IsKept (begins s' rows) more s' live' capacity'
-kept-more s s' rows history more live capacity live' capacity' e kept may is longer counted bounded room =
-    rw longer (subst (λ (x : Start). IsKept x (history ++ e ∷ []) s' live' capacity') (begins-same s s' rows e is)
-    (IsKept-push (begins s rows) history s live capacity e s' live' capacity' kept may (sym is) counted bounded room))
+pub kept-more : (s s' : State) (rows : Lists) (history more : List Entry)
+    (calls bytes capacity calls' bytes' capacity' : ℕ) (e : Entry)
+    → IsKept (begins s rows) history s calls bytes capacity
+    → May (begins s rows) history e → s' ≡ step s e → more ≡ history ++ e ∷ []
+    → calls + call_count (e ∷ []) ≡ calls' → bytes + stub_bytes (e ∷ []) ≡ bytes' → capacity ≤ capacity'
+    → IsKept (begins s' rows) more s' calls' bytes' capacity'
+kept-more s s' rows history more calls bytes capacity calls' bytes' capacity' e kept may is longer counts adds grows =
+    rw longer (subst (λ (x : Start). IsKept x (history ++ e ∷ []) s' calls' bytes' capacity')
+    (begins-same s s' rows e is)
+    (IsKept-push (begins s rows) history s calls bytes capacity e s' calls' bytes' capacity' kept may (sym is) counts
+    adds grows))
 
 -- the state that a machine shows
-pub state-shown : (old : Shown) (s : State) (rows : Lists) (history : List Entry) (live capacity : ℕ)
-    → shown s rows history ≡ old → IsKept (begins s rows) history s live capacity → state_of old ≡ s
-state-shown old s rows history live capacity view kept = subst (λ (m : Shown). state_of m ≡ s) view kept.state
+pub state-shown : (old : Shown) (s : State) (rows : Lists) (history : List Entry) (calls bytes capacity : ℕ)
+    → shown s rows history ≡ old → IsKept (begins s rows) history s calls bytes capacity → state_of old ≡ s
+state-shown old s rows history calls bytes capacity view kept = subst (λ (m : Shown). state_of m ≡ s) view kept.state
+
+-- how many connections were opened, by the parts
+pub opened-kept : (start : Start) (history : List Entry) (s : State) (calls bytes capacity : ℕ)
+    → IsKept start history s calls bytes capacity → opened_count history ≡ length s.conns
+opened-kept start history s calls bytes capacity kept =
+    opened-at start history ∙ ap (λ (x : State). length x.conns) kept.state
+
+-- the history takes a further call, by the counts
+pub takes-call : (start : Start) (history : List Entry) (s : State) (calls bytes capacity more : ℕ)
+    → IsKept start history s calls bytes capacity → calls < start.config.limits.max_calls
+    → bytes + more ≤ start.config.limits.max_bytes → TakesCall start history more
+takes-call start history s calls bytes capacity more kept few short = record {
+  few = takes-calls start history calls kept.calls_are few;
+  short = takes-bytes start history more (bytes + more) (omega (arith, kept.bytes_are)) short;
+}
+
+-- room for a further entry, where a connection is opened, a call is made or a connection goes
+pub room-to-open : (start : Start) (history : List Entry) (s : State) (calls bytes capacity : ℕ)
+    → IsKept start history s calls bytes capacity → length s.conns < start.config.limits.max_conns
+    → length history < capacity
+room-to-open start history s calls bytes capacity kept lt = omega (
+  arith,
+  ends-at start history kept.legal,
+  opened-kept start history s calls bytes capacity kept,
+  (limits-are-kept start history kept.legal).calls,
+  kept.room,
+  lt,
+)
+
+pub room-to-call : (start : Start) (history : List Entry) (s : State) (calls bytes capacity : ℕ)
+    → IsKept start history s calls bytes capacity → calls < start.config.limits.max_calls
+    → length history < capacity
+room-to-call start history s calls bytes capacity kept lt = omega (
+  arith,
+  ends-at start history kept.legal,
+  kept.calls_are,
+  (limits-are-kept start history kept.legal).conns,
+  kept.room,
+  lt,
+)
+
+pub room-to-end : (start : Start) (history : List Entry) (s : State) (calls bytes capacity conn : ℕ)
+    → IsKept start history s calls bytes capacity → is_live conn s.conns ≡ true → length history < capacity
+room-to-end start history s calls bytes capacity conn kept live =
+    let lives : live_count (state_at start history).conns ≡ live_count s.conns =
+    ap (λ (x : State). live_count x.conns) kept.state in
+    omega (
+      arith,
+      ends-at start history kept.legal,
+      lives,
+      count-ended-live conn s.conns live,
+      (limits-are-kept start history kept.legal).conns,
+      (limits-are-kept start history kept.legal).calls,
+      kept.room,
+    )

@@ -3,6 +3,8 @@ pub mod Deciding
 pub mod Cases
 pub mod Lives
 pub mod History
+pub mod Counting
+pub mod Places
 pub mod Connected
 pub mod Passing
 pub mod Granting

@@ -1,6 +1,6 @@
 -- Which histories the machine may have, and what they say of one connection.
 use Rattle.std.specs.Prelude.{◌≡◌, ℕ, ◌+◌, ◌^◌, ◌<◌, ◌==◌, true, false, Some, List, [], ◌∷◌, ◌++◌, length, ⊤}
-use Rattle.std.specs.Prelude.{if◌then◌else◌}
+use Rattle.std.specs.Prelude.{None, if◌then◌else◌}
 use Rattle.acct_calls.specs.declared.calls.Call.{Call}
 use Rattle.acct_calls.specs.declared.replies.Reply.{Reply}
 use Rattle.acct_rules.specs.declared.profile.Memory.{Memory}
@@ -19,6 +19,7 @@ use Rattle.acct_machine.specs.Calls.{operation_of, IsCall}
 use Rattle.acct_machine.specs.Access.{access}
 use Rattle.acct_machine.specs.Outcome.{ruled_of}
 use Rattle.acct_machine.specs.Step.{acted, step, state_at}
+use Rattle.acct_machine.specs.Room.{conns_full, TakesCall, IsWithin}
 
 -- ---- verdicts
 
@@ -58,13 +59,14 @@ MayHave s conn call NoMemory = (o : Operation) × HasPassed o s conn call × May
 
 -- What may come after some events: the connections are numbered from 1 in the order of their opening, each at a
 -- listener of the configuration; calls and ends are of live connections, and each call is one of an operation and
--- spelled by some served stub.
+-- spelled by some served stub. The limits of the configuration are kept.
 abbrev pub May : Start → List Entry → Entry → Type 0
 May start before (Opened conn listener) =
     (conn ≡ length (state_at start before).conns + 1) × (conn < 2 ^ 32) × (listener < length start.config.listeners)
+    × (conns_full start before ≡ None)
 May start before (Called conn call verdict bytes) =
     (is_live conn (state_at start before).conns ≡ true) × IsCall call × (bytes < 2 ^ 32)
-    × MayHave (state_at start before) conn call verdict
+    × MayHave (state_at start before) conn call verdict × TakesCall start before bytes
 May start before (Gone conn) = is_live conn (state_at start before).conns ≡ true
 
 -- each event may come after those before it
@@ -74,6 +76,10 @@ LegalAfter start before (e ∷ es) = May start before e × LegalAfter start (bef
 
 abbrev pub Legal : Start → List Entry → Type 0
 Legal start history = LegalAfter start [] history
+
+-- a legal history is within the limits of its configuration
+abbrev pub LimitsAreKept : Type 0
+LimitsAreKept = (start : Start) (history : List Entry) → Legal start history → IsWithin start.config.limits history
 
 -- each front of a legal history is legal
 abbrev pub FrontsAreLegal : Type 0

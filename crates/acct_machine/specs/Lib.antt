@@ -4,6 +4,7 @@ pub mod Calls
 pub mod Access
 pub mod Outcome
 pub mod Step
+pub mod Room
 pub mod Legal
 pub mod Sound
 pub mod Denial

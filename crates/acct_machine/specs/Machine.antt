@@ -1,5 +1,6 @@
 -- What each call of a machine leaves and answers.
-use Rattle.std.specs.Prelude.{◌≡◌, ◌≢◌, ℕ, ◌+◌, ◌==◌, true, false, [], ◌∷◌, ◌++◌, length, ⊤, if◌then◌else◌}
+use Rattle.std.specs.Prelude.{◌≡◌, ◌≢◌, ℕ, ◌+◌, ◌==◌, true, false, [], ◌∷◌, ◌++◌, length, Some, None, ⊤}
+use Rattle.std.specs.Prelude.{if◌then◌else◌}
 use Rattle.acct_calls.specs.declared.calls.Call.{Call}
 use Rattle.acct_calls.specs.declared.replies.Reply.{Reply}
 use Rattle.acct_machine.specs.declared.entry.Verdict.{Verdict}
@@ -11,6 +12,7 @@ use Rattle.acct_machine.specs.declared.machine.Opened as answer
 use Rattle.acct_machine.specs.declared.machine.Opened.TheVariants as opens
 use Rattle.acct_machine.specs.State.{State, is_live}
 use Rattle.acct_machine.specs.Step.{state_at, acted}
+use Rattle.acct_machine.specs.Room.{conns_full, calls_full, bytes_full, TakesCall}
 use Rattle.acct_machine.specs.Legal.{replies, calls_of}
 use Rattle.acct_machine.specs.Shapes.{IsAnswer}
 use Rattle.acct_machine.specs.Passing.{AreOfOthers}
@@ -24,28 +26,37 @@ with_entry m e = record m { history = m.history ++ e ∷ [] }
 abbrev pub state_of : Shown → State
 state_of m = state_at m.start m.history
 
--- an opening of a connection
+-- an opening of a connection; a full history is left as it was
 abbrev pub Opens : Shown → ℕ → answer.Opened → Shown → Type 0
 Opens old listener (opens.Conn conn) new =
-    (conn ≡ length (state_of old).conns + 1) × (new ≡ with_entry old (Opened conn listener))
-Opens old listener opens.NoMemory new = new ≡ old
+    (conns_full old.start old.history ≡ None) × (conn ≡ length (state_of old).conns + 1)
+    × (new ≡ with_entry old (Opened conn listener))
+Opens old listener (opens.Full count) new = (conns_full old.start old.history ≡ Some count) × (new ≡ old)
 
 -- no entry before is of the connection that was opened
 abbrev pub OpensFresh : Shown → answer.Opened → Type 0
 OpensFresh old (opens.Conn conn) = AreOfOthers conn old.history
-OpensFresh old opens.NoMemory = ⊤
+OpensFresh old (opens.Full count) = ⊤
 
--- a call, with the reply of the state before it
+-- A call was entered, and has the reply of the state before it.
+pub record Enters (old : Shown) (conn : ℕ) (call : Call) (bytes : ℕ) (answer : Reply) (new : Shown) : Type 0 where
+  pub taken : TakesCall old.start old.history bytes
+  pub verdict : Verdict
+  pub entered : new ≡ with_entry old (Called conn call verdict bytes)
+  pub reply : answer ≡ (acted (state_of old) conn call verdict).1
+
+-- a call; a full history is left as it was
 abbrev pub Acts : Shown → ℕ → Call → ℕ → Acted → Shown → Type 0
-Acts old conn call bytes (acts.Reply reply) new =
-    (verdict : Verdict) × (new ≡ with_entry old (Called conn call verdict bytes))
-    × (reply ≡ (acted (state_of old) conn call verdict).1)
-Acts old conn call bytes acts.NoMemory new = new ≡ old
+Acts old conn call bytes (acts.Reply reply) new = Enters old conn call bytes reply new
+Acts old conn call bytes (acts.FullCalls count) new = (calls_full old.start old.history ≡ Some count) × (new ≡ old)
+Acts old conn call bytes (acts.FullBytes sum) new =
+    (calls_full old.start old.history ≡ None) × (bytes_full old.start old.history bytes ≡ Some sum) × (new ≡ old)
 
 -- a reply that is no fault has the shape of its operation
 abbrev pub Shaped : Call → Acted → Type 0
 Shaped call (acts.Reply reply) = IsAnswer call reply
-Shaped call acts.NoMemory = ⊤
+Shaped call (acts.FullCalls count) = ⊤
+Shaped call (acts.FullBytes sum) = ⊤
 
 -- the end of a connection
 abbrev pub Ends : Shown → ℕ → Shown → Type 0
@@ -72,7 +83,7 @@ pub record OneLessLive (old new : State) (conn : ℕ) : Type 0 where
 -- what an opening does to the live connections
 abbrev pub OpensLive : Shown → answer.Opened → Shown → Type 0
 OpensLive old (opens.Conn conn) new = OneMoreLive (state_of old) (state_of new) conn
-OpensLive old opens.NoMemory new = SameLive (state_of old) (state_of new)
+OpensLive old (opens.Full count) new = SameLive (state_of old) (state_of new)
 
 -- Each connection has the calls and the replies that it had.
 pub record SameCalls (old new : Shown) : Type 0 where
@@ -89,4 +100,5 @@ pub record OneMoreCall (old new : Shown) (conn : ℕ) (call : Call) (bytes : ℕ
 -- what a call does to the calls of the connections
 abbrev pub ActsCalls : Shown → ℕ → Call → ℕ → Acted → Shown → Type 0
 ActsCalls old conn call bytes (acts.Reply reply) new = OneMoreCall old new conn call bytes reply
-ActsCalls old conn call bytes acts.NoMemory new = SameCalls old new
+ActsCalls old conn call bytes (acts.FullCalls count) new = SameCalls old new
+ActsCalls old conn call bytes (acts.FullBytes sum) new = SameCalls old new

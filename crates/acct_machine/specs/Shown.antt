@@ -1,5 +1,6 @@
 -- What a machine shows, and what its parts must keep.
 use Rattle.std.specs.Prelude.{◌≡◌, ℕ, ◌+◌, ◌≤◌, List, [], ◌∷◌, length, if◌then◌else◌}
+use Rattle.acct_config.specs.declared.config.Config.{Config}
 use Rattle.acct_config.specs.Right.{IsRight}
 use Rattle.acct_rows.specs.Rows.{Lists}
 use Rattle.acct_rows.specs.Sound.{IsSoundRows}
@@ -7,7 +8,9 @@ use Rattle.acct_machine.specs.declared.entry.Entry.{Entry}
 use Rattle.acct_machine.specs.declared.state.Conn.{Conn}
 use Rattle.acct_machine.specs.State.{State, Start}
 use Rattle.acct_machine.specs.Step.{state_at}
+use Rattle.acct_machine.specs.Room.{call_count, stub_bytes, most_entries}
 use Rattle.acct_machine.specs.Legal.{Legal}
+use Rattle.acct_machine.specs.Sound.{IsNumberedFrom}
 
 pub record Shown : Type 0 where
   pub start : Start
@@ -22,13 +25,19 @@ abbrev pub live_count : List Conn → ℕ
 live_count [] = 0
 live_count (c ∷ cs) = (if c.live then 1 else 0) + live_count cs
 
--- The history began rightly and is legal, and the store is the state after it. The counter isn't below the number of
--- live connections, and there is room for the end of each.
-pub record IsKept (start : Start) (history : List Entry) (s : State) (live capacity : ℕ) : Type 0 where
+-- The history began rightly and is legal, and the store is the state after it. Its calls and the bytes of their stubs
+-- are counted, and there is room for all that it may come to have.
+pub record IsKept (start : Start) (history : List Entry) (s : State) (calls bytes capacity : ℕ) : Type 0 where
   pub right : IsRight start.config
   pub rows : IsSoundRows start.rows
   pub legal : Legal start history
   pub state : state_at start history ≡ s
-  pub counted : live_count s.conns ≤ live
-  pub bounded : live ≤ length s.conns
-  pub room : length history + live ≤ capacity
+  pub calls_are : call_count history ≡ calls
+  pub bytes_are : stub_bytes history ≡ bytes
+  pub room : most_entries start.config.limits ≤ capacity
+
+-- The configuration is right, the connections are numbered in order, and there is room for as many as it says.
+pub record HasRoom (config : Config) (conns : List Conn) (capacity : ℕ) : Type 0 where
+  pub right : IsRight config
+  pub numbered : IsNumberedFrom 1 conns
+  pub room : config.limits.max_conns ≤ capacity

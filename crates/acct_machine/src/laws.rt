@@ -1,5 +1,5 @@
 // Laws of the machine's histories: each function does nothing, and its contract is the law.
-ghost use Rattle.acct_machine.specs.Legal.{FrontsAreLegal, RepliesToEach};
+ghost use Rattle.acct_machine.specs.Legal.{FrontsAreLegal, LimitsAreKept, RepliesToEach};
 ghost use Rattle.acct_machine.specs.Sound.{KeepsConnected, KeepsSound};
 ghost use Rattle.acct_machine.specs.Denial.{DeniesExactly, DeniesRan};
 ghost use Rattle.acct_machine.specs.Grants.{GrantsInHistory};
@@ -80,6 +80,12 @@ pub fn connections_are_opened_once()
 {
     connections_are_numbered();
 }
+
+/// A legal history has at most the connections, the calls and the bytes of their stubs that the limits of its
+/// configuration say.
+pub fn limits_are_kept()
+    ensures { LimitsAreKept }
+{}
 
 /// Each front of a legal history is legal.
 pub fn fronts_are_legal()

@@ -7,11 +7,12 @@
 //! laws of the table. An opening is decided by the access check over the configured descriptor of the object and the
 //! token of the connection's listener, whatever right configuration the machine was given.
 //!
-//! The layer above uses `Machine`: `open_conn`, `act` and `gone` each enter one event, or none where they answer
-//! NoMemory, and then change nothing. A call's reply is the one that the definition gives at the state of the history
-//! before it, and has the shape of its operation. `history`, `rows` and `into_parts` hand out the events, which are
-//! legal, and the rows of the state after them, which is sound. The contracts also say which connections are live, so
-//! that a caller needs no lemma on the definitions. The laws say what holds of every legal history, whoever made it.
+//! The layer above uses `Machine`: `open_conn`, `act` and `gone` each enter one event, or none where they answer that
+//! the history is full, exactly at the limits of the configuration, and then change nothing. A call's reply is the one
+//! that the definition gives at the state of the history before it, and has the shape of its operation. `history`,
+//! `rows` and `into_parts` hand out the events, which are legal, and the rows of the state after them, which is sound.
+//! The contracts also say which connections are live, so that a caller needs no lemma on the definitions. The laws say
+//! what holds of every legal history, whoever made it.
 #![tactic(auto)]
 
 mod checks;
@@ -20,6 +21,7 @@ mod laws;
 mod lists;
 mod machine;
 mod opening;
+mod room;
 mod seeding;
 mod state;
 mod store;
@@ -33,7 +35,7 @@ pub use entry::{Entry, Verdict};
 pub use laws::{
     access_is_denied_exactly, connections_are_numbered, connections_are_opened_once,
     each_call_has_a_reply, fronts_are_legal, grants_come_from_openings, kept_states_are_sound,
-    openings_are_decided, others_change_nothing, replies_are_shaped,
+    limits_are_kept, openings_are_decided, others_change_nothing, replies_are_shaped,
 };
 pub use machine::{Acted, Machine, Opened};
 pub use seeding::seed_rows;

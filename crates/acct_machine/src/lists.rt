@@ -1,23 +1,28 @@
 // The lists of connections and handles.
 ghost use Rattle.std.specs.Prelude.{◌≡◌, ◌+◌, ◌*◌, ◌^◌, map};
 ghost use Rattle.std.specs.Option.{option_copied};
+ghost use Rattle.std.specs.Vec.{vec_capacity};
 ghost use Rattle.acct_machine.specs.State.{find_conn, serial_of, number_of, is_handle, find_handle};
 ghost use Rattle.acct_machine.specs.State.{without_handle, without_conn, without_object};
 ghost use Rattle.acct_machine.specs.Outcome.{serial_set};
 ghost use Rattle.acct_machine.specs.Step.{live_ended};
+ghost use Rattle.acct_machine.specs.Sound.{IsNumberedFrom};
 
 use crate::{Conn, Held, Object};
 
-/// The connection of a number.
+/// The connection of a number. They are numbered from 1, so that it stands at the place before.
 pub fn find_conn(conns: &[Conn], conn: u32) -> Option<Conn>
+    requires { IsNumberedFrom 1 conns.now }
     ensures { result ≡ find_conn conn conns.now }
 {
-    for c in conns {
-        if c.number == conn {
-            return Some(*c);
-        }
+    let number = conn as usize;
+    if number == 0 {
+        return None;
     }
-    None
+    if number > conns.len() {
+        return None;
+    }
+    Some(conns[number - 1])
 }
 
 /// The serial of the last handle that a connection was given.
@@ -52,20 +57,34 @@ fn with_end(c: &Conn, conn: u32) -> Conn
 
 /// Gives a connection its next serial.
 pub fn set_serial(conns: &mut Vec<Conn>, conn: u32, serial: u64)
-    ensures { conns.new.items ≡ map (serial_set conn serial) conns.old.items }
+    requires { IsNumberedFrom 1 conns.old.items }
+    ensures items { conns.new.items ≡ map (serial_set conn serial) conns.old.items }
+    ensures capacity { vec_capacity conns.new ≡ vec_capacity conns.old }
 {
-    for i in 0..conns.len() {
-        conns[i] = with_serial(&conns[i], conn, serial);
+    let number = conn as usize;
+    if number == 0 {
+        return;
     }
+    if number > conns.len() {
+        return;
+    }
+    conns[number - 1] = with_serial(&conns[number - 1], conn, serial);
 }
 
 /// Ends a connection.
 pub fn end_live(conns: &mut Vec<Conn>, conn: u32)
-    ensures { conns.new.items ≡ map (live_ended conn) conns.old.items }
+    requires { IsNumberedFrom 1 conns.old.items }
+    ensures items { conns.new.items ≡ map (live_ended conn) conns.old.items }
+    ensures capacity { vec_capacity conns.new ≡ vec_capacity conns.old }
 {
-    for i in 0..conns.len() {
-        conns[i] = with_end(&conns[i], conn);
+    let number = conn as usize;
+    if number == 0 {
+        return;
     }
+    if number > conns.len() {
+        return;
+    }
+    conns[number - 1] = with_end(&conns[number - 1], conn);
 }
 
 /// The number of a handle.

@@ -10,37 +10,45 @@ ghost use Rattle.acct_machine.specs.Machine.{state_of, Opens, OpensFresh, OpensL
 ghost use Rattle.acct_machine.specs.Machine.{SameCalls, Ends, OneLessLive, Shaped};
 
 use crate::laws::{
-    connections_are_numbered, connections_are_opened_once, kept_states_are_sound,
+    connections_are_numbered, connections_are_opened_once, kept_states_are_sound, limits_are_kept,
     replies_are_shaped,
 };
+use crate::room::most_entries;
 use crate::store::Store;
 use crate::{Call, Config, Entry, NoMemory, Reply, Rows};
 use std::alloc::Global;
 use std::marker::Model;
 
-/// What an opening of a connection answers: its number, or that memory wanted.
+/// What an opening of a connection answers.
 #[derive(Clone, Copy, Debug, PartialEq, Eq)]
 pub enum Opened {
+    /// The number of the connection.
     Conn(u32),
-    NoMemory,
+    /// So many connections were opened before, as many as the history takes.
+    Full(u64),
 }
 
-/// What a call answers: its reply, or that memory wanted before it could be entered.
+/// What a call answers.
 #[derive(Debug, Drop)]
 pub enum Acted {
     Reply(Reply),
-    NoMemory,
+    /// So many calls were made before, as many as the history takes.
+    FullCalls(u64),
+    /// The bytes of the stubs would be so many with this one, and more than the history takes.
+    FullBytes(u64),
 }
 
-/// The machine. It shows where its history began, which was with a right configuration and sound rows, and its history,
-/// and keeps the state after the history, and room in the history for the end of each live connection.
+/// The machine. It shows where its history began, which was with a right configuration and sound rows, and its history.
+/// It keeps the state after the history, the number of its calls and of the bytes of their stubs, and room for all that
+/// the limits of the configuration let it have.
 #[derive(Drop)]
 pub struct Machine {
     alloc: Global,
     opening: Rows,
     history: Vec<Entry>,
     store: Store,
-    live: u32,
+    calls: u32,
+    bytes: u64,
 }
 
 impl Model for Machine {
@@ -52,12 +60,12 @@ impl Model for Machine {
     ghost view = { λ m. record { start = begins m.store m.opening.lists; history = m.history.items } };
 
     ghost invariant = { λ m.
-        IsKept (begins m.store m.opening.lists) m.history.items m.store m.live (vec_capacity m.history) };
+        IsKept (begins m.store m.opening.lists) m.history.items m.store m.calls m.bytes (vec_capacity m.history) };
 }
 
 impl Machine {
     /// A machine to which nothing has happened, under a copy of the configuration, from these rows, of which it keeps a
-    /// copy as well.
+    /// copy as well. All the memory that its history and its connections may come to need is taken here.
     pub fn new(alloc: Global, config: &Config, rows: Rows) -> Result<Machine, NoMemory>
         requires right { IsRight config.now }
         requires sound { IsSoundRows rows.lists }
@@ -68,12 +76,15 @@ impl Machine {
     {
         let opening = rows.copy(alloc)?;
         let config = config.copy(alloc)?;
+        let mut history = Vec::new(alloc);
+        history.reserve(most_entries(&config.limits))?;
         Ok(Machine {
             alloc,
             opening,
-            history: Vec::new(alloc),
-            store: Store::new(alloc, config, rows),
-            live: 0,
+            history,
+            store: Store::new(alloc, config, rows)?,
+            calls: 0,
+            bytes: 0,
         })
     }
 
@@ -115,8 +126,8 @@ impl Machine {
         (self.opening, self.history, self.store.into_rows())
     }
 
-    /// Opens a connection at a listener of the configuration, by its place there from 0. After NoMemory, which it also
-    /// answers at 2^32 - 1 connections, nothing has changed.
+    /// Opens a connection at a listener of the configuration, by its place there from 0. A full history is left as it
+    /// was. It takes no memory.
     pub fn open_conn(&mut self, listener: u32) -> Opened
         requires configured { listener < length self.old.start.config.listeners }
         ensures opens { Opens self.old listener result self.new }
@@ -127,29 +138,21 @@ impl Machine {
     {
         connections_are_numbered();
         connections_are_opened_once();
+        limits_are_kept();
         let count = self.store.count();
-        if count >= u32::MAX as usize {
-            return Opened::NoMemory;
-        }
-        if self.history.reserve(self.live as usize + 2).is_err() {
-            return Opened::NoMemory;
+        if count >= self.store.config().limits.max_conns as usize {
+            return Opened::Full(count as u64);
         }
         let conn = count as u32 + 1;
-        if self.store.add_conn(conn, listener).is_err() {
-            return Opened::NoMemory;
-        }
+        self.store.add_conn(conn, listener);
         match self.history.push(Entry::Opened { conn, listener }) {
-            Ok(()) => {
-                self.live += 1;
-                Opened::Conn(conn)
-            }
+            Ok(()) => Opened::Conn(conn),
             Err(_) => unreachable!(),
         }
     }
 
-    /// Makes a call of a live connection, whose stub had so many bytes. After NoMemory nothing has changed: there was
-    /// no room to enter the call. A call that is entered may still be answered that memory wanted, where its operation
-    /// may want it.
+    /// Makes a call of a live connection, whose stub had so many bytes. A full history is left as it was. A call that
+    /// is entered may be answered that memory wanted, where its operation may want it.
     pub fn act(&mut self, conn: u32, call: Call, bytes: u32) -> Acted
         requires live { is_live conn (state_of self.old).conns ≡ true }
         requires spelled { IsCall call }
@@ -160,18 +163,29 @@ impl Machine {
         ensures legal { Legal self.new.start self.new.history }
     {
         replies_are_shaped();
+        limits_are_kept();
         self.store.rows().has_few_rows();
-        if self.history.reserve(self.live as usize + 1).is_err() {
-            return Acted::NoMemory;
+        let limits = self.store.config().limits;
+        if self.calls >= limits.max_calls {
+            return Acted::FullCalls(self.calls as u64);
+        }
+        let sum = self.bytes + bytes as u64;
+        if sum > limits.max_bytes {
+            return Acted::FullBytes(sum);
         }
         let (verdict, reply) = self.store.run(self.alloc, conn, &call);
-        match self.history.push(Entry::Called {
+        let entry = Entry::Called {
             conn,
             call,
             verdict,
             bytes,
-        }) {
-            Ok(()) => Acted::Reply(reply),
+        };
+        match self.history.push(entry) {
+            Ok(()) => {
+                self.calls += 1;
+                self.bytes = sum;
+                Acted::Reply(reply)
+            }
             Err(_) => unreachable!(),
         }
     }
@@ -184,11 +198,9 @@ impl Machine {
         ensures calls { SameCalls self.old self.new }
         ensures legal { Legal self.new.start self.new.history }
     {
+        limits_are_kept();
         match self.history.push(Entry::Gone { conn }) {
-            Ok(()) => {
-                self.store.end_conn(conn);
-                self.live -= 1;
-            }
+            Ok(()) => self.store.end_conn(conn),
             Err(_) => unreachable!(),
         }
     }

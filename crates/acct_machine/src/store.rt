@@ -44,8 +44,9 @@ pub struct Store {
 }
 
 impl Model for Store {
-    ghost use Rattle.acct_config.specs.Right.{IsRight};
+    ghost use Rattle.std.specs.Vec.{vec_capacity};
     ghost use Rattle.acct_machine.specs.State.{State};
+    ghost use Rattle.acct_machine.specs.Shown.{HasRoom};
 
     ghost Value = { State };
 
@@ -56,7 +57,7 @@ impl Model for Store {
       handles = s.handles.items;
     } };
 
-    ghost invariant = { λ s. IsRight s.config };
+    ghost invariant = { λ s. HasRoom s.config s.conns.items (vec_capacity s.conns) };
 }
 
 // ---- replies
@@ -126,17 +127,19 @@ fn drop_left(handles: &mut Vec<Held>, effect: Effect, conn: u32, number: u128)
 }
 
 impl Store {
-    /// The state where a history begins.
-    pub fn new(alloc: Global, config: Config, rows: Rows) -> Self
+    /// The state where a history begins, with room for all its connections.
+    pub fn new(alloc: Global, config: Config, rows: Rows) -> Result<Self, NoMemory>
         requires { IsRight config }
-        ensures { result ≡ first (record { config = config; rows = rows.lists }) }
+        ensures { IfOk result (λ store. store ≡ first (record { config = config; rows = rows.lists })) }
     {
-        Store {
+        let mut conns = Vec::new(alloc);
+        conns.reserve(config.limits.max_conns as usize)?;
+        Ok(Store {
             config,
             rows,
-            conns: Vec::new(alloc),
+            conns,
             handles: Vec::new(alloc),
-        }
+        })
     }
 
     /// The configuration.
@@ -168,10 +171,11 @@ impl Store {
         self.conns.len()
     }
 
-    /// One more connection. After want of memory nothing has changed.
-    pub fn add_conn(&mut self, conn: u32, listener: u32) -> Result<(), NoMemory>
-        ensures ok { OnOk result (self.new ≡ step self.old (Opened conn listener)) }
-        ensures err { OnErr result (self.new ≡ self.old) }
+    /// One more connection, with the next number. It takes no memory.
+    pub fn add_conn(&mut self, conn: u32, listener: u32)
+        requires next { conn ≡ length self.old.conns + 1 }
+        requires room { length self.old.conns < self.old.config.limits.max_conns }
+        ensures { self.new ≡ step self.old (Opened conn listener) }
     {
         let new = Conn {
             number: conn,
@@ -179,8 +183,10 @@ impl Store {
             serial: 0,
             live: true,
         };
-        self.conns.push(new)?;
-        Ok(())
+        match self.conns.push(new) {
+            Ok(()) => {}
+            Err(_) => unreachable!(),
+        }
     }
 
     /// The end of a connection, with its handles. It takes no memory.

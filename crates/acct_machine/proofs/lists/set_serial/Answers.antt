@@ -1,7 +1,26 @@
-use Rattle.std.proofs.Common.{rules}
-use Rattle.std.proofs.lemmas.List.Edits.{map_over_more}
+use Rattle.std.proofs.Common.{rules, ◌≡◌, ◌-◌, set, sym, ◌∙◌, ap, arith, List}
+use Rattle.std.proofs.lemmas.Bool.Decides.{nat_tests}
+use Rattle.acct_machine.specs.declared.state.Conn.{Conn}
 use Rattle.acct_machine.specs.Outcome.{serial_set}
+use Rattle.acct_machine.proofs.Places.{map-at, map-none, set-one}
 use Rattle.acct_machine.proofs.lists.set_serial.Goals as goal
 
-pub loop-i-preserved : goal.loop-i-preserved
-loop-i-preserved c = search (rules, map_over_more (serial_set c.args.conn c.args.serial))
+pub returns-then-number-eq0-clause-items : goal.returns-then-number-eq0-clause-items
+returns-then-number-eq0-clause-items c =
+    sym (map-none (serial_set c.args.conn c.args.serial) c.args.conn c.args.conns.now.items (set-one c.args.conn
+    c.args.serial) c.requires
+    (λ some. grind (arith, nat_tests)))
+
+pub returns-then-number-len-clause-items : goal.returns-then-number-len-clause-items
+returns-then-number-len-clause-items c =
+    sym (map-none (serial_set c.args.conn c.args.serial) c.args.conn c.args.conns.now.items (set-one c.args.conn
+    c.args.serial) c.requires
+    (λ some. grind (arith, nat_tests)))
+
+pub returns-clause-items : goal.returns-clause-items
+returns-clause-items c =
+    let at = map-at (serial_set c.args.conn c.args.serial) c.args.conn c.args.conns.now.items _ (set-one c.args.conn
+    c.args.serial) c.requires
+    (grind (arith, nat_tests)) (grind (arith, nat_tests)) in
+    ap (λ (d : Conn). set c.args.conns.now.items (c.args.conn - 1) d)
+    (c.with_serial.ensures ∙ ap (λ (d : Conn). serial_set c.args.conn c.args.serial d) c.index.ensures) ∙ sym at

@@ -13,11 +13,11 @@ use Rattle.acct_machine.specs.Step.{acted, state_at}
 use Rattle.acct_machine.specs.Calls.{IsCall}
 use Rattle.acct_machine.specs.Legal.{MayHave, May}
 use Rattle.acct_machine.specs.Shapes.{IsAnswer}
-use Rattle.acct_machine.specs.Shown.{Shown, IsKept, begins, live_count}
+use Rattle.acct_machine.specs.Room.{TakesCall}
+use Rattle.acct_machine.specs.Shown.{Shown, IsKept, begins}
 use Rattle.acct_machine.specs.Machine.{state_of, with_entry, SameLive, OneMoreCall}
-use Rattle.acct_machine.proofs.Lives.{same_live-acted, live_count-acted}
 use Rattle.acct_machine.proofs.Kept.{may-called, shown, same_live-push, one_more_call, shown-more, kept-more}
-use Rattle.acct_machine.proofs.Kept.{state-shown}
+use Rattle.acct_machine.proofs.Kept.{state-shown, takes-call, room-to-call}
 use Rattle.acct_machine.proofs.machine.Machine.act.Goals as goal
 
 pub run-verdict-requires : goal.run-verdict-requires
@@ -30,41 +30,38 @@ run-verdict-requires c =
     omega (arith, serial)
 
 -- the call may come after the history
-may-be-entered : (old : Shown) (s : State) (rows : Lists) (history : List Entry) (live capacity conn bytes : ℕ)
+may-be-entered : (old : Shown) (s : State) (rows : Lists) (history : List Entry) (calls stubs capacity conn bytes : ℕ)
     (call : Call) (verdict : Verdict)
-    → shown s rows history ≡ old → IsKept (begins s rows) history s live capacity
+    → shown s rows history ≡ old → IsKept (begins s rows) history s calls stubs capacity
     → is_live conn (state_of old).conns ≡ true → IsCall call
-    → bytes < 2 ^ 32 → MayHave s conn call verdict → May (begins s rows) history (Called conn call verdict bytes)
-may-be-entered old s rows history live capacity conn bytes call verdict view kept alive spelled small may =
+    → bytes < 2 ^ 32 → MayHave s conn call verdict → TakesCall (begins s rows) history bytes
+    → May (begins s rows) history (Called conn call verdict bytes)
+may-be-entered old s rows history calls stubs capacity conn bytes call verdict view kept alive spelled small may taken =
     let inside : is_live conn s.conns ≡ true =
-    subst (λ (x : State). is_live conn x.conns ≡ true) (state-shown old s rows history live capacity view kept) alive in
-    may-called (begins s rows) history s conn call verdict bytes kept.state inside spelled small may
+    subst (λ (x : State). is_live conn x.conns ≡ true) (state-shown old s rows history calls stubs capacity view
+    kept) alive in
+    may-called (begins s rows) history s conn call verdict bytes kept.state inside spelled small may taken
 
-pub invariant_of-self-2 : goal.invariant_of-self-2
-invariant_of-self-2 c =
+pub invariant_of-self : goal.invariant_of-self
+invariant_of-self c =
     let verdict = c.run-verdict.result.0 in
     let s : State = c.self.inside.store in
     let new : State = c.run-verdict.new.self in
     let history : c.push.new.self.items ≡ c.self.inside.history.items ++ Called c.args.conn c.args.call verdict
     c.args.bytes ∷ [] =
     grind (arith, common_steps) in
-    let may = may-be-entered c.args.self.now s c.self.inside.opening.lists c.self.inside.history.items _ _ c.args.conn
+    let start : Start = begins s c.self.inside.opening.lists in
+    let few : c.self.inside.calls < start.config.limits.max_calls = grind (arith, common_steps) in
+    let short : c.self.inside.bytes + c.args.bytes ≤ start.config.limits.max_bytes = grind (arith, common_steps) in
+    let taken : TakesCall start c.self.inside.history.items c.args.bytes =
+    takes-call start c.self.inside.history.items s _ _ _ c.args.bytes c.self.invariant few short in
+    let may = may-be-entered c.args.self.now s c.self.inside.opening.lists c.self.inside.history.items _ _ _ c.args.conn
     c.args.bytes c.args.call
     verdict c.self.view_is c.self.invariant c.requires.live c.requires.spelled c.ranges.bytes.fits
-    c.run-verdict.ensures.verdict in
-    let counts : live_count new.conns ≡ live_count s.conns =
-    ap (λ (x : State). live_count x.conns) c.run-verdict.ensures.state ∙ live_count-acted s c.args.conn c.args.call
-    verdict in
-    let lengths : length new.conns ≡ length s.conns =
-    ap (λ (x : State). length x.conns) c.run-verdict.ensures.state
-    ∙ (same_live-acted s c.args.conn c.args.call verdict).count in
-    let counted : live_count new.conns ≤ c.self.inside.live = omega (arith, counts, c.self.invariant.counted) in
-    let bounded : c.self.inside.live ≤ length new.conns = omega (arith, lengths, c.self.invariant.bounded) in
-    let room : length c.self.inside.history.items + 1 + c.self.inside.live ≤ vec_capacity c.push.new.self =
-    grind (arith, common_steps) in
-    kept-more s new c.self.inside.opening.lists c.self.inside.history.items _ _ _ _ _ _ c.self.invariant may
-    c.run-verdict.ensures.state history
-    counted bounded room
+    c.run-verdict.ensures.verdict taken in
+    let grows : vec_capacity c.self.inside.history ≤ vec_capacity c.push.new.self = grind (arith, common_steps) in
+    kept-more s new c.self.inside.opening.lists c.self.inside.history.items _ _ _ _ _ _ _ _ c.self.invariant may
+    c.run-verdict.ensures.state history (omega arith) (omega arith) grows
 
 -- with room for more rows there is room for none
 room-less : (lists : Lists) (more : ℕ) → HasRoom lists more → HasRoom lists 0
@@ -82,10 +79,14 @@ returns-clause-shaped c =
     let s : State = c.self.inside.store in
     let start : Start = begins s c.self.inside.opening.lists in
     let entries : List Entry = c.self.inside.history.items in
+    let few : c.self.inside.calls < start.config.limits.max_calls = grind (arith, common_steps) in
+    let little : c.self.inside.bytes + c.args.bytes ≤ start.config.limits.max_bytes = grind (arith, common_steps) in
+    let taken : TakesCall start entries c.args.bytes =
+    takes-call start entries s _ _ _ c.args.bytes c.self.invariant few little in
     let may : May start entries (Called c.args.conn c.args.call verdict c.args.bytes) =
-    may-be-entered c.args.self.now s c.self.inside.opening.lists entries _ _ c.args.conn c.args.bytes c.args.call
+    may-be-entered c.args.self.now s c.self.inside.opening.lists entries _ _ _ c.args.conn c.args.bytes c.args.call
     verdict c.self.view_is c.self.invariant c.requires.live c.requires.spelled c.ranges.bytes.fits
-    c.run-verdict.ensures.verdict in
+    c.run-verdict.ensures.verdict taken in
     let here : HasRoom s.rows 0 =
     subst (λ (lists : Lists). HasRoom lists 0) c.rows.ensures
     (room-less c.rows.result.now.lists c.rows.result.now.spare c.has_few_rows.ensures) in
@@ -107,13 +108,21 @@ returns-clause-acts c =
     let history : c.push.new.self.items ≡ c.self.inside.history.items ++ Called c.args.conn c.args.call verdict
     c.args.bytes ∷ [] = grind (arith, common_steps) in
     let is_here : state_of c.args.self.now ≡ s =
-    state-shown c.args.self.now s c.self.inside.opening.lists c.self.inside.history.items _ _ c.self.view_is
-    c.self.invariant in (
-      verdict,
-      sym (shown-more c.args.self.now s c.run-verdict.new.self c.self.inside.opening.lists _ _ _ c.self.view_is
-          c.run-verdict.ensures.state history),
-      c.run-verdict.ensures.reply ∙ ap (λ (x : State). (acted x c.args.conn c.args.call verdict).1) (sym is_here),
-    )
+    state-shown c.args.self.now s c.self.inside.opening.lists c.self.inside.history.items _ _ _ c.self.view_is
+    c.self.invariant in
+    let start : Start = begins s c.self.inside.opening.lists in
+    let few : c.self.inside.calls < start.config.limits.max_calls = grind (arith, common_steps) in
+    let short : c.self.inside.bytes + c.args.bytes ≤ start.config.limits.max_bytes = grind (arith, common_steps) in
+    let taken : TakesCall start c.self.inside.history.items c.args.bytes =
+    takes-call start c.self.inside.history.items s _ _ _ c.args.bytes c.self.invariant few short in
+    record {
+      taken = subst (λ (m : Shown). TakesCall m.start m.history c.args.bytes) c.self.view_is taken;
+      verdict = verdict;
+      entered = sym (shown-more c.args.self.now s c.run-verdict.new.self c.self.inside.opening.lists _ _ _
+          c.self.view_is c.run-verdict.ensures.state history);
+      reply = c.run-verdict.ensures.reply ∙ ap (λ (x : State). (acted x c.args.conn c.args.call verdict).1)
+          (sym is_here);
+    }
 
 pub returns-clause-live : goal.returns-clause-live
 returns-clause-live c =
@@ -132,7 +141,7 @@ returns-clause-calls c =
     let history : c.push.new.self.items ≡ c.self.inside.history.items ++ Called c.args.conn c.args.call verdict
     c.args.bytes ∷ [] = grind (arith, common_steps) in
     let is_here : state_of c.args.self.now ≡ s =
-    state-shown c.args.self.now s c.self.inside.opening.lists c.self.inside.history.items _ _ c.self.view_is
+    state-shown c.args.self.now s c.self.inside.opening.lists c.self.inside.history.items _ _ _ c.self.view_is
     c.self.invariant in
     let reply : (acted (state_of c.args.self.now) c.args.conn c.args.call verdict).1 ≡ c.run-verdict.result.1 =
     ap (λ (x : State). (acted x c.args.conn c.args.call verdict).1) is_here ∙ sym c.run-verdict.ensures.reply in
@@ -145,4 +154,13 @@ returns-clause-calls c =
     (one_more_call c.args.self.now.start c.args.self.now.history c.args.conn c.args.call verdict c.args.bytes))
 
 pub returns-clause-legal : goal.returns-clause-legal
-returns-clause-legal c = (invariant_of-self-2 c).legal
+returns-clause-legal c = (invariant_of-self c).legal
+
+pub unreachable-requires : goal.unreachable-requires
+unreachable-requires c =
+    let s : State = c.self.inside.store in
+    let start : Start = begins s c.self.inside.opening.lists in
+    let few : c.self.inside.calls < start.config.limits.max_calls = grind (arith, common_steps) in
+    let room : length c.self.inside.history.items < vec_capacity c.self.inside.history =
+    room-to-call start c.self.inside.history.items s _ _ _ c.self.invariant few in
+    grind (arith, common_steps)

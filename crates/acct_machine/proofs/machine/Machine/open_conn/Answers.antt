@@ -1,43 +1,43 @@
-use Rattle.std.proofs.Common.{◌≡◌, ◌+◌, ◌≤◌, ◌<◌, ◌^◌, List, [], ◌∷◌, ◌++◌, sym, ◌∙◌, ap, subst, arith, length}
+use Rattle.std.proofs.Common.{rules, ℕ, ◌≡◌, ◌+◌, ◌≤◌, ◌<◌, ◌^◌, Some, None, List, [], ◌∷◌, ◌++◌, sym, ◌∙◌, ap, subst}
+use Rattle.std.proofs.Common.{arith, length}
 use Rattle.std.specs.Vec.{vec_capacity}
 use Rattle.std.proofs.lemmas.Grind.{common_steps}
 use Rattle.acct_machine.specs.declared.state.Conn.{Conn}
 use Rattle.acct_machine.specs.declared.entry.Entry.TheVariants.{Opened}
-use Rattle.acct_machine.specs.State.{State}
-use Rattle.acct_machine.specs.Step.{new_conn, step}
+use Rattle.acct_machine.specs.State.{State, Start}
+use Rattle.acct_machine.specs.Step.{step}
 use Rattle.acct_machine.specs.Legal.{May, Legal}
-use Rattle.acct_machine.specs.Shown.{Shown, begins, live_count}
+use Rattle.acct_machine.specs.Room.{conns_full}
+use Rattle.acct_machine.specs.Shown.{Shown, begins}
 use Rattle.acct_machine.specs.Machine.{state_of, with_entry, OneMoreLive, SameCalls}
-use Rattle.acct_machine.proofs.Conns.{count-push, length-push}
+use Rattle.acct_machine.proofs.Counting.{takes-conn, no-conn, most-conns}
 use Rattle.acct_machine.proofs.Kept.{shown, may-opened, one_more-push, same_calls-opened, shown-more, kept-more}
-use Rattle.acct_machine.proofs.Kept.{state-shown}
+use Rattle.acct_machine.proofs.Kept.{state-shown, opened-kept, room-to-open}
 use Rattle.acct_machine.proofs.machine.Machine.open_conn.Goals as goal
 
-pub invariant_of-self-in-Ok : goal.invariant_of-self-in-Ok
-invariant_of-self-in-Ok c =
+pub invariant_of-self : goal.invariant_of-self
+invariant_of-self c =
     let conn = c.count-count.result + 1 in
     let s : State = c.self.inside.store in
     let new : State = c.add_conn.new.self in
     let history : c.push.new.self.items ≡ c.self.inside.history.items ++ Opened conn c.args.listener ∷ [] =
     grind (arith, common_steps) in
     let is : new ≡ step s (Opened conn c.args.listener) = grind (arith, common_steps) in
-    let conns : new.conns ≡ s.conns ++ new_conn conn c.args.listener ∷ [] = ap (λ (x : State). x.conns) is in
     let count : conn ≡ length s.conns + 1 = grind (arith, common_steps) in
-    let small : conn < 2 ^ 32 = grind (arith, common_steps) in
+    let start : Start = begins s c.self.inside.opening.lists in
+    let below : length s.conns < start.config.limits.max_conns = grind (arith, common_steps) in
+    let small : conn < 2 ^ 32 = omega (arith, count, below, most-conns start.config c.self.invariant.right) in
     let fits : c.args.listener < length s.config.listeners =
     subst (λ (m : Shown). c.args.listener < length m.start.config.listeners) (sym c.self.view_is)
     c.requires.configured in
-    let may : May (begins s c.self.inside.opening.lists) c.self.inside.history.items (Opened conn c.args.listener) =
-    may-opened (begins s c.self.inside.opening.lists) c.self.inside.history.items s conn c.args.listener
-    c.self.invariant.state count small fits in
-    let counted : live_count new.conns ≤ c.self.inside.live + 1 =
-    rw conns (omega (arith, count-push (new_conn conn c.args.listener) s.conns, c.self.invariant.counted)) in
-    let bounded : c.self.inside.live + 1 ≤ length new.conns =
-    rw conns (omega (arith, length-push (new_conn conn c.args.listener) s.conns, c.self.invariant.bounded)) in
-    let room : length c.self.inside.history.items + 1 + (c.self.inside.live + 1) ≤ vec_capacity c.push.new.self =
-    grind (arith, common_steps) in
-    kept-more s new c.self.inside.opening.lists c.self.inside.history.items _ _ _ _ _ _ c.self.invariant may is
-    history counted bounded room
+    let taken : conns_full start c.self.inside.history.items ≡ None =
+    takes-conn start c.self.inside.history.items (length s.conns)
+    (opened-kept start c.self.inside.history.items s _ _ _ c.self.invariant) below in
+    let may : May start c.self.inside.history.items (Opened conn c.args.listener) =
+    may-opened start c.self.inside.history.items s conn c.args.listener c.self.invariant.state count small fits taken in
+    let grows : vec_capacity c.self.inside.history ≤ vec_capacity c.push.new.self = grind (arith, common_steps) in
+    kept-more s new c.self.inside.opening.lists c.self.inside.history.items _ _ _ _ _ _ _ _ c.self.invariant may is
+    history (omega arith) (omega arith) grows
 
 pub returns-clause-fresh : goal.returns-clause-fresh
 returns-clause-fresh c =
@@ -51,7 +51,7 @@ returns-clause-fresh c =
     shown-more c.args.self.now c.self.inside.store c.add_conn.new.self c.self.inside.opening.lists _ _ _
     c.self.view_is is history in
     c.connections_are_opened_once.ensures c.args.self.now.start conn c.args.listener c.args.self.now.history []
-    (subst (λ (m : Shown). Legal m.start m.history) (sym new) (invariant_of-self-in-Ok c).legal)
+    (subst (λ (m : Shown). Legal m.start m.history) (sym new) (invariant_of-self c).legal)
 
 pub returns-clause-live : goal.returns-clause-live
 returns-clause-live c =
@@ -62,7 +62,7 @@ returns-clause-live c =
     let is : c.add_conn.new.self ≡ step s (Opened conn c.args.listener) = grind (arith, common_steps) in
     let count : conn ≡ length s.conns + 1 = grind (arith, common_steps) in
     let is_here : state_of c.args.self.now ≡ s =
-    state-shown c.args.self.now s c.self.inside.opening.lists c.self.inside.history.items _ _ c.self.view_is
+    state-shown c.args.self.now s c.self.inside.opening.lists c.self.inside.history.items _ _ _ c.self.view_is
     c.self.invariant in
     let number : conn ≡ length (state_of c.args.self.now).conns + 1 =
     omega (arith, count, ap (λ (x : State). length x.conns) is_here) in
@@ -85,4 +85,49 @@ returns-clause-calls c =
     (same_calls-opened c.args.self.now.start c.args.self.now.history conn c.args.listener)
 
 pub returns-clause-legal : goal.returns-clause-legal
-returns-clause-legal c = (invariant_of-self-in-Ok c).legal
+returns-clause-legal c = (invariant_of-self c).legal
+
+pub unreachable-requires : goal.unreachable-requires
+unreachable-requires c =
+    let s : State = c.self.inside.store in
+    let start : Start = begins s c.self.inside.opening.lists in
+    let below : length s.conns < start.config.limits.max_conns = grind (arith, common_steps) in
+    let room : length c.self.inside.history.items < vec_capacity c.self.inside.history =
+    room-to-open start c.self.inside.history.items s _ _ _ c.self.invariant below in
+    grind (arith, common_steps)
+
+pub returns-then-count-config-clause-opens : goal.returns-then-count-config-clause-opens
+returns-then-count-config-clause-opens c =
+    let s : State = c.self.inside.store in
+    let start : Start = begins s c.self.inside.opening.lists in
+    let above : start.config.limits.max_conns ≤ length s.conns = grind (arith, common_steps) in
+    let full : conns_full start c.self.inside.history.items ≡ Some (length s.conns) =
+    no-conn start c.self.inside.history.items (length s.conns)
+    (opened-kept start c.self.inside.history.items s _ _ _ c.self.invariant) above in
+    let count : length s.conns ≡ c.count-count.result = grind (arith, common_steps) in
+    let shows : conns_full c.args.self.now.start c.args.self.now.history ≡ Some c.count-count.result =
+    subst (λ (m : Shown). conns_full m.start m.history ≡ Some c.count-count.result) c.self.view_is
+    (full ∙ ap (λ (n : ℕ). Some n) count) in
+    (shows, search rules)
+
+pub returns-clause-opens : goal.returns-clause-opens
+returns-clause-opens c =
+    let conn = c.count-count.result + 1 in
+    let s : State = c.self.inside.store in
+    let start : Start = begins s c.self.inside.opening.lists in
+    let history : c.push.new.self.items ≡ c.self.inside.history.items ++ Opened conn c.args.listener ∷ [] =
+    grind (arith, common_steps) in
+    let is : c.add_conn.new.self ≡ step s (Opened conn c.args.listener) = grind (arith, common_steps) in
+    let below : length s.conns < start.config.limits.max_conns = grind (arith, common_steps) in
+    let taken : conns_full start c.self.inside.history.items ≡ None =
+    takes-conn start c.self.inside.history.items (length s.conns)
+    (opened-kept start c.self.inside.history.items s _ _ _ c.self.invariant) below in
+    let is_here : state_of c.args.self.now ≡ s =
+    state-shown c.args.self.now s c.self.inside.opening.lists c.self.inside.history.items _ _ _ c.self.view_is
+    c.self.invariant in
+    let count : conn ≡ length s.conns + 1 = grind (arith, common_steps) in (
+      subst (λ (m : Shown). conns_full m.start m.history ≡ None) c.self.view_is taken,
+      omega (arith, count, ap (λ (x : State). length x.conns) is_here),
+      sym (shown-more c.args.self.now s c.add_conn.new.self c.self.inside.opening.lists _ _ _ c.self.view_is is
+          history),
+    )

@@ -1,0 +1,5 @@
+use Rattle.acct_machine.proofs.Counting.{limits-are-kept}
+use Rattle.acct_machine.proofs.laws.limits_are_kept.Goals as goal
+
+pub returns : goal.returns
+returns c = limits-are-kept
