@@ -7,7 +7,7 @@ use Rattle.acct_streams.specs.Causes.{Rose}
 
 -- how many bytes a configuration or an event file may have
 abbrev pub most_bytes : ℕ
-most_bytes = 1048576
+most_bytes = 67_108_864
 
 -- why a source wasn't read to its end
 abbrev pub WholeCause : Option (List ℕ) → ℕ → ℕ → WholeError → Type 0

@@ -6,14 +6,14 @@ ghost use Rattle.acct_streams.specs.Whole.{WholeCause, IsWhole};
 use crate::Source;
 use std::alloc::{AllocError, Global};
 
-const MOST_BYTES: usize = 1048576;
+const MOST_BYTES: usize = 67_108_864;
 
 /// Why a source wasn't read to its end.
 #[derive(Clone, Copy, Debug, PartialEq, Eq)]
 pub enum WholeError {
     /// A read failed.
     Fault,
-    /// There are more than 1,048,576 bytes.
+    /// There are more than 67,108,864 bytes.
     TooLong,
     Memory,
 }
@@ -26,7 +26,7 @@ impl From<AllocError> for WholeError {
     }
 }
 
-/// All the bytes that a source has left, at most 1,048,576. It ends, since each turn takes a byte or answers.
+/// All the bytes that a source has left, at most 67,108,864. It ends, since each turn takes a byte or answers.
 pub fn read_whole<S: Source>(alloc: Global, source: &mut S) -> Result<Vec<u8>, WholeError>
     ensures whole { IfOk result (λ whole. IsWhole (S.left source.old) whole.items) }
     ensures cause { IfErr result (λ e. WholeCause (S.left source.old) (S.faults source.old) (S.faults source.new) e) }
