@@ -70,7 +70,8 @@ asked-run document bytes history config ReadFault short spells few of_run none t
 asked-run document bytes history config WriteFault short spells few of_run none through = absurd (none refl)
 asked-run document bytes history config (EventLine n) short spells few of_run none through = inl
     (asked-through document bytes history config (EventLine n) short spells few (through tt))
-asked-run document bytes history config (HistoryFull n) short spells few of_run none through = absurd of_run
+asked-run document bytes history config (HistoryFull n) short spells few of_run none through = inl
+    (asked-through document bytes history config (HistoryFull n) short spells few (through tt))
 asked-run document bytes history config InputTooLong short spells few of_run none through = absurd of_run
 
 -- ---- what was read of the sources

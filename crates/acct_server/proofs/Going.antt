@@ -8,7 +8,7 @@ use Rattle.std.proofs.lemmas.List.Concat.{flat_map-append}
 use Rattle.acct_machine.specs.State.{Start}
 use Rattle.acct_machine.specs.declared.entry.Entry.{Entry}
 use Rattle.acct_server.specs.declared.status.Status.{Status}
-use Rattle.acct_server.specs.declared.status.Status.TheVariants.{Done, EventLine}
+use Rattle.acct_server.specs.declared.status.Status.TheVariants.{Done, EventLine, HistoryFull}
 use Rattle.acct_server.specs.Events.{lines_of}
 use Rattle.acct_server.specs.Replayed.{Effect, Move, Standing, Trace, Verdicts, on_line, moved, behind, follow}
 use Rattle.acct_server.specs.Replayed.{unless_full, ends, ending, trace_from, at_start, verdict_in, replayed}
@@ -58,28 +58,34 @@ going-starts held events run none fresh = record {
       ap (λ (s : Standing). trace_from (verdict_in (run.machine.history ++ later)) s 1 (lines_of events)) same;
 }
 
+-- what the replay does behind a line, which may have found the history full
+abbrev later_by : Option ℕ → Verdicts → Standing → ℕ → List (List ℕ) → Trace
+later_by found verdicts s n ls = unless_full found s (λ after. trace_from verdicts after n ls)
+
 -- what the replay does from a line on, once its move is known
 at_move : (verdicts : Verdicts) (s : Standing) (n : ℕ) (line : List ℕ) (ls : List (List ℕ)) (move : Move)
-    → move.effect.full ≡ None → on_line verdicts s line ≡ Some move
-    → trace_from verdicts s n (line ∷ ls) ≡ behind (move.effect ∷ []) (trace_from verdicts (moved s move) (n + 1) ls)
+    (found : Option ℕ)
+    → move.effect.full ≡ found → on_line verdicts s line ≡ Some move
+    → trace_from verdicts s n (line ∷ ls)
+    ≡ behind (move.effect ∷ []) (later_by found verdicts (moved s move) (n + 1) ls)
 unfolding trace_from
-at_move verdicts s n line ls move room is =
+at_move verdicts s n line ls move found full is =
     ap (λ (m : Option Move). follow s n m (λ after. trace_from verdicts after (n + 1) ls)) is
     ∙ ap (λ (o : Option ℕ). behind (move.effect ∷ [])
-    (unless_full o (moved s move) (λ after. trace_from verdicts after (n + 1) ls))) room
+    (unless_full o (moved s move) (λ after. trace_from verdicts after (n + 1) ls))) full
 
 -- the entries of a line stand: what the whole replay is then
 met : (start : Start) (held now : Option (List ℕ)) (events : List ℕ) (old new : Running) (number : ℕ)
-    (ahead line after : List ℕ) (going : Going start held now events old number ahead) (move : Move)
-    → move.effect.full ≡ None
+    (ahead line after : List ℕ) (going : Going start held now events old number ahead) (move : Move) (found : Option ℕ)
+    → move.effect.full ≡ found
     → lines_of ahead ≡ line ∷ lines_of after
     → ((later : List Entry) → on_line (verdict_in (new.machine.history ++ later)) (standing old) line ≡ Some move)
     → new.machine.history ≡ old.machine.history ++ move.effect.entries
     → (later : List Entry) → trace_from (verdict_in (new.machine.history ++ later)) (at_start start) 1 (lines_of events)
     ≡ behind (going.done ++ move.effect ∷ [])
-    (trace_from (verdict_in (new.machine.history ++ later)) (moved (standing old) move) (number + 1 + 1)
+    (later_by found (verdict_in (new.machine.history ++ later)) (moved (standing old) move) (number + 1 + 1)
     (lines_of after))
-met start held now events old new number ahead line after going move room lines is history later =
+met start held now events old new number ahead line after going move found full lines is history later =
     let h = new.machine.history ++ later in
     let longer : h ≡ old.machine.history ++ (move.effect.entries ++ later) =
     ap (λ (xs : List Entry). xs ++ later) history ∙ append_assoc old.machine.history move.effect.entries later in
@@ -92,9 +98,9 @@ met start held now events old new number ahead line after going move room lines 
     from_here
     ∙ ap (λ (ls : List (List ℕ)). behind going.done (trace_from (verdict_in h) (standing old) (number + 1) ls)) lines
     ∙ ap (λ (t : Trace). behind going.done t)
-    (at_move (verdict_in h) (standing old) (number + 1) line (lines_of after) move room known)
+    (at_move (verdict_in h) (standing old) (number + 1) line (lines_of after) move found full known)
     ∙ behind-behind going.done (move.effect ∷ [])
-    (trace_from (verdict_in h) (moved (standing old) move) (number + 1 + 1) (lines_of after))
+    (later_by found (verdict_in h) (moved (standing old) move) (number + 1 + 1) (lines_of after))
 
 abbrev OfLine : Running → List ℕ → Verdicts → Option Move
 OfLine run line verdicts = on_line verdicts (standing run) line
@@ -102,7 +108,7 @@ OfLine run line verdicts = on_line verdicts (standing run) line
 pub going-on : (start : Start) (held now then : Option (List ℕ)) (events : List ℕ) (old new : Running) (number : ℕ)
     (ahead line after output : List ℕ)
     → Going start held now events old number ahead → lines_of ahead ≡ line ∷ lines_of after
-    → Does (λ verdicts. on_line verdicts (standing old) line) old output new → Appends now then output
+    → Does (λ verdicts. on_line verdicts (standing old) line) old output None new → Appends now then output
     → Going start held then events new (number + 1) after
 going-on start held now then events old new number ahead line after output going lines does appends =
     let e = does.move.effect in
@@ -116,8 +122,8 @@ going-on start held now then events old new number ahead line after output going
           (Appends-then held now then (output_of going.done) (lines_in e) going.lines
           (subst (λ (bytes : List ℕ). Appends now then bytes) does.prints appends));
       rest = λ later.
-          met start held now events old new number ahead line after going does.move does.room lines does.is does.history
-          later
+          met start held now events old new number ahead line after going does.move None does.full lines does.is
+          does.history later
           ∙ ap (λ (s : Standing). behind (going.done ++ e ∷ [])
           (trace_from (verdict_in (new.machine.history ++ later)) s (number + 1 + 1) (lines_of after))) same;
     }
@@ -130,19 +136,19 @@ whole start events history = ap (λ (h : List Entry). trace_from (verdict_in h) 
 
 -- the sink fails at the lines of a line
 pub going-breaks : (start : Start) (held now then : Option (List ℕ)) (events : List ℕ) (old new : Running) (number : ℕ)
-    (ahead line after output : List ℕ) (written : ℕ)
+    (ahead line after output : List ℕ) (found : Option ℕ) (written : ℕ)
     → Going start held now events old number ahead → lines_of ahead ≡ line ∷ lines_of after
-    → Does (λ verdicts. on_line verdicts (standing old) line) old output new
+    → Does (λ verdicts. on_line verdicts (standing old) line) old output found new
     → Appends now then (take written output)
     → Breaks start held then events new.machine.history
-going-breaks start held now then events old new number ahead line after output written going lines does appends =
+going-breaks start held now then events old new number ahead line after output found written going lines does appends =
     let e = does.move.effect in
-    let later = trace_from (verdict_in (new.machine.history ++ [])) (moved (standing old) does.move) (number + 1 + 1)
-    (lines_of after) in
+    let later = later_by found (verdict_in (new.machine.history ++ [])) (moved (standing old) does.move)
+    (number + 1 + 1) (lines_of after) in
     let is : replayed start events new.machine.history ≡ behind (going.done ++ e ∷ []) later =
     whole start events new.machine.history
-    ∙ met start held now events old new number ahead line after going does.move does.room lines does.is does.history
-    [] in
+    ∙ met start held now events old new number ahead line after going does.move found does.full lines does.is
+    does.history [] in
     record {
       done = going.done;
       met = e;
@@ -152,6 +158,117 @@ going-breaks start held now then events old new number ahead line after output w
       entries = does.history ∙ ap (λ (h : List Entry). h ++ e.entries) going.entries;
       lines = Appends-then held now then (output_of going.done) (take written (lines_in e)) going.lines
           (subst (λ (bytes : List ℕ). Appends now then (take written bytes)) does.prints appends);
+    }
+
+-- all the lines of the effects done, and those of others
+front_lines : (held now : Option (List ℕ)) (done others : List Effect) → Appends held now (output_of done)
+    → Appends held now (take (length (output_of done)) (output_of (done ++ others)))
+front_lines held now done others appends =
+    let front : take (length (output_of done)) (output_of (done ++ others)) ≡ output_of done =
+    ap (λ (xs : List ℕ). take (length (output_of done)) xs) (flat_map-append lines_in done others)
+    ∙ take-append-le (length (output_of done)) (output_of done) (output_of others) (omega arith)
+    ∙ take_all (length (output_of done)) (output_of done) (omega arith) in
+    subst (λ (bytes : List ℕ). Appends held now bytes) (sym front) appends
+
+-- A line found the history full: the lines of what was done, and what is left to do, which is the end.
+record Filled (start : Start) (held now : Option (List ℕ)) (events : List ℕ) (run : Running) (status : Status)
+    : Type 0 where
+  done : List Effect
+  entries : run.machine.history ≡ entries_of done
+  lines : Appends held now (output_of done)
+  rest : (later : List Entry)
+      → trace_from (verdict_in (run.machine.history ++ later)) (at_start start) 1 (lines_of events)
+      ≡ behind done (ends (standing run) status)
+
+filled : (start : Start) (held now then : Option (List ℕ)) (events : List ℕ) (old new : Running) (number : ℕ)
+    (ahead line after output : List ℕ) (count : ℕ)
+    → Going start held now events old number ahead → lines_of ahead ≡ line ∷ lines_of after
+    → Does (λ verdicts. on_line verdicts (standing old) line) old output (Some count) new → Appends now then output
+    → Filled start held then events new (HistoryFull count)
+filled start held now then events old new number ahead line after output count going lines does appends =
+    let e = does.move.effect in
+    let same : moved (standing old) does.move ≡ standing new =
+    λ i. record { start = sym does.start i; history = sym does.history i; peers = sym does.peers i } in
+    record {
+      done = going.done ++ e ∷ [];
+      entries = does.history ∙ ap (λ (h : List Entry). h ++ e.entries) going.entries ∙ sym (entries-push going.done e);
+      lines = rw (output-push going.done e)
+          (Appends-then held now then (output_of going.done) (lines_in e) going.lines
+          (subst (λ (bytes : List ℕ). Appends now then bytes) does.prints appends));
+      rest = λ later.
+          met start held now events old new number ahead line after going does.move (Some count) does.full lines does.is
+          does.history later
+          ∙ ap (λ (s : Standing). behind (going.done ++ e ∷ []) (ends s (HistoryFull count))) same;
+    }
+
+filled-whole : (start : Start) (held now : Option (List ℕ)) (events : List ℕ) (old new : Running) (status : Status)
+    (f : Filled start held now events old status)
+    → new.machine.history ≡ old.machine.history ++ (ending (standing old)).entries
+    → replayed start events new.machine.history ≡ behind f.done (ends (standing old) status)
+filled-whole start held now events old new status f history =
+    ap (λ (h : List Entry). replayed start events h) history ∙ f.rest (ending (standing old)).entries
+
+-- the connections that were open have been ended behind it
+pub going-fills : (start : Start) (held now then last : Option (List ℕ)) (events : List ℕ) (old mid new : Running)
+    (number : ℕ) (ahead line after output : List ℕ) (count : ℕ) (answer : Status)
+    → Going start held now events old number ahead → lines_of ahead ≡ line ∷ lines_of after
+    → Does (λ verdicts. on_line verdicts (standing old) line) old output (Some count) mid → Appends now then output
+    → Finishes then last mid new (HistoryFull count) answer
+    → Leaves start held last events new.machine.history answer
+going-fills start held now then last events old mid new number ahead line after output count answer going lines does
+    appends finishes =
+    let f = filled start held now then events old mid number ahead line after output count going lines does appends in
+    let is = filled-whole start held then events mid new (HistoryFull count) f finishes.entries in
+    let end = ending (standing mid) in
+    record {
+      entries = finishes.entries ∙ ap (λ (h : List Entry). h ++ end.entries) f.entries
+          ∙ sym (entries-push f.done end) ∙ sym (ap (λ (t : Trace). entries_of t.effects) is);
+      lines = subst (λ (bytes : List ℕ). Appends held last bytes)
+          (sym (output-push f.done end) ∙ sym (ap (λ (t : Trace). output_of t.effects) is))
+          (Appends-then held then last (output_of f.done) (lines_in end) f.lines finishes.lines);
+      ends = finishes.ends ∙ sym (ap (λ (t : Trace). t.status) is);
+    }
+
+pub going-fill-breaks : (start : Start) (held now then last : Option (List ℕ)) (events : List ℕ)
+    (old mid new : Running) (number : ℕ) (ahead line after output : List ℕ) (count : ℕ)
+    → Going start held now events old number ahead → lines_of ahead ≡ line ∷ lines_of after
+    → Does (λ verdicts. on_line verdicts (standing old) line) old output (Some count) mid → Appends now then output
+    → FinishBreaks then last mid new → Breaks start held last events new.machine.history
+going-fill-breaks start held now then last events old mid new number ahead line after output count going lines does
+    appends broken =
+    let f = filled start held now then events old mid number ahead line after output count going lines does appends in
+    let is = filled-whole start held then events mid new (HistoryFull count) f broken.entries in
+    let end = ending (standing mid) in
+    record {
+      done = f.done;
+      met = end;
+      ahead = [];
+      written = broken.written;
+      splits = ap (λ (t : Trace). t.effects) is;
+      entries = broken.entries ∙ ap (λ (h : List Entry). h ++ end.entries) f.entries;
+      lines = Appends-then held then last (output_of f.done) (take broken.written (lines_in end)) f.lines broken.lines;
+    }
+
+-- memory was wanted for the lines of the end
+pub going-fill-stops : (start : Start) (held now then : Option (List ℕ)) (events : List ℕ) (old mid new : Running)
+    (number : ℕ) (ahead line after output : List ℕ) (count : ℕ)
+    → Going start held now events old number ahead → lines_of ahead ≡ line ∷ lines_of after
+    → Does (λ verdicts. on_line verdicts (standing old) line) old output (Some count) mid → Appends now then output
+    → new.machine.history ≡ mid.machine.history
+    → Stops start held then events new.machine.history
+going-fill-stops start held now then events old mid new number ahead line after output count going lines does appends
+    same =
+    let f = filled start held now then events old mid number ahead line after output count going lines does appends in
+    let others = ends (standing mid) (HistoryFull count) in
+    let is : replayed start events new.machine.history ≡ behind f.done others =
+    ap (λ (h : List Entry). replayed start events h) same ∙ whole start events mid.machine.history ∙ f.rest [] in
+    record {
+      later = entries_of others.effects;
+      written = length (output_of f.done);
+      entries = ap (λ (t : Trace). entries_of t.effects) is ∙ flat_map-append (λ x. x.entries) f.done others.effects
+          ∙ ap (λ (h : List Entry). h ++ entries_of others.effects) (sym (same ∙ f.entries));
+      lines = subst (λ (t : Trace). Appends held then (take (length (output_of f.done)) (output_of t.effects)))
+          (sym is) (front_lines held then f.done others.effects f.lines);
     }
 
 -- the whole replay, at the end of the lines or at a refused one
@@ -254,16 +371,6 @@ going-refused-breaks start held now then events old same new number ahead line a
     (at_refused old number ahead line after lines refuses.none)
     (subst (λ (r : Running). FinishBreaks now then r new) refuses.same broken)
 
--- all the lines of the effects done, and those of others
-front_lines : (held now : Option (List ℕ)) (done others : List Effect) → Appends held now (output_of done)
-    → Appends held now (take (length (output_of done)) (output_of (done ++ others)))
-front_lines held now done others appends =
-    let front : take (length (output_of done)) (output_of (done ++ others)) ≡ output_of done =
-    ap (λ (xs : List ℕ). take (length (output_of done)) xs) (flat_map-append lines_in done others)
-    ∙ take-append-le (length (output_of done)) (output_of done) (output_of others) (omega arith)
-    ∙ take_all (length (output_of done)) (output_of done) (omega arith) in
-    subst (λ (bytes : List ℕ). Appends held now bytes) (sym front) appends
-
 -- memory is wanted where the entries that stand are those of the effects done
 pub going-stops : (start : Start) (held now : Option (List ℕ)) (events : List ℕ) (old new : Running) (number : ℕ)
     (ahead : List ℕ) → Going start held now events old number ahead → new.machine.history ≡ old.machine.history
@@ -301,13 +408,13 @@ going-may-stop start held now events old new number ahead line after going lines
     ≡ behind going.done (trace_from (verdict_in x) (standing old) (number + 1) (lines_of ahead))) (sym longer)
     (going.rest enters.front) in
     let known : on_line (verdict_in h) (standing old) line ≡ Some move = enters.is [] in
-    let others = trace_from (verdict_in h) (moved (standing old) move) (number + 1 + 1) (lines_of after) in
+    let others = later_by e.full (verdict_in h) (moved (standing old) move) (number + 1 + 1) (lines_of after) in
     let is : replayed start events new.machine.history ≡ behind (going.done ++ e ∷ []) others =
     whole start events new.machine.history
     ∙ from_here
     ∙ ap (λ (ls : List (List ℕ)). behind going.done (trace_from (verdict_in h) (standing old) (number + 1) ls)) lines
     ∙ ap (λ (t : Trace). behind going.done t)
-    (at_move (verdict_in h) (standing old) (number + 1) line (lines_of after) move (enters.room []) known)
+    (at_move (verdict_in h) (standing old) (number + 1) line (lines_of after) move e.full refl known)
     ∙ behind-behind going.done (e ∷ []) others in
     let all : (replayed start events new.machine.history).effects ≡ going.done ++ e ∷ others.effects =
     ap (λ (t : Trace). t.effects) is ∙ append_assoc going.done (e ∷ []) others.effects in

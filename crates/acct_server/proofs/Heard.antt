@@ -14,8 +14,9 @@ use Rattle.rpc_session.specs.Acts.{acts, IsCutAnywhere, IsRoomByLength, IsFit, A
 use Rattle.acct_server.specs.declared.connections.Peer.{Peer}
 use Rattle.acct_server.specs.declared.connections.Peer.TheVariants.{Open, Ended as EndedPeer}
 use Rattle.acct_server.specs.Replayed.{nothing_heard, peer_of, with_peer}
-use Rattle.acct_server.specs.Running.{HasHeard, AllHeard, IsClosing}
-use Rattle.acct_server.proofs.Placing.{peer-here, peer-there}
+use Rattle.acct_server.specs.Running.{Running, Hears, HasHeard, AllHeard, IsClosing, peers_behind}
+use Rattle.acct_server.proofs.Placing.{peer-here, peer-there, some-is, some-there}
+use Rattle.std.specs.Prelude.{IsSome}
 
 -- what a connection has heard that is open
 heard-open : (most conn : ℕ) (hearing : Hearing) (peer : Option Peer) → peer ≡ Some (Open hearing)
@@ -202,3 +203,20 @@ all-within n most peers le heard conn = has-within n most conn (peer_of conn pee
 pub none-heard : (n : ℕ) (peers : List Peer) → peers ≡ [] → AllHeard n peers
 none-heard n peers none zero = tt
 none-heard n peers none (suc i) = subst (λ (ps : List Peer). HasHeard n (suc i) (slice_get ps i)) (sym none) tt
+
+-- the connection that heard a piece is there
+pub heard-there : (old mid : Running) (conn : ℕ) (bytes : List ℕ) (as' : List Act) → Hears conn bytes old as' mid
+    → IsSome (peer_of conn mid.peers)
+heard-there old mid conn bytes as' hears =
+    let leaves = (on hears.hearing bytes).leaves in
+    some-is (peer_of conn mid.peers) (Open leaves)
+    (ap (λ (r : Running). peer_of conn r.peers) hears.left
+    ∙ peer-here conn old.peers (Open leaves) (Open hears.hearing) hears.stood)
+
+-- behind acts, one of which may have found the history full
+pub all-heard-behind : (most conn : ℕ) (found : Option ℕ) (peers : List Peer) → IsSome (peer_of conn peers)
+    → AllHeard most peers → AllHeard most (peers_behind found conn peers)
+all-heard-behind most conn None peers some heard = heard
+all-heard-behind most conn (Some count) peers some heard =
+    let there = some-there (peer_of conn peers) some in
+    all-heard-ended most conn peers there.0 there.1 heard

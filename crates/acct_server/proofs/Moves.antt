@@ -1,11 +1,12 @@
 -- What a run does is the move of its line.
-use Rattle.std.proofs.Common.{◌≡◌, ℕ, ◌+◌, ◌==◌, ◌&&◌, true, List, [], ◌∷◌, ◌++◌, length, map, Option, Some, None}
+use Rattle.std.proofs.Common.{◌≡◌, ℕ, ◌+◌, ◌==◌, true, List, [], ◌∷◌, ◌++◌, length, map, Option, Some, None}
 use Rattle.std.proofs.Common.{Result, Ok, Err, refl, sym, ◌∙◌, ap, subst, arith, append_assoc, slice_get, IfOk, inl}
 use Rattle.std.proofs.Common.{inr}
 use Rattle.std.proofs.lemmas.Bool.Decides.{nat_tests}
 use Rattle.std.proofs.lemmas.List.{append-nil}
 use Rattle.std.proofs.lemmas.List.Concat.{flat_map-append}
 use Rattle.std.specs.List.{flat_map}
+use Rattle.std.specs.Global.{Vec}
 use Rattle.acct_machine.specs.State.{Start}
 use Rattle.acct_calls.specs.declared.calls.Call.{Call}
 use Rattle.acct_machine.specs.declared.entry.Entry.{Entry}
@@ -15,6 +16,7 @@ use Rattle.acct_machine.specs.Machine.{with_entry, SameLive}
 use Rattle.acct_machine.specs.State.{State}
 use Rattle.acct_machine.specs.Shown.{Shown}
 use Rattle.acct_machine.specs.Step.{acted, state_at}
+use Rattle.acct_machine.specs.Room.{conns_full, call_full}
 use Rattle.rpc_session.specs.declared.sessions.Act.{Act}
 use Rattle.rpc_session.specs.declared.sessions.Act.TheVariants as act
 use Rattle.rpc_session.specs.declared.hearing.Hearing.{Hearing}
@@ -25,15 +27,19 @@ use Rattle.acct_server.specs.declared.connections.Peer.{Peer}
 use Rattle.acct_server.specs.declared.connections.Peer.TheVariants.{Open, Ended}
 use Rattle.acct_stubs.specs.declared.errors.WireError.{WireError}
 use Rattle.acct_server.specs.declared.requests.Asked.{Asked}
-use Rattle.acct_server.specs.Transcript.{answer_bytes, undecoded_bytes}
+use Rattle.acct_server.specs.declared.requests.Answer.{Answer}
+use Rattle.acct_server.specs.declared.requests.Answer.TheVariants as answer
+use Rattle.acct_server.specs.Transcript.{answer_bytes, undecoded_bytes, busy_bytes}
 use Rattle.acct_server.specs.Answering.{Enters, AnswersCall, AnswersRequest, BeginsRequest}
 use Rattle.acct_server.specs.Replayed.{Standing, Move, Doing, Verdicts, Printed, Out, IsClosed, IsGone, on_listener}
 use Rattle.acct_server.specs.Replayed.{on_open, listener_from, nothing_heard, gone, number_of, peer_of, with_peer}
 use Rattle.acct_server.specs.Replayed.{line_bytes, on_end, on_event, quiet, on_heard, on_data, on_act, on_acts}
 use Rattle.acct_server.specs.Replayed.{on_request, on_call, prints_only, both, both_by, peer_behind, verdict_in}
-use Rattle.acct_server.specs.Replayed.{verdict_of}
+use Rattle.acct_server.specs.Replayed.{verdict_of, FoundFull, full_line, opened, on_decoded, on_full}
 use Rattle.acct_server.specs.Running.{Running, standing, Ties, Acts, Began, Hears, Does, Refuses, MayStop}
-use Rattle.acct_server.proofs.Room.{both-open, both-none, both-behind, both-entries, others_by, acts-room}
+use Rattle.acct_server.specs.Running.{peers_behind}
+use Rattle.acct_server.proofs.Room.{both-open, both-none, both-behind, both-full, both-entries, others_by}
+use Rattle.acct_server.proofs.Placing.{with-other}
 
 -- the move of an opening
 abbrev opening : Standing → ℕ → ℕ → Move
@@ -43,27 +49,51 @@ opening s conn listener = record {
       s.peers ++ Open (nothing_heard conn) ∷ [];
 }
 
-opens : (s : Standing) (conn listener : ℕ) (found : Option ℕ) → found ≡ Some listener → conn ≡ length s.peers + 1
-    → on_listener s conn found ≡ Some (opening s conn listener)
-opens s conn listener found is next =
+-- the move of one that finds the history full
+abbrev unopened : Standing → ℕ → ℕ → Move
+unopened s conn count = record {
+  effect = record { entries = []; brings = []; prints = FoundFull conn ∷ []; full = Some count };
+  peers = s.peers;
+}
+
+opens : (s : Standing) (conn listener : ℕ) (found full : Option ℕ) → found ≡ Some listener
+    → conn ≡ length s.peers + 1 → conns_full s.start s.history ≡ full
+    → on_listener s conn found ≡ Some (opened s conn listener full)
+opens s conn listener found full is next room =
     let passes : (conn == length s.peers + 1) ≡ true = grind (arith, nat_tests) in
-    rw (is, passes) refl
+    rw (is, passes) (ap (λ (o : Option ℕ). Some (opened s conn listener o)) room)
 
 pub open-does : (old new : Running) (conn given listener : ℕ) (name output : List ℕ)
     → listener_from 0 name old.machine.start.config.listeners ≡ Some listener → conn ≡ length old.peers + 1
-    → given ≡ conn
+    → given ≡ conn → conns_full old.machine.start old.machine.history ≡ None
     → new.machine ≡ with_entry old.machine (Opened given listener)
     → new.peers ≡ old.peers ++ Open (nothing_heard conn) ∷ [] → output ≡ []
-    → Does (λ verdicts. on_open (standing old) conn name) old output new
-open-does old new conn given listener name output found next same machine peers printed = record {
+    → Does (λ verdicts. on_open (standing old) conn name) old output None new
+open-does old new conn given listener name output found next same room machine peers printed = record {
   move = opening (standing old) conn listener;
-  room = refl;
-  is = λ later. opens (standing old) conn listener (listener_from 0 name old.machine.start.config.listeners) found
-      next;
+  full = refl;
+  is = λ later. opens (standing old) conn listener (listener_from 0 name old.machine.start.config.listeners) None found
+      next room;
   history = ap (λ (m : Shown). m.history) machine ∙ ap (λ (n : ℕ). old.machine.history ++ Opened n listener ∷ []) same;
   peers = peers;
   start = ap (λ (m : Shown). m.start) machine;
   prints = printed;
+}
+
+-- an opening that finds the history full changes nothing
+pub open-full : (old new : Running) (conn listener count : ℕ) (name output : List ℕ)
+    → listener_from 0 name old.machine.start.config.listeners ≡ Some listener → conn ≡ length old.peers + 1
+    → conns_full old.machine.start old.machine.history ≡ Some count → new ≡ old → output ≡ full_line conn
+    → Does (λ verdicts. on_open (standing old) conn name) old output (Some count) new
+open-full old new conn listener count name output found next full same printed = record {
+  move = unopened (standing old) conn count;
+  full = refl;
+  is = λ later. opens (standing old) conn listener (listener_from 0 name old.machine.start.config.listeners)
+      (Some count) found next full;
+  history = ap (λ (r : Running). r.machine.history) same ∙ sym (append-nil old.machine.history);
+  peers = ap (λ (r : Running). r.peers) same;
+  start = ap (λ (r : Running). r.machine.start) same;
+  prints = printed ∙ sym (append-nil (full_line conn));
 }
 
 -- ---- acts
@@ -71,10 +101,10 @@ open-does old new conn given listener name output found next same machine peers 
 -- an act that makes no entry
 pub prints-act : (what : Verdicts → Doing) (before now : List Entry) (lines : List Printed)
     (old_lines new_lines : List ℕ) → ((verdicts : Verdicts) → what verdicts ≡ prints_only lines) → now ≡ before
-    → new_lines ≡ old_lines ++ flat_map line_bytes lines → Acts what before now old_lines new_lines
+    → new_lines ≡ old_lines ++ flat_map line_bytes lines → Acts what before now old_lines new_lines None
 prints-act what before now lines old_lines new_lines is same printed = record {
   doing = prints_only lines;
-  room = refl;
+  full = refl;
   is = λ later. is (verdict_in (now ++ later));
   history = same ∙ sym (append-nil before);
   prints = printed;
@@ -85,6 +115,7 @@ undecoded-acts : (start : Start) (before now : List Entry) (conn : ℕ) (asked :
     (old_lines new_lines : List ℕ) → now ≡ before
     → new_lines ≡ old_lines ++ line_bytes (Out conn (undecoded_bytes asked e))
     → Acts (λ verdicts. on_request start verdicts before conn asked stub_size (Err e)) before now old_lines new_lines
+    None
 undecoded-acts start before now conn asked stub_size e old_lines new_lines same printed =
     prints-act (λ verdicts. on_request start verdicts before conn asked stub_size (Err e)) before now
     (Out conn (undecoded_bytes asked e) ∷ []) old_lines new_lines
@@ -93,7 +124,7 @@ undecoded-acts start before now conn asked stub_size e old_lines new_lines same 
 -- bytes were answered without a call
 pub answered-acts : (start : Start) (before : List Entry) (conn : ℕ) (bytes old_lines new_lines : List ℕ)
     → new_lines ≡ old_lines ++ line_bytes (Out conn bytes)
-    → Acts (λ verdicts. on_act start verdicts before conn (act.Answered bytes)) before before old_lines new_lines
+    → Acts (λ verdicts. on_act start verdicts before conn (act.Answered bytes)) before before old_lines new_lines None
 answered-acts start before conn bytes old_lines new_lines printed =
     prints-act (λ verdicts. on_act start verdicts before conn (act.Answered bytes)) before before (Out conn bytes ∷ [])
     old_lines new_lines (λ verdicts. refl) refl
@@ -101,9 +132,9 @@ answered-acts start before conn bytes old_lines new_lines printed =
 
 -- no act was done yet
 pub none-done : (start : Start) (conn : ℕ) (before : List Entry) (lines : List ℕ) → lines ≡ []
-    → Acts (λ verdicts. on_acts start verdicts before conn []) before before [] lines
+    → Acts (λ verdicts. on_acts start verdicts before conn []) before before [] lines None
 none-done start conn before lines none =
-    record { doing = prints_only []; room = refl; is = λ later. refl; history = sym (append-nil before); prints = none }
+    record { doing = prints_only []; full = refl; is = λ later. refl; history = sym (append-nil before); prints = none }
 
 -- memory was wanted before any entry
 pub begins-none : (what : Verdicts → Doing) (before now : List Entry) → now ≡ before → Began what before now
@@ -122,14 +153,16 @@ slice_get-here (a ∷ history) later e = slice_get-here history later e
 
 -- what a call does that was entered
 call-is : (start : Start) (before now later : List Entry) (conn : ℕ) (asked : Asked) (stub_size : ℕ) (call : Call)
-    (verdict : Verdict) → now ≡ before ++ Called conn call verdict stub_size ∷ []
+    (verdict : Verdict) → call_full start before stub_size ≡ None → now ≡ before ++ Called conn call verdict
+    stub_size ∷ []
     → on_request start (verdict_in (now ++ later)) before conn asked stub_size (Ok call)
     ≡ on_call start before conn asked stub_size call verdict
-call-is start before now later conn asked stub_size call verdict is =
+call-is start before now later conn asked stub_size call verdict taken is =
+    ap (λ (o : Option ℕ). on_decoded start (verdict_in (now ++ later)) before conn asked stub_size call o) taken ∙ (
     let at : verdict_in (now ++ later) (length before) ≡ verdict =
     ap (λ (h : List Entry). verdict_in (h ++ later) (length before)) is
     ∙ ap (λ (o : Option Entry). verdict_of o) (slice_get-here before later (Called conn call verdict stub_size)) in
-    ap (λ (v : Verdict). on_call start before conn asked stub_size call v) at
+    ap (λ (v : Verdict). on_call start before conn asked stub_size call v) at)
 
 -- the machine as a gate finds just its history
 abbrev pub Only : List Entry → List Entry → Type 0
@@ -142,6 +175,12 @@ enters-here : (start : Start) (before now : List Entry) (conn : ℕ) (call : Cal
 enters-here start before now conn call stub_size enters =
     enters.entered ∙ ap (λ (h : List Entry). h ++ Called conn call enters.verdict stub_size ∷ []) enters.finds_it
 
+-- the history takes it
+taken-here : (start : Start) (before now : List Entry) (conn : ℕ) (call : Call) (stub_size : ℕ)
+    → Enters start conn (Only before) now call stub_size → call_full start before stub_size ≡ None
+taken-here start before now conn call stub_size enters =
+    subst (λ (h : List Entry). call_full start h stub_size ≡ None) enters.finds_it enters.taken
+
 call-began : (start : Start) (before now : List Entry) (conn : ℕ) (asked : Asked) (stub_size : ℕ) (call : Call)
     → Enters start conn (Only before) now call stub_size
     → Began (λ verdicts. on_request start verdicts before conn asked stub_size (Ok call)) before now
@@ -151,7 +190,8 @@ call-began start before now conn asked stub_size call enters =
       history = history;
       others = λ later. [];
       begins = λ later. ap (λ (d : Doing). d.entries)
-          (call-is start before now later conn asked stub_size call enters.verdict history);
+          (call-is start before now later conn asked stub_size call enters.verdict
+          (taken-here start before now conn call stub_size enters) history);
     }
 
 -- a request was begun on the machine
@@ -162,30 +202,32 @@ request-began start before now conn asked stub_size (Err e) same =
     begins-none (λ verdicts. on_request start verdicts before conn asked stub_size (Err e)) before now same
 request-began start before now conn asked stub_size (Ok call) (inl same) =
     begins-none (λ verdicts. on_request start verdicts before conn asked stub_size (Ok call)) before now same
-request-began start before now conn asked stub_size (Ok call) (inr (inl same)) =
-    begins-none (λ verdicts. on_request start verdicts before conn asked stub_size (Ok call)) before now same
-request-began start before now conn asked stub_size (Ok call) (inr (inr enters)) =
+request-began start before now conn asked stub_size (Ok call) (inr enters) =
     call-began start before now conn asked stub_size call enters
 
 -- one that was answered has begun
 pub answered-began : (start : Start) (before now : List Entry) (conn : ℕ) (asked : Asked) (stub_size : ℕ)
-    (r : Result Call WireError) (bytes : List ℕ)
-    → AnswersRequest start conn (Only before) before now asked stub_size r bytes
+    (r : Result Call WireError) (a : Answer)
+    → AnswersRequest start conn (Only before) before now asked stub_size r a
     → BeginsRequest start conn (Only before) before now stub_size r
-answered-began start before now conn asked stub_size (Err e) bytes answers = answers.0
-answered-began start before now conn asked stub_size (Ok call) bytes answers = inr (inr answers.enters)
+answered-began start before now conn asked stub_size (Err e) (answer.Bytes bytes) answers = answers.0
+answered-began start before now conn asked stub_size (Err e) (answer.Full count) answers = absurd answers
+answered-began start before now conn asked stub_size (Ok call) (answer.Bytes bytes) answers = inr answers.enters
+answered-began start before now conn asked stub_size (Ok call) (answer.Full count) answers = inl answers.finds_it
 
 -- a call was answered
 call-acts : (start : Start) (before now : List Entry) (conn : ℕ) (asked : Asked) (stub_size : ℕ) (call : Call)
     (bytes old_lines new_lines : List ℕ) → AnswersCall start conn (Only before) now asked stub_size call bytes
     → new_lines ≡ old_lines ++ line_bytes (Out conn bytes)
     → Acts (λ verdicts. on_request start verdicts before conn asked stub_size (Ok call)) before now old_lines new_lines
+    None
 call-acts start before now conn asked stub_size call bytes old_lines new_lines answers printed =
     let enters = answers.enters in
     let history = enters-here start before now conn call stub_size enters in record {
       doing = on_call start before conn asked stub_size call enters.verdict;
-      room = refl;
-      is = λ later. call-is start before now later conn asked stub_size call enters.verdict history;
+      full = refl;
+      is = λ later. call-is start before now later conn asked stub_size call enters.verdict
+          (taken-here start before now conn call stub_size enters) history;
       history = history;
       prints =
           printed
@@ -197,15 +239,36 @@ call-acts start before now conn asked stub_size call bytes old_lines new_lines a
 
 -- a request was answered on the machine
 pub request-acts : (start : Start) (before now : List Entry) (conn : ℕ) (asked : Asked) (stub_size : ℕ)
-    (r : Result Call WireError) (bytes old_lines new_lines : List ℕ)
-    → AnswersRequest start conn (Only before) before now asked stub_size r bytes
-    → new_lines ≡ old_lines ++ line_bytes (Out conn bytes)
-    → Acts (λ verdicts. on_request start verdicts before conn asked stub_size r) before now old_lines new_lines
+    (r : Result Call WireError) (bytes : Vec ℕ) (old_lines new_lines : List ℕ)
+    → AnswersRequest start conn (Only before) before now asked stub_size r (answer.Bytes bytes)
+    → new_lines ≡ old_lines ++ line_bytes (Out conn bytes.items)
+    → Acts (λ verdicts. on_request start verdicts before conn asked stub_size r) before now old_lines new_lines None
 request-acts start before now conn asked stub_size (Err e) bytes old_lines new_lines answers printed =
     undecoded-acts start before now conn asked stub_size e old_lines new_lines answers.0
     (printed ∙ ap (λ (bs : List ℕ). old_lines ++ line_bytes (Out conn bs)) answers.1)
 request-acts start before now conn asked stub_size (Ok call) bytes old_lines new_lines answers printed =
-    call-acts start before now conn asked stub_size call bytes old_lines new_lines answers printed
+    call-acts start before now conn asked stub_size call bytes.items old_lines new_lines answers printed
+
+-- a call found the history full, and its connection is gone
+pub request-fills : (old now : Shown) (mid : List Entry) (conn : ℕ) (asked : Asked) (stub_size : ℕ)
+    (r : Result Call WireError) (count : ℕ) (old_lines new_lines : List ℕ)
+    → AnswersRequest old.start conn (Only old.history) old.history mid asked stub_size r (answer.Full count)
+    → now.history ≡ mid ++ Gone conn ∷ []
+    → new_lines ≡ old_lines ++ (line_bytes (Out conn (busy_bytes asked)) ++ line_bytes (FoundFull conn))
+    → Acts (λ verdicts. on_request old.start verdicts old.history conn asked stub_size r) old.history now.history
+    old_lines new_lines (Some count)
+request-fills old now mid conn asked stub_size (Err e) count old_lines new_lines answers gone printed = absurd answers
+request-fills old now mid conn asked stub_size (Ok call) count old_lines new_lines answers gone printed =
+    let full : call_full old.start old.history stub_size ≡ Some count =
+    subst (λ (h : List Entry). call_full old.start h stub_size ≡ Some count) answers.finds_it answers.full in record {
+      doing = on_full conn asked count;
+      full = refl;
+      is = λ later. ap (λ (o : Option ℕ). on_decoded old.start (verdict_in (now.history ++ later)) old.history conn
+          asked stub_size call o) full;
+      history = gone ∙ ap (λ (h : List Entry). h ++ Gone conn ∷ []) answers.finds_it;
+      prints = printed ∙ ap (λ (bs : List ℕ). old_lines ++ (line_bytes (Out conn (busy_bytes asked)) ++ bs))
+          (sym (append-nil (line_bytes (FoundFull conn))));
+    }
 
 -- the same connections are live after it
 same-live : (start : Start) (before now : List Entry) → now ≡ before
@@ -219,8 +282,7 @@ pub request-live : (start : Start) (before now : List Entry) (conn stub_size : �
     → SameLive (state_at start before) (state_at start now)
 request-live start before now conn stub_size (Err e) same = same-live start before now same
 request-live start before now conn stub_size (Ok call) (inl same) = same-live start before now same
-request-live start before now conn stub_size (Ok call) (inr (inl same)) = same-live start before now same
-request-live start before now conn stub_size (Ok call) (inr (inr enters)) =
+request-live start before now conn stub_size (Ok call) (inr enters) =
     subst (λ (h : List Entry). SameLive (state_at start h) (state_at start now)) enters.finds_it enters.live
 
 pub ties-live : (peers : List Peer) (old new : State) → Ties peers old → SameLive old new → Ties peers new
@@ -235,10 +297,10 @@ pub close-acts : (old now : Shown) (conn place cause : ℕ) (bytes old_lines new
     → now ≡ with_entry old (Gone conn)
     → new_lines ≡ old_lines ++ (line_bytes (Out conn bytes) ++ line_bytes (IsClosed conn place cause))
     → Acts (λ verdicts. on_act old.start verdicts old.history conn (act.Closed place cause bytes)) old.history
-    now.history old_lines new_lines
+    now.history old_lines new_lines None
 close-acts old now conn place cause bytes old_lines new_lines is printed = record {
   doing = record { entries = Gone conn ∷ []; prints = Out conn bytes ∷ IsClosed conn place cause ∷ []; full = None };
-  room = refl;
+  full = refl;
   is = λ later. refl;
   history = ap (λ (m : Shown). m.history) is;
   prints = printed ∙ ap (λ (bs : List ℕ). old_lines ++ (line_bytes (Out conn bytes) ++ bs))
@@ -284,17 +346,17 @@ next-is start conn first a before mid now d e is stands more longer later last =
     ∙ ap (λ (x : Doing). both d x) (one-act start v mid conn a ∙ last)
 
 pub acts-go-on : (start : Start) (conn : ℕ) (first : List Act) (a : Act) (before mid now : List Entry)
-    (old_lines mid_lines new_lines : List ℕ)
-    → Acts (λ verdicts. on_acts start verdicts before conn first) before mid old_lines mid_lines
-    → Acts (λ verdicts. on_act start verdicts mid conn a) mid now mid_lines new_lines
-    → Acts (λ verdicts. on_acts start verdicts before conn (first ++ a ∷ [])) before now old_lines new_lines
-acts-go-on start conn first a before mid now old_lines mid_lines new_lines done next = record {
+    (old_lines mid_lines new_lines : List ℕ) (found : Option ℕ)
+    → Acts (λ verdicts. on_acts start verdicts before conn first) before mid old_lines mid_lines None
+    → Acts (λ verdicts. on_act start verdicts mid conn a) mid now mid_lines new_lines found
+    → Acts (λ verdicts. on_acts start verdicts before conn (first ++ a ∷ [])) before now old_lines new_lines found
+acts-go-on start conn first a before mid now old_lines mid_lines new_lines found done next = record {
   doing = both_by None done.doing next.doing;
-  room = next.room;
+  full = next.full;
   is = λ later.
       next-is start conn first a before mid now done.doing next.doing done.is done.history next.doing.entries
       next.history later (next.is later)
-      ∙ both-open done.doing next.doing done.room;
+      ∙ both-open done.doing next.doing done.full;
   history = next.history ∙ ap (λ (h : List Entry). h ++ next.doing.entries) done.history
       ∙ append_assoc before done.doing.entries next.doing.entries;
   prints =
@@ -304,10 +366,28 @@ acts-go-on start conn first a before mid now old_lines mid_lines new_lines done 
       ∙ ap (λ (bs : List ℕ). old_lines ++ bs) (sym (flat_map-append line_bytes done.doing.prints next.doing.prints));
 }
 
+-- the acts behind one that found the history full aren't done
+pub acts-fill : (start : Start) (conn : ℕ) (first rest : List Act) (before now : List Entry)
+    (old_lines new_lines : List ℕ) (count : ℕ)
+    → Acts (λ verdicts. on_acts start verdicts before conn first) before now old_lines new_lines (Some count)
+    → Acts (λ verdicts. on_acts start verdicts before conn (first ++ rest)) before now old_lines new_lines (Some count)
+acts-fill start conn first rest before now old_lines new_lines count done = record {
+  doing = done.doing;
+  full = done.full;
+  is = λ later.
+      let v = verdict_in (now ++ later) in
+      let others = on_acts start v (before ++ (on_acts start v before conn first).entries) conn rest in
+      acts-both start v conn first before rest
+      ∙ ap (λ (d : Doing). both d others) (done.is later)
+      ∙ both-full done.doing others count done.full;
+  history = done.history;
+  prints = done.prints;
+}
+
 -- memory was wanted at an act behind others, and more acts come behind it
 pub acts-stop : (start : Start) (conn : ℕ) (first : List Act) (a : Act) (rest : List Act) (before mid now : List Entry)
     (old_lines mid_lines : List ℕ) → Acts (λ verdicts. on_acts start verdicts before conn first) before mid old_lines
-    mid_lines
+    mid_lines None
     → Began (λ verdicts. on_act start verdicts mid conn a) mid now
     → Began (λ verdicts. on_acts start verdicts before conn (first ++ a ∷ rest)) before now
 acts-stop start conn first a rest before mid now old_lines mid_lines done began =
@@ -325,7 +405,7 @@ acts-stop start conn first a rest before mid now old_lines mid_lines done began 
     ∙ ap (λ (d : Doing). d.entries ++ behind later)
     (next-is start conn first a before mid now done.doing (last later) done.is done.history began.front
     began.history later refl)
-    ∙ ap (λ (d : Doing). d.entries ++ behind later) (both-open done.doing (last later) done.room) in
+    ∙ ap (λ (d : Doing). d.entries ++ behind later) (both-open done.doing (last later) done.full) in
     record {
       front = done.doing.entries ++ began.front;
       history = began.history ∙ ap (λ (h : List Entry). h ++ began.front) done.history
@@ -343,12 +423,18 @@ acts-stop start conn first a rest before mid now old_lines mid_lines done began 
 -- ---- lines
 
 -- the move of bytes that were heard, once their acts were done
-pub data-does : (old mid new : Running) (conn : ℕ) (bytes output : List ℕ) (as' : List Act)
+-- the connections behind bytes that were heard
+behind-heard : (found : Option ℕ) (conn : ℕ) (leaves : Hearing) (peers : List Peer)
+    → peers_behind found conn (with_peer conn (Open leaves) peers) ≡ with_peer conn (peer_behind found leaves) peers
+behind-heard None conn leaves peers = refl
+behind-heard (Some count) conn leaves peers = with-other conn peers (Open leaves) Ended
+
+pub data-does : (old mid new : Running) (conn : ℕ) (bytes output : List ℕ) (as' : List Act) (found : Option ℕ)
     → Hears conn bytes old as' mid → Acts (λ verdicts. on_acts mid.machine.start verdicts mid.machine.history conn as')
-    mid.machine.history new.machine.history [] output
-    → new.peers ≡ mid.peers → new.machine.start ≡ mid.machine.start
-    → Does (λ verdicts. on_data verdicts (standing old) conn bytes (peer_of conn old.peers)) old output new
-data-does old mid new conn bytes output as' hears done peers start =
+    mid.machine.history new.machine.history [] output found
+    → new.peers ≡ peers_behind found conn mid.peers → new.machine.start ≡ mid.machine.start
+    → Does (λ verdicts. on_data verdicts (standing old) conn bytes (peer_of conn old.peers)) old output found new
+data-does old mid new conn bytes output as' found hears done peers start =
     let heard = on hears.hearing bytes in
     let machine : mid.machine ≡ old.machine = ap (λ (r : Running). r.machine) hears.left in
     let same : mid.machine.history ≡ old.machine.history = ap (λ (m : Shown). m.history) machine in
@@ -363,7 +449,7 @@ data-does old mid new conn bytes output as' hears done peers start =
         effect = record { entries = d.entries; brings = (conn, bytes) ∷ []; prints = d.prints; full = d.full };
         peers = with_peer conn (peer_behind d.full heard.leaves) old.peers;
       };
-      room = done.room;
+      full = done.full;
       is = λ later.
           ap (λ (p : Option Peer). on_data (verdict_in (new.machine.history ++ later)) (standing old) conn bytes p)
           hears.stood
@@ -373,8 +459,9 @@ data-does old mid new conn bytes output as' hears done peers start =
           })) (is later);
       history = done.history ∙ ap (λ (h : List Entry). h ++ d.entries) same;
       peers =
-          peers ∙ ap (λ (r : Running). r.peers) hears.left
-          ∙ ap (λ (o : Option ℕ). with_peer conn (peer_behind o heard.leaves) old.peers) (sym done.room);
+          peers ∙ ap (λ (r : Running). peers_behind found conn r.peers) hears.left
+          ∙ behind-heard found conn heard.leaves old.peers
+          ∙ ap (λ (o : Option ℕ). with_peer conn (peer_behind o heard.leaves) old.peers) (sym done.full);
       start = start ∙ ap (λ (r : Running). r.machine.start) hears.left;
       prints = done.prints;
     }
@@ -391,8 +478,6 @@ data-stops old mid new conn bytes as' hears began =
       front = began.front;
       history = began.history ∙ ap (λ (h : List Entry). h ++ began.front) same;
       move = λ later. on_heard (verdict_in (new.machine.history ++ later)) (standing old) conn bytes heard;
-      room = λ later. acts-room old.machine.start (verdict_in (new.machine.history ++ later)) heard.acts
-          old.machine.history conn;
       is = λ later. ap (λ (p : Option Peer). on_data (verdict_in (new.machine.history ++ later)) (standing old) conn
           bytes p) hears.stood;
       others = began.others;
@@ -410,10 +495,10 @@ pub end-does : (old new : Running) (conn : ℕ) (h : Hearing) (output : List ℕ
     → new.machine.start ≡ old.machine.start
     → new.peers ≡ with_peer conn Ended old.peers
     → output ≡ flat_map line_bytes (map IsGone (number_of conn (Some (Open h))))
-    → Does (λ verdicts. on_end (standing old) conn (peer_of conn old.peers)) old output new
+    → Does (λ verdicts. on_end (standing old) conn (peer_of conn old.peers)) old output None new
 end-does old new conn h output stands history start peers printed = record {
   move = record { effect = gone (number_of conn (Some (Open h))); peers = with_peer conn Ended old.peers };
-  room = refl;
+  full = refl;
   is = λ later. ap (λ (o : Option Peer). on_end (standing old) conn o) stands;
   history = history;
   peers = peers;
@@ -423,10 +508,10 @@ end-does old new conn h output stands history start peers printed = record {
 
 -- the move of a line that says nothing
 pub nothing-does : (run : Running) (e : Event) (output : List ℕ) → e ≡ event.Nothing → output ≡ []
-    → Does (λ verdicts. on_event verdicts (standing run) (Some e)) run output run
+    → Does (λ verdicts. on_event verdicts (standing run) (Some e)) run output None run
 nothing-does run e output is printed = record {
   move = quiet run.peers;
-  room = refl;
+  full = refl;
   is = λ later. ap (λ (x : Event). on_event (verdict_in (run.machine.history ++ later)) (standing run) (Some x)) is;
   history = sym (append-nil run.machine.history);
   peers = refl;
@@ -435,12 +520,13 @@ nothing-does run e output is printed = record {
 }
 
 -- the clauses of an event, by what the event is
-pub event-does : {O E : Type 0} (items : O → List ℕ) (old new : Running) (e known : Event) (r : Result O E) → e ≡ known
-    → IfOk r (λ (o : O). Does (λ verdicts. on_event verdicts (standing old) (Some known)) old (items o) new)
-    → IfOk r (λ (o : O). Does (λ verdicts. on_event verdicts (standing old) (Some e)) old (items o) new)
-event-does items old new e known r is does =
-    subst (λ (x : Event). IfOk r (λ o. Does (λ verdicts. on_event verdicts (standing old) (Some x)) old (items o) new))
-    (sym is) does
+pub event-does : {O E : Type 0} (items : O → List ℕ) (found : O → Option ℕ) (old new : Running) (e known : Event)
+    (r : Result O E) → e ≡ known
+    → IfOk r (λ (o : O). Does (λ verdicts. on_event verdicts (standing old) (Some known)) old (items o) (found o) new)
+    → IfOk r (λ (o : O). Does (λ verdicts. on_event verdicts (standing old) (Some e)) old (items o) (found o) new)
+event-does items found old new e known r is does =
+    subst (λ (x : Event). IfOk r
+    (λ o. Does (λ verdicts. on_event verdicts (standing old) (Some x)) old (items o) (found o) new)) (sym is) does
 
 pub event-refuses : (old new : Running) (e known : Event) (P : Type 0) → e ≡ known
     → (P → Refuses (λ verdicts. on_event verdicts (standing old) (Some known)) old new)

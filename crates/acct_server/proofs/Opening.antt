@@ -16,7 +16,7 @@ pub silent-opened : OthersChangeNothing → (old new : Shown) (answer : Opened) 
 silent-opened others old new (opens.Conn conn) fresh same =
     let passes = others old.start conn [] old.history fresh in
     record { calls = same.calls conn ∙ passes.calls; replies = same.replies conn ∙ passes.replies }
-silent-opened others old new opens.NoMemory fresh same = tt
+silent-opened others old new (opens.Full count) fresh same = tt
 
 -- what a turn of the machine does that finds its history
 found-here : (old new : Shown) (listener : ℕ) (answer : Opened)

@@ -2,6 +2,7 @@
 use Rattle.std.proofs.Common.{◌≡◌, ◌≢◌, inl, inr, ℕ, zero, suc, ◌+◌, ◌<◌, ◌^◌, Bool, true, false, List, [], ◌∷◌, ◌++◌}
 use Rattle.std.proofs.Common.{length, take, Option, Some, None, slice_get, slice_set, slice_index_or, refl, sym, ap}
 use Rattle.std.proofs.Common.{◌∙◌, subst, arith}
+use Rattle.std.specs.Prelude.{IsSome}
 use Rattle.std.proofs.lemmas.Bool.{cases_eq}
 use Rattle.acct_machine.specs.State.{State}
 use Rattle.acct_machine.specs.Machine.{OneLessLive}
@@ -40,6 +41,28 @@ peer-there (suc i) (suc j) peers p other = set_there i j peers p (λ same. other
 length-with_peer : (conn : ℕ) (peer : Peer) (peers : List Peer) → length (with_peer conn peer peers) ≡ length peers
 length-with_peer zero peer peers = refl
 length-with_peer (suc i) peer peers = length-set_peer i peers peer
+
+-- a connection that was put twice
+set-other : (i : ℕ) (peers : List Peer) (p q : Peer) → slice_set (slice_set peers i p) i q ≡ slice_set peers i q
+set-other i [] p q = refl
+set-other zero (r ∷ peers) p q = refl
+set-other (suc i) (r ∷ peers) p q = ap (λ (ps : List Peer). r ∷ ps) (set-other i peers p q)
+
+pub with-other : (conn : ℕ) (peers : List Peer) (p q : Peer) → with_peer conn q (with_peer conn p peers)
+    ≡ with_peer conn q peers
+with-other zero peers p q = refl
+with-other (suc i) peers p q = set-other i peers p q
+
+pub some-there : (o : Option Peer) → IsSome o → (peer : Peer) × (o ≡ Some peer)
+some-there None is = cc
+some-there (Some peer) is = (peer, refl)
+
+pub served-some : (o : Option Peer) → is_served o ≡ true → IsSome o
+served-some None served = absurd cc
+served-some (Some peer) served = refl
+
+pub some-is : (o : Option Peer) (peer : Peer) → o ≡ Some peer → IsSome o
+some-is o peer is = subst (λ (x : Option Peer). IsSome x) (sym is) refl
 
 pub served-there : (o : Option Peer) → is_served o ≡ true → (peer : Peer) × (o ≡ Some peer)
 served-there None served = absurd cc

@@ -1,17 +1,9 @@
--- No history is full: what follows for acts, which are done one after the other.
-use Rattle.std.proofs.Common.{◌≡◌, ℕ, List, [], ◌∷◌, ◌++◌, length, Option, Some, None, Result, Ok, Err, refl, sym, ◌∙◌}
+-- One thing is done and then another, unless the first found the history full.
+use Rattle.std.proofs.Common.{◌≡◌, ℕ, List, [], ◌++◌, Option, Some, None, refl, sym, ◌∙◌}
 use Rattle.std.proofs.Common.{ap, append_assoc}
 use Rattle.std.proofs.lemmas.List.{append-nil}
-use Rattle.acct_calls.specs.declared.calls.Call.{Call}
-use Rattle.acct_machine.specs.State.{Start}
 use Rattle.acct_machine.specs.declared.entry.Entry.{Entry}
-use Rattle.rpc_session.specs.declared.sessions.Act.{Act}
-use Rattle.rpc_session.specs.declared.sessions.Act.TheVariants as act
-use Rattle.acct_stubs.specs.declared.errors.WireError.{WireError}
-use Rattle.acct_server.specs.declared.requests.Asked.{Asked}
-use Rattle.acct_server.specs.Requests.{call_on}
-use Rattle.acct_server.specs.Transcript.{asked_by}
-use Rattle.acct_server.specs.Replayed.{Doing, Verdicts, on_act, on_acts, on_request, prints_only, both, both_by}
+use Rattle.acct_server.specs.Replayed.{Doing, prints_only, both, both_by}
 
 -- ---- one thing, and then another
 
@@ -59,26 +51,6 @@ pub both-entries : (f : Option ℕ) (first second : Doing)
 both-entries None first second = refl
 both-entries (Some count) first second = sym (append-nil first.entries)
 
--- ---- acts
-
-request-room : (start : Start) (verdicts : Verdicts) (history : List Entry) (conn : ℕ) (asked : Asked) (size : ℕ)
-    (r : Result Call WireError) → (on_request start verdicts history conn asked size r).full ≡ None
-request-room start verdicts history conn asked size (Err e) = refl
-request-room start verdicts history conn asked size (Ok call) = refl
-
-pub act-room : (start : Start) (verdicts : Verdicts) (history : List Entry) (conn : ℕ) (a : Act)
-    → (on_act start verdicts history conn a).full ≡ None
-act-room start verdicts history conn (act.Answered bytes) = refl
-act-room start verdicts history conn (act.Call id context face opnum size stub) =
-    let asked = asked_by id context face opnum size in
-    request-room start verdicts history conn asked (length stub) (call_on face opnum stub)
-act-room start verdicts history conn (act.Closed place cause bytes) = refl
-
-pub acts-room : (start : Start) (verdicts : Verdicts) (as' : List Act) (history : List Entry) (conn : ℕ)
-    → (on_acts start verdicts history conn as').full ≡ None
-acts-room start verdicts [] history conn = refl
-acts-room start verdicts (a ∷ as') history conn =
-    let first = on_act start verdicts history conn a in
-    let others = on_acts start verdicts (history ++ first.entries) conn as' in
-    ap (λ (d : Doing). d.full) (both-open first others (act-room start verdicts history conn a))
-    ∙ acts-room start verdicts as' (history ++ first.entries) conn
+-- where the first found it full, the other isn't done
+pub both-full : (first second : Doing) (count : ℕ) → first.full ≡ Some count → both first second ≡ first
+both-full first second count full = ap (λ (o : Option ℕ). both_by o first second) full

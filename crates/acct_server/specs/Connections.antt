@@ -1,11 +1,13 @@
 -- What came and what was sent on one connection of a replay, and that the one is the transcript of the other.
-use Rattle.std.specs.Prelude.{◌≡◌, ℕ, ◌==◌, List, [], if◌then◌else◌}
-use Rattle.std.specs.List.{flat_map}
+use Rattle.std.specs.Prelude.{◌≡◌, ℕ, ◌==◌, Bool, false, List, [], ◌++◌, if◌then◌else◌}
+use Rattle.std.specs.List.{flat_map, list_any}
+use Rattle.acct_calls.specs.declared.calls.Call.{Call}
 use Rattle.acct_machine.specs.State.{Start}
 use Rattle.acct_machine.specs.declared.entry.Entry.{Entry}
 use Rattle.acct_machine.specs.Legal.{replies, calls_of}
 use Rattle.rpc_session.specs.Acts.{acts}
-use Rattle.acct_server.specs.Transcript.{transcript, decoded_calls}
+use Rattle.acct_server.specs.declared.requests.Asked.{Asked}
+use Rattle.acct_server.specs.Transcript.{written, busy_bytes, no_bytes, decoded_calls}
 use Rattle.acct_server.specs.Replayed.{Effect, Printed, Out, IsClosed, IsGone, FoundFull, replayed, entries_of}
 
 abbrev pub on_connection : ℕ → ℕ × List ℕ → List ℕ
@@ -31,20 +33,42 @@ received k effects = flat_map (brought k) effects
 abbrev pub sent : ℕ → List Effect → List ℕ
 sent k effects = flat_map (sent_in k) effects
 
--- What was written on a connection on which these bytes came: it is the transcript of their acts with the replies of
--- the
--- connection's calls in the history, and these calls are the decoded calls of the acts, in order, each with the length
--- of its stub.
-pub record IsTranscribed (start : Start) (history : List Entry) (k : ℕ) (came written : List ℕ) : Type 0 where
-  pub is : written ≡ transcript (acts k came) (replies start k history)
-  pub calls : calls_of k history ≡ decoded_calls (acts k came)
+-- a line says that the connection found the history full
+abbrev pub is_full_line : ℕ → Printed → Bool
+is_full_line k (Out conn bytes) = false
+is_full_line k (IsClosed conn place cause) = false
+is_full_line k (IsGone conn) = false
+is_full_line k (FoundFull conn) = conn == k
 
--- However the lines of two replays cut what comes on a connection: where the same bytes came in all, its calls are the
--- same, and where these had the same replies, so is all that was sent.
+abbrev pub full_in : ℕ → Effect → Bool
+full_in k e = list_any (is_full_line k) e.prints
+
+-- the connection found the history full
+abbrev pub found_full : ℕ → List Effect → Bool
+found_full k effects = list_any (full_in k) effects
+
+-- what is written last: where the history was found full, that the server is too busy
+abbrev pub last_bytes : Bool → Asked → List ℕ
+last_bytes full asked = if full then busy_bytes asked else no_bytes asked
+
+-- What was written on a connection on which these bytes came: it is the transcript of their acts with the replies of
+-- the connection's calls in the history; where it found the history full, with the answer that the server is too busy
+-- behind it. The decoded calls of the acts, in order, each with the length of its stub, are the connection's calls, and
+-- where it found the history full those that stand outside it.
+pub record IsTranscribed (start : Start) (history : List Entry) (k : ℕ) (full : Bool) (came sent : List ℕ) : Type 0
+  where
+    pub is : sent ≡ written (last_bytes full) (acts k came) (replies start k history)
+    pub outside : List (Call × ℕ)
+    pub calls : decoded_calls (acts k came) ≡ calls_of k history ++ outside
+    pub all : full ≡ false → outside ≡ []
+
+-- However the lines of two replays cut what comes on a connection that didn't find the history full: where the same
+-- bytes came in all, its calls are the same, and where these had the same replies, so is all that was sent.
 abbrev pub CutsChangeNothing : Type 0
 CutsChangeNothing =
     (start : Start) (left right : List ℕ) (one other : List Entry) (k : ℕ)
     → let first = (replayed start left one).effects in
     let second = (replayed start right other).effects in
-    one ≡ entries_of first → other ≡ entries_of second → received k first ≡ received k second
+    one ≡ entries_of first → other ≡ entries_of second → found_full k first ≡ false → found_full k second ≡ false
+    → received k first ≡ received k second
     → (calls_of k one ≡ calls_of k other) × (replies start k one ≡ replies start k other → sent k first ≡ sent k second)

@@ -7,7 +7,7 @@ use Rattle.acct_config.specs.Rules.{first_broken}
 use Rattle.acct_machine.specs.declared.entry.Entry.{Entry}
 use Rattle.acct_server.specs.declared.status.Status.{Status}
 use Rattle.acct_server.specs.declared.status.Status.TheVariants.{Done, NoMemory, Config as ConfigBroken, ReadFault}
-use Rattle.acct_server.specs.declared.status.Status.TheVariants.{WriteFault, EventLine, InputTooLong}
+use Rattle.acct_server.specs.declared.status.Status.TheVariants.{WriteFault, EventLine, HistoryFull, InputTooLong}
 use Rattle.acct_streams.specs.declared.whole.WholeError.{WholeError}
 use Rattle.acct_streams.specs.declared.whole.WholeError.TheVariants.{Fault, TooLong, Memory}
 use Rattle.acct_streams.specs.Causes.{Rose}
@@ -18,10 +18,11 @@ use Rattle.acct_server.specs.Replayed.{Effect, replayed, ending, entries_of, out
 use Rattle.acct_server.specs.Running.{Running, standing}
 use Rattle.std.specs.List.{flat_map}
 
--- the lines were run to their end, or to a refused one
+-- the lines were run to their end, to a refused one, or to one that found the history full
 abbrev pub IsRunThrough : Status → Type 0
 IsRunThrough Done = Unit {0}
 IsRunThrough (EventLine n) = Unit {0}
+IsRunThrough (HistoryFull count) = Unit {0}
 IsRunThrough _ = ⊥
 
 -- a status of the run of the lines
@@ -30,6 +31,7 @@ IsOfRun Done = Unit {0}
 IsOfRun NoMemory = Unit {0}
 IsOfRun WriteFault = Unit {0}
 IsOfRun (EventLine n) = Unit {0}
+IsOfRun (HistoryFull count) = Unit {0}
 IsOfRun _ = ⊥
 
 -- The history, the bytes written and the status are those of the events, with the verdicts of the history.

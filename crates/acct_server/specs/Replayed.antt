@@ -1,5 +1,5 @@
 -- What a replay of event lines leaves: the entries of the history, the lines that it prints, and the status.
-use Rattle.std.specs.Prelude.{ℕ, zero, suc, ◌+◌, ◌==◌, Bool, false, ◌&&◌, List, [], ◌∷◌, ◌++◌, length, codes, map}
+use Rattle.std.specs.Prelude.{ℕ, zero, suc, ◌+◌, ◌==◌, Bool, false, List, [], ◌∷◌, ◌++◌, length, codes, map}
 use Rattle.std.specs.Prelude.{Option, Some, None, Result, Ok, Err, slice_get, slice_set, if◌then◌else◌}
 use Rattle.std.specs.Fmt.{decimal}
 use Rattle.std.specs.List.{flat_map}
@@ -13,14 +13,13 @@ use Rattle.acct_machine.specs.declared.entry.Verdict.TheVariants.{Ran}
 use Rattle.acct_machine.specs.declared.entry.Entry.{Entry}
 use Rattle.acct_machine.specs.declared.entry.Entry.TheVariants.{Opened, Called, Gone}
 use Rattle.acct_machine.specs.Step.{state_at, acted}
+use Rattle.acct_machine.specs.Room.{conns_full, call_full}
 use Rattle.rpc_session.specs.declared.sessions.Act.{Act}
 use Rattle.rpc_session.specs.declared.sessions.Act.TheVariants as act
 use Rattle.rpc_session.specs.declared.sessions.Session.TheVariants.{Unbound}
 use Rattle.rpc_session.specs.declared.hearing.Hearing.{Hearing}
 use Rattle.rpc_session.specs.declared.hearing.Hearing.TheVariants.{Going}
 use Rattle.rpc_session.specs.Hearings.{Heard, on, is_going}
-use Rattle.rpc_session.specs.Replies.{fault_bytes}
-use Rattle.acct_codes.specs.Faults.{fault_server_too_busy}
 use Rattle.acct_stubs.specs.declared.errors.WireError.{WireError}
 use Rattle.acct_server.specs.declared.events.Event.{Event}
 use Rattle.acct_server.specs.declared.events.Event.TheVariants as event
@@ -31,7 +30,7 @@ use Rattle.acct_server.specs.declared.status.Status.TheVariants.{Done, EventLine
 use Rattle.acct_server.specs.Events.{event_of, lines_of}
 use Rattle.acct_server.specs.Requests.{call_on}
 use Rattle.acct_server.specs.declared.requests.Asked.{Asked}
-use Rattle.acct_server.specs.Transcript.{answer_bytes, undecoded_bytes, asked_by}
+use Rattle.acct_server.specs.Transcript.{answer_bytes, undecoded_bytes, busy_bytes, asked_by}
 
 -- ---- lines that are printed
 
@@ -104,14 +103,6 @@ quiet peers = record { effect = record { entries = []; brings = []; prints = [];
 abbrev pub nothing_heard : ℕ → Hearing
 nothing_heard conn = Going conn 0 Unbound []
 
--- What a history has that takes no further connection, and no further call of so many bytes. No limit is kept so far,
--- so there is room in every history.
-abbrev pub full_of_conns : Start → List Entry → Option ℕ
-full_of_conns start history = None
-
-abbrev pub full_of_calls : Start → List Entry → ℕ → Option ℕ
-full_of_calls start history size = None
-
 -- the place of the listener of a name
 abbrev pub listener_from : ℕ → List ℕ → List Listener → Option ℕ
 listener_from n name [] = None
@@ -133,7 +124,7 @@ abbrev pub on_listener : Standing → ℕ → Option ℕ → Option Move
 on_listener s conn None = None
 on_listener s conn (Some listener) =
     if conn == length s.peers + 1
-    then Some (opened s conn listener (full_of_conns s.start s.history))
+    then Some (opened s conn listener (conns_full s.start s.history))
     else None
 
 abbrev pub on_open : Standing → ℕ → List ℕ → Option Move
@@ -173,7 +164,7 @@ on_call start history conn asked stub_size call verdict =
 abbrev pub on_full : ℕ → Asked → ℕ → Doing
 on_full conn asked count = record {
   entries = Gone conn ∷ [];
-  prints = Out conn (fault_bytes asked.id asked.context fault_server_too_busy) ∷ FoundFull conn ∷ [];
+  prints = Out conn (busy_bytes asked) ∷ FoundFull conn ∷ [];
   full = Some count;
 }
 
@@ -187,7 +178,7 @@ on_decoded start verdicts history conn asked stub_size call (Some count) = on_fu
 abbrev pub on_request : Start → Verdicts → List Entry → ℕ → Asked → ℕ → Result Call WireError → Doing
 on_request start verdicts history conn asked stub_size (Err e) = prints_only (Out conn (undecoded_bytes asked e) ∷ [])
 on_request start verdicts history conn asked stub_size (Ok call) =
-    on_decoded start verdicts history conn asked stub_size call (full_of_calls start history stub_size)
+    on_decoded start verdicts history conn asked stub_size call (call_full start history stub_size)
 
 -- after a refusal the connection is gone
 abbrev pub on_act : Start → Verdicts → List Entry → ℕ → Act → Doing

@@ -13,7 +13,7 @@ use Rattle.acct_streams.specs.Whole.{most_bytes, IsWhole}
 use Rattle.acct_server.specs.Begun.{begun}
 use Rattle.acct_server.specs.Configured.{BreaksNone, IsConfigured}
 use Rattle.acct_server.specs.Leaves.{Leaves, Breaks, Stops, IsRunThrough, IsOfRun, ConfigCause, EventsCause, IsAsked}
-use Rattle.acct_server.specs.Connections.{IsTranscribed, received, sent}
+use Rattle.acct_server.specs.Connections.{IsTranscribed, found_full, received, sent}
 use Rattle.acct_server.specs.Replayed.{replayed}
 use Rattle.acct_server.specs.Denied.{DeniesExactlyIn}
 
@@ -46,13 +46,13 @@ pub record HasNotRun {S T : Type 0} (told : Telling S T) (old new : Parts S T) (
 pub record RunsLines (start : Start) (events : List ℕ) (held now : Option (List ℕ)) (before after : ℕ) (status : Status)
     (history : List Entry) : Type 0 where
   pub possible : IsOfRun status
-  -- run to the end, or to a refused line: history, lines and status are those of the events, with the verdicts of the
-  -- history
+  -- run to the end, to a refused line or to a full history: history, lines and status are those of the events, with
+  -- the verdicts of the history
   pub through : IsRunThrough status → Leaves start held now events history status
   -- what was sent on each connection is the transcript of the acts of what came, with the replies of its calls
   pub transcribes : IsRunThrough status → (k : ℕ)
-      → IsTranscribed start history k (received k (replayed start events history).effects)
-      (sent k (replayed start events history).effects)
+      → let effects = (replayed start events history).effects in
+      IsTranscribed start history k (found_full k effects) (received k effects) (sent k effects)
   -- after a fault of the sink, whose count rose: the entries up to the event whose lines met it, and a front of its
   -- lines
   pub breaks : status ≡ WriteFault → Breaks start held now events history

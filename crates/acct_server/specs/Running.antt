@@ -39,15 +39,20 @@ HasHeard most conn (Some Ended) = Unit {0}
 abbrev pub AllHeard : ℕ → List Peer → Type 0
 AllHeard most peers = (conn : ℕ) → HasHeard most conn (peer_of conn peers)
 
--- Acts were done, by whatever entries the history goes on: none found it full, their entries stand, and their lines
--- were
--- added.
-pub record Acts (what : Verdicts → Doing) (before now : List Entry) (old_lines new_lines : List ℕ) : Type 0 where
+-- Acts were done, by whatever entries the history goes on: their entries stand, their lines were added, and where they
+-- found it full, this is what it has.
+pub record Acts (what : Verdicts → Doing) (before now : List Entry) (old_lines new_lines : List ℕ) (found : Option ℕ)
+    : Type 0 where
   pub doing : Doing
-  pub room : doing.full ≡ None
+  pub full : doing.full ≡ found
   pub is : (later : List Entry) → what (verdict_in (now ++ later)) ≡ doing
   pub history : now ≡ before ++ doing.entries
   pub prints : new_lines ≡ old_lines ++ flat_map line_bytes doing.prints
+
+-- the connections behind acts: the one that found the history full was ended
+abbrev pub peers_behind : Option ℕ → ℕ → List Peer → List Peer
+peers_behind None conn peers = peers
+peers_behind (Some count) conn peers = with_peer conn Ended peers
 
 -- after want of memory the first of their entries stand
 pub record Began (what : Verdicts → Doing) (before now : List Entry) : Type 0 where
@@ -68,10 +73,12 @@ abbrev pub IsClosing : Bool → ℕ → ℕ → Option Act → Type 0
 IsClosing served i count None = Unit {0}
 IsClosing served i count (Some act) = is_refusal act ≡ true → (i + 1 ≡ count) × (served ≡ false)
 
--- The run goes on by the move that a line makes, by whatever entries the history goes on, and it wasn't found full.
-pub record Does (what : Verdicts → Option Move) (old : Running) (output : List ℕ) (new : Running) : Type 0 where
+-- The run goes on by the move that a line makes, by whatever entries the history goes on; where it was found full, this
+-- is what it has.
+pub record Does (what : Verdicts → Option Move) (old : Running) (output : List ℕ) (found : Option ℕ) (new : Running)
+    : Type 0 where
   pub move : Move
-  pub room : move.effect.full ≡ None
+  pub full : move.effect.full ≡ found
   pub is : (later : List Entry) → what (verdict_in (new.machine.history ++ later)) ≡ Some move
   pub history : new.machine.history ≡ old.machine.history ++ move.effect.entries
   pub peers : new.peers ≡ move.peers
@@ -88,7 +95,6 @@ pub record Enters (what : Verdicts → Option Move) (old new : Running) : Type 0
   pub front : List Entry
   pub history : new.machine.history ≡ old.machine.history ++ front
   pub move : List Entry → Move
-  pub room : (later : List Entry) → (move later).effect.full ≡ None
   pub is : (later : List Entry) → what (verdict_in (new.machine.history ++ later)) ≡ Some (move later)
   pub others : List Entry → List Entry
   pub begins : (later : List Entry) → (move later).effect.entries ≡ front ++ others later

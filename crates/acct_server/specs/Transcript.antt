@@ -1,5 +1,6 @@
 -- What is written on a connection: the answers to its acts in order, with the replies of its calls.
 use Rattle.std.specs.Prelude.{ℕ, List, [], ◌∷◌, ◌++◌, length, Result, Ok, Err}
+use Rattle.acct_codes.specs.Faults.{fault_server_too_busy}
 use Rattle.acct_calls.specs.declared.calls.Call.{Call}
 use Rattle.acct_calls.specs.declared.calls.Face.{Face}
 use Rattle.acct_calls.specs.declared.replies.Reply.{Reply}
@@ -22,22 +23,39 @@ answer_bytes asked face opnum (Done status outs) =
 abbrev pub undecoded_bytes : Asked → WireError → List ℕ
 undecoded_bytes asked error = fault_bytes asked.id asked.context (undecoded_status error)
 
--- a decoded call takes the next reply; where there is none, nothing more is written
-abbrev pub answered : Asked → Result Call WireError → List Reply → (List Reply → List ℕ) → List ℕ
-answered asked (Err e) replies later = undecoded_bytes asked e ++ later replies
-answered asked (Ok call) [] later = []
-answered asked (Ok call) (reply ∷ replies) later = answer_bytes asked call.face call.opnum reply ++ later replies
+-- the answer to a call that finds the history full: the server is too busy
+abbrev pub busy_bytes : Asked → List ℕ
+busy_bytes asked = fault_bytes asked.id asked.context fault_server_too_busy
+
+abbrev pub no_bytes : Asked → List ℕ
+no_bytes asked = []
+
+-- a decoded call takes the next reply; where there is none, this is the last that is written
+abbrev pub answered : (Asked → List ℕ) → Asked → Result Call WireError → List Reply → (List Reply → List ℕ) → List ℕ
+answered last asked (Err e) replies later = undecoded_bytes asked e ++ later replies
+answered last asked (Ok call) [] later = last asked
+answered last asked (Ok call) (reply ∷ replies) later = answer_bytes asked call.face call.opnum reply ++ later replies
 
 -- what a request asks for, and where its answer goes
 abbrev pub asked_by : ℕ → ℕ → Face → ℕ → ℕ → Asked
 asked_by id context face opnum size = record { id = id; context = context; size = size; face = face; opnum = opnum }
 
+-- what is written up to the first decoded call that has no reply, and what is written there
+abbrev pub written : (Asked → List ℕ) → List Act → List Reply → List ℕ
+written last [] replies = []
+written last (act.Answered bytes ∷ acts) replies = bytes ++ written last acts replies
+written last (act.Call id context face opnum size stub ∷ acts) replies =
+    answered last (asked_by id context face opnum size) (call_on face opnum stub) replies
+    (λ others. written last acts others)
+written last (act.Closed place cause bytes ∷ acts) replies = bytes ++ written last acts replies
+
+-- The transcript of acts: it stops before a decoded call that has no reply.
 abbrev pub transcript : List Act → List Reply → List ℕ
-transcript [] replies = []
-transcript (act.Answered bytes ∷ acts) replies = bytes ++ transcript acts replies
-transcript (act.Call id context face opnum size stub ∷ acts) replies =
-    answered (asked_by id context face opnum size) (call_on face opnum stub) replies (λ others. transcript acts others)
-transcript (act.Closed place cause bytes ∷ acts) replies = bytes ++ transcript acts replies
+transcript acts replies = written no_bytes acts replies
+
+-- the same, where that call found the history full
+abbrev pub busy : List Act → List Reply → List ℕ
+busy acts replies = written busy_bytes acts replies
 
 -- the decoded calls among acts in order, each with the length of its stub
 abbrev pub with_call : Result Call WireError → ℕ → List (Call × ℕ) → List (Call × ℕ)

@@ -53,4 +53,4 @@ pub record HasNoCall (start : Start) (history : List Entry) (conn : ℕ) : Type 
 -- P holds of the connection that was opened
 abbrev pub IfConn : Opened → (ℕ → Type 0) → Type 0
 IfConn (opens.Conn conn) P = P conn
-IfConn opens.NoMemory P = Unit {0}
+IfConn (opens.Full count) P = Unit {0}

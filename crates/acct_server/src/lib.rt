@@ -39,7 +39,7 @@ pub use events::{Event, LineError};
 pub use gate::Gate;
 pub use laws::cuts_change_nothing;
 pub use replays::{Replayed, replay};
-pub use requests::{Asked, request};
+pub use requests::{Answer, Asked, request};
 pub use status::Status;
 
 #[cfg(test)]

@@ -2,7 +2,7 @@
 ghost use Rattle.std.specs.Prelude.{◌≡◌, ◌++◌, ◌∷◌, [], codes, IfOk, OnOk};
 ghost use Rattle.std.specs.String.{string_bytes};
 ghost use Rattle.std.specs.Fmt.{decimal};
-ghost use Rattle.acct_server.specs.Replayed.{out_line, closed_line, gone_line};
+ghost use Rattle.acct_server.specs.Replayed.{out_line, closed_line, gone_line, full_line};
 
 use std::alloc::{AllocError, Global};
 
@@ -53,6 +53,18 @@ pub fn gone_line(alloc: Global, conn: u32) -> Result<Vec<u8>, AllocError>
 {
     let mut line = Vec::new(alloc);
     line.extend_from_slice(b"gone ")?;
+    push_number(&mut line, alloc, conn as u64)?;
+    line.push(b'\n')?;
+    Ok(line)
+}
+
+/// The line that says that a connection found the history full.
+#[tactic(auto, unfolding(crate::specs::Replayed::full_line))]
+pub fn full_line(alloc: Global, conn: u32) -> Result<Vec<u8>, AllocError>
+    ensures { IfOk result (λ line. line.items ≡ full_line conn) }
+{
+    let mut line = Vec::new(alloc);
+    line.extend_from_slice(b"full ")?;
     push_number(&mut line, alloc, conn as u64)?;
     line.push(b'\n')?;
     Ok(line)

@@ -100,9 +100,12 @@ fn run_lines<T: Sink>(alloc: Global, run: &mut Run, bytes: &[u8], out: &mut T) -
     while !rest.is_empty() {
         let (line, after) = next_line(rest);
         match run.line(alloc, line) {
-            Ok(output) => {
-                if write_all(out, &output).is_err() {
+            Ok(ran) => {
+                if write_all(out, &ran.output).is_err() {
                     return Status::WriteFault;
+                }
+                if let Some(count) = ran.full {
+                    return finish(alloc, run, out, Status::HistoryFull(count));
                 }
             }
             Err(LineError::Refused) => {

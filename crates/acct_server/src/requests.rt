@@ -28,6 +28,14 @@ pub struct Asked {
     pub opnum: u16,
 }
 
+/// What comes of a request: the bytes of its answer; or it is a call that the history doesn't take, with what the
+/// history has.
+#[derive(Debug, Drop)]
+pub enum Answer {
+    Bytes(Vec<u8>),
+    Full(u64),
+}
+
 /// The call of a request on an interface, or why it is none. Which opnum of which interface is served, the table of
 /// operations says. `Memory` comes only where memory is wanted.
 pub fn read_request(alloc: Global, face: Face, opnum: u16, stub: &[u8]) -> Result<Call, WireError>
@@ -91,7 +99,7 @@ fn answer_bytes(
     }
 }
 
-// A call is entered, and gets its answer.
+// A call is entered, and gets its answer; or it isn't, in a full history.
 fn make_call<G: Gate>(
     alloc: Global,
     gate: &mut G,
@@ -99,13 +107,13 @@ fn make_call<G: Gate>(
     asked: Asked,
     call: Call,
     stub_size: u32,
-) -> Result<Vec<u8>, AllocError>
+) -> Result<Answer, AllocError>
     requires serves { G.serves gate.old conn }
     requires low { 1432 ≤ asked.size }
     requires high { asked.size ≤ 4280 }
     requires spelled { IsCall call }
-    ensures answers { IfOk result (λ bytes. AnswersRequest (G.start gate.old) conn (G.finds gate.old) (G.known gate.old)
-        (G.known gate.new) asked stub_size (Ok call) bytes.items) }
+    ensures answers { IfOk result (AnswersRequest (G.start gate.old) conn (G.finds gate.old) (G.known gate.old)
+        (G.known gate.new) asked stub_size (Ok call)) }
     ensures begins { OnErr result (BeginsRequest (G.start gate.old) conn (G.finds gate.old) (G.known gate.old)
         (G.known gate.new) stub_size (Ok call)) }
     ensures serves { G.serves gate.new conn }
@@ -114,8 +122,12 @@ fn make_call<G: Gate>(
 {
     let (face, opnum) = (call.face, call.opnum);
     match gate.act(conn, call, stub_size) {
-        Acted::Reply(reply) => answer_bytes(alloc, asked, face, opnum, &reply),
-        Acted::NoMemory => Err(AllocError),
+        Acted::Reply(reply) => {
+            let bytes = answer_bytes(alloc, asked, face, opnum, &reply)?;
+            Ok(Answer::Bytes(bytes))
+        }
+        Acted::FullCalls(count) => Ok(Answer::Full(count)),
+        Acted::FullBytes(sum) => Ok(Answer::Full(sum)),
     }
 }
 
@@ -128,21 +140,21 @@ fn undecoded_bytes(alloc: Global, asked: Asked, error: WireError) -> Result<Vec<
     fault_bytes(asked.id, asked.context, status).to_vec(alloc)
 }
 
-/// Answers a request: one that is a call is entered over the gate, and gets the bytes of its reply; another gets a
-/// fault, and nothing else happens.
+/// Answers a request: one that is a call is entered over the gate, and gets the bytes of its reply, unless the history
+/// is full; another gets a fault, and nothing else happens.
 pub fn request<G: Gate>(
     alloc: Global,
     gate: &mut G,
     conn: u32,
     asked: Asked,
     stub: &[u8],
-) -> Result<Vec<u8>, AllocError>
+) -> Result<Answer, AllocError>
     requires serves { G.serves gate.old conn }
     requires low { 1432 ≤ asked.size }
     requires high { asked.size ≤ 4280 }
     requires short { length stub.now ≤ 1048576 }
-    ensures answers { IfOk result (λ bytes. AnswersRequest (G.start gate.old) conn (G.finds gate.old) (G.known gate.old)
-        (G.known gate.new) asked (length stub.now) (call_on asked.face asked.opnum stub.now) bytes.items) }
+    ensures answers { IfOk result (AnswersRequest (G.start gate.old) conn (G.finds gate.old) (G.known gate.old)
+        (G.known gate.new) asked (length stub.now) (call_on asked.face asked.opnum stub.now)) }
     ensures begins { OnErr result (BeginsRequest (G.start gate.old) conn (G.finds gate.old) (G.known gate.old)
         (G.known gate.new) (length stub.now) (call_on asked.face asked.opnum stub.now)) }
     ensures serves { G.serves gate.new conn }
@@ -151,6 +163,6 @@ pub fn request<G: Gate>(
 {
     match read_request(alloc, asked.face, asked.opnum, stub) {
         Ok(call) => make_call(alloc, gate, conn, asked, call, stub.len() as u32),
-        Err(error) => undecoded_bytes(alloc, asked, error),
+        Err(error) => Ok(Answer::Bytes(undecoded_bytes(alloc, asked, error)?)),
     }
 }

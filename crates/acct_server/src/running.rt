@@ -16,20 +16,26 @@ ghost use Rattle.acct_server.specs.declared.connections.Peer.TheVariants as peer
 ghost use Rattle.acct_server.specs.Begun.{begun};
 ghost use Rattle.acct_server.specs.Requests.{call_on};
 ghost use Rattle.acct_server.specs.Events.{DataFits};
-ghost use Rattle.acct_server.specs.Replayed.{Out, IsClosed, IsGone, peer_of, with_peer, nothing_heard, is_served};
+ghost use Rattle.acct_server.specs.Transcript.{busy_bytes};
+ghost use Rattle.acct_server.specs.Replayed.{Out, IsClosed, IsGone, FoundFull, peer_of, with_peer, nothing_heard};
+ghost use Rattle.acct_server.specs.Replayed.{is_served};
 ghost use Rattle.acct_server.specs.Replayed.{number_of, served_from, ending, line_bytes, listener_from, on_open};
 ghost use Rattle.acct_server.specs.Replayed.{on_request, on_act, on_acts, on_data, on_end, on_event, on_line};
 ghost use Rattle.acct_server.specs.Running.{standing, AllHeard, Acts, Began, Hears, IsClosing, Does, Refuses, MayStop};
+ghost use Rattle.acct_server.specs.Running.{peers_behind};
 ghost use Rattle.acct_server.specs.Running.{Closes};
 
 use crate::connections::{Peer, heard, is_served, new_peer};
 use crate::events::{Event, LineError, event_of};
 use crate::gate::Gate;
-use crate::printing::{closed_line, gone_line, out_line};
-use crate::requests::{Asked, request};
+use crate::printing::{closed_line, full_line, gone_line, out_line};
+use crate::requests::{Answer, Asked, request};
 use acct_base::is_same;
+use acct_codes::fault::NCA_S_SERVER_TOO_BUSY;
 use acct_machine::{Config, Entry, Listener, Machine, Opened, seed_rows};
-use rpc_session::{Act, calls_fit, refusals_are_last, room_by_length, streams_are_cut_anywhere};
+use rpc_session::{
+    Act, calls_fit, fault_bytes, refusals_are_last, room_by_length, streams_are_cut_anywhere,
+};
 use std::alloc::{AllocError, Global};
 use std::marker::Model;
 
@@ -72,6 +78,16 @@ fn push_closed(
     Ok(())
 }
 
+// Adds the lines of a call that found the history full.
+fn push_full(lines: &mut Vec<u8>, alloc: Global, conn: u32, bytes: &[u8]) -> Result<(), AllocError>
+    ensures { OnOk result (lines.new.items
+        ≡ lines.old.items ++ (line_bytes (Out conn bytes.now) ++ line_bytes (FoundFull conn))) }
+{
+    push_out(lines, alloc, conn, bytes)?;
+    lines.extend_from_slice(&full_line(alloc, conn)?)?;
+    Ok(())
+}
+
 // The line of a connection, if it is served.
 fn push_gone(lines: &mut Vec<u8>, alloc: Global, conn: u32, served: bool) -> Result<(), AllocError>
     ensures { OnOk result (lines.new.items
@@ -93,6 +109,13 @@ fn gone_lines(alloc: Global, peers: &[Peer]) -> Result<Vec<u8>, AllocError>
         push_gone(&mut lines, alloc, i as u32 + 1, is_served(&peers[i]))?;
     }
     Ok(lines)
+}
+
+/// What an event prints, and where it found the history full, what the history has.
+#[derive(Debug, Drop)]
+pub struct Ran {
+    pub output: Vec<u8>,
+    pub full: Option<u64>,
 }
 
 /// A machine, and how each connection of the replay stands.
@@ -145,9 +168,9 @@ impl Run {
         self.peers.get(conn as usize - 1)
     }
 
-    fn open(&mut self, alloc: Global, conn: u32, name: &[u8]) -> Result<Vec<u8>, LineError>
-        ensures does { IfOk result (λ output. Does (λ verdicts. on_open (standing self.old) conn name.now) self.old
-            output.items self.new) }
+    fn open(&mut self, alloc: Global, conn: u32, name: &[u8]) -> Result<Ran, LineError>
+        ensures does { IfOk result (λ ran. Does (λ verdicts. on_open (standing self.old) conn name.now) self.old
+            ran.output.items ran.full self.new) }
         ensures refused { result ≡ Err Refused
             → Refuses (λ verdicts. on_open (standing self.old) conn name.now) self.old self.new }
         ensures start { self.new.machine.start ≡ self.old.machine.start }
@@ -164,14 +187,63 @@ impl Run {
         self.peers.reserve(1)?;
         match Gate::open_conn(&mut self.machine, listener) {
             Opened::Conn(_) => match self.peers.push(new_peer(alloc, conn)) {
-                Ok(()) => Ok(Vec::new(alloc)),
+                Ok(()) => Ok(Ran {
+                    output: Vec::new(alloc),
+                    full: None,
+                }),
                 Err(_) => unreachable!(),
             },
-            Opened::NoMemory => Err(LineError::NoMemory),
+            Opened::Full(count) => Ok(Ran {
+                output: full_line(alloc, conn)?,
+                full: Some(count),
+            }),
         }
     }
 
-    // A request. The line of its answer is added to those that were there.
+    // Ends a connection that is live. It takes no memory.
+    fn end_live(&mut self, conn: u32)
+        requires live { is_live conn (state_of self.old.machine).conns ≡ true }
+        requires there { IsSome (peer_of conn self.old.peers) }
+        ensures machine { self.new.machine ≡ with_entry self.old.machine (Gone conn) }
+        ensures peers { self.new.peers ≡ with_peer conn peer.Ended self.old.peers }
+    {
+        self.machine.gone(conn);
+        self.peers[conn as usize - 1] = Peer::Ended;
+    }
+
+    // Ends a connection that is served. It takes no memory.
+    fn end_served(&mut self, conn: u32)
+        requires served { is_served (peer_of conn self.old.peers) ≡ true }
+        ensures machine { self.new.machine ≡ with_entry self.old.machine (Gone conn) }
+        ensures peers { self.new.peers ≡ with_peer conn peer.Ended self.old.peers }
+    {
+        let _ = &self.machine;
+        self.end_live(conn);
+    }
+
+    // A call found the history full: it is answered that the server is too busy, and its connection is gone.
+    fn refuse(
+        &mut self,
+        alloc: Global,
+        conn: u32,
+        asked: Asked,
+        lines: &mut Vec<u8>,
+    ) -> Result<(), AllocError>
+        requires live { is_live conn (state_of self.old.machine).conns ≡ true }
+        requires there { IsSome (peer_of conn self.old.peers) }
+        ensures machine { OnOk result (self.new.machine ≡ with_entry self.old.machine (Gone conn)) }
+        ensures peers { OnOk result (self.new.peers ≡ with_peer conn peer.Ended self.old.peers) }
+        ensures lines { OnOk result (lines.new.items
+            ≡ lines.old.items ++ (line_bytes (Out conn (busy_bytes asked)) ++ line_bytes (FoundFull conn))) }
+        ensures err { OnErr result (self.new ≡ self.old) }
+    {
+        let busy = fault_bytes(asked.id, asked.context, NCA_S_SERVER_TOO_BUSY);
+        push_full(lines, alloc, conn, &busy)?;
+        self.end_live(conn);
+        Ok(())
+    }
+
+    // A request. The lines of its answer are added to those that were there.
     fn request(
         &mut self,
         alloc: Global,
@@ -179,12 +251,13 @@ impl Run {
         asked: Asked,
         stub: &[u8],
         lines: &mut Vec<u8>,
-    ) -> Result<(), AllocError>
+    ) -> Result<Option<u64>, AllocError>
         requires live { is_live conn (state_of self.old.machine).conns ≡ true }
+        requires there { IsSome (peer_of conn self.old.peers) }
         requires low { 1432 ≤ asked.size }
         requires high { asked.size ≤ 4280 }
         requires short { length stub.now ≤ 1048576 }
-        ensures acts { OnOk result (Acts
+        ensures acts { IfOk result (Acts
             (λ verdicts. on_request self.old.machine.start verdicts self.old.machine.history conn asked
             (length stub.now) (call_on asked.face asked.opnum stub.now)) self.old.machine.history
             self.new.machine.history lines.old.items lines.new.items) }
@@ -192,12 +265,20 @@ impl Run {
             (λ verdicts. on_request self.old.machine.start verdicts self.old.machine.history conn asked
             (length stub.now) (call_on asked.face asked.opnum stub.now)) self.old.machine.history
             self.new.machine.history) }
-        ensures live { is_live conn (state_of self.new.machine).conns ≡ true }
-        ensures peers { self.new.peers ≡ self.old.peers }
+        ensures live { IfOk result (λ full. full ≡ None → is_live conn (state_of self.new.machine).conns ≡ true) }
+        ensures peers { IfOk result (λ full. self.new.peers ≡ peers_behind full conn self.old.peers) }
         ensures start { self.new.machine.start ≡ self.old.machine.start }
     {
-        let answer = request(alloc, &mut self.machine, conn, asked, stub)?;
-        push_out(lines, alloc, conn, &answer)
+        match request(alloc, &mut self.machine, conn, asked, stub)? {
+            Answer::Bytes(bytes) => {
+                push_out(lines, alloc, conn, &bytes)?;
+                Ok(None)
+            }
+            Answer::Full(count) => {
+                self.refuse(alloc, conn, asked, lines)?;
+                Ok(Some(count))
+            }
+        }
     }
 
     // A refusal: the connection is gone.
@@ -230,22 +311,27 @@ impl Run {
         conn: u32,
         act: &Act,
         lines: &mut Vec<u8>,
-    ) -> Result<(), AllocError>
+    ) -> Result<Option<u64>, AllocError>
         requires live { is_live conn (state_of self.old.machine).conns ≡ true }
+        requires there { IsSome (peer_of conn self.old.peers) }
         requires fits { IsFit act.now }
         requires closed { is_refusal act.now ≡ true → is_served (peer_of conn self.old.peers) ≡ false }
-        ensures acts { OnOk result (Acts
+        ensures acts { IfOk result (Acts
             (λ verdicts. on_act self.old.machine.start verdicts self.old.machine.history conn act.now)
             self.old.machine.history self.new.machine.history lines.old.items lines.new.items) }
         ensures began { OnErr result (Began
             (λ verdicts. on_act self.old.machine.start verdicts self.old.machine.history conn act.now)
             self.old.machine.history self.new.machine.history) }
-        ensures live { is_refusal act.now ≡ false → is_live conn (state_of self.new.machine).conns ≡ true }
-        ensures peers { self.new.peers ≡ self.old.peers }
+        ensures live { IfOk result (λ full. is_refusal act.now ≡ false → full ≡ None
+            → is_live conn (state_of self.new.machine).conns ≡ true) }
+        ensures peers { IfOk result (λ full. self.new.peers ≡ peers_behind full conn self.old.peers) }
         ensures start { self.new.machine.start ≡ self.old.machine.start }
     {
         match act {
-            Act::Answered { bytes } => push_out(lines, alloc, conn, bytes.as_slice()),
+            Act::Answered { bytes } => {
+                push_out(lines, alloc, conn, bytes.as_slice())?;
+                Ok(None)
+            }
             Act::Call {
                 id,
                 context,
@@ -267,30 +353,42 @@ impl Run {
                 place,
                 cause,
                 bytes,
-            } => self.close(alloc, conn, *place, *cause, bytes.as_slice(), lines),
+            } => {
+                self.close(alloc, conn, *place, *cause, bytes.as_slice(), lines)?;
+                Ok(None)
+            }
         }
     }
 
-    // What acts do, one after the other.
-    fn act_all(&mut self, alloc: Global, conn: u32, acts: &[Act]) -> Result<Vec<u8>, AllocError>
+    // What acts do, one after the other, up to one that finds the history full.
+    fn act_all(&mut self, alloc: Global, conn: u32, acts: &[Act]) -> Result<Ran, AllocError>
         requires live { 0 < length acts.now → is_live conn (state_of self.old.machine).conns ≡ true }
+        requires there { IsSome (peer_of conn self.old.peers) }
         requires fits { All IsFit acts.now }
         requires closed { (i : ℕ) → IsClosing (is_served (peer_of conn self.old.peers)) i (length acts.now)
             (slice_get acts.now i) }
-        ensures acts { IfOk result (λ lines. Acts
+        ensures acts { IfOk result (λ ran. Acts
             (λ verdicts. on_acts self.old.machine.start verdicts self.old.machine.history conn acts.now)
-            self.old.machine.history self.new.machine.history [] lines.items) }
+            self.old.machine.history self.new.machine.history [] ran.output.items ran.full) }
         ensures began { OnErr result (Began
             (λ verdicts. on_acts self.old.machine.start verdicts self.old.machine.history conn acts.now)
             self.old.machine.history self.new.machine.history) }
-        ensures peers { self.new.peers ≡ self.old.peers }
+        ensures peers { IfOk result (λ ran. self.new.peers ≡ peers_behind ran.full conn self.old.peers) }
         ensures start { self.new.machine.start ≡ self.old.machine.start }
     {
         let mut lines = Vec::new(alloc);
         for i in 0..acts.len() {
-            self.act(alloc, conn, &acts[i], &mut lines)?;
+            if let Some(count) = self.act(alloc, conn, &acts[i], &mut lines)? {
+                return Ok(Ran {
+                    output: lines,
+                    full: Some(count),
+                });
+            }
         }
-        Ok(lines)
+        Ok(Ran {
+            output: lines,
+            full: None,
+        })
     }
 
     // The acts that bytes complete, or that the connection wasn't opened or was ended.
@@ -324,12 +422,12 @@ impl Run {
     }
 
     // Bytes that come on a connection.
-    fn data(&mut self, alloc: Global, conn: u32, bytes: &[u8]) -> Result<Vec<u8>, LineError>
+    fn data(&mut self, alloc: Global, conn: u32, bytes: &[u8]) -> Result<Ran, LineError>
         requires heard { AllHeard (2 ^ 32) self.old.peers }
         requires short { length bytes.now ≤ 2 ^ 32 }
-        ensures does { IfOk result (λ output. Does
+        ensures does { IfOk result (λ ran. Does
             (λ verdicts. on_data verdicts (standing self.old) conn bytes.now (peer_of conn self.old.peers)) self.old
-            output.items self.new) }
+            ran.output.items ran.full self.new) }
         ensures refused { result ≡ Err Refused
             → Refuses (λ verdicts. on_data verdicts (standing self.old) conn bytes.now (peer_of conn self.old.peers))
             self.old self.new }
@@ -342,16 +440,6 @@ impl Run {
     {
         let acts = self.hear(alloc, conn, bytes)?;
         Ok(self.act_all(alloc, conn, &acts)?)
-    }
-
-    // Ends a connection that is served. It takes no memory.
-    fn end_served(&mut self, conn: u32)
-        requires served { is_served (peer_of conn self.old.peers) ≡ true }
-        ensures machine { self.new.machine ≡ with_entry self.old.machine (Gone conn) }
-        ensures peers { self.new.peers ≡ with_peer conn peer.Ended self.old.peers }
-    {
-        self.machine.gone(conn);
-        self.peers[conn as usize - 1] = Peer::Ended;
     }
 
     // Ends a connection, if it is served.
@@ -368,10 +456,10 @@ impl Run {
     }
 
     // Ends a connection that was opened and not ended.
-    fn end(&mut self, alloc: Global, conn: u32) -> Result<Vec<u8>, LineError>
-        ensures does { IfOk result (λ output. Does
+    fn end(&mut self, alloc: Global, conn: u32) -> Result<Ran, LineError>
+        ensures does { IfOk result (λ ran. Does
             (λ verdicts. on_end (standing self.old) conn (peer_of conn self.old.peers))
-            self.old output.items self.new) }
+            self.old ran.output.items ran.full self.new) }
         ensures refused { result ≡ Err Refused
             → Refuses (λ verdicts. on_end (standing self.old) conn (peer_of conn self.old.peers)) self.old self.new }
         ensures start { self.new.machine.start ≡ self.old.machine.start }
@@ -385,15 +473,18 @@ impl Run {
         push_gone(&mut lines, alloc, conn, stream.is_going())?;
         self.end_if_served(conn);
         self.peers[conn as usize - 1] = Peer::Ended;
-        Ok(lines)
+        Ok(Ran {
+            output: lines,
+            full: None,
+        })
     }
 
     // What a line says.
-    fn event(&mut self, alloc: Global, event: Event) -> Result<Vec<u8>, LineError>
+    fn event(&mut self, alloc: Global, event: Event) -> Result<Ran, LineError>
         requires heard { AllHeard (2 ^ 32) self.old.peers }
         requires short { DataFits (2 ^ 32) event }
-        ensures does { IfOk result (λ output. Does (λ verdicts. on_event verdicts (standing self.old) (Some event))
-            self.old output.items self.new) }
+        ensures does { IfOk result (λ ran. Does (λ verdicts. on_event verdicts (standing self.old) (Some event))
+            self.old ran.output.items ran.full self.new) }
         ensures refused { result ≡ Err Refused
             → Refuses (λ verdicts. on_event verdicts (standing self.old) (Some event)) self.old self.new }
         ensures start { self.new.machine.start ≡ self.old.machine.start }
@@ -403,7 +494,10 @@ impl Run {
             → OnOk result (AllHeard (most + more) self.new.peers) }
     {
         match event {
-            Event::Nothing => Ok(Vec::new(alloc)),
+            Event::Nothing => Ok(Ran {
+                output: Vec::new(alloc),
+                full: None,
+            }),
             Event::Open { conn, listener } => self.open(alloc, conn, listener.as_slice()),
             Event::Data { conn, bytes } => self.data(alloc, conn, bytes.as_slice()),
             Event::End { conn } => self.end(alloc, conn),
@@ -413,11 +507,11 @@ impl Run {
     /// Runs a line of the events, and gives what it prints. A line that is refused changes nothing; after NoMemory the
     /// first of the entries of the line stand. Each connection has heard at most 2^32 bytes.
     #[tactic(auto, unfolding(crate::specs::Replayed::on_line))]
-    pub fn line(&mut self, alloc: Global, line: &[u8]) -> Result<Vec<u8>, LineError>
+    pub fn line(&mut self, alloc: Global, line: &[u8]) -> Result<Ran, LineError>
         requires heard { AllHeard (2 ^ 32) self.old.peers }
         requires short { length line.now < 2 ^ 32 }
-        ensures does { IfOk result (λ output. Does (λ verdicts. on_line verdicts (standing self.old) line.now) self.old
-            output.items self.new) }
+        ensures does { IfOk result (λ ran. Does (λ verdicts. on_line verdicts (standing self.old) line.now) self.old
+            ran.output.items ran.full self.new) }
         ensures refused { result ≡ Err Refused
             → Refuses (λ verdicts. on_line verdicts (standing self.old) line.now) self.old self.new }
         ensures start { self.new.machine.start ≡ self.old.machine.start }

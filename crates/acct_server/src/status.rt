@@ -17,8 +17,8 @@ pub enum Status {
     WriteFault,
     /// A line of the events is refused, the first by its number from 1.
     EventLine(u32),
-    /// The history was full, with the count of what it has. No limit is kept so far, so no replay ends with it.
+    /// The history was full, with the count of what it has.
     HistoryFull(u64),
-    /// A source has more than 1,048,576 bytes.
+    /// A source has more than 67,108,864 bytes.
     InputTooLong,
 }

@@ -2,12 +2,14 @@ use Rattle.std.proofs.Common.{Option, List, ℕ, ◌≡◌, ◌+◌, ◌-◌, �
 use Rattle.std.specs.Io.KnownBytes.{Appends}
 use Rattle.acct_server.specs.declared.events.LineError.{LineError}
 use Rattle.acct_server.specs.declared.events.LineError.TheVariants.{NoMemory, Refused}
-use Rattle.acct_server.specs.Running.{Running}
+use Rattle.acct_server.specs.Replayed.{on_line}
+use Rattle.acct_server.specs.Running.{Running, standing, Does}
 use Rattle.acct_server.specs.Leaves.{Stops}
 use Rattle.acct_server.proofs.Bytes.{from_OnOk, from_OnErr, is_nil}
 use Rattle.acct_server.proofs.Heard.{all-within, none-heard}
 use Rattle.acct_server.proofs.Going.{going-starts, going-on, going-stops, going-may-stop, going-breaks, going-ends}
-use Rattle.acct_server.proofs.Going.{going-end-breaks, going-refused, going-refused-breaks}
+use Rattle.acct_server.proofs.Going.{going-end-breaks, going-refused, going-refused-breaks, going-fills}
+use Rattle.acct_server.proofs.Going.{going-fill-breaks, going-fill-stops}
 use Rattle.acct_server.proofs.replays.run_lines.Goals as goal
 
 pub returns-in-Err-Refused-clause-through : goal.returns-in-Err-Refused-clause-through
@@ -16,10 +18,11 @@ returns-in-Err-Refused-clause-through g c = λ through.
     let refused : c.line.result ≡ Err Refused =
     c.in-Err-Refused.is ∙ ap (λ (e : LineError). Err e) c.in-Err-Refused.field-0-is in
     going-refused c.args.run.now.machine.start (t.held c.args.out.now) (t.held c.loop-rest.out)
-    (t.held c.finish.new.out) c.args.bytes.now c.loop-rest.run c.line.new.self c.finish.new.run c.loop-rest.number
-    c.loop-rest.rest.now c.next_line.result.0.now c.next_line.result.1.now c.finish.result
+    (t.held c.finish-in-Err-Refused.new.out) c.args.bytes.now c.loop-rest.run c.line.new.self
+    c.finish-in-Err-Refused.new.run c.loop-rest.number
+    c.loop-rest.rest.now c.next_line.result.0.now c.next_line.result.1.now c.finish-in-Err-Refused.result
     c.loop-rest.invariant.going c.next_line.ensures.lines (c.line.ensures.refused refused)
-    (c.finish.ensures.through through)
+    (c.finish-in-Err-Refused.ensures.through through)
 
 pub returns-in-Err-Refused-clause-breaks : goal.returns-in-Err-Refused-clause-breaks
 returns-in-Err-Refused-clause-breaks g c = λ fault.
@@ -27,22 +30,23 @@ returns-in-Err-Refused-clause-breaks g c = λ fault.
     let refused : c.line.result ≡ Err Refused =
     c.in-Err-Refused.is ∙ ap (λ (e : LineError). Err e) c.in-Err-Refused.field-0-is in
     going-refused-breaks c.args.run.now.machine.start (t.held c.args.out.now) (t.held c.loop-rest.out)
-    (t.held c.finish.new.out) c.args.bytes.now c.loop-rest.run c.line.new.self c.finish.new.run c.loop-rest.number
+    (t.held c.finish-in-Err-Refused.new.out) c.args.bytes.now c.loop-rest.run c.line.new.self
+    c.finish-in-Err-Refused.new.run c.loop-rest.number
     c.loop-rest.rest.now c.next_line.result.0.now c.next_line.result.1.now
     c.loop-rest.invariant.going c.next_line.ensures.lines (c.line.ensures.refused refused)
-    (c.finish.ensures.breaks fault)
+    (c.finish-in-Err-Refused.ensures.breaks fault)
 
 pub returns-in-Err-Refused-clause-stops : goal.returns-in-Err-Refused-clause-stops
 returns-in-Err-Refused-clause-stops g c = λ memory.
     let t = g.T.Sink in
     let refused : c.line.result ≡ Err Refused =
     c.in-Err-Refused.is ∙ ap (λ (e : LineError). Err e) c.in-Err-Refused.field-0-is in
-    let kept = c.finish.ensures.memory memory in
-    let same : c.finish.new.run ≡ c.loop-rest.run = kept.0 ∙ (c.line.ensures.refused refused).same in
+    let kept = c.finish-in-Err-Refused.ensures.memory memory in
+    let same : c.finish-in-Err-Refused.new.run ≡ c.loop-rest.run = kept.0 ∙ (c.line.ensures.refused refused).same in
     subst (λ (held : Option (List ℕ)). Stops c.args.run.now.machine.start (t.held c.args.out.now) held c.args.bytes.now
-    c.finish.new.run.machine.history) (sym kept.1)
+    c.finish-in-Err-Refused.new.run.machine.history) (sym kept.1)
     (going-stops c.args.run.now.machine.start (t.held c.args.out.now) (t.held c.loop-rest.out) c.args.bytes.now
-    c.loop-rest.run c.finish.new.run c.loop-rest.number c.loop-rest.rest.now c.loop-rest.invariant.going
+    c.loop-rest.run c.finish-in-Err-Refused.new.run c.loop-rest.number c.loop-rest.rest.now c.loop-rest.invariant.going
     (ap (λ (r : Running). r.machine.history) same))
 
 pub returns-in-Err-NoMemory-clause-stops : goal.returns-in-Err-NoMemory-clause-stops
@@ -61,7 +65,8 @@ returns-then-is_err-clause-breaks g c = λ fault.
     let part = from_OnErr c.write_all.result (sym c.is_err.ensures.value ∙ c.if-is_err.true) c.write_all.ensures.err in
     going-breaks c.args.run.now.machine.start (t.held c.args.out.now) (t.held c.loop-rest.out)
     (t.held c.write_all.new.out) c.args.bytes.now c.loop-rest.run c.line.new.self c.loop-rest.number
-    c.loop-rest.rest.now c.next_line.result.0.now c.next_line.result.1.now c.in-Ok.output.items part.0
+    c.loop-rest.rest.now c.next_line.result.0.now c.next_line.result.1.now c.in-Ok.ran.output.items c.in-Ok.ran.full
+    part.0
     c.loop-rest.invariant.going c.next_line.ensures.lines c.in-Ok.ensures.does
     (subst (λ (bs : List ℕ). Appends (t.held c.loop-rest.out) (t.held c.write_all.new.out) (take part.0 bs))
     c.deref.ensures.value part.1)
@@ -72,8 +77,11 @@ loop-rest-preserved g c =
     record {
       going = going-on c.args.run.now.machine.start (t.held c.args.out.now) (t.held c.loop-rest.out)
           (t.held c.write_all.new.out) c.args.bytes.now c.loop-rest.run c.line.new.self c.loop-rest.number
-          c.loop-rest.rest.now c.next_line.result.0.now c.next_line.result.1.now c.in-Ok.output.items
-          c.loop-rest.invariant.going c.next_line.ensures.lines c.in-Ok.ensures.does
+          c.loop-rest.rest.now c.next_line.result.0.now c.next_line.result.1.now c.in-Ok.ran.output.items
+          c.loop-rest.invariant.going c.next_line.ensures.lines
+          (subst (λ (o : Option ℕ). Does (λ verdicts. on_line verdicts (standing c.loop-rest.run)
+          c.next_line.result.0.now) c.loop-rest.run c.in-Ok.ran.output.items o c.line.new.self) c.in_default.is
+          c.in-Ok.ensures.does)
           (rw c.deref.ensures.value at (from_OnOk c.write_all.result
           (sym c.is_err.ensures.value ∙ c.if-is_err.false) c.write_all.ensures.ok));
       within = omega (arith, c.next_line.ensures.shorter);
@@ -132,3 +140,51 @@ line-requires-clause-heard g c =
     let short = c.requires.short in
     all-within before (2 ^ 32) c.loop-rest.run.peers (omega (arith, short))
     (c.loop-rest.invariant.heard before (omega (arith, within)))
+
+pub returns-in-Some-clause-through : goal.returns-in-Some-clause-through
+returns-in-Some-clause-through g c = λ through.
+    let t = g.T.Sink in
+    let does = subst (λ (o : Option ℕ). Does (λ verdicts. on_line verdicts (standing c.loop-rest.run)
+    c.next_line.result.0.now) c.loop-rest.run c.in-Ok.ran.output.items o c.line.new.self) c.in-Some.is
+    c.in-Ok.ensures.does in
+    let appends : Appends (t.held c.loop-rest.out) (t.held c.write_all.new.out) c.in-Ok.ran.output.items =
+    rw c.deref.ensures.value at (from_OnOk c.write_all.result (sym c.is_err.ensures.value ∙ c.if-is_err.false)
+    c.write_all.ensures.ok) in
+    going-fills c.args.run.now.machine.start (t.held c.args.out.now) (t.held c.loop-rest.out)
+    (t.held c.write_all.new.out) (t.held c.finish.new.out) c.args.bytes.now c.loop-rest.run c.line.new.self
+    c.finish.new.run c.loop-rest.number c.loop-rest.rest.now c.next_line.result.0.now c.next_line.result.1.now
+    c.in-Ok.ran.output.items c.in-Some.count c.finish.result c.loop-rest.invariant.going c.next_line.ensures.lines does
+    appends (c.finish.ensures.through through)
+
+pub returns-in-Some-clause-breaks : goal.returns-in-Some-clause-breaks
+returns-in-Some-clause-breaks g c = λ fault.
+    let t = g.T.Sink in
+    let does = subst (λ (o : Option ℕ). Does (λ verdicts. on_line verdicts (standing c.loop-rest.run)
+    c.next_line.result.0.now) c.loop-rest.run c.in-Ok.ran.output.items o c.line.new.self) c.in-Some.is
+    c.in-Ok.ensures.does in
+    let appends : Appends (t.held c.loop-rest.out) (t.held c.write_all.new.out) c.in-Ok.ran.output.items =
+    rw c.deref.ensures.value at (from_OnOk c.write_all.result (sym c.is_err.ensures.value ∙ c.if-is_err.false)
+    c.write_all.ensures.ok) in
+    going-fill-breaks c.args.run.now.machine.start (t.held c.args.out.now) (t.held c.loop-rest.out)
+    (t.held c.write_all.new.out) (t.held c.finish.new.out) c.args.bytes.now c.loop-rest.run c.line.new.self
+    c.finish.new.run c.loop-rest.number c.loop-rest.rest.now c.next_line.result.0.now c.next_line.result.1.now
+    c.in-Ok.ran.output.items c.in-Some.count c.loop-rest.invariant.going c.next_line.ensures.lines does appends
+    (c.finish.ensures.breaks fault)
+
+pub returns-in-Some-clause-stops : goal.returns-in-Some-clause-stops
+returns-in-Some-clause-stops g c = λ memory.
+    let t = g.T.Sink in
+    let does = subst (λ (o : Option ℕ). Does (λ verdicts. on_line verdicts (standing c.loop-rest.run)
+    c.next_line.result.0.now) c.loop-rest.run c.in-Ok.ran.output.items o c.line.new.self) c.in-Some.is
+    c.in-Ok.ensures.does in
+    let appends : Appends (t.held c.loop-rest.out) (t.held c.write_all.new.out) c.in-Ok.ran.output.items =
+    rw c.deref.ensures.value at (from_OnOk c.write_all.result (sym c.is_err.ensures.value ∙ c.if-is_err.false)
+    c.write_all.ensures.ok) in
+    let kept = c.finish.ensures.memory memory in
+    subst (λ (held : Option (List ℕ)). Stops c.args.run.now.machine.start (t.held c.args.out.now) held c.args.bytes.now
+    c.finish.new.run.machine.history) (sym kept.1)
+    (going-fill-stops c.args.run.now.machine.start (t.held c.args.out.now) (t.held c.loop-rest.out)
+    (t.held c.write_all.new.out) c.args.bytes.now c.loop-rest.run c.line.new.self c.finish.new.run c.loop-rest.number
+    c.loop-rest.rest.now c.next_line.result.0.now c.next_line.result.1.now c.in-Ok.ran.output.items c.in-Some.count
+    c.loop-rest.invariant.going c.next_line.ensures.lines does appends
+    (ap (λ (r : Running). r.machine.history) kept.0))

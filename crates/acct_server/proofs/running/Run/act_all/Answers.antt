@@ -1,4 +1,5 @@
-use Rattle.std.proofs.Common.{◌≡◌, true, false, List, [], length, take, refl, sym, subst, ◌∙◌, arith}
+use Rattle.std.proofs.Common.{◌≡◌, ℕ, true, false, List, [], ◌∷◌, ◌++◌, Option, Some, None, length, take, refl, sym, ap}
+use Rattle.std.proofs.Common.{subst, ◌∙◌, append_assoc, arith}
 use Rattle.std.proofs.lemmas.List.{take_all}
 use Rattle.acct_machine.specs.State.{Start}
 use Rattle.acct_machine.specs.State.{is_live}
@@ -6,9 +7,9 @@ use Rattle.acct_machine.specs.Machine.{state_of}
 use Rattle.rpc_session.specs.declared.sessions.Act.{Act}
 use Rattle.acct_server.specs.declared.connections.Peer.{Peer}
 use Rattle.acct_server.specs.Replayed.{on_act, on_acts, is_served, peer_of}
-use Rattle.acct_server.specs.Running.{Acts, Began}
+use Rattle.acct_server.specs.Running.{Acts, Began, peers_behind}
 use Rattle.acct_server.proofs.Bytes.{on-err}
-use Rattle.acct_server.proofs.Moves.{acts-go-on, acts-stop, none-done}
+use Rattle.acct_server.proofs.Moves.{acts-go-on, acts-fill, acts-stop, none-done}
 use Rattle.acct_server.proofs.Placing.{act-here, parted, one-more, not-last, closing-here}
 use Rattle.acct_server.proofs.running.Run.act_all.Goals as goal
 
@@ -33,8 +34,8 @@ act-requires-clause-closed c = λ is.
     (closing-here c.loop-i.i (length a.acts.now) (is_served (peer_of a.conn a.self.now.peers)) a.acts.now x here
     (c.requires.closed c.loop-i.i) is).1
 
-pub returns-in_err-act-clause-began : goal.returns-in_err-act-clause-began
-returns-in_err-act-clause-began c =
+pub returns-in_err-count-clause-began : goal.returns-in_err-count-clause-began
+returns-in_err-count-clause-began c =
     let a = c.args in
     let x = c.index-acts-i.result in
     let parts = parted c.loop-i.i a.acts.now x
@@ -47,13 +48,38 @@ returns-in_err-act-clause-began c =
     c.loop-i.self.machine.history c.act.new.self.machine.history [] c.loop-i.lines.items c.loop-i.invariant.done
     (subst (λ (k : Start). Began (λ verdicts. on_act k verdicts c.loop-i.self.machine.history a.conn x)
     c.loop-i.self.machine.history c.act.new.self.machine.history) c.loop-i.invariant.start
-    c.in_err-act.ensures.began)))
+    c.in_err-count.ensures.began)))
 
-pub returns-in_err-act-clause-peers : goal.returns-in_err-act-clause-peers
-returns-in_err-act-clause-peers c = c.act.ensures.peers ∙ c.loop-i.invariant.peers
+pub returns-in_err-count-clause-start : goal.returns-in_err-count-clause-start
+returns-in_err-count-clause-start c = c.act.ensures.start ∙ c.loop-i.invariant.start
 
-pub returns-in_err-act-clause-start : goal.returns-in_err-act-clause-start
-returns-in_err-act-clause-start c = c.act.ensures.start ∙ c.loop-i.invariant.start
+pub returns-in-Some-clause-acts : goal.returns-in-Some-clause-acts
+returns-in-Some-clause-acts c =
+    let a = c.args in
+    let x = c.index-acts-i.result in
+    let count = c.in-Some.count in
+    let before = a.self.now.machine.history in
+    let front = take c.loop-i.i a.acts.now in
+    let parts = parted c.loop-i.i a.acts.now x
+    (act-here c.loop-i.i a.acts.now x x c.loop-i-test.true c.index-acts-i.is) in
+    let met : Acts (λ verdicts. on_act a.self.now.machine.start verdicts c.loop-i.self.machine.history a.conn x)
+    c.loop-i.self.machine.history c.act.new.self.machine.history c.loop-i.lines.items c.act.new.lines.items
+    (Some count) =
+    subst (λ (k : Start). Acts (λ verdicts. on_act k verdicts c.loop-i.self.machine.history a.conn x)
+    c.loop-i.self.machine.history c.act.new.self.machine.history c.loop-i.lines.items c.act.new.lines.items
+    (Some count)) c.loop-i.invariant.start
+    (subst (λ (o : Option ℕ). Acts
+    (λ verdicts. on_act c.loop-i.self.machine.start verdicts c.loop-i.self.machine.history a.conn x)
+    c.loop-i.self.machine.history c.act.new.self.machine.history c.loop-i.lines.items c.act.new.lines.items o)
+    c.in-Some.is c.in_ok-count.ensures.acts) in
+    let goes = acts-go-on a.self.now.machine.start a.conn front x before c.loop-i.self.machine.history
+    c.act.new.self.machine.history [] c.loop-i.lines.items c.act.new.lines.items (Some count)
+    c.loop-i.invariant.done met in
+    subst (λ (as' : List Act). Acts (λ verdicts. on_acts a.self.now.machine.start verdicts before a.conn as') before
+    c.act.new.self.machine.history [] c.act.new.lines.items (Some count))
+    (append_assoc front (x ∷ []) parts.rest ∙ sym parts.whole)
+    (acts-fill a.self.now.machine.start a.conn (front ++ x ∷ []) parts.rest before c.act.new.self.machine.history []
+    c.act.new.lines.items count goes)
 
 pub loop-i-preserved : goal.loop-i-preserved
 loop-i-preserved c =
@@ -63,18 +89,26 @@ loop-i-preserved c =
     let here = act-here c.loop-i.i a.acts.now x x c.loop-i-test.true c.index-acts-i.is in
     record {
       done = subst (λ (as' : List Act). Acts (λ verdicts. on_acts a.self.now.machine.start verdicts before a.conn as')
-          before c.act.new.self.machine.history [] c.act.new.lines.items) (sym (one-more c.loop-i.i a.acts.now x here))
+          before c.act.new.self.machine.history [] c.act.new.lines.items None)
+          (sym (one-more c.loop-i.i a.acts.now x here))
           (acts-go-on a.self.now.machine.start a.conn (take c.loop-i.i a.acts.now) x before
           c.loop-i.self.machine.history c.act.new.self.machine.history [] c.loop-i.lines.items c.act.new.lines.items
-          c.loop-i.invariant.done
+          None c.loop-i.invariant.done
           (subst (λ (k : Start). Acts (λ verdicts. on_act k verdicts c.loop-i.self.machine.history a.conn x)
-          c.loop-i.self.machine.history c.act.new.self.machine.history c.loop-i.lines.items c.act.new.lines.items)
-          c.loop-i.invariant.start c.in_ok-act.ensures.acts));
+          c.loop-i.self.machine.history c.act.new.self.machine.history c.loop-i.lines.items c.act.new.lines.items None)
+          c.loop-i.invariant.start
+          (subst (λ (o : Option ℕ). Acts
+          (λ verdicts. on_act c.loop-i.self.machine.start verdicts c.loop-i.self.machine.history a.conn x)
+          c.loop-i.self.machine.history c.act.new.self.machine.history c.loop-i.lines.items c.act.new.lines.items o)
+          c.in_default.is c.in_ok-count.ensures.acts)));
       live = not-last x c.loop-i.i (length a.acts.now) (is_served (peer_of a.conn a.self.now.peers))
-          (is_live a.conn (state_of c.act.new.self.machine).conns ≡ true) c.act.ensures.live
+          (is_live a.conn (state_of c.act.new.self.machine).conns ≡ true)
+          (λ is. c.in_ok-count.ensures.live is c.in_default.is)
           (closing-here c.loop-i.i (length a.acts.now) (is_served (peer_of a.conn a.self.now.peers)) a.acts.now x here
           (c.requires.closed c.loop-i.i));
-      peers = c.act.ensures.peers ∙ c.loop-i.invariant.peers;
+      peers = c.in_ok-count.ensures.peers
+          ∙ ap (λ (o : Option ℕ). peers_behind o a.conn c.loop-i.self.peers) c.in_default.is
+          ∙ c.loop-i.invariant.peers;
       start = c.act.ensures.start ∙ c.loop-i.invariant.start;
     }
 
@@ -84,7 +118,7 @@ returns-clause-acts c =
     let before = a.self.now.machine.history in
     let ends = c.loop-i-test.false in
     subst (λ (as' : List Act). Acts (λ verdicts. on_acts a.self.now.machine.start verdicts before a.conn as') before
-    c.loop-i.self.machine.history [] c.loop-i.lines.items) (take_all c.loop-i.i a.acts.now (omega (arith, ends)))
+    c.loop-i.self.machine.history [] c.loop-i.lines.items None) (take_all c.loop-i.i a.acts.now (omega (arith, ends)))
     c.loop-i.invariant.done
 
 pub returns-clause-peers : goal.returns-clause-peers

@@ -1,21 +1,18 @@
-use Rattle.std.proofs.Common.{◌≡◌, true, List, sym, subst}
-use Rattle.acct_server.specs.declared.connections.Peer.{Peer}
-use Rattle.acct_server.specs.declared.connections.Peer.TheVariants.{Ended}
+use Rattle.std.proofs.Common.{◌≡◌, true, sym, subst}
+use Rattle.acct_machine.specs.State.{is_live}
+use Rattle.acct_machine.specs.Machine.{state_of}
 use Rattle.acct_server.specs.Replayed.{peer_of, is_served}
-use Rattle.acct_server.specs.Running.{Running, Ties}
-use Rattle.acct_server.proofs.Heard.{peer-set}
-use Rattle.acct_server.proofs.Placing.{served-there, ties-ended}
-use Rattle.acct_machine.specs.Step.{state_at}
+use Rattle.acct_server.specs.Running.{Running}
+use Rattle.acct_server.proofs.Placing.{served-some}
 use Rattle.acct_server.proofs.running.Run.end_served.Goals as goal
 
-pub invariant_of-self : goal.invariant_of-self
-invariant_of-self c =
+pub end_live-requires-clause-live : goal.end_live-requires-clause-live
+end_live-requires-clause-live c =
     let conn = c.args.conn in
-    let peers = c.self.inside.peers.items in
     let served = subst (λ (r : Running). is_served (peer_of conn r.peers) ≡ true) (sym c.self.view_is)
     c.requires.served in
-    let there = served-there (peer_of conn peers) served in
-    subst (λ (ps : List Peer). Ties ps (state_at c.gone.new.self.start c.gone.new.self.history))
-    (sym (peer-set conn peers there.0 Ended there.1))
-    (ties-ended conn peers there.0 (state_at c.self.inside.machine.start c.self.inside.machine.history)
-    (state_at c.gone.new.self.start c.gone.new.self.history) there.1 c.self.invariant c.gone.ensures.live)
+    subst (λ (r : Running). is_live conn (state_of r.machine).conns ≡ true) c.self.view_is
+    (c.self.invariant.lives conn served)
+
+pub end_live-requires-clause-there : goal.end_live-requires-clause-there
+end_live-requires-clause-there c = served-some (peer_of c.args.conn c.args.self.now.peers) c.requires.served
