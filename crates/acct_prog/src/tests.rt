@@ -11,6 +11,7 @@ use std::alloc::Global;
 use std::process::Abort;
 use std::test::Fail;
 
+mod limits;
 mod objects;
 mod several;
 mod tables;
@@ -35,6 +36,9 @@ fn line_of(name: &str) -> &'static str {
         return text;
     }
     if let Some(text) = line_in(objects::LINES, name) {
+        return text;
+    }
+    if let Some(text) = line_in(limits::LINES, name) {
         return text;
     }
     line_in(several::LINES, name).unwrap_or("a line without a name")
@@ -66,6 +70,11 @@ fn changed(alloc: Global, change: &str) -> Result<String, Fail> {
     Ok(format!(in alloc; "{before}{text}{behind}")?)
 }
 
+/// The configuration with a limit.
+fn limited(alloc: Global, limit: &str) -> Result<String, Fail> {
+    Ok(format!(in alloc; "{CONFIG}[limits]\n{limit}\n")?)
+}
+
 const DENY: &str = "deny 0x00000010 0 S-1-5-32-545";
 
 const ALLOW: &str = "allow 0x000F003F 0 S-1-1-0";
@@ -77,6 +86,7 @@ fn config_of(alloc: Global, name: &str) -> Result<String, Fail> {
         "cut" => Ok(String::from_str(alloc, CONFIG.trim_end())?),
         "deny-allow" => restricted(alloc, DENY, ALLOW),
         "allow-deny" => restricted(alloc, ALLOW, DENY),
+        limit if limit.starts_with("max_") => limited(alloc, limit),
         change => changed(alloc, change),
     }
 }
@@ -290,6 +300,11 @@ fn several_connections_are_served(rt: HostRuntime) -> Result<(), Fail> {
 }
 
 #[test]
+fn full_histories(rt: HostRuntime) -> Result<(), Fail> {
+    tell_all(&rt, rt.alloc(), limits::LIMITED)
+}
+
+#[test]
 fn other_lines_are_refused(rt: HostRuntime) -> Result<(), Fail> {
     tell_all(&rt, rt.alloc(), tables::REFUSED_LINES)
 }
@@ -395,10 +410,10 @@ fn a_stream_byte_by_byte(rt: HostRuntime) -> Result<(), Fail> {
 fn a_source_above_the_limit_is_too_long(rt: HostRuntime) -> Result<(), Fail> {
     let alloc = rt.alloc();
     let mut text = String::new(alloc);
-    for _ in 0..16384 {
+    for _ in 0..1048576 {
         text.push_str("###############################################################\n")?;
     }
-    assert_eq!(rt; text.len(), 1048576);
+    assert_eq!(rt; text.len(), 67108864);
     let (status, _) = run(alloc, text.as_str())?;
     assert_eq!(rt; status, Status::Done);
     text.push('#')?;
