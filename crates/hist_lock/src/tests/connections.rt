@@ -1,5 +1,6 @@
 // A client: a log of connections, each with a lane of its own, and of notes in the home lane.
-ghost use Rattle.std.specs.Prelude.{◌≡◌, ◌≢◌, ℕ, ◌+◌, ◌<◌, ◌++◌, [], ◌∷◌, length, slice_index_or, vec_len, true, false, IfOk, OnOk, OnErr, MatchResult};
+ghost use Rattle.std.specs.Prelude.{◌≡◌, ◌≢◌, ℕ, ◌+◌, ◌<◌, ◌++◌, [], ◌∷◌, length, slice_index_or, vec_len, true, false};
+ghost use Rattle.std.specs.Prelude.{IfOk, OnOk, OnErr, MatchResult};
 ghost use Rattle.hist_lock.specs.Lanes.{opens, within, home, names_none, names_lane, names_home, IsOfLane};
 ghost use Rattle.hist_lock.specs.Histories.{At, In, Opened};
 ghost use Rattle.hist_lock.specs.Views.{IsFirst};
@@ -38,7 +39,8 @@ struct Log {
 
 impl Log {
     fn has(&self, conn: u32) -> bool
-        ensures { result ≡ false → (p : ℕ) (e : _) → At self.now.entries.items p e → IsOfLane (⟦<Log as Kept>⟧.lane e) conn → ⊥ }
+        ensures { result ≡ false → (p : ℕ) (e : _) → At self.now.entries.items p e
+            → IsOfLane (⟦<Log as Kept>⟧.lane e) conn → ⊥ }
     {
         for entry in &self.entries {
             if entry.is_of(conn) {
@@ -60,7 +62,12 @@ impl Kept for Log {
 
     ghost fixed = { λ _. tt };
 
-    ghost lane = { elim [ entry.Opened conn ↦ opens conn | entry.Called conn call ↦ within conn | entry.Noted note ↦ home ] };
+    ghost lane = { elim [
+      | entry.Opened conn ↦ opens conn
+      | entry.Called conn call ↦ within conn
+      | entry.Noted note ↦
+          home
+    ] };
 
     fn entry_count(&self) -> usize {
         self.entries.len()
@@ -106,7 +113,8 @@ impl Job<Log> for Call {
 
     ghost may = { λ job _ before. (p n : ℕ) → At before p (entry.Called job.conn n) → n < job.call };
 
-    ghost does = { λ job _ before after out. MatchResult out (λ _. after ≡ before ++ entry.Called job.conn job.call ∷ []) (λ _. after ≡ before) };
+    ghost does = { λ job _ before after out. MatchResult out
+        (λ _. after ≡ before ++ entry.Called job.conn job.call ∷ []) (λ _. after ≡ before) };
 
     ghost names = { λ job. names_lane job.conn };
 
@@ -210,7 +218,9 @@ struct LockGate<'a, R: Wait> {
 impl<'a, R: Wait> Gate for LockGate<'a, R> {
     ghost use Rattle.hist_lock.specs.declared.tests.connections.Entry.TheVariants as entry;
 
-    ghost ready = { λ gate. IsPassOf gate.lock.now gate.pass × Opened ⟦<Log as Kept>⟧.lane (view gate.pass).own gate.conn × ((p n : ℕ) → In (view gate.pass).own p (entry.Called gate.conn n) → n < gate.next) };
+    ghost ready = { λ gate. IsPassOf gate.lock.now gate.pass
+        × Opened ⟦<Log as Kept>⟧.lane (view gate.pass).own gate.conn
+        × ((p n : ℕ) → In (view gate.pass).own p (entry.Called gate.conn n) → n < gate.next) };
 
     ghost keeps = { λ old new. (new.lock.now ≡ old.lock.now) × ((view new.pass).number ≡ (view old.pass).number) };
 
@@ -290,7 +300,8 @@ fn work_and_note<R: Threads + Wait + Sync>(
         { work(rt, lock, three, 3) },
         || -> Pass<Log>
             requires { IsPassOf lock.now first × IsFirst (view first) }
-            ensures { IsPassOf lock.entry.now result × IsFirst (view result) × ((view result).made ≡ (view first).made) × ((view result).joined ≡ (view first).joined) }
+            ensures { IsPassOf lock.entry.now result × IsFirst (view result)
+                × ((view result).made ≡ (view first).made) × ((view result).joined ≡ (view first).joined) }
         { note_twenty(rt, lock, first) },
     )
 }
@@ -310,12 +321,16 @@ fn four_threads_keep_their_lanes(rt: HostRuntime) -> Result<(), Fail> {
     let ((one, two), (three, mut first)) = thread::join(
         &rt,
         || -> (Pass<Log>, Pass<Log>)
-            requires { IsPassOf shared.now one × IsPassOf shared.now two × ((view one).own ≡ []) × ((view two).own ≡ []) }
-            ensures { IsPassOf shared.entry.now result.0 × IsPassOf shared.entry.now result.1 × ((view result.0).number ≡ (view one).number) × ((view result.1).number ≡ (view two).number) }
+            requires { IsPassOf shared.now one × IsPassOf shared.now two × ((view one).own ≡ [])
+                × ((view two).own ≡ []) }
+            ensures { IsPassOf shared.entry.now result.0 × IsPassOf shared.entry.now result.1
+                × ((view result.0).number ≡ (view one).number) × ((view result.1).number ≡ (view two).number) }
         { work_both(&rt, shared, one, two) },
         || -> (Pass<Log>, Pass<Log>)
-            requires { IsPassOf shared.now three × IsPassOf shared.now first × IsFirst (view first) × ((view three).own ≡ []) }
-            ensures { IsPassOf shared.entry.now result.0 × IsPassOf shared.entry.now result.1 × ((view result.0).number ≡ (view three).number) × IsFirst (view result.1) }
+            requires { IsPassOf shared.now three × IsPassOf shared.now first × IsFirst (view first)
+                × ((view three).own ≡ []) }
+            ensures { IsPassOf shared.entry.now result.0 × IsPassOf shared.entry.now result.1
+                × ((view result.0).number ≡ (view three).number) × IsFirst (view result.1) }
         { work_and_note(&rt, shared, three, first) },
     );
     lock.join(&mut first, one);

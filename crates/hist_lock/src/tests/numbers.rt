@@ -92,11 +92,13 @@ fn two_threads_make_a_hundred_turns_each(rt: HostRuntime) -> Result<(), Fail> {
         &rt,
         || -> Result<Pass<Numbers>, AllocError>
             requires { IsPassOf shared.now one }
-            ensures { IfOk result (λ after. IsPassOf shared.entry.now after × ((view after).number ≡ (view one).number)) }
+            ensures { IfOk result (λ after. IsPassOf shared.entry.now after
+                × ((view after).number ≡ (view one).number)) }
         { push_hundred(&rt, shared, one, 0) },
         || -> Result<Pass<Numbers>, AllocError>
             requires { IsPassOf shared.now two }
-            ensures { IfOk result (λ after. IsPassOf shared.entry.now after × ((view after).number ≡ (view two).number)) }
+            ensures { IfOk result (λ after. IsPassOf shared.entry.now after
+                × ((view after).number ≡ (view two).number)) }
         { push_hundred(&rt, shared, two, 1000) },
     );
     lock.join(&mut first, low?);

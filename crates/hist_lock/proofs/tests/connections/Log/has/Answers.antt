@@ -16,7 +16,9 @@ entry_at (x ∷ xs) (suc p) d e at = entry_at xs p d e at
 
 pub loop-entry-preserved : goal.loop-entry-preserved
 loop-entry-preserved c p e lt at = dite (ℕ_discrete p c.loop-entry.entry-index)
-    (λ is. subst (λ x. IsOfLane (lane-value.it x) c.args.conn → ⊥) (ap (λ i. get_or c.deref-entry-items.result.now i (Opened 0)) (sym is) ∙ entry_at c.deref-entry-items.result.now p (Opened 0) e at) (c.is_of.ensures (search rules)))
+    (λ is. subst (λ x. IsOfLane (lane-value.it x) c.args.conn → ⊥)
+    (ap (λ i. get_or c.deref-entry-items.result.now i (Opened 0)) (sym is)
+    ∙ entry_at c.deref-entry-items.result.now p (Opened 0) e at) (c.is_of.ensures (search rules)))
     (λ other. c.loop-entry.invariant p e (omega arith) at)
 
 pub returns : goal.returns

@@ -6,4 +6,5 @@ use Rattle.hist_lock.specs.contracts.tests.connections.LogKept.TheImpl.{lane-val
 use Rattle.hist_lock.proofs.tests.connections.Log.has.Given as goal
 
 abbrev pub invariant-loop-entry : goal.invariant-loop-entry
-invariant-loop-entry l = (p : ℕ) (e : Entry) → p < l.entry-index → At l.entry-items p e → IsOfLane (lane-value.it e) l.conn → ⊥
+invariant-loop-entry l = (p : ℕ) (e : Entry) → p < l.entry-index → At l.entry-items p e
+    → IsOfLane (lane-value.it e) l.conn → ⊥
