@@ -1,6 +1,9 @@
 // Calls on bytes, with contracts that speak of lists.
-ghost use Rattle.std.specs.Prelude.{◌≡◌, ◌+◌, ◌≤◌, length, drop};
+ghost use Rattle.std.specs.Prelude.{◌≡◌, ◌+◌, ◌≤◌, ◌++◌, length, drop, OnOk};
+ghost use Rattle.std.specs.Int.{w16, w32, from_le_bytes, to_le_bytes};
 ghost use Rattle.std.specs.Str.{bytes_eq};
+
+use std::alloc::AllocError;
 
 /// Whether two slices hold the same bytes.
 pub fn is_same(left: &[u8], right: &[u8]) -> bool
@@ -16,4 +19,34 @@ pub fn rest_of(bytes: &[u8], place: usize) -> &[u8]
     ensures length { length result.now + place ≡ length bytes.now }
 {
     &bytes[place..]
+}
+
+/// The number of the two bytes at the front, the lowest first.
+pub fn front_u16(bytes: &[u8]) -> u16
+    requires { 2 ≤ length bytes.now }
+    ensures { result ≡ from_le_bytes w16 bytes.now }
+{
+    u16::from_le_bytes([bytes[0], bytes[1]])
+}
+
+/// The number of the four bytes at the front, the lowest first.
+pub fn front_u32(bytes: &[u8]) -> u32
+    requires { 4 ≤ length bytes.now }
+    ensures { result ≡ from_le_bytes w32 bytes.now }
+{
+    u32::from_le_bytes([bytes[0], bytes[1], bytes[2], bytes[3]])
+}
+
+/// Adds the two bytes of a number, the lowest first.
+pub fn push_u16(out: &mut Vec<u8>, number: u16) -> Result<(), AllocError>
+    ensures { OnOk result (out.new.items ≡ out.old.items ++ to_le_bytes w16 number) }
+{
+    out.extend_from_slice(&number.to_le_bytes())
+}
+
+/// Adds the four bytes of a number, the lowest first.
+pub fn push_u32(out: &mut Vec<u8>, number: u32) -> Result<(), AllocError>
+    ensures { OnOk result (out.new.items ≡ out.old.items ++ to_le_bytes w32 number) }
+{
+    out.extend_from_slice(&number.to_le_bytes())
 }

@@ -7,7 +7,7 @@
 mod bytes;
 mod seq;
 
-pub use bytes::{is_same, rest_of};
+pub use bytes::{front_u16, front_u32, is_same, push_u16, push_u32, rest_of};
 pub use seq::Seq;
 
 #[cfg(test)]

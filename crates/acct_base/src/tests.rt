@@ -1,4 +1,4 @@
-use crate::{Seq, is_same, rest_of};
+use crate::{Seq, front_u16, front_u32, is_same, push_u16, push_u32, rest_of};
 use std::test::Fail;
 
 #[test]
@@ -18,4 +18,15 @@ fn bytes_are_compared_and_cut(rt: HostRuntime) {
     assert!(rt; is_same(b"ab", b"ab"));
     assert!(rt; !is_same(b"ab", b"ac"));
     assert_eq!(rt; rest_of(b"abc", 2), b"c".as_slice());
+}
+
+#[test]
+fn numbers_stand_low_byte_first(rt: HostRuntime) -> Result<(), Fail> {
+    let mut out = Vec::new(rt.alloc());
+    push_u16(&mut out, 0x0102)?;
+    push_u32(&mut out, 0x0304_0506)?;
+    assert_eq!(rt; out.as_slice(), [2, 1, 6, 5, 4, 3].as_slice());
+    assert_eq!(rt; front_u16(&[2, 1, 6]), 0x0102);
+    assert_eq!(rt; front_u32(&[6, 5, 4, 3, 2]), 0x0304_0506);
+    Ok(())
 }
