@@ -1,6 +1,7 @@
 pub mod Causes
 pub mod Faults
 pub mod GroupAttributes
+pub mod InfoClasses
 pub mod Limits
 pub mod Mappings
 pub mod Opnums

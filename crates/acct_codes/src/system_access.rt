@@ -41,6 +41,7 @@ pub fn system_access_is_the_standards()
     ensures policy_mode_deny_batch { POLICY_MODE_DENY_BATCH ≡ policy_mode_deny_batch }
     ensures policy_mode_deny_service { POLICY_MODE_DENY_SERVICE ≡ policy_mode_deny_service }
     ensures policy_mode_remote_interactive { POLICY_MODE_REMOTE_INTERACTIVE ≡ policy_mode_remote_interactive }
-    ensures policy_mode_deny_remote_interactive { POLICY_MODE_DENY_REMOTE_INTERACTIVE ≡ policy_mode_deny_remote_interactive }
+    ensures policy_mode_deny_remote_interactive { POLICY_MODE_DENY_REMOTE_INTERACTIVE
+        ≡ policy_mode_deny_remote_interactive }
     ensures known_system_access { KNOWN_SYSTEM_ACCESS ≡ known_system_access }
 {}
