@@ -1,5 +1,6 @@
 -- Simple folding: what its table keeps, what a folded name is, and when two names are one
-use Rattle.std.proofs.Common.{◌≡◌, ℕ, ◌<◌, inl, inr, Bool, true, false, not, ◌&&◌, ◌==◌, nat_lt, List, [], ◌∷◌, ◌++◌, length, map, slice_index_or, refl, sym, ap, subst, ◌∙◌, arith, Decides}
+use Rattle.std.proofs.Common.{◌≡◌, ℕ, ◌<◌, inl, inr, Bool, true, false, not, ◌&&◌, ◌==◌, nat_lt, List, [], ◌∷◌, ◌++◌}
+use Rattle.std.proofs.Common.{length, map, slice_index_or, refl, sym, ap, subst, ◌∙◌, arith, Decides}
 use Rattle.std.specs.Prelude.{◌↔◌}
 use Rattle.std.specs.Str.{bytes_eq}
 use Rattle.std.specs.Char.Escape.{encode_utf16}
@@ -14,7 +15,8 @@ use Rattle.ucd_case.proofs.CaseFoldingLemmas.{simple_folding_stepped}
 use Rattle.ucd_case.proofs.BoundLemmas.{simple_fold_idem}
 use Rattle.acct_calls.specs.CodePoints.{AreUnits, is_surrogate, code_points, units_of}
 use Rattle.acct_calls.specs.Folding.{folded_point, folded_points, folded, is_same, AreSame, IsEquivalence}
-use Rattle.acct_calls.proofs.Points.{Apart, Fits-from, starts_low, code_points-nil, code_points-alone, code_points-pair, units_of-nil, units_of-cons, code_points-units_of, Apart-code_points}
+use Rattle.acct_calls.proofs.Points.{Apart, Fits-from, starts_low, code_points-nil, code_points-alone, code_points-pair}
+use Rattle.acct_calls.proofs.Points.{units_of-nil, units_of-cons, code_points-units_of, Apart-code_points}
 
 -- ---- the table
 
@@ -31,7 +33,8 @@ all_begin_well point = Stepped-at_values simple_folding simple_folding_stepped b
 abbrev pub IsPlain : ℕ → Type 0
 IsPlain point = (point < 0x11_0000) × (is_surrogate point ≡ false)
 
-first_is_plain : (string : List ℕ) (point : ℕ) → begins_well string ≡ true → IsPlain point → IsPlain (slice_index_or string 0 point)
+first_is_plain : (string : List ℕ) (point : ℕ) → begins_well string ≡ true → IsPlain point →
+    IsPlain (slice_index_or string 0 point)
 first_is_plain [] point well plain = plain
 first_is_plain (first ∷ points) point well plain =
     let parts = and_parts (nat_lt first 0x11_0000) (not (is_surrogate first)) well in
@@ -82,7 +85,8 @@ folded_high point fits =
     elim (cases_Bool (is_surrogate point)) [
       | inl surrogate ↦ ap is_high_surrogate (folded_surrogate point surrogate)
       | inr plain ↦
-          plain_is_not_high (folded_point point) (folded_is_plain point (fits, plain)).1 ∙ sym (plain_is_not_high point plain)
+          plain_is_not_high (folded_point point) (folded_is_plain point (fits, plain)).1
+          ∙ sym (plain_is_not_high point plain)
     ]
 
 folded_low : (point : ℕ) → point < 0x11_0000 → is_low_surrogate (folded_point point) ≡ is_low_surrogate point
@@ -90,7 +94,8 @@ folded_low point fits =
     elim (cases_Bool (is_surrogate point)) [
       | inl surrogate ↦ ap is_low_surrogate (folded_surrogate point surrogate)
       | inr plain ↦
-          plain_is_not_low (folded_point point) (folded_is_plain point (fits, plain)).1 ∙ sym (plain_is_not_low point plain)
+          plain_is_not_low (folded_point point) (folded_is_plain point (fits, plain)).1
+          ∙ sym (plain_is_not_low point plain)
     ]
 
 -- ---- lists of code points
@@ -101,8 +106,11 @@ starts_low-map (point ∷ points) apart = folded_low point apart.0
 
 Apart-map : (points : List ℕ) → Apart points → Apart (map folded_point points)
 Apart-map [] apart = tt
-Apart-map (point ∷ points) apart =
-    (folded_fits point apart.0, (λ i. folded_high point apart.0 i && starts_low-map points apart.2 i) ∙ apart.1, Apart-map points apart.2)
+Apart-map (point ∷ points) apart = (
+  folded_fits point apart.0,
+  (λ i. folded_high point apart.0 i && starts_low-map points apart.2 i) ∙ apart.1,
+  Apart-map points apart.2,
+)
 
 map_once : (points : List ℕ) → Apart points → map folded_point (map folded_point points) ≡ map folded_point points
 map_once [] apart = refl
@@ -114,7 +122,8 @@ pub folded_points-folded : (units : List ℕ) → AreUnits units → folded_poin
 unfolding folded_points folded
 folded_points-folded units fit =
     let apart = Apart-code_points units (Fits-from units fit) in
-    ap (map folded_point) (code_points-units_of (map folded_point (code_points units)) (Apart-map (code_points units) apart))
+    ap (map folded_point) (code_points-units_of (map folded_point (code_points units))
+    (Apart-map (code_points units) apart))
     ∙ map_once (code_points units) apart
 
 pub folded-folded : (units : List ℕ) → AreUnits units → folded (folded units) ≡ folded units
@@ -131,8 +140,10 @@ tells_same left right = let tells = is_same_decides left right in (tells.0, tell
 pub equivalence : IsEquivalence
 equivalence = record {
   reflexive = λ name. (is_same_decides name name).1 refl;
-  symmetric = λ left right. same_from_decides (is_same left right) (is_same right left) (is_same_decides left right) (Decides-like (is_same right left) sym sym (is_same_decides right left));
-  transitive = λ left middle right first second. (is_same_decides left right).1 ((is_same_decides left middle).0 first ∙ (is_same_decides middle right).0 second);
+  symmetric = λ left right. same_from_decides (is_same left right) (is_same right left) (is_same_decides left right)
+      (Decides-like (is_same right left) sym sym (is_same_decides right left));
+  transitive = λ left middle right first second.
+      (is_same_decides left right).1 ((is_same_decides left middle).0 first ∙ (is_same_decides middle right).0 second);
 }
 
 pub folded_same : (units : List ℕ) → AreUnits units → is_same (folded units) units ≡ true
@@ -142,11 +153,13 @@ alike_folded : (left right : List ℕ) → folded_points left ≡ folded_points 
 unfolding folded
 alike_folded left right same = ap units_of same
 
-pub same_alike : (left right : List ℕ) → AreUnits left → AreUnits right → (is_same left right ≡ true) ↔ (folded left ≡ folded right)
+pub same_alike : (left right : List ℕ) → AreUnits left → AreUnits right → (is_same left right ≡ true)
+    ↔ (folded left ≡ folded right)
 same_alike left right left_fits right_fits =
     let tells = is_same_decides left right in (
       λ same. alike_folded left right (tells.0 same),
-      λ alike. tells.1 (sym (folded_points-folded left left_fits) ∙ ap folded_points alike ∙ folded_points-folded right right_fits),
+      λ alike. tells.1 (sym (folded_points-folded left left_fits) ∙ ap folded_points alike
+          ∙ folded_points-folded right right_fits),
     )
 
 -- ---- steps of the loops
@@ -155,25 +168,35 @@ pub folded-nil : folded [] ≡ []
 unfolding folded folded_points
 folded-nil = ap (λ points. units_of (map folded_point points)) code_points-nil ∙ units_of-nil
 
-pub folded-first : (units rest : List ℕ) (point : ℕ) → code_points units ≡ point ∷ code_points rest → folded units ≡ encode_utf16 (folded_point point) ++ folded rest
+pub folded-first : (units rest : List ℕ) (point : ℕ) → code_points units ≡ point ∷ code_points rest → folded units
+    ≡ encode_utf16 (folded_point point) ++ folded rest
 unfolding folded folded_points
 folded-first units rest point first =
-    ap (λ points. units_of (map folded_point points)) first ∙ units_of-cons (folded_point point) (map folded_point (code_points rest))
+    ap (λ points. units_of (map folded_point points)) first
+    ∙ units_of-cons (folded_point point) (map folded_point (code_points rest))
 
-pub is_same-first : (left right left_rest right_rest : List ℕ) (left_point right_point : ℕ) → code_points left ≡ left_point ∷ code_points left_rest
-    → code_points right ≡ right_point ∷ code_points right_rest → is_same left right ≡ ((folded_point left_point == folded_point right_point) && is_same left_rest right_rest)
+pub is_same-first : (left right left_rest right_rest : List ℕ) (left_point right_point : ℕ) → code_points left
+    ≡ left_point ∷ code_points left_rest
+    → code_points right ≡ right_point ∷ code_points right_rest → is_same left right
+    ≡ ((folded_point left_point == folded_point right_point) && is_same left_rest right_rest)
 unfolding is_same folded_points
 is_same-first left right left_rest right_rest left_point right_point left_first right_first =
     λ i. bytes_eq (map folded_point (left_first i)) (map folded_point (right_first i))
 
-pub is_same-longer : (left left_rest : List ℕ) (left_point : ℕ) → code_points left ≡ left_point ∷ code_points left_rest → is_same left [] ≡ false
+pub is_same-longer : (left left_rest : List ℕ) (left_point : ℕ) → code_points left ≡ left_point ∷ code_points left_rest
+    → is_same left [] ≡ false
 unfolding is_same folded_points
 is_same-longer left left_rest left_point left_first =
     λ i. bytes_eq (map folded_point (left_first i)) (map folded_point (code_points-nil i))
 
-some_point : (units : List ℕ) → 0 < length units → (point : ℕ) × (points : List ℕ) × (code_points units ≡ point ∷ points)
+some_point : (units : List ℕ) → 0 < length units → (point : ℕ) × (points : List ℕ)
+    × (code_points units ≡ point ∷ points)
 some_point [] some = absurd (omega arith)
-some_point (unit ∷ []) some = (unit, code_points [], code_points-alone unit [] (and_right (is_high_surrogate unit) false refl))
+some_point (unit ∷ []) some = (
+  unit,
+  code_points [],
+  code_points-alone unit [] (and_right (is_high_surrogate unit) false refl),
+)
 some_point (unit ∷ next ∷ units) some =
     elim (cases_Bool (is_high_surrogate unit && is_low_surrogate next)) [
       | inl pair ↦ (surrogate_pair_char unit next, code_points units, code_points-pair unit next units pair)
@@ -192,4 +215,5 @@ is_same-shorter right some =
 -- the empty name is one with empty names alone
 pub is_same_over_nothing : (units : List ℕ) → is_same [] units ≡ (length units == 0)
 is_same_over_nothing [] = is_same_empty
-is_same_over_nothing (unit ∷ units) = is_same-shorter (unit ∷ units) (omega arith) ∙ sym (ne_eqb _ _ (λ none. omega arith))
+is_same_over_nothing (unit ∷ units) = is_same-shorter (unit ∷ units) (omega arith)
+    ∙ sym (ne_eqb _ _ (λ none. omega arith))

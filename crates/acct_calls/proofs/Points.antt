@@ -1,5 +1,7 @@
 -- Code points of units, a step at a time, and how units and code points give each other back
-use Rattle.std.proofs.Common.{◌≡◌, ℕ, zero, suc, ◌+◌, ◌-◌, ◌/◌, ◌%◌, ◌<◌, ◌≤◌, ◌⊎◌, inl, inr, Bool, true, false, cond, ◌&&◌, List, [], ◌∷◌, ◌++◌, length, All, refl, sym, ap, subst, ◌∙◌, arith, zero-lt-suc, suc-le-suc, take, drop, slice_index_or}
+use Rattle.std.proofs.Common.{◌≡◌, ℕ, zero, suc, ◌+◌, ◌-◌, ◌/◌, ◌%◌, ◌<◌, ◌≤◌, ◌⊎◌, inl, inr, Bool, true, false, cond}
+use Rattle.std.proofs.Common.{◌&&◌, List, [], ◌∷◌, ◌++◌, length, All, refl, sym, ap, subst, ◌∙◌, arith, zero-lt-suc}
+use Rattle.std.proofs.Common.{suc-le-suc, take, drop, slice_index_or}
 use Rattle.std.specs.Char.{IsScalar}
 use Rattle.std.specs.Char.Escape.{encode_utf16}
 use Rattle.std.specs.Char.Utf16.{is_high_surrogate, is_low_surrogate, surrogate_pair_char}
@@ -22,7 +24,8 @@ pub code_points-nil : code_points [] ≡ []
 unfolding code_points
 code_points-nil = refl
 
-pub code_points-alone : (unit : ℕ) (units : List ℕ) → (is_high_surrogate unit && starts_low units) ≡ false → code_points (unit ∷ units) ≡ unit ∷ code_points units
+pub code_points-alone : (unit : ℕ) (units : List ℕ) → (is_high_surrogate unit && starts_low units) ≡ false →
+    code_points (unit ∷ units) ≡ unit ∷ code_points units
 unfolding code_points
 code_points-alone unit [] apart = refl
 code_points-alone unit (next ∷ units) apart =
@@ -74,7 +77,8 @@ high_is_not_low point below = grind (arith, nat_tests)
 pub one_unit : (point : ℕ) → point < 0x1_0000 → encode_utf16 point ≡ point ∷ []
 one_unit point below = grind (arith, nat_tests)
 
-pub two_units : (point : ℕ) → 0x1_0000 ≤ point → encode_utf16 point ≡ (0xD800 + (point - 0x1_0000) / 0x400) ∷ (0xDC00 + (point - 0x1_0000) % 0x400) ∷ []
+pub two_units : (point : ℕ) → 0x1_0000 ≤ point → encode_utf16 point ≡ (0xD800 + (point - 0x1_0000) / 0x400)
+    ∷ (0xDC00 + (point - 0x1_0000) % 0x400) ∷ []
 two_units point large = grind (arith, nat_tests)
 
 pub pair_units : (high low : ℕ) → IsPair high low → encode_utf16 (surrogate_pair_char high low) ≡ high ∷ low ∷ []
@@ -88,7 +92,8 @@ not_pair high low apart = false_from_ne_true _ (λ test. apart (pair_from_test h
 
 -- ---- one step, at places
 
-pub starts_low-at : (units : List ℕ) (next : ℕ) → 1 ≤ length units → next ≡ slice_index_or units 0 0 → starts_low units ≡ is_low_surrogate next
+pub starts_low-at : (units : List ℕ) (next : ℕ) → 1 ≤ length units → next ≡ slice_index_or units 0 0 → starts_low units
+    ≡ is_low_surrogate next
 starts_low-at [] next some is = absurd (omega arith)
 starts_low-at (unit ∷ units) next some is = ap is_low_surrogate (sym is)
 
@@ -98,20 +103,26 @@ starts_low_empty (unit ∷ units) none = absurd (omega arith)
 
 tail_of : (unit : ℕ) (units : List ℕ) → take (length (unit ∷ units) - 1) (drop 1 (unit ∷ units)) ≡ units
 tail_of unit units =
-    let count : length (unit ∷ units) - 1 ≡ length units = omega arith in ap (λ n. take n units) count ∙ take-length units
+    let count : length (unit ∷ units) - 1 ≡ length units = omega arith in ap (λ n. take n units) count
+    ∙ take-length units
 
-pub code_points_first : (units rest : List ℕ) (unit : ℕ) → 1 ≤ length units → unit ≡ slice_index_or units 0 0 → rest ≡ take (length units - 1) (drop 1 units)
+pub code_points_first : (units rest : List ℕ) (unit : ℕ) → 1 ≤ length units → unit ≡ slice_index_or units 0 0 → rest
+    ≡ take (length units - 1) (drop 1 units)
     → (is_high_surrogate unit && starts_low rest) ≡ false → code_points units ≡ unit ∷ code_points rest
 code_points_first [] rest unit some is rest_is apart = absurd (omega arith)
 code_points_first (first ∷ units) rest unit some is rest_is apart =
     let tail : rest ≡ units = rest_is ∙ tail_of first units in
-    subst (λ r. (is_high_surrogate unit && starts_low r) ≡ false → code_points (first ∷ units) ≡ unit ∷ code_points r) (sym tail)
-    (subst (λ u. (is_high_surrogate u && starts_low units) ≡ false → code_points (first ∷ units) ≡ u ∷ code_points units) (sym is) (code_points-alone first units))
+    subst (λ r. (is_high_surrogate unit && starts_low r) ≡ false → code_points (first ∷ units) ≡ unit ∷ code_points r)
+    (sym tail)
+    (subst (λ u. (is_high_surrogate u && starts_low units) ≡ false → code_points (first ∷ units) ≡ u
+    ∷ code_points units) (sym is) (code_points-alone first units))
     apart
 
-pub code_points_first_pair : (units rest after : List ℕ) (unit next : ℕ) → 1 ≤ length units → unit ≡ slice_index_or units 0 0
+pub code_points_first_pair : (units rest after : List ℕ) (unit next : ℕ) → 1 ≤ length units → unit
+    ≡ slice_index_or units 0 0
     → rest ≡ take (length units - 1) (drop 1 units) → 1 ≤ length rest → next ≡ slice_index_or rest 0 0
-    → after ≡ take (length rest - 1) (drop 1 rest) → IsPair unit next → code_points units ≡ surrogate_pair_char unit next ∷ code_points after
+    → after ≡ take (length rest - 1) (drop 1 rest) → IsPair unit next → code_points units
+    ≡ surrogate_pair_char unit next ∷ code_points after
 code_points_first_pair [] rest after unit next some is rest_is more next_is after_is pair = absurd (omega arith)
 code_points_first_pair (first ∷ []) rest after unit next some is rest_is more next_is after_is pair =
     let tail : rest ≡ [] = rest_is ∙ tail_of first [] in absurd (omega (arith, ap length tail))
@@ -141,7 +152,8 @@ Fits-from (unit ∷ units) all =
 pub units_of-code_points : (units : List ℕ) → Fits units → units_of (code_points units) ≡ units
 units_of-code_points [] fits = ap units_of code_points-nil ∙ units_of-nil
 units_of-code_points (unit ∷ []) fits =
-    ap units_of (code_points-alone unit [] (and_right (is_high_surrogate unit) false refl) ∙ ap (λ l. unit ∷ l) code_points-nil)
+    ap units_of (code_points-alone unit [] (and_right (is_high_surrogate unit) false refl)
+    ∙ ap (λ l. unit ∷ l) code_points-nil)
     ∙ units_of-cons unit []
     ∙ ap (λ l. l ++ units_of []) (one_unit unit fits.0)
     ∙ ap (λ l. unit ∷ l) units_of-nil
@@ -186,13 +198,15 @@ code_points-units_of (point ∷ points) apart =
     ∙ elim (cases_lt point 0x1_0000) [
       | inl below ↦
           ap (λ l. code_points (l ++ units_of points)) (one_unit point below)
-          ∙ code_points-alone point (units_of points) (ap (λ b. is_high_surrogate point && b) (starts_low-units_of points apart.2) ∙ apart.1)
+          ∙ code_points-alone point (units_of points)
+          (ap (λ b. is_high_surrogate point && b) (starts_low-units_of points apart.2) ∙ apart.1)
           ∙ ap (λ l. point ∷ l) (code_points-units_of points apart.2)
       | inr large ↦
           let high = 0xD800 + (point - 0x1_0000) / 0x400 in
           let low = 0xDC00 + (point - 0x1_0000) % 0x400 in
           let fit : point < 0x11_0000 = apart.0 in
-          let pair : IsPair high low = record { high_from = omega arith; high_below = omega arith; low_from = omega arith; low_below = omega arith } in
+          let pair : IsPair high low = record
+          { high_from = omega arith; high_below = omega arith; low_from = omega arith; low_below = omega arith } in
           let same : surrogate_pair_char high low ≡ point = omega arith in
           ap (λ l. code_points (l ++ units_of points)) (two_units point large)
           ∙ code_points-pair high low (units_of points) (pair_test high low pair)
@@ -201,7 +215,8 @@ code_points-units_of (point ∷ points) apart =
 
 starts_low-code_points : (units : List ℕ) → starts_low (code_points units) ≡ starts_low units
 starts_low-code_points [] = ap starts_low code_points-nil
-starts_low-code_points (unit ∷ []) = ap starts_low (code_points-alone unit [] (and_right (is_high_surrogate unit) false refl))
+starts_low-code_points (unit ∷ []) =
+    ap starts_low (code_points-alone unit [] (and_right (is_high_surrogate unit) false refl))
 starts_low-code_points (unit ∷ next ∷ units) =
     elim (cases_Bool (is_high_surrogate unit && is_low_surrogate next)) [
       | inl test ↦
@@ -215,22 +230,31 @@ starts_low-code_points (unit ∷ next ∷ units) =
 pub Apart-code_points : (units : List ℕ) → Fits units → Apart (code_points units)
 Apart-code_points [] fits = subst Apart (sym code_points-nil) tt
 Apart-code_points (unit ∷ []) fits =
-    subst Apart (sym (code_points-alone unit [] (and_right (is_high_surrogate unit) false refl) ∙ ap (λ l. unit ∷ l) code_points-nil)) (omega arith, and_right (is_high_surrogate unit) false refl, tt)
+    subst Apart (sym (code_points-alone unit [] (and_right (is_high_surrogate unit) false refl)
+    ∙ ap (λ l. unit ∷ l) code_points-nil)) (omega arith, and_right (is_high_surrogate unit) false refl, tt)
 Apart-code_points (unit ∷ next ∷ units) fits =
     elim (cases_Bool (is_high_surrogate unit && is_low_surrogate next)) [
       | inl test ↦
           let pair = pair_from_test unit next test in
-          subst Apart (sym (code_points-pair unit next units test))
-          (omega arith, large_is_not_high (surrogate_pair_char unit next) (starts_low (code_points units)) (omega arith), Apart-code_points units fits.1.1)
+          subst Apart (sym (code_points-pair unit next units test)) (
+            omega arith,
+            large_is_not_high (surrogate_pair_char unit next) (starts_low (code_points units))
+                (omega arith),
+            Apart-code_points units fits.1.1,
+          )
       | inr apart ↦
           let fit : unit < 0x1_0000 = fits.0 in
-          subst Apart (sym (code_points-alone unit (next ∷ units) apart))
-          (omega arith, ap (λ b. is_high_surrogate unit && b) (starts_low-code_points (next ∷ units)) ∙ apart, Apart-code_points (next ∷ units) fits.1)
+          subst Apart (sym (code_points-alone unit (next ∷ units) apart)) (
+            omega arith,
+            ap (λ b. is_high_surrogate unit && b) (starts_low-code_points (next ∷ units)) ∙ apart,
+            Apart-code_points (next ∷ units) fits.1,
+          )
     ]
 
 -- ---- units of characters
 
-not_high : (point : ℕ) (b : Bool) → (point < 0xD800) ⊎ ((0xE000 ≤ point) × (point < 0x11_0000)) → (is_high_surrogate point && b) ≡ false
+not_high : (point : ℕ) (b : Bool) → (point < 0xD800) ⊎ ((0xE000 ≤ point) × (point < 0x11_0000)) →
+    (is_high_surrogate point && b) ≡ false
 not_high point b (inl below) = grind (arith, nat_tests)
 not_high point b (inr above) = grind (arith, nat_tests)
 
@@ -241,17 +265,23 @@ scalar_fits point (inr above) = above.1
 Apart-characters : (characters : List ℕ) → All IsScalar characters → Apart characters
 Apart-characters [] all = tt
 Apart-characters (character ∷ characters) all =
-    let range = scalar_cases character (all zero character (zero-lt-suc _)) in
-    (scalar_fits character range, not_high character (starts_low characters) range, Apart-characters characters (λ k d within. all (suc k) d (suc-le-suc within)))
+    let range = scalar_cases character (all zero character (zero-lt-suc _)) in (
+      scalar_fits character range,
+      not_high character (starts_low characters) range,
+      Apart-characters characters (λ k d within. all (suc k) d (suc-le-suc within)),
+    )
 
-pub code_points-characters : (characters : List ℕ) → All IsScalar characters → code_points (units_of characters) ≡ characters
+pub code_points-characters : (characters : List ℕ) → All IsScalar characters → code_points (units_of characters)
+    ≡ characters
 code_points-characters characters all = code_points-units_of characters (Apart-characters characters all)
 
 pub units_of-append : (points more : List ℕ) → units_of (points ++ more) ≡ units_of points ++ units_of more
 unfolding units_of
 units_of-append points more = flat_map-append encode_utf16 points more
 
-pub units_of-more : (points : List ℕ) (point : ℕ) → units_of (points ++ point ∷ []) ≡ units_of points ++ encode_utf16 point
+pub units_of-more : (points : List ℕ) (point : ℕ) → units_of (points ++ point ∷ []) ≡ units_of points
+    ++ encode_utf16 point
 units_of-more points point =
     units_of-append points (point ∷ [])
-    ∙ ap (λ l. units_of points ++ l) (units_of-cons point [] ∙ ap (λ l. encode_utf16 point ++ l) units_of-nil ∙ append-nil (encode_utf16 point))
+    ∙ ap (λ l. units_of points ++ l)
+    (units_of-cons point [] ∙ ap (λ l. encode_utf16 point ++ l) units_of-nil ∙ append-nil (encode_utf16 point))

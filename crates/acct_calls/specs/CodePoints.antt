@@ -17,7 +17,8 @@ is_surrogate point = nat_le 0xD800 point && nat_lt point 0xE000
 unfoldable pub code_points : List ℕ → List ℕ
 code_points [] = []
 code_points (unit ∷ []) = unit ∷ []
-code_points (unit ∷ next ∷ units) = if is_high_surrogate unit && is_low_surrogate next then surrogate_pair_char unit next ∷ code_points units
+code_points (unit ∷ next ∷ units) = if is_high_surrogate unit && is_low_surrogate next then
+    surrogate_pair_char unit next ∷ code_points units
     else unit ∷ code_points (next ∷ units)
 
 -- the units of code points, one or two for each

@@ -32,7 +32,8 @@ TestTellsSame = (left right : List ℕ) → (is_same left right ≡ true) ↔ Ar
 pub record IsEquivalence : Type 0 where
   pub reflexive : (name : List ℕ) → is_same name name ≡ true
   pub symmetric : (left right : List ℕ) → is_same left right ≡ is_same right left
-  pub transitive : (left middle right : List ℕ) → is_same left middle ≡ true → is_same middle right ≡ true → is_same left right ≡ true
+  pub transitive : (left middle right : List ℕ) → is_same left middle ≡ true → is_same middle right ≡ true →
+      is_same left right ≡ true
 
 -- a folded name is one with the name
 abbrev pub FoldedIsSame : Type 0
@@ -44,4 +45,5 @@ FoldsOnce = (units : List ℕ) → AreUnits units → folded (folded units) ≡ 
 
 -- two names are one exactly where they fold to one list of units
 abbrev pub SameFoldAlike : Type 0
-SameFoldAlike = (left right : List ℕ) → AreUnits left → AreUnits right → (is_same left right ≡ true) ↔ (folded left ≡ folded right)
+SameFoldAlike = (left right : List ℕ) → AreUnits left → AreUnits right → (is_same left right ≡ true)
+    ↔ (folded left ≡ folded right)

@@ -1,6 +1,7 @@
 // The rules for names of accounts.
 ghost use Rattle.std.specs.Prelude.{◌≡◌, ◌≤◌};
-ghost use Rattle.acct_calls.specs.Validity.{most_units, has_length, may_stand, all_may_stand, is_dots_and_spaces, is_valid_name};
+ghost use Rattle.acct_calls.specs.Validity.{most_units, has_length, may_stand, all_may_stand, is_dots_and_spaces};
+ghost use Rattle.acct_calls.specs.Validity.{is_valid_name};
 
 use crate::code_points::{FirstPoint, first_point};
 use acct_codes::Kind;

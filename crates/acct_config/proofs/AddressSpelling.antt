@@ -1,5 +1,7 @@
 -- Addresses are exactly the texts of their grammar.
-use Rattle.std.proofs.Common.{◌≡◌, ℕ, ◌+◌, ◌<◌, ◌≤◌, ◌⊎◌, ◌==◌, ◌||◌, not, Bool, true, false, codes, List, [], ◌∷◌, ◌++◌, length, drop, Option, Some, None, refl, ap, ◌∙◌, arith, inl, inr, ⊎_elim, nat_lt, nat_eq}
+use Rattle.std.proofs.Common.{◌≡◌, ℕ, ◌+◌, ◌<◌, ◌≤◌, ◌⊎◌, ◌==◌, ◌||◌, not, Bool, true, false, codes, List, [], ◌∷◌}
+use Rattle.std.proofs.Common.{◌++◌, length, drop, Option, Some, None, refl, ap, ◌∙◌, arith, inl, inr, ⊎_elim, nat_lt}
+use Rattle.std.proofs.Common.{nat_eq}
 use Rattle.std.proofs.lemmas.Bool.{and_parts, and_from}
 use Rattle.std.proofs.lemmas.Bool.Decides.{nat_tests}
 use Rattle.std.proofs.lemmas.List.{length-append}
@@ -42,7 +44,8 @@ port-is text is = by (decimal_of 5 text) refl is
         let high : port ≤ 65535 = grind (arith, nat_tests) in
         record { port = port; low = low; high = high; spelled = decimal_of-is 5 text port at (omega arith) }
 
-tcp-is : (text rest : List ℕ) → text ≡ codes "tcp:" ++ rest → (o : Option (List ℕ × List ℕ)) → parted 58 rest ≡ o → is_parted_host_port o ≡ true → IsTcp text
+tcp-is : (text rest : List ℕ) → text ≡ codes "tcp:" ++ rest → (o : Option (List ℕ × List ℕ)) → parted 58 rest ≡ o →
+    is_parted_host_port o ≡ true → IsTcp text
 tcp-is text rest begins None at is = absurd (cc)
 tcp-is text rest begins (Some (host, port)) at is =
     let both = and_parts (not (length host == 0)) (is_port port) is in
@@ -61,7 +64,8 @@ tcp-is text rest begins (Some (host, port)) at is =
 
 unix-is : (text : List ℕ) → text ≡ codes "unix:" ++ drop 5 text → nat_lt 5 (length text) ≡ true → IsUnix text
 unix-is text begins long =
-    let more : length text ≡ 5 + length (drop 5 text) = ap length begins ∙ length-append (codes "unix:") (drop 5 text) in
+    let more : length text ≡ 5 + length (drop 5 text) = ap length begins
+    ∙ length-append (codes "unix:") (drop 5 text) in
     let above : 5 < length text = grind (arith, nat_tests) in
     record { path = drop 5 text; there = omega arith; spelled = begins }
 
@@ -78,7 +82,8 @@ tcp-spelled text is =
     let some = is.there in
     let there : not (length is.host == 0) ≡ true = grind (arith, nat_tests) in
     let cut : parted 58 rest ≡ Some (is.host, decimal is.port) = parted_at 58 is.host (decimal is.port) is.no_colon in
-    let whole : is_parted_host_port (parted 58 rest) ≡ true = ap is_parted_host_port cut ∙ and_from _ _ there (port-word-is is.port is.low is.high) in
+    let whole : is_parted_host_port (parted 58 rest) ≡ true = ap is_parted_host_port cut
+    ∙ and_from _ _ there (port-word-is is.port is.low is.high) in
     rw is.spelled (rw whole refl)
 
 unix-spelled : (text : List ℕ) → IsUnix text → is_address text ≡ true
@@ -92,7 +97,8 @@ pub addresses_spelled : AddressesAreSpelled
 unfolding is_address is_host_port
 addresses_spelled text = (
   λ is. ⊎_elim
-      (λ tcp. let both = and_parts _ _ tcp in inl (tcp-is text (drop 4 text) (starts-is (codes "tcp:") text both.0) (parted 58 (drop 4 text)) refl both.1))
+      (λ tcp. let both = and_parts _ _ tcp in
+      inl (tcp-is text (drop 4 text) (starts-is (codes "tcp:") text both.0) (parted 58 (drop 4 text)) refl both.1))
       (λ unix. let both = and_parts _ _ unix in inr (unix-is text (starts-is (codes "unix:") text both.0) both.1))
       (or_cases _ _ is),
   ⊎_elim (tcp-spelled text) (unix-spelled text),

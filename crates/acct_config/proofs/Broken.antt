@@ -1,5 +1,6 @@
 -- The first broken rule is the least.
-use Rattle.std.proofs.Common.{◌≡◌, ℕ, zero, suc, ◌+◌, ◌<◌, Bool, true, false, List, [], ◌∷◌, Some, None, length, refl, subst, arith}
+use Rattle.std.proofs.Common.{◌≡◌, ℕ, zero, suc, ◌+◌, ◌<◌, Bool, true, false, List, [], ◌∷◌, Some, None, length, refl}
+use Rattle.std.proofs.Common.{subst, arith}
 use Rattle.std.specs.List.{slice_get}
 use Rattle.acct_codes.specs.declared.kind.Kind.TheVariants.{Server, Domain, Group, Alias, User, Policy, Account}
 use Rattle.acct_config.specs.Laws.{FirstBrokenIsLeast, NoneBrokenIsEachKept, DescriptorsStandByKind}
@@ -10,7 +11,8 @@ record IsFirstFalse (ks : List Bool) (i : ℕ) : Type 0 where
   pub here : slice_get ks i ≡ Some false
   pub before : (j : ℕ) → j < i → slice_get ks j ≡ Some true
 
-before_more : (ks : List Bool) (i : ℕ) → ((j : ℕ) → j < i → slice_get ks j ≡ Some true) → (j : ℕ) → j < suc i → slice_get (true ∷ ks) j ≡ Some true
+before_more : (ks : List Bool) (i : ℕ) → ((j : ℕ) → j < i → slice_get ks j ≡ Some true) → (j : ℕ) → j < suc i →
+    slice_get (true ∷ ks) j ≡ Some true
 before_more ks i h zero l = refl
 before_more ks i h (suc j) l = h j (omega arith)
 
@@ -30,7 +32,8 @@ first_is_least bytes number h =
     let first = subst (IsFirstFalse (rules bytes)) same f in
     record { broken = first.here; before = first.before }
 
-each_kept : (n : ℕ) (ks : List Bool) → first_broken_from n ks ≡ None → (i : ℕ) → i < length ks → slice_get ks i ≡ Some true
+each_kept : (n : ℕ) (ks : List Bool) → first_broken_from n ks ≡ None → (i : ℕ) → i < length ks → slice_get ks i
+    ≡ Some true
 each_kept n [] h i l = absurd (omega arith)
 each_kept n (true ∷ ks) h zero l = refl
 each_kept n (true ∷ ks) h (suc i) l = each_kept (suc n) ks h i (omega arith)

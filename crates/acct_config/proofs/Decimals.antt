@@ -1,8 +1,10 @@
 -- Numbers in a text, and their digits.
-use Rattle.std.proofs.Common.{◌≡◌, ℕ, zero, suc, ◌+◌, ◌-◌, ◌*◌, ◌/◌, ◌^◌, ◌<◌, ◌≤◌, ◌==◌, ◌&&◌, not, true, false, List, [], ◌∷◌, ◌++◌, length, Some, refl, sym, ap, ◌∙◌, arith, inl, inr, nat_lt, nat_le, get_or}
+use Rattle.std.proofs.Common.{◌≡◌, ℕ, zero, suc, ◌+◌, ◌-◌, ◌*◌, ◌/◌, ◌^◌, ◌<◌, ◌≤◌, ◌==◌, ◌&&◌, not, true, false, List}
+use Rattle.std.proofs.Common.{[], ◌∷◌, ◌++◌, length, Some, refl, sym, ap, ◌∙◌, arith, inl, inr, nat_lt, nat_le, get_or}
 use Rattle.std.proofs.lemmas.Bool.{cases_Bool, and_parts}
 use Rattle.std.proofs.lemmas.Bool.Decides.{nat_tests}
-use Rattle.std.proofs.lemmas.Fmt.{decimal_is_IsNumeral, decimal-digits_value, decimal_digit, decimal_step, length-decimal-le}
+use Rattle.std.proofs.lemmas.Fmt.{decimal_is_IsNumeral, decimal-digits_value, decimal_digit, decimal_step}
+use Rattle.std.proofs.lemmas.Fmt.{length-decimal-le}
 use Rattle.std.proofs.lemmas.Str.{digit_value_digit}
 use Rattle.std.proofs.lemmas.Str.Parse.{IsNumeralModel, digit_from_value}
 use Rattle.std.specs.Char.{digit_value, is_digit}
@@ -14,7 +16,8 @@ own : IsNumeralModel (AllDigits 10) (digits_value 10)
 own = record { to = λ ds h. h; from = λ ds h. h; same = λ ds h. refl }
 
 -- the digits that are read in decimal
-decimal_digits : (k : ℕ) (text : List ℕ) (n : ℕ) → decimal_from k text ≡ Some n → AllDigits 10 text × (digits_value_after 10 k text ≡ n)
+decimal_digits : (k : ℕ) (text : List ℕ) (n : ℕ) → decimal_from k text ≡ Some n → AllDigits 10 text
+    × (digits_value_after 10 k text ≡ n)
 decimal_digits k [] n read = (tt, cc)
 decimal_digits k (b ∷ text) n read =
     elim (cases_Bool (is_within 48 57 b)) [
@@ -30,7 +33,8 @@ decimal_digits k (b ∷ text) n read =
     ]
 
 -- and those that are read in hexadecimal
-pub hexadecimal_digits : (k : ℕ) (text : List ℕ) (n : ℕ) → hexadecimal_from k text ≡ Some n → AllDigits 16 text × (digits_value_after 16 k text ≡ n)
+pub hexadecimal_digits : (k : ℕ) (text : List ℕ) (n : ℕ) → hexadecimal_from k text ≡ Some n → AllDigits 16 text
+    × (digits_value_after 16 k text ≡ n)
 hexadecimal_digits k [] n read = (tt, cc)
 hexadecimal_digits k (b ∷ text) n read =
     elim (cases_Bool (is_digit b 16)) [
@@ -43,7 +47,8 @@ hexadecimal_digits k (b ∷ text) n read =
     ]
 
 -- digits are read
-digits_decimal_from : (k : ℕ) (text : List ℕ) → AllDigits 10 text → decimal_from k text ≡ Some (digits_value_after 10 k text)
+digits_decimal_from : (k : ℕ) (text : List ℕ) → AllDigits 10 text → decimal_from k text
+    ≡ Some (digits_value_after 10 k text)
 digits_decimal_from k [] all = refl
 digits_decimal_from k (b ∷ text) all =
     let digit = digit_value_digit b (digit_from_value b all.0) in
@@ -52,7 +57,8 @@ digits_decimal_from k (b ∷ text) all =
     let same : 10 * k + (b - 48) ≡ k * 10 + digit_value b = omega (arith, all.0) in
     rw (is, same) (digits_decimal_from (k * 10 + digit_value b) text all.1)
 
-pub digits_hexadecimal_from : (k : ℕ) (text : List ℕ) → AllDigits 16 text → hexadecimal_from k text ≡ Some (digits_value_after 16 k text)
+pub digits_hexadecimal_from : (k : ℕ) (text : List ℕ) → AllDigits 16 text → hexadecimal_from k text
+    ≡ Some (digits_value_after 16 k text)
 digits_hexadecimal_from k [] all = refl
 digits_hexadecimal_from k (b ∷ text) all =
     let below : digit_value b < 16 = all.0 in
@@ -72,7 +78,9 @@ begins_without_zero (suc k) n le some small =
       | inr high ↦
           let above : 10 ≤ n = grind (arith, nat_tests) in
           let front : 0 < length (decimal (n / 10)) = (decimal_is_IsNumeral (n / 10) (omega arith)).0.0 in
-          rw (decimal_step n above small) (begins-append (decimal (n / 10)) _ front ∙ begins_without_zero k (n / 10) (omega arith) (omega arith) (omega arith))
+          rw (decimal_step n above small)
+          (begins-append (decimal (n / 10)) _ front
+          ∙ begins_without_zero k (n / 10) (omega arith) (omega arith) (omega arith))
     ]
 
 leads : (n : ℕ) → n < 2 ^ 64 → (begins_with_zero (decimal n) && nat_lt 1 (length (decimal n))) ≡ false
@@ -89,7 +97,8 @@ decimal_of-decimal most n some below small =
     let within : is_within 1 most (length (decimal n)) ≡ true = grind (arith, nat_tests) in
     rw (within, leads n small) (digits_decimal_from 0 (decimal n) numeral.0.1 ∙ ap (λ m. Some m) numeral.1)
 
-leading : (text : List ℕ) → 0 < length text → not (begins_with_zero text && nat_lt 1 (length text)) ≡ true → get_or text 0 0 ≡ 48 → length text ≡ 1
+leading : (text : List ℕ) → 0 < length text → not (begins_with_zero text && nat_lt 1 (length text)) ≡ true →
+    get_or text 0 0 ≡ 48 → length text ≡ 1
 leading [] some lead is = absurd (omega arith)
 leading (b ∷ []) some lead is = refl
 leading (b ∷ c ∷ text) some lead is =
@@ -106,7 +115,8 @@ decimal_of-is most text n read small =
       | inl is ↦
           let rest : decimal_from 0 text ≡ Some n = rw is at read in
           let digits = decimal_digits 0 text n rest in
-          let both = and_parts (is_within 1 most (length text)) (not (begins_with_zero text && nat_lt 1 (length text))) is in
+          let both = and_parts (is_within 1 most (length text))
+          (not (begins_with_zero text && nat_lt 1 (length text))) is in
           let low = and_parts (nat_le 1 (length text)) (nat_le (length text) most) both.0 in
           let some : 0 < length text = grind (arith, nat_tests) in
           let lead : get_or text 0 0 ≡ 48 → length text ≡ 1 = λ zero. leading text some both.1 zero in

@@ -1,5 +1,7 @@
 -- A document that breaks no rule spells a configuration that is right.
-use Rattle.std.proofs.Common.{◌≡◌, ℕ, zero, suc, codes, ℤ, pos, negsuc, ◌&&◌, Bool, true, false, List, [], ◌∷◌, map, length, drop, Option, Some, None, refl, ◌≤◌, arith, ap, ◌∙◌, nat_le, is_some, unwrap_or, option_map}
+use Rattle.std.proofs.Common.{◌≡◌, ℕ, zero, suc, codes, ℤ, pos, negsuc, ◌&&◌, Bool, true, false, List, [], ◌∷◌, map}
+use Rattle.std.proofs.Common.{length, drop, Option, Some, None, refl, ◌≤◌, arith, ap, ◌∙◌, nat_le, is_some, unwrap_or}
+use Rattle.std.proofs.Common.{option_map}
 use Rattle.std.proofs.lemmas.Bool.{and_parts, and_from}
 use Rattle.std.proofs.lemmas.Bool.Decides.{nat_tests}
 use Rattle.std.proofs.lemmas.List.{length-map}
@@ -14,37 +16,47 @@ use Rattle.acct_config.specs.declared.limits.Limit.TheVariants.{Calls, Bytes, Co
 use Rattle.acct_config.specs.Document.{elements, elements_of}
 use Rattle.acct_config.specs.Kinds.{kinds}
 use Rattle.acct_config.specs.Ranges.{each_limit, range_of}
-use Rattle.acct_config.specs.Right.{IsRight, AreLimits, IsInRange, is_right_listener, is_right_list, is_right_descriptor}
-use Rattle.acct_config.specs.Rules.{first_broken_from, kept, domain_sid, listeners, listener_name, have_names, has_address, sid_of, is_sid, token_texts, has_token, is_number_within, workers, links, has_counts, descriptor_table, is_ace, ace_texts, has_aces, aces_are_entries, limit_number, is_in_range}
+use Rattle.acct_config.specs.Right.{IsRight, AreLimits, IsInRange, is_right_listener, is_right_list}
+use Rattle.acct_config.specs.Right.{is_right_descriptor}
+use Rattle.acct_config.specs.Rules.{first_broken_from, kept, domain_sid, listeners, listener_name, have_names}
+use Rattle.acct_config.specs.Rules.{has_address, sid_of, is_sid, token_texts, has_token, is_number_within, workers}
+use Rattle.acct_config.specs.Rules.{links, has_counts, descriptor_table, is_ace, ace_texts, has_aces, aces_are_entries}
+use Rattle.acct_config.specs.Rules.{limit_number, is_in_range}
 use Rattle.acct_config.specs.Shape.{found}
-use Rattle.acct_config.specs.Spelled.{count_of, listener_of, ace_at, acl_of, descriptor_of, limit_of, limits_of, config_of}
+use Rattle.acct_config.specs.Spelled.{count_of, listener_of, ace_at, acl_of, descriptor_of, limit_of, limits_of}
+use Rattle.acct_config.specs.Spelled.{config_of}
 use Rattle.acct_calls.specs.Domains.{is_domain_sid}
 use Rattle.acct_config.specs.Values.{administrators, is_listener_name, are_distinct}
 use Rattle.acct_config.specs.Words.{is_within}
 
 -- where no rule is broken, each is kept
-nth_kept : (number : ℕ) (rules : List Bool) (i : ℕ) (k : Bool) → first_broken_from number rules ≡ None → slice_get rules i ≡ Some k → k ≡ true
+nth_kept : (number : ℕ) (rules : List Bool) (i : ℕ) (k : Bool) → first_broken_from number rules ≡ None →
+    slice_get rules i ≡ Some k → k ≡ true
 nth_kept number [] i k none at = absurd (cc)
 nth_kept number (true ∷ rules) zero k none at = cc
 nth_kept number (true ∷ rules) (suc i) k none at = nth_kept (suc number) rules i k none at
 nth_kept number (false ∷ rules) i k none at = absurd (cc)
 
-sid-kept : (sid : Option SidValue) → option_map_or is_domain_sid sid false ≡ true → is_domain_sid (unwrap_or sid administrators) ≡ true
+sid-kept : (sid : Option SidValue) → option_map_or is_domain_sid sid false ≡ true →
+    is_domain_sid (unwrap_or sid administrators) ≡ true
 sid-kept None may = absurd (cc)
 sid-kept (Some sid) may = may
 
 -- nothing is left out of a list of which each element gives one
-length-cons_option : {X : Type 0} (x : Option X) (xs : List X) → is_some x ≡ true → length (cons_option x xs) ≡ suc (length xs)
+length-cons_option : {X : Type 0} (x : Option X) (xs : List X) → is_some x ≡ true → length (cons_option x xs)
+    ≡ suc (length xs)
 length-cons_option None xs is = absurd (cc)
 length-cons_option (Some x) xs is = refl
 
-length-filter_map : {X Y : Type 0} (f : X → Option Y) (xs : List X) → list_all (λ x. is_some (f x)) xs ≡ true → length (filter_map f xs) ≡ length xs
+length-filter_map : {X Y : Type 0} (f : X → Option Y) (xs : List X) → list_all (λ x. is_some (f x)) xs ≡ true →
+    length (filter_map f xs) ≡ length xs
 length-filter_map f [] all = refl
 length-filter_map f (x ∷ xs) all =
     let both = and_parts _ _ all in
     length-cons_option (f x) (filter_map f xs) both.0 ∙ ap suc (length-filter_map f xs both.1)
 
-within-kept : (low high : ℕ) (number : ℤ) → is_number_within low high number ≡ true → is_within low high (count_of high number) ≡ true
+within-kept : (low high : ℕ) (number : ℤ) → is_number_within low high number ≡ true →
+    is_within low high (count_of high number) ≡ true
 within-kept low high (pos number) is =
     let both = and_parts (nat_le low number) (nat_le number high) is in
     rw both.1 is
@@ -52,33 +64,42 @@ within-kept low high (negsuc number) is = absurd (cc)
 
 token-kept : (listener : Data) → has_token listener ≡ true → is_within 1 64 (length (listener_of listener).token) ≡ true
 token-kept listener has =
-    let both = and_parts (is_within 1 64 (length (token_texts listener))) (list_all is_sid (token_texts listener)) has in
+    let both = and_parts (is_within 1 64 (length (token_texts listener)))
+    (list_all is_sid (token_texts listener)) has in
     rw (length-filter_map sid_of (token_texts listener) both.1) both.0
 
-listener-kept : (listener : Data) → is_listener_name (listener_name listener) ≡ true → has_address listener ≡ true → has_token listener ≡ true → has_counts listener ≡ true
+listener-kept : (listener : Data) → is_listener_name (listener_name listener) ≡ true → has_address listener ≡ true →
+    has_token listener ≡ true → has_counts listener ≡ true
     → is_right_listener (listener_of listener) ≡ true
 listener-kept listener name address token counts =
-    let both = and_parts (is_number_within 1 64 (workers listener)) (is_number_within 0 4294967295 (links listener)) counts in
-    and_from _ _ (and_from _ _ (and_from _ _ (and_from _ _ name address) (token-kept listener token)) (within-kept 1 64 (workers listener) both.0))
+    let both = and_parts (is_number_within 1 64 (workers listener))
+    (is_number_within 0 4294967295 (links listener)) counts in
+    and_from _ _ (and_from _ _ (and_from _ _ (and_from _ _ name address) (token-kept listener token))
+    (within-kept 1 64 (workers listener) both.0))
     (within-kept 0 4294967295 (links listener) both.1)
 
-listeners-kept : (tables : List Data) → list_all (λ listener. is_listener_name (listener_name listener)) tables ≡ true → list_all has_address tables ≡ true
-    → list_all has_token tables ≡ true → list_all has_counts tables ≡ true → list_all is_right_listener (map listener_of tables) ≡ true
+listeners-kept : (tables : List Data) → list_all (λ listener. is_listener_name (listener_name listener)) tables ≡ true →
+    list_all has_address tables ≡ true
+    → list_all has_token tables ≡ true → list_all has_counts tables ≡ true →
+    list_all is_right_listener (map listener_of tables) ≡ true
 listeners-kept [] names addresses tokens counts = refl
 listeners-kept (given ∷ tables) names addresses tokens counts =
     let name = and_parts _ _ names in
     let address = and_parts _ _ addresses in
     let token = and_parts _ _ tokens in
     let count = and_parts _ _ counts in
-    and_from _ _ (listener-kept given name.0 address.0 token.0 count.0) (listeners-kept tables name.1 address.1 token.1 count.1)
+    and_from _ _ (listener-kept given name.0 address.0 token.0 count.0)
+    (listeners-kept tables name.1 address.1 token.1 count.1)
 
 -- a list of entries, which may be absent
-list-kept : (aces : Option Data) → is_within 0 800 (length (elements_of aces)) ≡ true → list_all is_ace (elements_of aces) ≡ true
+list-kept : (aces : Option Data) → is_within 0 800 (length (elements_of aces)) ≡ true →
+    list_all is_ace (elements_of aces) ≡ true
     → is_right_list (option_map acl_of aces) ≡ true
 list-kept None few all = refl
 list-kept (Some aces) few all = rw (length-filter_map ace_at (elements aces) all) few
 
-descriptor-kept : (given : Option Data) → found true has_aces given ≡ true → is_right_descriptor (descriptor_of given) ≡ true
+descriptor-kept : (given : Option Data) → found true has_aces given ≡ true → is_right_descriptor (descriptor_of given)
+    ≡ true
 descriptor-kept None has = refl
 descriptor-kept (Some given) has =
     let both = and_parts (is_within 0 800 (length (ace_texts given))) (list_all is_ace (ace_texts given)) has in
@@ -98,7 +119,8 @@ le-kept m n le = grind (arith, nat_tests)
 limit-kept : (d : Data) (limit : Limit) → is_in_range d limit ≡ true → IsInRange limit (limit_of d limit)
 limit-kept d limit is =
     let within = within-kept (range_of limit).low (range_of limit).high (limit_number d limit) is in
-    let both = and_parts (nat_le (range_of limit).low (limit_of d limit)) (nat_le (limit_of d limit) (range_of limit).high) within in
+    let both = and_parts (nat_le (range_of limit).low (limit_of d limit))
+    (nat_le (limit_of d limit) (range_of limit).high) within in
     (le-kept (range_of limit).low (limit_of d limit) both.0, le-kept (limit_of d limit) (range_of limit).high both.1)
 
 limits-kept : (d : Data) → list_all (is_in_range d) each_limit ≡ true → AreLimits (limits_of d)
@@ -120,13 +142,17 @@ pub right-read : (d : Data) → first_broken_from 1 (kept d) ≡ None → IsRigh
 unfolding kept
 right-read d none =
     let names : have_names (listeners d) ≡ true = nth_kept 1 (kept d) 3 _ none refl in
-    let parts = and_parts (is_within 1 16 (length (listeners d)) && list_all (λ listener. is_listener_name (listener_name listener)) (listeners d)) (are_distinct (map listener_name (listeners d))) names in
-    let counted = and_parts (is_within 1 16 (length (listeners d))) (list_all (λ listener. is_listener_name (listener_name listener)) (listeners d)) parts.0 in
+    let parts = and_parts (is_within 1 16 (length (listeners d))
+    && list_all (λ listener. is_listener_name (listener_name listener)) (listeners d))
+    (are_distinct (map listener_name (listeners d))) names in
+    let counted = and_parts (is_within 1 16 (length (listeners d)))
+    (list_all (λ listener. is_listener_name (listener_name listener)) (listeners d)) parts.0 in
     record {
       name = nth_kept 1 (kept d) 1 _ none refl;
       sid = sid-kept (domain_sid d) (nth_kept 1 (kept d) 2 _ none refl);
       listener_count = simp (length-map) counted.0;
-      listeners = listeners-kept (listeners d) counted.1 (nth_kept 1 (kept d) 4 _ none refl) (nth_kept 1 (kept d) 5 _ none refl) (nth_kept 1 (kept d) 6 _ none refl);
+      listeners = listeners-kept (listeners d) counted.1 (nth_kept 1 (kept d) 4 _ none refl)
+          (nth_kept 1 (kept d) 5 _ none refl) (nth_kept 1 (kept d) 6 _ none refl);
       names_differ = simp (map-map) parts.1;
       descriptor_count = refl;
       descriptors = descriptors-kept d kinds (nth_kept 1 (kept d) 8 _ none refl);

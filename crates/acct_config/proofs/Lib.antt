@@ -5,5 +5,6 @@ pub mod Digits
 pub mod Kept
 pub mod Parsed
 pub mod Parts
+mod Sought
 pub mod Spelling
 pub mod Views

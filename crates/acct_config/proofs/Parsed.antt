@@ -14,5 +14,6 @@ document-None bytes refused =
       | inr other ↦ rw other
     ]
 
-pub document-Some : (bytes : List ℕ) (found : Members) → IsUtf8 bytes → parse_document bytes ≡ Some found → document bytes ≡ Some found
+pub document-Some : (bytes : List ℕ) (found : Members) → IsUtf8 bytes → parse_document bytes ≡ Some found →
+    document bytes ≡ Some found
 document-Some bytes found text parsed = rw (is_utf8-from_IsUtf8 bytes text) parsed

@@ -1,5 +1,6 @@
 -- The addresses of listeners: `tcp:HOST:PORT` and `unix:PATH`.
-use Rattle.std.specs.Prelude.{ℕ, Bool, false, not, ◌&&◌, ◌||◌, codes, List, length, Option, Some, None, drop, nat_eq, nat_lt, ◌==◌}
+use Rattle.std.specs.Prelude.{ℕ, Bool, false, not, ◌&&◌, ◌||◌, codes, List, length, Option, Some, None, drop, nat_eq}
+use Rattle.std.specs.Prelude.{nat_lt, ◌==◌}
 use Rattle.std.specs.List.{starts_with}
 use Rattle.std.specs.Option.{option_map_or}
 use Rattle.acct_config.specs.Words.{is_within, parted, decimal_of}

@@ -1,7 +1,8 @@
 -- What a document has at its keys. Each look-up is total: what is absent, or of another type, reads as nothing.
 use Rattle.std.specs.Prelude.{ℕ, ℤ, if◌then◌else◌, List, [], ◌∷◌, Option, Some, None, option_and_then, unwrap_or}
 use Rattle.std.specs.Str.{is_utf8}
-use Rattle.toml.specs.Data.{Data, string, integer, array, table, Items, no_items, item, Members, no_members, member, get}
+use Rattle.toml.specs.Data.{Data, string, integer, array, table, Items, no_items, item, Members, no_members, member}
+use Rattle.toml.specs.Data.{get}
 use Rattle.toml.specs.Parse.{parse_document}
 
 -- the document that bytes spell, if they spell one: they are UTF-8, and TOML

@@ -1,5 +1,6 @@
 -- The texts of access control entries: `allow MASK FLAGS SID` and `deny MASK FLAGS SID`, with single spaces.
-use Rattle.std.specs.Prelude.{ℕ, ◌&&◌, codes, List, length, drop, Option, Some, None, if◌then◌else◌, option_and_then, nat_eq, nat_le, ◌==◌}
+use Rattle.std.specs.Prelude.{ℕ, ◌&&◌, codes, List, length, drop, Option, Some, None, if◌then◌else◌, option_and_then}
+use Rattle.std.specs.Prelude.{nat_eq, nat_le, ◌==◌}
 use Rattle.std.specs.List.{starts_with}
 use Rattle.std.specs.Str.{bytes_eq}
 use Rattle.dtyp_sid.specs.Value.{SidValue}
@@ -29,13 +30,15 @@ flags_of_word word = option_and_then up_to_255 (decimal_of 3 word)
 
 -- the entry of its four parts, where each is one
 abbrev pub ace_of : Option AceKind → Option ℕ → Option ℕ → Option SidValue → Option Ace
-ace_of (Some kind) (Some mask) (Some flags) (Some sid) = Some (record { kind = kind; flags = flags; mask = mask; sid = sid })
+ace_of (Some kind) (Some mask) (Some flags) (Some sid) =
+    Some (record { kind = kind; flags = flags; mask = mask; sid = sid })
 ace_of _ _ _ _ = None
 
 -- the entry that a text spells
 abbrev pub ace_behind_mask : List ℕ → List ℕ → Option (List ℕ × List ℕ) → Option Ace
 ace_behind_mask kind mask None = None
-ace_behind_mask kind mask (Some (flags, sid)) = ace_of (kind_of_word kind) (mask_of_word mask) (flags_of_word flags) (sid_of_text sid)
+ace_behind_mask kind mask (Some (flags, sid)) =
+    ace_of (kind_of_word kind) (mask_of_word mask) (flags_of_word flags) (sid_of_text sid)
 
 abbrev pub ace_behind_kind : List ℕ → Option (List ℕ × List ℕ) → Option Ace
 ace_behind_kind kind None = None

@@ -43,7 +43,8 @@ pub record IsEntry (text : List ℕ) (ace : Ace) : Type 0 where
   pub mask : digits_value 16 digits ≡ ace.mask
   pub flags : ace.flags ≤ 255
   pub is_text : IsText sid ace.sid
-  pub spelled : text ≡ word_of_kind ace.kind ++ (codes "0x" ++ (digits ++ (codes " " ++ (decimal ace.flags ++ (codes " " ++ sid)))))
+  pub spelled : text ≡ word_of_kind ace.kind
+      ++ (codes "0x" ++ (digits ++ (codes " " ++ (decimal ace.flags ++ (codes " " ++ sid)))))
 
 -- an entry is read exactly from its texts
 abbrev pub EntriesAreSpelled : Type 0

@@ -15,8 +15,10 @@ abbrev pub FirstBrokenIsLeast : Type 0
 FirstBrokenIsLeast = (bytes : List ℕ) (number : ℕ) → first_broken bytes ≡ Some number → IsFirstBroken bytes number
 
 abbrev pub NoneBrokenIsEachKept : Type 0
-NoneBrokenIsEachKept = (bytes : List ℕ) → first_broken bytes ≡ None → (number : ℕ) → number < length (rules bytes) → slice_get (rules bytes) number ≡ Some true
+NoneBrokenIsEachKept = (bytes : List ℕ) → first_broken bytes ≡ None → (number : ℕ) → number < length (rules bytes) →
+    slice_get (rules bytes) number ≡ Some true
 
 -- the descriptor at a kind's place is that of the kind's table
 abbrev pub DescriptorsStandByKind : Type 0
-DescriptorsStandByKind = (d : Data) (kind : Kind) → slice_get (config_of d).descriptors (kind_place kind) ≡ Some (descriptor_of (descriptor_table d kind))
+DescriptorsStandByKind = (d : Data) (kind : Kind) → slice_get (config_of d).descriptors (kind_place kind)
+    ≡ Some (descriptor_of (descriptor_table d kind))

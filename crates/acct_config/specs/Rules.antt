@@ -1,6 +1,7 @@
 -- The rules of a configuration, each a test of the parsed document, and the first that is broken.
 -- Their numbers are those of the answers: a list of rules has the first of them at its front.
-use Rattle.std.specs.Prelude.{ℕ, suc, ℤ, pos, negsuc, Bool, true, false, ◌&&◌, is_some, if◌then◌else◌, codes, List, [], ◌∷◌, length, map, Option, Some, None}
+use Rattle.std.specs.Prelude.{ℕ, suc, ℤ, pos, negsuc, Bool, true, false, ◌&&◌, is_some, if◌then◌else◌, codes, List, []}
+use Rattle.std.specs.Prelude.{◌∷◌, length, map, Option, Some, None}
 use Rattle.std.specs.List.{list_all}
 use Rattle.std.specs.Option.{option_map_or}
 use Rattle.toml.specs.Data.{Data, get}
@@ -127,7 +128,8 @@ have_limits d = list_all (is_in_range d) each_limit
 unfoldable pub kept : Data → List Bool
 kept d =
     is_document d ∷ has_domain_name d ∷ has_domain_sid d ∷ have_names (listeners d) ∷ list_all has_address (listeners d)
-    ∷ list_all has_token (listeners d) ∷ list_all has_counts (listeners d) ∷ have_owners d ∷ have_aces d ∷ have_limits d ∷ []
+    ∷ list_all has_token (listeners d) ∷ list_all has_counts (listeners d) ∷ have_owners d ∷ have_aces d ∷ have_limits d
+    ∷ []
 
 -- which of the rules bytes keep, in order: rule 0 is that they spell a document
 abbrev pub rules : List ℕ → List Bool

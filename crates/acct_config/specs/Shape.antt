@@ -41,7 +41,8 @@ is_array_of test d = is_some (as_array d) && list_all test (elements d)
 
 unfoldable pub is_domain : Data → Bool
 is_domain d =
-    has_only (codes "name" ∷ codes "sid" ∷ []) d && required is_text (codes "name") d && required is_text (codes "sid") d
+    has_only (codes "name" ∷ codes "sid" ∷ []) d && required is_text (codes "name") d
+    && required is_text (codes "sid") d
 
 unfoldable pub is_listener : Data → Bool
 is_listener d =

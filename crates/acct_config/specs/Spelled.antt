@@ -1,5 +1,6 @@
 -- The configuration that a parsed document spells. It is total: of a document that breaks no rule nothing is left out.
-use Rattle.std.specs.Prelude.{◌≡◌, ℕ, ℤ, pos, negsuc, codes, List, map, Option, Some, None, unwrap_or, option_map, if◌then◌else◌, nat_le}
+use Rattle.std.specs.Prelude.{◌≡◌, ℕ, ℤ, pos, negsuc, codes, List, map, Option, Some, None, unwrap_or, option_map}
+use Rattle.std.specs.Prelude.{if◌then◌else◌, nat_le}
 use Rattle.std.specs.List.{filter_map}
 use Rattle.toml.specs.Data.{Data, get}
 use Rattle.dtyp_access.specs.declared.ace.Ace.{Ace}
@@ -13,7 +14,9 @@ use Rattle.acct_config.specs.Document.{whole, text_of, elements}
 use Rattle.acct_config.specs.Entries.{ace_of_text}
 use Rattle.acct_config.specs.Kinds.{kinds}
 use Rattle.acct_config.specs.Ranges.{range_of}
-use Rattle.acct_config.specs.Rules.{kept, first_broken_from, first_broken, domain_name, domain_sid, listeners, listener_name, listener_address, sid_of, token_texts, workers, links, descriptor_table, owner, limit_number}
+use Rattle.acct_config.specs.Rules.{kept, first_broken_from, first_broken, domain_name, domain_sid, listeners}
+use Rattle.acct_config.specs.Rules.{listener_name, listener_address, sid_of, token_texts, workers, links}
+use Rattle.acct_config.specs.Rules.{descriptor_table, owner, limit_number}
 use Rattle.acct_calls.specs.Domains.{name_of_text}
 use Rattle.acct_config.specs.Values.{administrators}
 

@@ -9,10 +9,7 @@ use toml::Value;
 pub fn get_in<'a>(document: &'a Value, section: &str, key: &str) -> Option<&'a Value>
     ensures { option_map (λ v. view v.now) result ≡ get_in section.now key.now (view document.now) }
 {
-    match document.get(section) {
-        Some(table) => table.get(key),
-        None => None,
-    }
+    document.get(section)?.get(key)
 }
 
 /// The text that was found, or an empty one.

@@ -17,16 +17,7 @@ fn parse(alloc: Global, bytes: &[u8]) -> Result<Value, ConfigError>
     ensures rule { IfErr result (λ error.
         IfRule error (λ number. (number ≡ 0) × (document bytes.now ≡ None))) }
 {
-    match toml::table_from_slice(alloc, bytes) {
-        Ok(table) => Ok(Value::Table(table)),
-        Err(error) => {
-            if error.is_memory() {
-                Err(ConfigError::Memory)
-            } else {
-                Err(ConfigError::Rule(0))
-            }
-        }
-    }
+    Ok(Value::Table(toml::table_from_slice(alloc, bytes)?))
 }
 
 /// The configuration that a parsed document spells, or the first rule from 1 on that it breaks.

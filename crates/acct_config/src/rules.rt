@@ -3,7 +3,11 @@ ghost use Rattle.std.specs.Prelude.{◌≡◌, map, option_map, IfOk};
 ghost use Rattle.std.specs.List.{list_all, list_any};
 ghost use Rattle.std.specs.Str.{bytes_eq};
 ghost use Rattle.toml.specs.View.{view};
-ghost use Rattle.acct_config.specs.Rules.{domain_name, domain_sid, has_domain_name, has_domain_sid, listeners, listener_name, listener_address, have_names, has_address, sid_of, is_sid, has_token, is_number_within, workers, links, has_counts, descriptor_table, owner, owner_is_sid, is_ace, aces_are_entries, limit_number, is_in_range, kept, first_broken_from};
+ghost use Rattle.acct_config.specs.Rules.{domain_name, domain_sid, has_domain_name, has_domain_sid, listeners};
+ghost use Rattle.acct_config.specs.Rules.{listener_name, listener_address, have_names, has_address, sid_of, is_sid};
+ghost use Rattle.acct_config.specs.Rules.{has_token, is_number_within, workers, links, has_counts, descriptor_table};
+ghost use Rattle.acct_config.specs.Rules.{owner, owner_is_sid, is_ace, aces_are_entries, limit_number, is_in_range};
+ghost use Rattle.acct_config.specs.Rules.{kept, first_broken_from};
 ghost use Rattle.acct_config.specs.Values.{is_listener_name, are_distinct};
 
 use crate::address::is_address;
@@ -74,23 +78,15 @@ pub fn listener_address(listener: &Value) -> &str
 fn each_has_name(tables: &[Value]) -> bool
     ensures { result ≡ list_all (λ listener. is_listener_name (listener_name listener)) (map view tables.now) }
 {
-    for table in tables {
-        if !is_listener_name(listener_name(table)) {
-            return false;
-        }
-    }
-    true
+    tables
+        .iter()
+        .all(|table| is_listener_name(listener_name(table)))
 }
 
 fn is_taken(name: &str, tables: &[Value]) -> bool
     ensures { result ≡ list_any (bytes_eq name.now) (map listener_name (map view tables.now)) }
 {
-    for table in tables {
-        if name == listener_name(table) {
-            return true;
-        }
-    }
-    false
+    tables.iter().any(|table| name == listener_name(table))
 }
 
 fn names_differ(tables: &[Value]) -> bool
@@ -119,12 +115,7 @@ fn has_address(listener: &Value) -> bool
 fn have_addresses(tables: &[Value]) -> bool
     ensures { result ≡ list_all has_address (map view tables.now) }
 {
-    for table in tables {
-        if !has_address(table) {
-            return false;
-        }
-    }
-    true
+    tables.iter().all(|table| has_address(table))
 }
 
 /// The SID that a text in a list spells.
@@ -137,12 +128,7 @@ pub fn sid_of(text: &Value) -> Option<Sid>
 fn are_sids(texts: &[Value]) -> bool
     ensures { result ≡ list_all is_sid (map view texts.now) }
 {
-    for text in texts {
-        if sid_of(text).is_none() {
-            return false;
-        }
-    }
-    true
+    texts.iter().all(|text| sid_of(text).is_some())
 }
 
 fn has_token(listener: &Value) -> bool
@@ -155,12 +141,7 @@ fn has_token(listener: &Value) -> bool
 fn have_tokens(tables: &[Value]) -> bool
     ensures { result ≡ list_all has_token (map view tables.now) }
 {
-    for table in tables {
-        if !has_token(table) {
-            return false;
-        }
-    }
-    true
+    tables.iter().all(|table| has_token(table))
 }
 
 fn is_number_within(low: u64, high: u64, number: i64) -> bool
@@ -196,12 +177,7 @@ fn has_counts(listener: &Value) -> bool
 fn have_counts(tables: &[Value]) -> bool
     ensures { result ≡ list_all has_counts (map view tables.now) }
 {
-    for table in tables {
-        if !has_counts(table) {
-            return false;
-        }
-    }
-    true
+    tables.iter().all(|table| has_counts(table))
 }
 
 /// The descriptor table of a kind.
@@ -231,23 +207,15 @@ fn owner_is_sid(document: &Value, kind: Kind) -> bool
 fn have_owners(document: &Value, kinds: &[Kind]) -> bool
     ensures { result ≡ list_all (owner_is_sid (view document.now)) kinds.now }
 {
-    for kind in kinds {
-        if !owner_is_sid(document, *kind) {
-            return false;
-        }
-    }
-    true
+    kinds.iter().all(|kind| owner_is_sid(document, *kind))
 }
 
 fn are_aces(texts: &[Value]) -> bool
     ensures { result ≡ list_all is_ace (map view texts.now) }
 {
-    for text in texts {
-        if ace_of_text(text_of(Some(text))).is_none() {
-            return false;
-        }
-    }
-    true
+    texts
+        .iter()
+        .all(|text| ace_of_text(text_of(Some(text))).is_some())
 }
 
 #[tactic(auto, unfolding(crate::specs::Rules::aces_are_entries))]
@@ -266,12 +234,7 @@ fn aces_are_entries(document: &Value, kind: Kind) -> bool
 fn have_aces(document: &Value, kinds: &[Kind]) -> bool
     ensures { result ≡ list_all (aces_are_entries (view document.now)) kinds.now }
 {
-    for kind in kinds {
-        if !aces_are_entries(document, *kind) {
-            return false;
-        }
-    }
-    true
+    kinds.iter().all(|kind| aces_are_entries(document, *kind))
 }
 
 /// The number that a document gives for a limit.
@@ -294,12 +257,7 @@ fn is_in_range(document: &Value, limit: Limit) -> bool
 fn have_limits(document: &Value, limits: &[Limit]) -> bool
     ensures { result ≡ list_all (is_in_range (view document.now)) limits.now }
 {
-    for limit in limits {
-        if !is_in_range(document, *limit) {
-            return false;
-        }
-    }
-    true
+    limits.iter().all(|limit| is_in_range(document, *limit))
 }
 
 /// The first rule from 1 on that a parsed document breaks.

@@ -5,7 +5,9 @@ ghost use Rattle.toml.specs.View.{view, table_view};
 ghost use Rattle.acct_config.specs.Document.{keys};
 ghost use Rattle.acct_config.specs.Kinds.{kind_name};
 ghost use Rattle.acct_config.specs.Ranges.{limit_key};
-ghost use Rattle.acct_config.specs.Shape.{is_among, has_only, required, optional, is_text, is_number, is_array_of, is_domain, is_listener, is_descriptor, are_descriptors, are_limits, is_document};
+ghost use Rattle.acct_config.specs.Shape.{is_among, has_only, required, optional, is_text, is_number, is_array_of};
+ghost use Rattle.acct_config.specs.Shape.{is_domain, is_listener, is_descriptor, are_descriptors, are_limits};
+ghost use Rattle.acct_config.specs.Shape.{is_document};
 
 use crate::document::elements;
 use crate::kinds::{KIND_NAMES, KINDS, kind_name};
@@ -16,23 +18,15 @@ use toml::{Table, Value};
 fn is_among(names: &[&str], key: &str) -> bool
     ensures { result ≡ is_among (map (λ name. name.now) names.now) key.now }
 {
-    for name in names {
-        if *name == key {
-            return true;
-        }
-    }
-    false
+    names.iter().any(|name| *name == key)
 }
 
 fn keys_are_among(names: &[&str], table: &Table) -> bool
     ensures { result ≡ list_all (is_among (map (λ name. name.now) names.now)) (keys (table_view table.now)) }
 {
-    'members: for (key, _member) in table.iter() {
-        if !is_among(names, key.as_str()) {
-            return false;
-        }
-    }
-    true
+    table
+        .iter()
+        .all(|(key, _member)| is_among(names, key.as_str()))
 }
 
 fn has_only(value: &Value, names: &[&str]) -> bool
@@ -65,12 +59,7 @@ fn allows_number(value: &Value, key: &str) -> bool
 fn are_texts(values: &[Value]) -> bool
     ensures { result ≡ list_all is_text (map view values.now) }
 {
-    for value in values {
-        if !value.is_str() {
-            return false;
-        }
-    }
-    true
+    values.iter().all(|value| value.is_str())
 }
 
 fn requires_texts(value: &Value, key: &str) -> bool
@@ -122,12 +111,7 @@ fn is_listener(value: &Value) -> bool
 fn are_listeners(values: &[Value]) -> bool
     ensures { result ≡ list_all is_listener (map view values.now) }
 {
-    for value in values {
-        if !is_listener(value) {
-            return false;
-        }
-    }
-    true
+    values.iter().all(|value| is_listener(value))
 }
 
 fn requires_listeners(value: &Value, key: &str) -> bool
@@ -160,12 +144,9 @@ fn allows_descriptor(value: &Value, key: &str) -> bool
 fn each_allows_descriptor(value: &Value, kinds: &[Kind]) -> bool
     ensures { result ≡ list_all (λ kind. optional is_descriptor (kind_name kind) (view value.now)) kinds.now }
 {
-    for kind in kinds {
-        if !allows_descriptor(value, kind_name(*kind)) {
-            return false;
-        }
-    }
-    true
+    kinds
+        .iter()
+        .all(|kind| allows_descriptor(value, kind_name(*kind)))
 }
 
 #[tactic(auto, unfolding(crate::specs::Shape::are_descriptors))]
@@ -187,12 +168,9 @@ fn allows_descriptors(value: &Value, key: &str) -> bool
 fn each_allows_number(value: &Value, limits: &[Limit]) -> bool
     ensures { result ≡ list_all (λ limit. optional is_number (limit_key limit) (view value.now)) limits.now }
 {
-    for limit in limits {
-        if !allows_number(value, limit_key(*limit)) {
-            return false;
-        }
-    }
-    true
+    limits
+        .iter()
+        .all(|limit| allows_number(value, limit_key(*limit)))
 }
 
 #[tactic(auto, unfolding(crate::specs::Shape::are_limits))]

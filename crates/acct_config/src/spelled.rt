@@ -3,7 +3,8 @@ ghost use Rattle.std.specs.Prelude.{◌≡◌, map, option_map, IfOk};
 ghost use Rattle.std.specs.List.{filter_map};
 ghost use Rattle.toml.specs.View.{view};
 ghost use Rattle.acct_config.specs.Rules.{sid_of, descriptor_table};
-ghost use Rattle.acct_config.specs.Spelled.{count_of, listener_of, ace_at, acl_of, descriptor_of, limit_of, limits_of, config_of};
+ghost use Rattle.acct_config.specs.Spelled.{count_of, listener_of, ace_at, acl_of, descriptor_of, limit_of, limits_of};
+ghost use Rattle.acct_config.specs.Spelled.{config_of};
 
 use crate::document::{elements, elements_of, text_of};
 use crate::entries::ace_of_text;
@@ -109,7 +110,8 @@ fn descriptors_of(
     document: &Value,
     kinds: &[Kind],
 ) -> Result<Seq<Descriptor>, AllocError>
-    ensures { IfOk result (λ made. made ≡ map (λ kind. descriptor_of (descriptor_table (view document.now) kind)) kinds.now) }
+    ensures { IfOk result (λ made.
+        made ≡ map (λ kind. descriptor_of (descriptor_table (view document.now) kind)) kinds.now) }
 {
     let mut made = Seq::new(alloc);
     for kind in kinds {

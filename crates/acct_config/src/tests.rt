@@ -563,6 +563,13 @@ fn deny_before_allow(rt: HostRuntime) -> Result<(), Fail> {
 }
 
 #[test]
+fn refusals_tell_in_words(rt: HostRuntime) -> Result<(), Fail> {
+    let told = format!(in rt.alloc(); "{}", ConfigError::Rule(4))?;
+    assert_eq!(rt; told.as_str(), "the configuration breaks rule 4");
+    Ok(())
+}
+
+#[test]
 fn laws_and_texts(rt: HostRuntime) -> Result<(), Fail> {
     laws::first_broken_is_least();
     laws::none_broken_is_each_kept();

@@ -28,12 +28,7 @@ fn is_name_byte(byte: u8) -> bool
 fn are_name_bytes(bytes: &[u8]) -> bool
     ensures { result ≡ list_all is_name_byte bytes.now }
 {
-    for byte in bytes {
-        if !is_name_byte(*byte) {
-            return false;
-        }
-    }
-    true
+    bytes.iter().all(|byte| is_name_byte(*byte))
 }
 
 /// Whether a listener may have the name.

@@ -1,3 +1,4 @@
+-- `fold_units` meets its contract: what the search leaves open.
 use Rattle.std.proofs.Common.{◌++◌, sym, ap, ◌∙◌, append_assoc}
 use Rattle.std.specs.Char.Escape.{encode_utf16}
 use Rattle.std.proofs.lemmas.List.{append-nil}
@@ -10,9 +11,11 @@ loop-point-preserved c =
     let rest = c.in-Some.field-0.rest.now in
     let made = c.loop-point.made.items in
     let units = encode_utf16 (folded_point c.in-Some.field-0.point) in
-    ap (λ l. l ++ folded rest) (c.in_ok-push_point.ensures ∙ ap (λ p. made ++ encode_utf16 p) c.fold_point.ensures.value)
+    ap (λ l. l ++ folded rest) (c.in_ok-push_point.ensures
+    ∙ ap (λ p. made ++ encode_utf16 p) c.fold_point.ensures.value)
     ∙ append_assoc made units (folded rest)
-    ∙ ap (λ l. made ++ l) (sym (folded-first c.loop-point.left.now rest c.in-Some.field-0.point c.in-Some.ensures.points))
+    ∙ ap (λ l. made ++ l) (sym (folded-first c.loop-point.left.now rest c.in-Some.field-0.point
+    c.in-Some.ensures.points))
     ∙ c.loop-point.invariant
 
 pub returns : goal.returns

@@ -1,3 +1,4 @@
+-- What the loop of `fold_units` keeps.
 use Rattle.std.proofs.Common.{◌≡◌, ◌++◌, length}
 use Rattle.acct_calls.specs.Folding.{folded}
 use Rattle.acct_calls.proofs.folding.fold_units.Given as goal

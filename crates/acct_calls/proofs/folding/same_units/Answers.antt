@@ -1,3 +1,4 @@
+-- `same_units` meets its contract: what the search leaves open.
 use Rattle.std.proofs.Common.{◌≡◌, ◌==◌, ◌&&◌, true, false, sym, ap, ◌∙◌}
 use Rattle.std.proofs.lemmas.Bool.{and_left, ne_eqb, eq-eqb}
 use Rattle.acct_calls.specs.Folding.{folded_point, is_same}
@@ -17,9 +18,11 @@ returns-then-fold_point c =
     let ours = c.in-Some.our_first in
     let theirs = c.in-Some-first_point.their_first in
     let differ : (folded_point ours.point == folded_point theirs.point) ≡ false =
-    ne_eqb _ _ (λ same. c.if-fold_point.true (c.fold_point.ensures.value ∙ same ∙ sym c.fold_point-in-Some.ensures.value)) in
+    ne_eqb _ _ (λ same. c.if-fold_point.true
+    (c.fold_point.ensures.value ∙ same ∙ sym c.fold_point-in-Some.ensures.value)) in
     sym (sym c.loop-our_first.invariant
-    ∙ is_same-first c.loop-our_first.ours.now c.loop-our_first.theirs.now ours.rest.now theirs.rest.now ours.point theirs.point c.in-Some.ensures.points c.in-Some-first_point.ensures.points
+    ∙ is_same-first c.loop-our_first.ours.now c.loop-our_first.theirs.now ours.rest.now theirs.rest.now ours.point
+    theirs.point c.in-Some.ensures.points c.in-Some-first_point.ensures.points
     ∙ and_left (folded_point ours.point == folded_point theirs.point) (is_same ours.rest.now theirs.rest.now) differ)
 
 pub loop-our_first-preserved : goal.loop-our_first-preserved
@@ -28,7 +31,8 @@ loop-our_first-preserved c =
     let theirs = c.in-Some-first_point.their_first in
     let alike : (folded_point ours.point == folded_point theirs.point) ≡ true =
     eq-eqb _ _ (sym c.fold_point.ensures.value ∙ c.if-fold_point.false ∙ c.fold_point-in-Some.ensures.value) in
-    sym (is_same-first c.loop-our_first.ours.now c.loop-our_first.theirs.now ours.rest.now theirs.rest.now ours.point theirs.point c.in-Some.ensures.points c.in-Some-first_point.ensures.points
+    sym (is_same-first c.loop-our_first.ours.now c.loop-our_first.theirs.now ours.rest.now theirs.rest.now ours.point
+    theirs.point c.in-Some.ensures.points c.in-Some-first_point.ensures.points
     ∙ ap (λ b. b && is_same ours.rest.now theirs.rest.now) alike)
     ∙ c.loop-our_first.invariant
 

@@ -1,3 +1,4 @@
+-- What the loop of `same_units` keeps.
 use Rattle.std.proofs.Common.{◌≡◌, length}
 use Rattle.acct_calls.specs.Folding.{is_same}
 use Rattle.acct_calls.proofs.folding.same_units.Given as goal

@@ -1,3 +1,4 @@
+-- The law `characters_are_read`.
 use Rattle.acct_calls.proofs.Points.{code_points-characters}
 use Rattle.acct_calls.proofs.laws.characters_are_read.Goals as goal
 

@@ -1,3 +1,4 @@
+-- The law `folded_is_same`.
 use Rattle.acct_calls.proofs.Folds.{folded_same}
 use Rattle.acct_calls.proofs.laws.folded_is_same.Goals as goal
 

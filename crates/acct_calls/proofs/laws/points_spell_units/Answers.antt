@@ -1,3 +1,4 @@
+-- The law `points_spell_units`.
 use Rattle.acct_calls.proofs.Points.{Fits-from, units_of-code_points}
 use Rattle.acct_calls.proofs.laws.points_spell_units.Goals as goal
 

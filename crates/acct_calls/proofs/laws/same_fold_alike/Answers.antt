@@ -1,3 +1,4 @@
+-- The law `same_fold_alike`.
 use Rattle.acct_calls.proofs.Folds.{same_alike}
 use Rattle.acct_calls.proofs.laws.same_fold_alike.Goals as goal
 

@@ -1,3 +1,4 @@
+-- The law `same_is_equivalence`.
 use Rattle.acct_calls.proofs.Folds.{equivalence}
 use Rattle.acct_calls.proofs.laws.same_is_equivalence.Goals as goal
 

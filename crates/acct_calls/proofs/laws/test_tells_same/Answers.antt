@@ -1,3 +1,4 @@
+-- The law `test_tells_same`.
 use Rattle.acct_calls.proofs.Folds.{tells_same}
 use Rattle.acct_calls.proofs.laws.test_tells_same.Goals as goal
 

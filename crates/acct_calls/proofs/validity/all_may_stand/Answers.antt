@@ -1,3 +1,4 @@
+-- `all_may_stand` meets its contract: what the search leaves open.
 use Rattle.std.proofs.Common.{sym, ap, ◌∙◌}
 use Rattle.std.specs.List.{list_all}
 use Rattle.acct_calls.specs.Validity.{all_may_stand, may_stand}
@@ -6,4 +7,5 @@ use Rattle.acct_calls.proofs.validity.all_may_stand.Goals as goal
 
 pub returns : goal.returns
 returns c =
-    sym (sym c.loop-point.invariant ∙ ap all_may_stand c.in_default.ensures.points ∙ ap (list_all may_stand) code_points-nil)
+    sym (sym c.loop-point.invariant ∙ ap all_may_stand c.in_default.ensures.points
+    ∙ ap (list_all may_stand) code_points-nil)

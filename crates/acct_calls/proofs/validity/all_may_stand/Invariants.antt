@@ -1,3 +1,4 @@
+-- What the loop of `all_may_stand` keeps.
 use Rattle.std.proofs.Common.{◌≡◌, length}
 use Rattle.acct_calls.specs.Validity.{all_may_stand}
 use Rattle.acct_calls.proofs.validity.all_may_stand.Given as goal

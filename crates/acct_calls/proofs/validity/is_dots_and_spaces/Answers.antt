@@ -1,3 +1,4 @@
+-- `is_dots_and_spaces` meets its contract: what the search leaves open.
 use Rattle.std.proofs.Common.{sym, ap, ◌∙◌}
 use Rattle.std.specs.List.{list_all}
 use Rattle.acct_calls.specs.Validity.{is_dots_and_spaces, is_dot_or_space}
@@ -6,4 +7,5 @@ use Rattle.acct_calls.proofs.validity.is_dots_and_spaces.Goals as goal
 
 pub returns : goal.returns
 returns c =
-    sym (sym c.loop-point.invariant ∙ ap is_dots_and_spaces c.in_default.ensures.points ∙ ap (list_all is_dot_or_space) code_points-nil)
+    sym (sym c.loop-point.invariant ∙ ap is_dots_and_spaces c.in_default.ensures.points
+    ∙ ap (list_all is_dot_or_space) code_points-nil)

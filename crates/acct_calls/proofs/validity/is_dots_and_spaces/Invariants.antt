@@ -1,3 +1,4 @@
+-- What the loop of `is_dots_and_spaces` keeps.
 use Rattle.std.proofs.Common.{◌≡◌, length}
 use Rattle.acct_calls.specs.Validity.{is_dots_and_spaces}
 use Rattle.acct_calls.proofs.validity.is_dots_and_spaces.Given as goal

@@ -1,3 +1,4 @@
+-- What the loop of `copy_descriptors` keeps.
 use Rattle.std.proofs.Common.{◌≡◌, ◌++◌, drop}
 use Rattle.acct_config.proofs.config.copy_descriptors.Given as goal
 

@@ -1,3 +1,4 @@
+-- What the loop of `copy_listeners` keeps.
 use Rattle.std.proofs.Common.{◌≡◌, ◌++◌, drop}
 use Rattle.acct_config.proofs.config.copy_listeners.Given as goal
 

@@ -1,3 +1,4 @@
+-- The law `entries_are_spelled`.
 use Rattle.acct_config.proofs.Spelling.{entries_spelled}
 use Rattle.acct_config.proofs.laws.entries_are_spelled.Goals as goal
 

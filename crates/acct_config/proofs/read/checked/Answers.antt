@@ -1,3 +1,4 @@
+-- `checked` meets its contract: what the search leaves open.
 use Rattle.std.proofs.Common.{sym, subst, ◌∙◌}
 use Rattle.toml.specs.View.{view}
 use Rattle.acct_config.specs.Right.{IsRight}

@@ -1,3 +1,4 @@
+-- What the loop of `names_differ` keeps.
 use Rattle.std.proofs.Common.{◌≡◌, map, drop}
 use Rattle.toml.specs.View.{view}
 use Rattle.acct_config.specs.Rules.{listener_name}
@@ -5,4 +6,5 @@ use Rattle.acct_config.specs.Values.{are_distinct}
 use Rattle.acct_config.proofs.rules.names_differ.Given as goal
 
 abbrev pub invariant-loop-i : goal.invariant-loop-i
-invariant-loop-i l = are_distinct (map listener_name (map view (drop l.i l.tables))) ≡ are_distinct (map listener_name (map view l.tables))
+invariant-loop-i l = are_distinct (map listener_name (map view (drop l.i l.tables)))
+    ≡ are_distinct (map listener_name (map view l.tables))

@@ -1,3 +1,4 @@
+-- What the loop of `descriptors_of` keeps.
 use Rattle.std.proofs.Common.{◌≡◌, ◌++◌, map, drop}
 use Rattle.toml.specs.View.{view}
 use Rattle.acct_config.specs.Rules.{descriptor_table}

@@ -1,3 +1,4 @@
+-- What the loop of `decimal_from_zero` keeps.
 use Rattle.std.proofs.Common.{◌≡◌, ◌<◌, ◌^◌, ◌≤◌, length, drop}
 use Rattle.acct_config.specs.Words.{decimal_from}
 use Rattle.acct_config.proofs.words.decimal_from_zero.Given as goal

@@ -1,3 +1,4 @@
+-- `hexadecimal_of` meets its contract: what the search leaves open.
 use Rattle.std.proofs.Common.{arith, ◌<◌, ◌≤◌}
 use Rattle.std.specs.Char.{digit_value}
 use Rattle.acct_config.proofs.Digits.{below_2_32}
@@ -13,9 +14,15 @@ overflow_add-number c =
     let few : c.loop-byte.byte-index ≤ 8 = omega (arith, c.loop-byte-test.true, c.loop-byte.invariant.short) in
     let digit = c.in-Some.ensures in
     let below : digit_value c.from.result < 16 = digit.value.0 in
-    omega (arith, below_2_32 c.loop-byte.byte-index c.loop-byte.number few c.loop-byte.invariant.small, digit.value.1, c.from-in-Some.ensures)
+    omega (
+      arith,
+      below_2_32 c.loop-byte.byte-index c.loop-byte.number few c.loop-byte.invariant.small,
+      digit.value.1,
+      c.from-in-Some.ensures,
+    )
 
 pub overflow_cast-result : goal.overflow_cast-result
 overflow_cast-result c =
-    let few : c.loop-byte.byte-index ≤ 8 = omega (arith, c.loop-byte.auto.byte-index-end, c.loop-byte.invariant.short) in
+    let few : c.loop-byte.byte-index ≤ 8 =
+    omega (arith, c.loop-byte.auto.byte-index-end, c.loop-byte.invariant.short) in
     omega (arith, below_2_32 c.loop-byte.byte-index c.loop-byte.number few c.loop-byte.invariant.small)

@@ -1,3 +1,4 @@
+-- What the loop of `hexadecimal_of` keeps.
 use Rattle.std.proofs.Common.{◌≡◌, ◌<◌, ◌^◌, ◌≤◌, length, drop}
 use Rattle.acct_config.specs.Words.{hexadecimal_from}
 use Rattle.acct_config.proofs.words.hexadecimal_of.Given as goal

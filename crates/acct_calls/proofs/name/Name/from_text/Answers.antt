@@ -1,3 +1,4 @@
+-- `from_text` meets its contract: what the search leaves open.
 use Rattle.std.proofs.Common.{◌++◌, sym, ap, ◌∙◌}
 use Rattle.std.specs.Char.Escape.{encode_utf16}
 use Rattle.std.proofs.lemmas.List.{map-id}
@@ -18,5 +19,6 @@ loop-c-preserved c =
 
 pub returns : goal.returns
 returns c =
-    let all = YieldsList-end (YieldsList-from_chars c.args.text.now c.utf8.text cc) c.loop-c.yielded _ c.loop-c.yielded_by _ _ c.in-None.is c.next.ensures.steps in
+    let all = YieldsList-end (YieldsList-from_chars c.args.text.now c.utf8.text cc) c.loop-c.yielded _
+    c.loop-c.yielded_by _ _ c.in-None.is c.next.ensures.steps in
     c.from_units.ensures ∙ c.loop-c.invariant ∙ ap units_of (sym (map-id c.loop-c.yielded) ∙ all.0)

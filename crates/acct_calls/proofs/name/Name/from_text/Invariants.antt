@@ -1,3 +1,4 @@
+-- What the loop of `from_text` keeps.
 use Rattle.std.proofs.Common.{◌≡◌}
 use Rattle.acct_calls.specs.CodePoints.{units_of}
 use Rattle.acct_calls.proofs.name.Name.from_text.Given as goal

@@ -1,3 +1,4 @@
+-- `same` meets its contract: what the search leaves open.
 use Rattle.std.proofs.Common.{◌≡◌, IsTrue, sym, subst}
 use Rattle.std.specs.Prelude.{◌↔◌, Bool}
 use Rattle.acct_calls.specs.Folding.{is_same, AreSame}

@@ -1,3 +1,4 @@
+-- What the loop of `copy` keeps.
 use Rattle.std.proofs.Common.{◌≡◌, take}
 use Rattle.acct_calls.proofs.names.Names.copy.Given as goal
 

@@ -1,8 +1,0 @@
-use Rattle.std.proofs.Common.{◌≡◌, map, drop}
-use Rattle.std.specs.List.{list_all}
-use Rattle.toml.specs.View.{view}
-use Rattle.acct_config.specs.Rules.{is_sid}
-use Rattle.acct_config.proofs.rules.are_sids.Given as goal
-
-abbrev pub invariant-loop-text : goal.invariant-loop-text
-invariant-loop-text l = list_all is_sid (map view (drop l.text-index l.texts)) ≡ list_all is_sid (map view l.texts)

@@ -1,8 +1,0 @@
-use Rattle.std.proofs.Common.{◌≡◌, drop}
-use Rattle.std.specs.List.{list_all}
-use Rattle.toml.specs.View.{view}
-use Rattle.acct_config.specs.Rules.{owner_is_sid}
-use Rattle.acct_config.proofs.rules.have_owners.Given as goal
-
-abbrev pub invariant-loop-kind : goal.invariant-loop-kind
-invariant-loop-kind l = list_all (owner_is_sid (view l.document)) (drop l.kind-index l.kinds) ≡ list_all (owner_is_sid (view l.document)) l.kinds

@@ -1,0 +1,13 @@
+-- `each_allows_number` meets its contract: what the search leaves open.
+use Rattle.std.proofs.Common.{rules, tests}
+use Rattle.std.proofs.lemmas.Iterator.{YieldsList-from_slice}
+use Rattle.std.proofs.lemmas.Iterator.Search.{all_from_yields_List}
+use Rattle.toml.specs.View.{view}
+use Rattle.acct_config.specs.Ranges.{limit_key}
+use Rattle.acct_config.specs.Shape.{optional, is_number}
+use Rattle.acct_config.proofs.shape.each_allows_number.Goals as goal
+
+pub returns : goal.returns
+returns c =
+    all_from_yields_List (λ limit. optional is_number (limit_key limit) (view c.args.value.now)) _ _ _ c.all.ensures.ran
+    (YieldsList-from_slice c.args.limits.now cc) (λ x b q k. search (rules, tests))
