@@ -7,7 +7,8 @@ use Rattle.dtyp_access.specs.Opening.{all_rights}
 use Rattle.dtyp_access.proofs.Masks.{by_checks}
 
 -- all bits but the generic ones and MAXIMUM_ALLOWED
-pub shares-named : (bit : ℕ) → bit < 32 → shares 0x0DFF_FFFF (2 ^ bit) ≡ not (is_generic (2 ^ bit) || (2 ^ bit) == maximum_allowed)
+pub shares-named : (bit : ℕ) → bit < 32 → shares 0x0DFF_FFFF (2 ^ bit)
+    ≡ not (is_generic (2 ^ bit) || (2 ^ bit) == maximum_allowed)
 unfolding shares all_rights
 shares-named = by_checks (shares 0x0DFF_FFFF) (λ right. not (is_generic right || right == maximum_allowed)) refl
 
@@ -17,7 +18,8 @@ unfolding shares all_rights
 shares-all = by_checks (shares 0xFEFF_FFFF) (λ right. not (right == access_system_security)) refl
 
 -- the rights of the owner
-pub shares-owners : (bit : ℕ) → bit < 32 → shares 0x0006_0000 (2 ^ bit) ≡ ((2 ^ bit) == read_control || (2 ^ bit) == write_dac)
+pub shares-owners : (bit : ℕ) → bit < 32 → shares 0x0006_0000 (2 ^ bit)
+    ≡ ((2 ^ bit) == read_control || (2 ^ bit) == write_dac)
 unfolding shares all_rights
 shares-owners = by_checks (shares 0x0006_0000) (λ right. right == read_control || right == write_dac) refl
 

@@ -1,5 +1,6 @@
 -- A descriptor that is read is spelled by the bytes
-use Rattle.std.proofs.Common.{◌≡◌, ℕ, zero, suc, ◌+◌, ◌-◌, ◌<◌, inl, inr, List, [], ◌∷◌, length, take, drop, refl, sym, ap, arith, subst, Bool, true, false, Option, Some, None, Result, Ok, Err, All}
+use Rattle.std.proofs.Common.{◌≡◌, ℕ, zero, suc, ◌+◌, ◌-◌, ◌<◌, inl, inr, List, [], ◌∷◌, length, take, drop, refl, sym}
+use Rattle.std.proofs.Common.{ap, arith, subst, Bool, true, false, Option, Some, None, Result, Ok, Err, All}
 use Rattle.std.specs.Prelude.{nat_lt, not, ◌==◌, ◌||◌, if◌then◌else◌, slice_index}
 use Rattle.std.proofs.lemmas.Bool.Decides.{nat_tests}
 use Rattle.std.proofs.lemmas.List.Elements.{All-take, All-drop}
@@ -13,17 +14,21 @@ use Rattle.dtyp_access.specs.declared.descriptor.Descriptor.{Descriptor}
 use Rattle.dtyp_access.specs.declared.errors.DescError.{DescError}
 use Rattle.dtyp_access.specs.declared.errors.DescError.TheVariants.{Short, Revision, Offset, AceType}
 use Rattle.dtyp_access.specs.Granted.{shares}
-use Rattle.dtyp_access.specs.Reading.{then_read, u16_at, u32_at, or_no_sid, is_outside, sid_of_field, group_of, kind_of, next_ace, ace_at, aces_at, acl_at, list_of, descriptor_of_bytes}
+use Rattle.dtyp_access.specs.Reading.{then_read, u16_at, u32_at, or_no_sid, is_outside, sid_of_field, group_of, kind_of}
+use Rattle.dtyp_access.specs.Reading.{next_ace, ace_at, aces_at, acl_at, list_of, descriptor_of_bytes}
 use Rattle.dtyp_access.specs.Written.{type_of}
-use Rattle.dtyp_access.specs.Spelled.{IsInside, SpellSid, PointsToSid, SpellAce, SpellAces, SpellAcl, SpellGroup, SpellList, SpellDescriptor}
+use Rattle.dtyp_access.specs.Spelled.{IsInside, SpellSid, PointsToSid, SpellAce, SpellAces, SpellAcl, SpellGroup}
+use Rattle.dtyp_access.specs.Spelled.{SpellList, SpellDescriptor}
 
 -- a reading that is not refused passed its test
-not_refused : {X : Type 0} (test : Bool) (refusal : DescError) (rest : Result X DescError) (x : X) → (if test then Err refusal else rest) ≡ Ok x → (test ≡ false) × (rest ≡ Ok x)
+not_refused : {X : Type 0} (test : Bool) (refusal : DescError) (rest : Result X DescError) (x : X) →
+    (if test then Err refusal else rest) ≡ Ok x → (test ≡ false) × (rest ≡ Ok x)
 not_refused false refusal rest x is = (refl, is)
 not_refused true refusal rest x is = cc
 
 -- a reading in two steps
-then_ok : {X Y : Type 0} (first : Result X DescError) (next : X → Result Y DescError) (y : Y) → then_read first next ≡ Ok y → (x : X) × (first ≡ Ok x) × (next x ≡ Ok y)
+then_ok : {X Y : Type 0} (first : Result X DescError) (next : X → Result Y DescError) (y : Y) → then_read first next
+    ≡ Ok y → (x : X) × (first ≡ Ok x) × (next x ≡ Ok y)
 then_ok (Ok x) next y is = (x, refl, is)
 then_ok (Err refusal) next y is = cc
 
@@ -49,7 +54,8 @@ inside offset bytes passes =
     let b = neither_right (nat_lt offset 20) (nat_lt (length bytes) offset) passes in
     record { behind_header = grind (arith, nat_tests); within = grind (arith, nat_tests) }
 
-sid_spelled : SidsAreWritten → (place : ℕ) (bytes : List ℕ) (sid : SidValue) → AreBytes bytes → or_no_sid place (sid_of_bytes bytes) ≡ Ok sid → SpellSid bytes sid
+sid_spelled : SidsAreWritten → (place : ℕ) (bytes : List ℕ) (sid : SidValue) → AreBytes bytes →
+    or_no_sid place (sid_of_bytes bytes) ≡ Ok sid → SpellSid bytes sid
 sid_spelled law place bytes sid all read =
     let found = law bytes sid all (found_sid (sid_of_bytes bytes) read) in
     record { is_sid = found.0; begin = found.1 }
@@ -58,21 +64,31 @@ sid_spelled law place bytes sid all read =
     found_sid (Ok other) is = cc
     found_sid (Err why) is = cc
 
-field_spelled : SidsAreWritten → (field : ℕ) (bytes : List ℕ) (sid : SidValue) → AreBytes bytes → sid_of_field field bytes ≡ Ok sid → PointsToSid field bytes sid
+field_spelled : SidsAreWritten → (field : ℕ) (bytes : List ℕ) (sid : SidValue) → AreBytes bytes →
+    sid_of_field field bytes ≡ Ok sid → PointsToSid field bytes sid
 unfolding sid_of_field
 field_spelled law field bytes sid all read =
     let offset = u32_at field bytes in
-    let passed = not_refused (is_outside offset bytes) (Offset field) (or_no_sid offset (sid_of_bytes (drop offset bytes))) sid read in
-    record { inside = inside offset bytes passed.0; spelled = sid_spelled law offset (drop offset bytes) sid (All-drop (λ byte. byte < 256) offset bytes all) passed.1 }
+    let passed = not_refused (is_outside offset bytes) (Offset field)
+    (or_no_sid offset (sid_of_bytes (drop offset bytes))) sid read in
+    record {
+      inside = inside offset bytes passed.0;
+      spelled =
+          sid_spelled law offset (drop offset bytes) sid (All-drop (λ byte. byte < 256) offset bytes all) passed.1;
+    }
 
-group_spelled : SidsAreWritten → (bytes : List ℕ) (group : Option SidValue) → AreBytes bytes → group_of bytes ≡ Ok group → SpellGroup bytes group
+group_spelled : SidsAreWritten → (bytes : List ℕ) (group : Option SidValue) → AreBytes bytes → group_of bytes ≡ Ok group
+    → SpellGroup bytes group
 unfolding group_of
 group_spelled law bytes group all = by_test (u32_at 8 bytes == 0) group refl
   where
-    by_test : (absent : Bool) (group : Option SidValue) → (u32_at 8 bytes == 0) ≡ absent → (if absent then Ok None else then_read (sid_of_field 8 bytes) (λ group. Ok (Some group))) ≡ Ok group → SpellGroup bytes group
+    by_test : (absent : Bool) (group : Option SidValue) → (u32_at 8 bytes == 0) ≡ absent →
+        (if absent then Ok None else then_read (sid_of_field 8 bytes) (λ group. Ok (Some group))) ≡ Ok group →
+        SpellGroup bytes group
     by_test true None test read = grind (arith, nat_tests)
     by_test true (Some group) test read = cc
-    by_test false None test read = let found = then_ok (sid_of_field 8 bytes) (λ group. Ok (Some group)) None read in let none = found.2 in cc
+    by_test false None test read = let found = then_ok (sid_of_field 8 bytes) (λ group. Ok (Some group)) None read in
+        let none = found.2 in cc
     by_test false (Some group) test read =
         let found = then_ok (sid_of_field 8 bytes) (λ group. Ok (Some group)) (Some group) read in
         let is = found.1 in
@@ -90,7 +106,8 @@ kind_spelled place type kind = by_tests (type == 0) (type == 1) kind refl refl
     by_tests false true Deny is_allow is_deny read = grind (arith, nat_tests)
     by_tests false false kind is_allow is_deny read = cc
 
-ace_spelled : SidsAreWritten → (place end : ℕ) (bytes : List ℕ) (ace : Ace) → AreBytes bytes → ace_at place end bytes ≡ Ok ace → SpellAce place end bytes ace
+ace_spelled : SidsAreWritten → (place end : ℕ) (bytes : List ℕ) (ace : Ace) → AreBytes bytes → ace_at place end bytes
+    ≡ Ok ace → SpellAce place end bytes ace
 unfolding ace_at
 ace_spelled law place end bytes ace all read =
     let size = u16_at (place + 2) bytes in
@@ -101,7 +118,12 @@ ace_spelled law place end bytes ace all read =
     let passed = not_refused (short || passing || small) (Short place) _ ace read in
     let by_kind = then_ok (kind_of place (slice_index bytes place)) _ ace passed.1 in
     let by_sid = then_ok (or_no_sid (place + 8) (sid_of_bytes sid_bytes)) _ ace by_kind.2 in
-    let made : Ace = record { kind = by_kind.0; flags = slice_index bytes (place + 1); mask = u32_at (place + 4) bytes; sid = by_sid.0 } in
+    let made : Ace = record {
+      kind = by_kind.0;
+      flags = slice_index bytes (place + 1);
+      mask = u32_at (place + 4) bytes;
+      sid = by_sid.0;
+    } in
     let same : made ≡ ace = (let is = by_sid.2 in cc) in
     let two = neither_left (short || passing) small passed.0 in
     let a = neither_left short passing two in
@@ -114,7 +136,9 @@ ace_spelled law place end bytes ace all read =
       kind = kind_spelled place (slice_index bytes place) by_kind.0 by_kind.1;
       flags = refl;
       mask = refl;
-      sid = sid_spelled law (place + 8) sid_bytes by_sid.0 (All-take (λ byte. byte < 256) (size - 8) (drop (place + 8) bytes) (All-drop (λ byte. byte < 256) (place + 8) bytes all)) by_sid.1;
+      sid = sid_spelled law (place + 8) sid_bytes by_sid.0
+          (All-take (λ byte. byte < 256) (size - 8) (drop (place + 8) bytes)
+          (All-drop (λ byte. byte < 256) (place + 8) bytes all)) by_sid.1;
     })
 
 -- entries that are read, and their count
@@ -122,7 +146,8 @@ record AreSpelled (count place end : ℕ) (bytes : List ℕ) (aces : List Ace) :
   count_is : count ≡ length aces
   spelled : SpellAces place end bytes aces
 
-aces_spelled : SidsAreWritten → (count place end : ℕ) (bytes : List ℕ) (aces : List Ace) → AreBytes bytes → aces_at count place end bytes ≡ Ok aces → AreSpelled count place end bytes aces
+aces_spelled : SidsAreWritten → (count place end : ℕ) (bytes : List ℕ) (aces : List Ace) → AreBytes bytes →
+    aces_at count place end bytes ≡ Ok aces → AreSpelled count place end bytes aces
 unfolding aces_at
 aces_spelled law zero place end bytes [] all read = record { count_is = refl; spelled = tt }
 aces_spelled law zero place end bytes (ace ∷ aces) all read = cc
@@ -137,7 +162,8 @@ aces_spelled law (suc count) place end bytes aces all read =
       spelled = (ace_spelled law place end bytes first.0 all first.1, behind.spelled);
     })
 
-acl_spelled : SidsAreWritten → (place : ℕ) (bytes : List ℕ) (aces : List Ace) → AreBytes bytes → acl_at place bytes ≡ Ok aces → SpellAcl place bytes aces
+acl_spelled : SidsAreWritten → (place : ℕ) (bytes : List ℕ) (aces : List Ace) → AreBytes bytes → acl_at place bytes
+    ≡ Ok aces → SpellAcl place bytes aces
 unfolding acl_at
 acl_spelled law place bytes aces all read =
     let short : Bool = nat_lt (length bytes) (place + 8) in
@@ -147,7 +173,8 @@ acl_spelled law place bytes aces all read =
     let a = neither_left short passing passed.0 in
     let b = neither_right short passing passed.0 in
     let r = not_false (slice_index bytes place == 2) revised.0 in
-    let entries = aces_spelled law (u16_at (place + 4) bytes) (place + 8) (place + u16_at (place + 2) bytes) bytes aces all revised.1 in
+    let entries = aces_spelled law (u16_at (place + 4) bytes) (place + 8)
+    (place + u16_at (place + 2) bytes) bytes aces all revised.1 in
     record {
       whole = grind (arith, nat_tests);
       fits = grind (arith, nat_tests);
@@ -156,12 +183,16 @@ acl_spelled law place bytes aces all read =
       entries = entries.spelled;
     }
 
-list_spelled : SidsAreWritten → (bytes : List ℕ) (acl : Option (List Ace)) → AreBytes bytes → list_of bytes ≡ Ok acl → SpellList bytes acl
+list_spelled : SidsAreWritten → (bytes : List ℕ) (acl : Option (List Ace)) → AreBytes bytes → list_of bytes ≡ Ok acl →
+    SpellList bytes acl
 unfolding list_of
 list_spelled law bytes acl all = by_tests (shares (u16_at 2 bytes) 0x0004) (u32_at 16 bytes == 0) acl refl refl
   where
-    by_tests : (present none : Bool) (acl : Option (List Ace)) → shares (u16_at 2 bytes) 0x0004 ≡ present → (u32_at 16 bytes == 0) ≡ none
-        → (if not present || none then Ok None else (if is_outside (u32_at 16 bytes) bytes then Err (Offset 16) else then_read (acl_at (u32_at 16 bytes) bytes) (λ aces. Ok (Some aces)))) ≡ Ok acl → SpellList bytes acl
+    by_tests : (present none : Bool) (acl : Option (List Ace)) → shares (u16_at 2 bytes) 0x0004 ≡ present →
+        (u32_at 16 bytes == 0) ≡ none
+        → (if not present || none then Ok None else
+        (if is_outside (u32_at 16 bytes) bytes then Err (Offset 16) else
+        then_read (acl_at (u32_at 16 bytes) bytes) (λ aces. Ok (Some aces)))) ≡ Ok acl → SpellList bytes acl
     by_tests false none None is_present is_none read = inl is_present
     by_tests false none (Some aces) is_present is_none read = cc
     by_tests true true None is_present is_none read = inr (grind (arith, nat_tests))
@@ -177,7 +208,8 @@ list_spelled law bytes acl all = by_tests (shares (u16_at 2 bytes) 0x0004) (u32_
           spelled = acl_spelled law (u32_at 16 bytes) bytes there.0 all there.1;
         })
 
-pub read_is_spelled : SidsAreWritten → (bytes : List ℕ) (d : Descriptor) → AreBytes bytes → descriptor_of_bytes bytes ≡ Ok d → SpellDescriptor bytes d
+pub read_is_spelled : SidsAreWritten → (bytes : List ℕ) (d : Descriptor) → AreBytes bytes → descriptor_of_bytes bytes
+    ≡ Ok d → SpellDescriptor bytes d
 unfolding descriptor_of_bytes
 read_is_spelled law bytes d all read =
     let whole = not_refused (nat_lt (length bytes) 20) (Short 0) _ d read in

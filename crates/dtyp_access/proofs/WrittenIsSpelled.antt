@@ -1,5 +1,6 @@
 -- The written bytes of a descriptor spell it, whatever bytes follow
-use Rattle.std.proofs.Common.{◌≡◌, ℕ, ◌+◌, ◌-◌, ◌*◌, ◌^◌, ◌<◌, ◌≤◌, inl, List, [], ◌∷◌, ◌++◌, length, take, drop, get_or, refl, sym, ap, ◌∙◌, arith, subst, append_assoc, true, Option, Some, None, All}
+use Rattle.std.proofs.Common.{◌≡◌, ℕ, ◌+◌, ◌-◌, ◌*◌, ◌^◌, ◌<◌, ◌≤◌, inl, List, [], ◌∷◌, ◌++◌, length, take, drop}
+use Rattle.std.proofs.Common.{get_or, refl, sym, ap, ◌∙◌, arith, subst, append_assoc, true, Option, Some, None, All}
 use Rattle.std.specs.Prelude.{slice_index}
 use Rattle.std.specs.Int.{w16, w32, to_le_bytes, from_le_bytes}
 use Rattle.std.proofs.lemmas.Nat.{from_le_bytes-to_le_bytes_2, from_le_bytes-to_le_bytes_4}
@@ -11,8 +12,10 @@ use Rattle.dtyp_access.specs.declared.ace.Ace.{Ace}
 use Rattle.dtyp_access.specs.declared.descriptor.Descriptor.{Descriptor}
 use Rattle.dtyp_access.specs.Granted.{shares}
 use Rattle.dtyp_access.specs.Reading.{u16_at, u32_at, next_ace}
-use Rattle.dtyp_access.specs.Written.{type_of, ace_bytes, aces_bytes, acl_bytes, group_bytes, list_bytes, control_of, offset_of, header_bytes, descriptor_bytes}
-use Rattle.dtyp_access.specs.Spelled.{PointsToSid, SpellAce, SpellAces, SpellAcl, SpellGroup, SpellList, SpellDescriptor}
+use Rattle.dtyp_access.specs.Written.{type_of, ace_bytes, aces_bytes, acl_bytes, group_bytes, list_bytes, control_of}
+use Rattle.dtyp_access.specs.Written.{offset_of, header_bytes, descriptor_bytes}
+use Rattle.dtyp_access.specs.Spelled.{PointsToSid, SpellAce, SpellAces, SpellAcl, SpellGroup, SpellList}
+use Rattle.dtyp_access.specs.Spelled.{SpellDescriptor}
 use Rattle.dtyp_access.specs.Limits.{IsAce, IsGroup, IsList, IsDescriptor}
 use Rattle.std.proofs.lemmas.List.Elements.{All-head, All-tail}
 
@@ -20,28 +23,34 @@ use Rattle.std.proofs.lemmas.List.Elements.{All-head, All-tail}
 abbrev StandAt : ℕ → List ℕ → List ℕ → List ℕ → Type 0
 StandAt place bytes part rest = drop place bytes ≡ part ++ rest
 
-u16_stands : (place number : ℕ) (bytes rest : List ℕ) → number < 2 ^ 16 → StandAt place bytes (to_le_bytes w16 number) rest → u16_at place bytes ≡ number
+u16_stands : (place number : ℕ) (bytes rest : List ℕ) → number < 2 ^ 16 →
+    StandAt place bytes (to_le_bytes w16 number) rest → u16_at place bytes ≡ number
 unfolding u16_at
 u16_stands place number bytes rest fits stands = ap (from_le_bytes w16) stands ∙ from_le_bytes-to_le_bytes_2 number fits
 
-u32_stands : (place number : ℕ) (bytes rest : List ℕ) → number < 2 ^ 32 → StandAt place bytes (to_le_bytes w32 number) rest → u32_at place bytes ≡ number
+u32_stands : (place number : ℕ) (bytes rest : List ℕ) → number < 2 ^ 32 →
+    StandAt place bytes (to_le_bytes w32 number) rest → u32_at place bytes ≡ number
 unfolding u32_at
 u32_stands place number bytes rest fits stands = ap (from_le_bytes w32) stands ∙ from_le_bytes-to_le_bytes_4 number fits
 
 byte_stands : (place byte : ℕ) (bytes rest : List ℕ) → drop place bytes ≡ byte ∷ rest → slice_index bytes place ≡ byte
 byte_stands place byte bytes rest stands =
     let here : place + 0 ≡ place = omega arith in
-    ap (λ n. get_or bytes n 0) (sym here) ∙ sym (get_or-drop place bytes 0 0) ∙ ap (λ (left : List ℕ). get_or left 0 0) stands
+    ap (λ n. get_or bytes n 0) (sym here) ∙ sym (get_or-drop place bytes 0 0)
+    ∙ ap (λ (left : List ℕ). get_or left 0 0) stands
 
 -- what stands behind a part
-behind_part : (place : ℕ) (bytes part rest : List ℕ) → StandAt place bytes part rest → drop (place + length part) bytes ≡ rest
+behind_part : (place : ℕ) (bytes part rest : List ℕ) → StandAt place bytes part rest → drop (place + length part) bytes
+    ≡ rest
 behind_part place bytes part rest stands =
     sym (drop-drop (length part) place bytes) ∙ ap (drop (length part)) stands ∙ drop-append_seam part rest
 
 -- a part that stands at a place is whole
-part_whole : (place : ℕ) (bytes part rest : List ℕ) → 1 ≤ length part → StandAt place bytes part rest → place + length part ≤ length bytes
+part_whole : (place : ℕ) (bytes part rest : List ℕ) → 1 ≤ length part → StandAt place bytes part rest → place
+    + length part ≤ length bytes
 part_whole place bytes part rest some stands =
-    let left : length bytes - place ≡ length part + length rest = sym (length-drop place bytes) ∙ ap length stands ∙ length-append part rest in
+    let left : length bytes - place ≡ length part + length rest = sym (length-drop place bytes) ∙ ap length stands
+    ∙ length-append part rest in
     omega arith
 
 length-ace : SidsHaveLengths → (ace : Ace) → length (ace_bytes ace) ≡ 16 + 4 * length ace.sid.subs
@@ -49,14 +58,18 @@ unfolding ace_bytes
 length-ace lengths ace = let long = lengths ace.sid in omega arith
 
 -- an entry where its bytes stand
-ace_stands : SidsHaveLengths → (place end : ℕ) (bytes rest : List ℕ) (ace : Ace) → IsAce ace → StandAt place bytes (ace_bytes ace) rest → place + length (ace_bytes ace) ≤ end
+ace_stands : SidsHaveLengths → (place end : ℕ) (bytes rest : List ℕ) (ace : Ace) → IsAce ace →
+    StandAt place bytes (ace_bytes ace) rest → place + length (ace_bytes ace) ≤ end
     → SpellAce place end bytes ace × (next_ace place bytes ≡ place + length (ace_bytes ace))
 unfolding ace_bytes next_ace
 ace_stands lengths place end bytes rest ace is stands fits =
     let long = lengths ace.sid in
     let few = is.is_sid.count_fits in
-    let at : (n : ℕ) → drop (place + n) bytes ≡ drop n (ace_bytes ace ++ rest) = λ n. sym (drop-drop n place bytes) ∙ ap (drop n) stands in
-    let size : u16_at (place + 2) bytes ≡ 8 + length (bytes_of ace.sid) = u16_stands (place + 2) (8 + length (bytes_of ace.sid)) bytes (to_le_bytes w32 ace.mask ++ bytes_of ace.sid ++ rest) (omega arith) (at 2) in
+    let at : (n : ℕ) → drop (place + n) bytes ≡ drop n (ace_bytes ace ++ rest) = λ n. sym (drop-drop n place bytes)
+    ∙ ap (drop n) stands in
+    let size : u16_at (place + 2) bytes ≡ 8 + length (bytes_of ace.sid) =
+    u16_stands (place + 2) (8 + length (bytes_of ace.sid)) bytes
+    (to_le_bytes w32 ace.mask ++ bytes_of ace.sid ++ rest) (omega arith) (at 2) in
     let sid : take (u16_at (place + 2) bytes - 8) (drop (place + 8) bytes) ≡ bytes_of ace.sid =
     (let less : 8 + length (bytes_of ace.sid) - 8 ≡ length (bytes_of ace.sid) = omega arith in
     ap (λ n. take (n - 8) (drop (place + 8) bytes)) size ∙ ap (λ n. take n (drop (place + 8) bytes)) less
@@ -73,18 +86,22 @@ ace_stands lengths place end bytes rest ace is stands fits =
       omega arith,
     )
 
-aces_stand : SidsHaveLengths → (place end : ℕ) (bytes rest : List ℕ) (aces : List Ace) → All IsAce aces → StandAt place bytes (aces_bytes aces) rest → place + length (aces_bytes aces) ≤ end
+aces_stand : SidsHaveLengths → (place end : ℕ) (bytes rest : List ℕ) (aces : List Ace) → All IsAce aces →
+    StandAt place bytes (aces_bytes aces) rest → place + length (aces_bytes aces) ≤ end
     → SpellAces place end bytes aces
 unfolding aces_bytes
 aces_stand lengths place end bytes rest [] are stand fit = tt
 aces_stand lengths place end bytes rest (ace ∷ aces) are stand fit =
     let first_is = All-head IsAce ace aces are in
     let others_are = All-tail IsAce ace aces are in
-    let long : length (ace_bytes ace ++ aces_bytes aces) ≡ length (ace_bytes ace) + length (aces_bytes aces) = length-append (ace_bytes ace) (aces_bytes aces) in
-    let here : StandAt place bytes (ace_bytes ace) (aces_bytes aces ++ rest) = stand ∙ append_assoc (ace_bytes ace) (aces_bytes aces) rest in
+    let long : length (ace_bytes ace ++ aces_bytes aces) ≡ length (ace_bytes ace) + length (aces_bytes aces) =
+    length-append (ace_bytes ace) (aces_bytes aces) in
+    let here : StandAt place bytes (ace_bytes ace) (aces_bytes aces ++ rest) = stand
+    ∙ append_assoc (ace_bytes ace) (aces_bytes aces) rest in
     let first = ace_stands lengths place end bytes (aces_bytes aces ++ rest) ace first_is here (omega arith) in
     let next = first.1 in
-    let behind : StandAt (next_ace place bytes) bytes (aces_bytes aces) rest = ap (λ n. drop n bytes) next ∙ behind_part place bytes (ace_bytes ace) (aces_bytes aces ++ rest) here in
+    let behind : StandAt (next_ace place bytes) bytes (aces_bytes aces) rest = ap (λ n. drop n bytes) next
+    ∙ behind_part place bytes (ace_bytes ace) (aces_bytes aces ++ rest) here in
     (first.0, aces_stand lengths (next_ace place bytes) end bytes rest aces others_are behind (omega arith))
 
 -- the size of a list fits its field
@@ -94,26 +111,31 @@ aces_short lengths [] are = omega arith
 aces_short lengths (ace ∷ aces) are =
     let first_is = All-head IsAce ace aces are in
     let others_are = All-tail IsAce ace aces are in
-    let long : length (ace_bytes ace ++ aces_bytes aces) ≡ length (ace_bytes ace) + length (aces_bytes aces) = length-append (ace_bytes ace) (aces_bytes aces) in
+    let long : length (ace_bytes ace ++ aces_bytes aces) ≡ length (ace_bytes ace) + length (aces_bytes aces) =
+    length-append (ace_bytes ace) (aces_bytes aces) in
     let first = length-ace lengths ace in
     let few = first_is.is_sid.count_fits in
     let others = aces_short lengths aces others_are in
     omega arith
 
-acl_stands : SidsHaveLengths → (place : ℕ) (bytes rest : List ℕ) (aces : List Ace) → All IsAce aces → length aces ≤ 800 → StandAt place bytes (acl_bytes aces) rest → SpellAcl place bytes aces
+acl_stands : SidsHaveLengths → (place : ℕ) (bytes rest : List ℕ) (aces : List Ace) → All IsAce aces → length aces ≤ 800
+    → StandAt place bytes (acl_bytes aces) rest → SpellAcl place bytes aces
 unfolding acl_bytes
 acl_stands lengths place bytes rest aces are few stands =
-    let at : (n : ℕ) → drop (place + n) bytes ≡ drop n (acl_bytes aces ++ rest) = λ n. sym (drop-drop n place bytes) ∙ ap (drop n) stands in
+    let at : (n : ℕ) → drop (place + n) bytes ≡ drop n (acl_bytes aces ++ rest) = λ n. sym (drop-drop n place bytes)
+    ∙ ap (drop n) stands in
     let short = aces_short lengths aces are in
     let long : length (acl_bytes aces) ≡ 8 + length (aces_bytes aces) = omega arith in
-    let size : u16_at (place + 2) bytes ≡ 8 + length (aces_bytes aces) = u16_stands (place + 2) (8 + length (aces_bytes aces)) bytes _ (omega arith) (at 2) in
+    let size : u16_at (place + 2) bytes ≡ 8 + length (aces_bytes aces) =
+    u16_stands (place + 2) (8 + length (aces_bytes aces)) bytes _ (omega arith) (at 2) in
     let whole = part_whole place bytes (acl_bytes aces) rest (omega arith) stands in
     record {
       whole = omega arith;
       fits = omega arith;
       revision = byte_stands place 2 bytes _ stands;
       count = u16_stands (place + 4) (length aces) bytes _ (omega arith) (at 4);
-      entries = aces_stand lengths (place + 8) (place + u16_at (place + 2) bytes) bytes rest aces are (at 8) (omega arith);
+      entries = aces_stand lengths (place + 8) (place + u16_at (place + 2) bytes) bytes rest aces are (at 8)
+          (omega arith);
     }
 
 -- the sizes of the parts
@@ -134,25 +156,32 @@ unfolding header_bytes
 header_length d = refl
 
 -- a SID where its bytes stand
-sid_stands : (field place : ℕ) (bytes rest : List ℕ) (sid : SidValue) → IsSid sid → 20 ≤ place → place ≤ length bytes → u32_at field bytes ≡ place → StandAt place bytes (bytes_of sid) rest → PointsToSid field bytes sid
+sid_stands : (field place : ℕ) (bytes rest : List ℕ) (sid : SidValue) → IsSid sid → 20 ≤ place → place ≤ length bytes →
+    u32_at field bytes ≡ place → StandAt place bytes (bytes_of sid) rest → PointsToSid field bytes sid
 sid_stands field place bytes rest sid is behind within points stands = record {
   inside = record { behind_header = omega arith; within = omega arith };
   spelled = record { is_sid = is; begin = (rest, ap (λ n. drop n bytes) points ∙ stands) };
 }
 
-group_stands : (place : ℕ) (bytes rest : List ℕ) (group : Option SidValue) → IsGroup group → 20 ≤ place → place ≤ length bytes → u32_at 8 bytes ≡ offset_of group place → StandAt place bytes (group_bytes group) rest → SpellGroup bytes group
+group_stands : (place : ℕ) (bytes rest : List ℕ) (group : Option SidValue) → IsGroup group → 20 ≤ place →
+    place ≤ length bytes → u32_at 8 bytes ≡ offset_of group place → StandAt place bytes (group_bytes group) rest →
+    SpellGroup bytes group
 unfolding group_bytes
 group_stands place bytes rest None is behind within points stands = points
-group_stands place bytes rest (Some group) is behind within points stands = sid_stands 8 place bytes rest group is behind within points stands
+group_stands place bytes rest (Some group) is behind within points stands =
+    sid_stands 8 place bytes rest group is behind within points stands
 
-list_stands : SidsHaveLengths → (place : ℕ) (bytes rest : List ℕ) (acl : Option (List Ace)) → IsList acl → 20 ≤ place → place ≤ length bytes → u16_at 2 bytes ≡ control_of acl → u32_at 16 bytes ≡ offset_of acl place
+list_stands : SidsHaveLengths → (place : ℕ) (bytes rest : List ℕ) (acl : Option (List Ace)) → IsList acl → 20 ≤ place →
+    place ≤ length bytes → u16_at 2 bytes ≡ control_of acl → u32_at 16 bytes ≡ offset_of acl place
     → StandAt place bytes (list_bytes acl) rest → SpellList bytes acl
 unfolding list_bytes shares
-list_stands lengths place bytes rest None is behind within control points stands = inl (ap (λ bits. shares bits 0x0004) control)
+list_stands lengths place bytes rest None is behind within control points stands =
+    inl (ap (λ bits. shares bits 0x0004) control)
 list_stands lengths place bytes rest (Some aces) is behind within control points stands = record {
   present = ap (λ bits. shares bits 0x0004) control;
   inside = record { behind_header = omega arith; within = omega arith };
-  spelled = subst (λ (place : ℕ). SpellAcl place bytes aces) (sym points) (acl_stands lengths place bytes rest aces is.0 is.1 stands);
+  spelled = subst (λ (place : ℕ). SpellAcl place bytes aces) (sym points)
+      (acl_stands lengths place bytes rest aces is.0 is.1 stands);
 }
 
 offset_fits : {X : Type 0} (part : Option X) (place : ℕ) → place < 2 ^ 32 → offset_of part place < 2 ^ 32
@@ -176,23 +205,28 @@ record AreFields (d : Descriptor) (bytes : List ℕ) : Type 0 where
   group : u32_at 8 bytes ≡ offset_of d.group (20 + length (bytes_of d.owner))
   acl : u32_at 16 bytes ≡ offset_of d.acl (20 + length (bytes_of d.owner) + length (group_bytes d.group))
 
-fields_stand : SidsHaveLengths → (d : Descriptor) (rest : List ℕ) → IsDescriptor d → AreFields d (header_bytes d ++ rest)
+fields_stand : SidsHaveLengths → (d : Descriptor) (rest : List ℕ) → IsDescriptor d →
+    AreFields d (header_bytes d ++ rest)
 unfolding header_bytes
 fields_stand lengths d rest is =
     let owner = sid_short lengths d.owner is.owner in
     let group = group_short lengths d.group is.group in
-    let group_fits : offset_of d.group (20 + length (bytes_of d.owner)) < 2 ^ 32 = offset_fits d.group (20 + length (bytes_of d.owner)) (omega arith) in
+    let group_fits : offset_of d.group (20 + length (bytes_of d.owner)) < 2 ^ 32 =
+    offset_fits d.group (20 + length (bytes_of d.owner)) (omega arith) in
     let acl_fits : offset_of d.acl (20 + length (bytes_of d.owner) + length (group_bytes d.group)) < 2 ^ 32 =
     offset_fits d.acl (20 + length (bytes_of d.owner) + length (group_bytes d.group)) (omega arith) in
     record {
       revision = refl;
       control = u16_stands 2 (control_of d.acl) (header_bytes d ++ rest) _ (control_fits d.acl) refl;
       owner = u32_stands 4 20 (header_bytes d ++ rest) _ (omega arith) refl;
-      group = u32_stands 8 (offset_of d.group (20 + length (bytes_of d.owner))) (header_bytes d ++ rest) _ group_fits refl;
-      acl = u32_stands 16 (offset_of d.acl (20 + length (bytes_of d.owner) + length (group_bytes d.group))) (header_bytes d ++ rest) rest acl_fits refl;
+      group = u32_stands 8 (offset_of d.group (20 + length (bytes_of d.owner)))
+          (header_bytes d ++ rest) _ group_fits refl;
+      acl = u32_stands 16 (offset_of d.acl (20 + length (bytes_of d.owner) + length (group_bytes d.group)))
+          (header_bytes d ++ rest) rest acl_fits refl;
     }
 
-pub written_is_spelled : SidsHaveLengths → (d : Descriptor) (rest : List ℕ) → IsDescriptor d → SpellDescriptor (descriptor_bytes d ++ rest) d
+pub written_is_spelled : SidsHaveLengths → (d : Descriptor) (rest : List ℕ) → IsDescriptor d →
+    SpellDescriptor (descriptor_bytes d ++ rest) d
 unfolding descriptor_bytes
 written_is_spelled lengths d rest is =
     let owner = bytes_of d.owner in
@@ -202,15 +236,22 @@ written_is_spelled lengths d rest is =
     let same : bytes ≡ (header_bytes d ++ owner ++ group ++ list) ++ rest = simp append_assoc in
     let fields = fields_stand lengths d (owner ++ (group ++ (list ++ rest))) is in
     let twenty = header_length d in
-    let long : length bytes ≡ 20 + length owner + length group + length list + length rest = omega (arith, length-append {A = ℕ}) in
-    let at_owner : StandAt 20 bytes owner (group ++ (list ++ rest)) = ap (λ n. drop n bytes) (sym twenty) ∙ drop-append_seam (header_bytes d) (owner ++ (group ++ (list ++ rest))) in
-    let at_group : StandAt (20 + length owner) bytes group (list ++ rest) = behind_part 20 bytes owner (group ++ (list ++ rest)) at_owner in
-    let at_list : StandAt (20 + length owner + length group) bytes list rest = behind_part (20 + length owner) bytes group (list ++ rest) at_group in
+    let long : length bytes ≡ 20 + length owner + length group + length list + length rest =
+    omega (arith, length-append {A = ℕ}) in
+    let at_owner : StandAt 20 bytes owner (group ++ (list ++ rest)) = ap (λ n. drop n bytes) (sym twenty)
+    ∙ drop-append_seam (header_bytes d) (owner ++ (group ++ (list ++ rest))) in
+    let at_group : StandAt (20 + length owner) bytes group (list ++ rest) =
+    behind_part 20 bytes owner (group ++ (list ++ rest)) at_owner in
+    let at_list : StandAt (20 + length owner + length group) bytes list rest =
+    behind_part (20 + length owner) bytes group (list ++ rest) at_group in
     subst (λ (bytes : List ℕ). SpellDescriptor bytes d) same (record {
       header = omega arith;
       revision = fields.revision;
       self_relative = ap (λ bits. shares bits 0x8000) fields.control ∙ control_relative d.acl;
-      owner = sid_stands 4 20 bytes (group ++ (list ++ rest)) d.owner is.owner (omega arith) (omega arith) fields.owner at_owner;
-      group = group_stands (20 + length owner) bytes (list ++ rest) d.group is.group (omega arith) (omega arith) fields.group at_group;
-      acl = list_stands lengths (20 + length owner + length group) bytes rest d.acl is.acl (omega arith) (omega arith) fields.control fields.acl at_list;
+      owner = sid_stands 4 20 bytes (group ++ (list ++ rest)) d.owner is.owner (omega arith)
+          (omega arith) fields.owner at_owner;
+      group = group_stands (20 + length owner) bytes (list ++ rest) d.group is.group (omega arith)
+          (omega arith) fields.group at_group;
+      acl = list_stands lengths (20 + length owner + length group) bytes rest d.acl is.acl (omega arith)
+          (omega arith) fields.control fields.acl at_list;
     })

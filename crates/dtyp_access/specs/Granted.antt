@@ -1,10 +1,12 @@
--- Which rights a descriptor grants to a token (MS-DTYP 2.5.3), one right at a time. A right is an access mask of one bit.
+-- Which rights a descriptor grants to a token (MS-DTYP 2.5.3), one right at a time. A right is an access mask of one
+-- bit.
 use Rattle.std.specs.Prelude.{◌≡◌, ℕ, ◌^◌, ◌<◌, Bool, true, false, not, ◌&&◌, ◌||◌, List, ◌==◌, bit_and, find}
 use Rattle.std.specs.List.{list_any}
 use Rattle.std.specs.Option.{option_map_or}
 use Rattle.std.specs.declared.option.Option.{Option}
 use Rattle.std.specs.declared.option.Option.TheVariants.{Some, None}
-use Rattle.acct_codes.specs.Rights.{read_control, write_dac, access_system_security, maximum_allowed, generic_all, generic_execute, generic_write, generic_read}
+use Rattle.acct_codes.specs.Rights.{read_control, write_dac, access_system_security, maximum_allowed, generic_all}
+use Rattle.acct_codes.specs.Rights.{generic_execute, generic_write, generic_read}
 use Rattle.dtyp_sid.specs.Value.{SidValue}
 use Rattle.dtyp_sid.specs.Order.{sid_eq}
 use Rattle.dtyp_access.specs.declared.ace.Ace.{Ace}
@@ -63,4 +65,5 @@ grants token owner right (Some aces) = is_owners token owner right || acl_grants
 
 -- whether the descriptor grants the right to the token
 unfoldable pub granted : List SidValue → Descriptor → ℕ → Bool
-granted token descriptor right = not (right == access_system_security) && grants token descriptor.owner right descriptor.acl
+granted token descriptor right = not (right == access_system_security)
+    && grants token descriptor.owner right descriptor.acl

@@ -1,4 +1,5 @@
--- The limits of a descriptor's parts: flags of 8 bits and masks of 32 (MS-DTYP 2.4.4.1 and 2.4.3), and a list no longer than its size
+-- The limits of a descriptor's parts: flags of 8 bits and masks of 32 (MS-DTYP 2.4.4.1 and 2.4.3), and a list no longer
+-- than its size
 -- field can say, which counts at most 76 bytes an entry
 use Rattle.std.specs.Prelude.{◌≡◌, ◌^◌, ◌<◌, ◌≤◌, List, length, All}
 use Rattle.std.specs.declared.option.Option.{Option}

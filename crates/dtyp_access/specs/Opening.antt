@@ -24,7 +24,8 @@ may_have kind descriptor token right = shares (valid_rights kind) right && grant
 
 -- whether an opening gives the right: it is asked for, or all that may be had are
 unfoldable pub gives : Kind → Descriptor → List SidValue → ℕ → ℕ → Bool
-gives kind descriptor token desired right = asks kind desired right || (shares desired maximum_allowed && may_have kind descriptor token right)
+gives kind descriptor token desired right = asks kind desired right
+    || (shares desired maximum_allowed && may_have kind descriptor token right)
 
 -- whether each of the first rights passes a test, from bit 0 on
 unfoldable pub all_rights : ℕ → (ℕ → Bool) → Bool

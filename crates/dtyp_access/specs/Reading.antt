@@ -1,5 +1,6 @@
 -- The descriptor that bytes spell, or the first reason that they spell none (MS-DTYP 2.4.4 to 2.4.6)
-use Rattle.std.specs.Prelude.{◌≡◌, ℕ, zero, suc, ◌+◌, ◌-◌, Bool, true, false, not, ◌&&◌, ◌||◌, List, [], ◌∷◌, length, take, drop, slice_index, nat_lt, ◌==◌, if◌then◌else◌}
+use Rattle.std.specs.Prelude.{◌≡◌, ℕ, zero, suc, ◌+◌, ◌-◌, Bool, true, false, not, ◌&&◌, ◌||◌, List, [], ◌∷◌, length}
+use Rattle.std.specs.Prelude.{take, drop, slice_index, nat_lt, ◌==◌, if◌then◌else◌}
 use Rattle.std.specs.Int.{w16, w32, from_le_bytes}
 use Rattle.std.specs.declared.option.Option.{Option}
 use Rattle.std.specs.declared.option.Option.TheVariants.{Some, None}
@@ -13,7 +14,8 @@ use Rattle.dtyp_access.specs.declared.ace.AceKind.{AceKind}
 use Rattle.dtyp_access.specs.declared.ace.AceKind.TheVariants.{Allow, Deny}
 use Rattle.dtyp_access.specs.declared.descriptor.Descriptor.{Descriptor}
 use Rattle.dtyp_access.specs.declared.errors.DescError.{DescError}
-use Rattle.dtyp_access.specs.declared.errors.DescError.TheVariants.{Short, Revision, Offset, AceType, Sid as NoSid, Memory}
+use Rattle.dtyp_access.specs.declared.errors.DescError.TheVariants.{Short, Revision, Offset, AceType, Sid as NoSid}
+use Rattle.dtyp_access.specs.declared.errors.DescError.TheVariants.{Memory}
 use Rattle.dtyp_access.specs.Granted.{shares}
 
 -- the next step of a reading, where the one before was not refused
@@ -58,21 +60,25 @@ next_ace place bytes = place + u16_at (place + 2) bytes
 -- the entry at a place of a list that ends at another
 unfoldable pub ace_at : ℕ → ℕ → List ℕ → Result Ace DescError
 ace_at place end bytes =
-    if nat_lt end (place + 8) || nat_lt end (next_ace place bytes) || nat_lt (u16_at (place + 2) bytes) 16 then Err (Short place)
+    if nat_lt end (place + 8) || nat_lt end (next_ace place bytes) || nat_lt (u16_at (place + 2) bytes) 16 then
+    Err (Short place)
     else then_read (kind_of place (slice_index bytes place)) (λ kind.
-    then_read (or_no_sid (place + 8) (sid_of_bytes (take (u16_at (place + 2) bytes - 8) (drop (place + 8) bytes)))) (λ sid.
+    then_read (or_no_sid (place + 8) (sid_of_bytes (take (u16_at (place + 2) bytes - 8) (drop (place + 8) bytes))))
+    (λ sid.
     Ok (record { kind = kind; flags = slice_index bytes (place + 1); mask = u32_at (place + 4) bytes; sid = sid })))
 
 -- so many entries, one behind the other
 unfoldable pub aces_at : ℕ → ℕ → ℕ → List ℕ → Result (List Ace) DescError
 aces_at zero place end bytes = Ok []
 aces_at (suc count) place end bytes =
-    then_read (ace_at place end bytes) (λ ace. then_read (aces_at count (next_ace place bytes) end bytes) (λ aces. Ok (ace ∷ aces)))
+    then_read (ace_at place end bytes)
+    (λ ace. then_read (aces_at count (next_ace place bytes) end bytes) (λ aces. Ok (ace ∷ aces)))
 
 -- the list at a place
 unfoldable pub acl_at : ℕ → List ℕ → Result (List Ace) DescError
 acl_at place bytes =
-    if nat_lt (length bytes) (place + 8) || nat_lt (length bytes) (place + u16_at (place + 2) bytes) then Err (Short place)
+    if nat_lt (length bytes) (place + 8) || nat_lt (length bytes) (place + u16_at (place + 2) bytes) then
+    Err (Short place)
     else (if not (slice_index bytes place == 2) then Err (Revision place)
     else aces_at (u16_at (place + 4) bytes) (place + 8) (place + u16_at (place + 2) bytes) bytes)
 
@@ -95,14 +101,15 @@ descriptor_of_bytes bytes =
     Ok (record { owner = owner; group = group; acl = acl }))))))
 
 -- an answer is the one that is wanted, or memory was
-abbrev pub AnswersOrMemory : {X : Type 0} → Result X DescError → Result X DescError → Type 0
-AnswersOrMemory (Ok x) wanted = wanted ≡ Ok x
-AnswersOrMemory (Err Memory) wanted = Unit {0}
-AnswersOrMemory (Err refusal) wanted = wanted ≡ Err refusal
+abbrev pub ReadsIfRoom : {X : Type 0} → Result X DescError → Result X DescError → Type 0
+ReadsIfRoom (Ok x) wanted = wanted ≡ Ok x
+ReadsIfRoom (Err Memory) wanted = Unit {0}
+ReadsIfRoom (Err refusal) wanted = wanted ≡ Err refusal
 
 -- whether bytes have a list: control says so, and its offset isn't 0 and points behind the header and not past the end
 unfoldable pub has_list : List ℕ → Bool
-has_list bytes = shares (u16_at 2 bytes) 0x0004 && (not (u32_at 16 bytes == 0) && not (is_outside (u32_at 16 bytes) bytes))
+has_list bytes = shares (u16_at 2 bytes) 0x0004
+    && (not (u32_at 16 bytes == 0) && not (is_outside (u32_at 16 bytes) bytes))
 
 -- memory runs out only where there is a list, whose entries take it
 abbrev pub OnlyWithList : {X : Type 0} → Result X DescError → List ℕ → Type 0
@@ -117,7 +124,8 @@ is_read (Err refusal) = false
 -- memory runs out only where the list is reached: the owner and the group are read, and there is a list
 abbrev pub OnlyAtList : Result Descriptor DescError → List ℕ → Type 0
 OnlyAtList (Ok d) bytes = Unit {0}
-OnlyAtList (Err Memory) bytes = (is_read (sid_of_field 4 bytes) ≡ true) × (is_read (group_of bytes) ≡ true) × (has_list bytes ≡ true)
+OnlyAtList (Err Memory) bytes = (is_read (sid_of_field 4 bytes) ≡ true) × (is_read (group_of bytes) ≡ true)
+    × (has_list bytes ≡ true)
 OnlyAtList (Err refusal) bytes = Unit {0}
 
 -- reading a SID takes no memory

@@ -1,5 +1,6 @@
 -- The bytes that spell a descriptor, part by part (MS-DTYP 2.4.4 to 2.4.6)
-use Rattle.std.specs.Prelude.{◌≡◌, ℕ, ◌+◌, ◌-◌, ◌<◌, ◌≤◌, ◌⊎◌, ◌↔◌, true, false, List, [], ◌∷◌, ◌++◌, length, take, drop, slice_index, All}
+use Rattle.std.specs.Prelude.{◌≡◌, ℕ, ◌+◌, ◌-◌, ◌<◌, ◌≤◌, ◌⊎◌, ◌↔◌, true, false, List, [], ◌∷◌, ◌++◌, length, take}
+use Rattle.std.specs.Prelude.{drop, slice_index, All}
 use Rattle.std.specs.declared.option.Option.{Option}
 use Rattle.std.specs.declared.option.Option.TheVariants.{Some, None}
 use Rattle.std.specs.declared.result.Result.TheVariants.{Ok}
@@ -76,7 +77,8 @@ pub record SpellDescriptor (bytes : List ℕ) (d : Descriptor) : Type 0 where
 
 -- a descriptor is read exactly from the bytes that spell it
 abbrev pub ReadBytesSpell : Type 0
-ReadBytesSpell = (bytes : List ℕ) (d : Descriptor) → All (λ byte. byte < 256) bytes → (descriptor_of_bytes bytes ≡ Ok d) ↔ SpellDescriptor bytes d
+ReadBytesSpell = (bytes : List ℕ) (d : Descriptor) → All (λ byte. byte < 256) bytes → (descriptor_of_bytes bytes ≡ Ok d)
+    ↔ SpellDescriptor bytes d
 
 -- the written bytes spell the descriptor, whatever bytes follow
 abbrev pub WrittenBytesSpell : Type 0
@@ -84,4 +86,5 @@ WrittenBytesSpell = (d : Descriptor) (rest : List ℕ) → IsDescriptor d → Sp
 
 -- what is written is read as the same descriptor, whatever bytes follow
 abbrev pub WrittenBytesAreRead : Type 0
-WrittenBytesAreRead = (d : Descriptor) (rest : List ℕ) → IsDescriptor d → descriptor_of_bytes (descriptor_bytes d ++ rest) ≡ Ok d
+WrittenBytesAreRead = (d : Descriptor) (rest : List ℕ) → IsDescriptor d →
+    descriptor_of_bytes (descriptor_bytes d ++ rest) ≡ Ok d

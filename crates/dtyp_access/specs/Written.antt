@@ -19,7 +19,8 @@ type_of Deny = 1
 -- an entry: type, flags, its size, mask and SID
 unfoldable pub ace_bytes : Ace → List ℕ
 ace_bytes ace =
-    (type_of ace.kind ∷ ace.flags ∷ []) ++ to_le_bytes w16 (8 + length (bytes_of ace.sid)) ++ to_le_bytes w32 ace.mask ++ bytes_of ace.sid
+    (type_of ace.kind ∷ ace.flags ∷ []) ++ to_le_bytes w16 (8 + length (bytes_of ace.sid)) ++ to_le_bytes w32 ace.mask
+    ++ bytes_of ace.sid
 
 unfoldable pub aces_bytes : List Ace → List ℕ
 aces_bytes aces = flat_map ace_bytes aces
@@ -27,7 +28,8 @@ aces_bytes aces = flat_map ace_bytes aces
 -- an access control list: revision 2, its size, the count of its entries, and the entries
 unfoldable pub acl_bytes : List Ace → List ℕ
 acl_bytes aces =
-    (2 ∷ 0 ∷ []) ++ to_le_bytes w16 (8 + length (aces_bytes aces)) ++ to_le_bytes w16 (length aces) ++ (0 ∷ 0 ∷ []) ++ aces_bytes aces
+    (2 ∷ 0 ∷ []) ++ to_le_bytes w16 (8 + length (aces_bytes aces)) ++ to_le_bytes w16 (length aces) ++ (0 ∷ 0 ∷ [])
+    ++ aces_bytes aces
 
 -- the parts that may be absent
 unfoldable pub group_bytes : Option SidValue → List ℕ

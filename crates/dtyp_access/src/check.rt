@@ -1,6 +1,7 @@
 // The access check.
 ghost use Rattle.std.specs.Prelude.{◌≡◌, ℕ, ◌^◌, ◌<◌, if◌then◌else◌, not, ◌&&◌, ◌||◌, Some};
-ghost use Rattle.dtyp_access.specs.Granted.{IsRight, shares, granted, grants, has_sid, is_owners, is_inherit_only, allows};
+ghost use Rattle.dtyp_access.specs.Granted.{IsRight, shares, granted, grants, has_sid, is_owners, is_inherit_only};
+ghost use Rattle.dtyp_access.specs.Granted.{allows};
 ghost use Rattle.dtyp_access.specs.Opening.{asks, opened};
 
 use crate::{Ace, AceKind, Descriptor, Token};

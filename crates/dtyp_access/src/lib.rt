@@ -1,9 +1,9 @@
 //! Security descriptors and the access check (MS-DTYP 2.4.4 to 2.4.6 and 2.5.3): whether a token is granted a right,
 //! what an opening grants, and descriptors as bytes.
 //!
-//! It stands on the SIDs of `dtyp_sid`, on the kinds of objects and their rights in `acct_codes`, and on `acct_base` for
-//! lists. The layers above use that a contract sees a [`Token`] as the list of its SIDs, an [`Acl`] as the list of its
-//! entries and a [`Descriptor`] as its fields, that [`is_granted`] is `granted` of one right, that [`opening`] is
+//! It stands on the SIDs of `dtyp_sid`, on the kinds of objects and their rights in `acct_codes`, and on `acct_base`
+//! for lists. The layers above use that a contract sees a [`Token`] as the list of its SIDs, an [`Acl`] as the list of
+//! its entries and a [`Descriptor`] as its fields, that [`is_granted`] is `granted` of one right, that [`opening`] is
 //! `opened`, that [`read_descriptor`] gives `descriptor_of_bytes`, with the first refusal and its place, and that it
 //! reads the bytes of [`write_descriptor`] as the same descriptor. [`laws`] has what follows of these definitions.
 #![tactic(auto)]

@@ -1,12 +1,14 @@
 // Reading a descriptor from its bytes.
 ghost use Rattle.std.specs.Prelude.{◌≡◌, ◌+◌, ◌≤◌, length, IfOk, IfErr, Ok, Err};
-ghost use Rattle.std.specs.Int.{w16, w32, from_le_bytes};
+ghost use Rattle.dtyp_sid.specs.Bytes.{sid_of_bytes};
 ghost use Rattle.dtyp_access.specs.Spelled.{SpellDescriptor};
-ghost use Rattle.dtyp_access.specs.Reading.{AnswersOrMemory, OnlyAtList, OnlyWithList, NeverMemory, descriptor_of_bytes, sid_of_field, group_of, list_of, acl_at, aces_at, ace_at, next_ace, kind_of, or_no_sid, u16_at, u32_at};
+ghost use Rattle.dtyp_access.specs.Reading.{ReadsIfRoom, OnlyAtList, OnlyWithList, NeverMemory};
+ghost use Rattle.dtyp_access.specs.Reading.{descriptor_of_bytes, sid_of_field, group_of, list_of, acl_at, aces_at};
+ghost use Rattle.dtyp_access.specs.Reading.{ace_at, next_ace, kind_of, or_no_sid, u16_at, u32_at};
 
 use crate::laws::read_bytes_spell;
 use crate::{Ace, AceKind, Acl, DescError, Descriptor};
-use acct_base::rest_of;
+use acct_base::{front_u16, front_u32, rest_of};
 use dtyp_sid::Sid;
 use std::alloc::Global;
 
@@ -14,7 +16,7 @@ use std::alloc::Global;
 /// The auditing list isn't looked at.
 #[tactic(auto, unfolding(crate::specs::Reading::descriptor_of_bytes, crate::specs::Granted::shares))]
 pub fn read_descriptor(alloc: Global, bytes: &[u8]) -> Result<Descriptor, DescError>
-    ensures answer { AnswersOrMemory result (descriptor_of_bytes bytes.now) }
+    ensures answer { ReadsIfRoom result (descriptor_of_bytes bytes.now) }
     ensures spelled { IfOk result (λ d. SpellDescriptor bytes.now d) }
     ensures wants { OnlyAtList result bytes.now }
 {
@@ -30,10 +32,8 @@ pub fn read_descriptor(alloc: Global, bytes: &[u8]) -> Result<Descriptor, DescEr
     }
     let owner = sid_of_field(bytes, 4)?;
     let group = group_of(bytes)?;
-    match list_of(alloc, bytes) {
-        Ok(acl) => Ok(Descriptor { owner, group, acl }),
-        Err(refusal) => Err(refusal),
-    }
+    let acl = list_of(alloc, bytes)?;
+    Ok(Descriptor { owner, group, acl })
 }
 
 /// The SID that the offset in a field of the header points to.
@@ -47,10 +47,15 @@ fn sid_of_field(bytes: &[u8], field: usize) -> Result<Sid, DescError>
     if offset < 20 || bytes.len() < offset {
         return Err(DescError::Offset(field));
     }
-    match Sid::from_bytes(rest_of(bytes, offset)) {
-        Ok(sid) => Ok(sid),
-        Err(_) => Err(DescError::Sid(offset)),
-    }
+    sid_at_front(rest_of(bytes, offset), offset)
+}
+
+/// The SID at the front of bytes that begin at a place.
+fn sid_at_front(bytes: &[u8], place: usize) -> Result<Sid, DescError>
+    ensures value { result ≡ or_no_sid place (sid_of_bytes bytes.now) }
+    ensures wants { NeverMemory result }
+{
+    Sid::from_bytes(bytes).map_err(|_| DescError::Sid(place))
 }
 
 /// The group, which is absent where its offset is 0.
@@ -63,17 +68,14 @@ fn group_of(bytes: &[u8]) -> Result<Option<Sid>, DescError>
     if u32_at(bytes, 8) == 0 {
         return Ok(None);
     }
-    match sid_of_field(bytes, 8) {
-        Ok(group) => Ok(Some(group)),
-        Err(refusal) => Err(refusal),
-    }
+    Ok(Some(sid_of_field(bytes, 8)?))
 }
 
 /// The list, which is absent where the control bits or its offset say so.
 #[tactic(auto, unfolding(crate::specs::Reading::list_of, crate::specs::Reading::has_list, crate::specs::Granted::shares))]
 fn list_of(alloc: Global, bytes: &[u8]) -> Result<Option<Acl>, DescError>
     requires { 20 ≤ length bytes.now }
-    ensures answer { AnswersOrMemory result (list_of bytes.now) }
+    ensures answer { ReadsIfRoom result (list_of bytes.now) }
     ensures wants { OnlyWithList result bytes.now }
 {
     let offset = u32_at(bytes, 16) as usize;
@@ -83,17 +85,14 @@ fn list_of(alloc: Global, bytes: &[u8]) -> Result<Option<Acl>, DescError>
     if offset < 20 || bytes.len() < offset {
         return Err(DescError::Offset(16));
     }
-    match acl_at(alloc, bytes, offset) {
-        Ok(acl) => Ok(Some(acl)),
-        Err(refusal) => Err(refusal),
-    }
+    Ok(Some(acl_at(alloc, bytes, offset)?))
 }
 
 /// The list at a place.
 #[tactic(auto, unfolding(crate::specs::Reading::acl_at))]
 fn acl_at(alloc: Global, bytes: &[u8], place: usize) -> Result<Acl, DescError>
     requires { place ≤ length bytes.now }
-    ensures { AnswersOrMemory result (acl_at place bytes.now) }
+    ensures { ReadsIfRoom result (acl_at place bytes.now) }
 {
     if bytes.len() < place + 8 {
         return Err(DescError::Short(place));
@@ -118,18 +117,14 @@ fn aces_at(
 ) -> Result<Acl, DescError>
     requires first { first ≤ length bytes.now }
     requires end { end ≤ length bytes.now }
-    ensures { AnswersOrMemory result (aces_at count first end bytes.now) }
+    ensures { ReadsIfRoom result (aces_at count first end bytes.now) }
 {
     let mut aces = Vec::new(alloc);
     let mut place = first;
     for _done in 0..count {
-        match ace_at(bytes, place, end) {
-            Ok((ace, next)) => {
-                aces.push(ace)?;
-                place = next;
-            }
-            Err(refusal) => return Err(refusal),
-        }
+        let (ace, next) = ace_at(bytes, place, end)?;
+        aces.push(ace)?;
+        place = next;
     }
     Ok(Acl::from_vec(aces))
 }
@@ -139,7 +134,8 @@ fn aces_at(
 fn ace_at(bytes: &[u8], place: usize, end: usize) -> Result<(Ace, usize), DescError>
     requires place { place ≤ length bytes.now }
     requires end { end ≤ length bytes.now }
-    ensures ok { IfOk result (λ read. (ace_at place end bytes.now ≡ Ok read.0) × (read.1 ≡ next_ace place bytes.now) × (read.1 ≤ end)) }
+    ensures ok { IfOk result (λ read. ace_at place end bytes.now ≡ Ok read.0) }
+    ensures next { IfOk result (λ read. (read.1 ≡ next_ace place bytes.now) × (read.1 ≤ end)) }
     ensures err { IfErr result (λ refusal. ace_at place end bytes.now ≡ Err refusal) }
 {
     if end < place + 8 {
@@ -150,10 +146,7 @@ fn ace_at(bytes: &[u8], place: usize, end: usize) -> Result<(Ace, usize), DescEr
         return Err(DescError::Short(place));
     }
     let kind = kind_of(bytes[place], place)?;
-    let sid = match Sid::from_bytes(&bytes[place + 8..place + size]) {
-        Ok(sid) => sid,
-        Err(_) => return Err(DescError::Sid(place + 8)),
-    };
+    let sid = sid_at_front(&bytes[place + 8..place + size], place + 8)?;
     let ace = Ace {
         kind,
         flags: bytes[place + 1],
@@ -183,13 +176,6 @@ fn u16_at(bytes: &[u8], place: usize) -> u16
     front_u16(rest_of(bytes, place))
 }
 
-fn front_u16(bytes: &[u8]) -> u16
-    requires { 2 ≤ length bytes.now }
-    ensures { result ≡ from_le_bytes w16 bytes.now }
-{
-    u16::from_le_bytes([bytes[0], bytes[1]])
-}
-
 /// The number of 32 bits at a place.
 #[tactic(auto, unfolding(crate::specs::Reading::u32_at))]
 fn u32_at(bytes: &[u8], place: usize) -> u32
@@ -197,11 +183,4 @@ fn u32_at(bytes: &[u8], place: usize) -> u32
     ensures { result ≡ u32_at place bytes.now }
 {
     front_u32(rest_of(bytes, place))
-}
-
-fn front_u32(bytes: &[u8]) -> u32
-    requires { 4 ≤ length bytes.now }
-    ensures { result ≡ from_le_bytes w32 bytes.now }
-{
-    u32::from_le_bytes([bytes[0], bytes[1], bytes[2], bytes[3]])
 }

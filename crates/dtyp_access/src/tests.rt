@@ -359,6 +359,13 @@ fn as_many_entries_as_fit(rt: HostRuntime) -> Result<(), Fail> {
 }
 
 #[test]
+fn refusals_tell_in_words(rt: HostRuntime) -> Result<(), Fail> {
+    let told = format!(in rt.alloc(); "{}", DescError::Sid(20))?;
+    assert_eq!(rt; told.as_str(), "no SID stands at byte 20");
+    Ok(())
+}
+
+#[test]
 fn tokens_are_copied(rt: HostRuntime) -> Result<(), Fail> {
     let token = token_of(rt.alloc(), "WD BU")?;
     assert_eq!(rt; token.copy(rt.alloc())?.sids(), token.sids());

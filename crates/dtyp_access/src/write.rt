@@ -1,14 +1,15 @@
 // Writing the bytes of a descriptor.
 ghost use Rattle.std.specs.Prelude.{◌≡◌, ◌++◌, ◌+◌, ◌≤◌, ◌<◌, ◌^◌, length, IfOk, OnOk, Ok, IsTrue, ◌↔◌, List, Some};
-ghost use Rattle.std.specs.Int.{w16, w32, to_le_bytes};
 ghost use Rattle.dtyp_sid.specs.Bytes.{bytes_of};
 ghost use Rattle.dtyp_access.specs.declared.ace.Ace.{Ace};
 ghost use Rattle.dtyp_access.specs.Limits.{HasFewAces};
 ghost use Rattle.dtyp_access.specs.Reading.{descriptor_of_bytes};
-ghost use Rattle.dtyp_access.specs.Written.{descriptor_bytes, header_bytes, group_bytes, list_bytes, acl_bytes, ace_bytes, aces_bytes, type_of, control_of, offset_of};
+ghost use Rattle.dtyp_access.specs.Written.{descriptor_bytes, header_bytes, group_bytes, list_bytes, acl_bytes};
+ghost use Rattle.dtyp_access.specs.Written.{ace_bytes, aces_bytes, type_of, control_of, offset_of};
 
 use crate::laws::written_bytes_are_read;
 use crate::{Ace, AceKind, Acl, Descriptor};
+use acct_base::{push_u16, push_u32};
 use dtyp_sid::Sid;
 use dtyp_sid::laws::written_bytes_have_lengths;
 use std::alloc::{AllocError, Global};
@@ -199,18 +200,6 @@ fn push_sid(out: &mut Vec<u8>, sid: &Sid) -> Result<(), AllocError>
     let mut bytes = [0; 68];
     let size = sid.to_bytes(&mut bytes);
     push(out, &bytes[..size])
-}
-
-fn push_u16(out: &mut Vec<u8>, number: u16) -> Result<(), AllocError>
-    ensures { OnOk result (out.new.items ≡ out.old.items ++ to_le_bytes w16 number) }
-{
-    push(out, &number.to_le_bytes())
-}
-
-fn push_u32(out: &mut Vec<u8>, number: u32) -> Result<(), AllocError>
-    ensures { OnOk result (out.new.items ≡ out.old.items ++ to_le_bytes w32 number) }
-{
-    push(out, &number.to_le_bytes())
 }
 
 fn push(out: &mut Vec<u8>, bytes: &[u8]) -> Result<(), AllocError>

@@ -26,7 +26,8 @@ parts_same left right same = (ap (λ (sid : SidValue). sid.authority) same, ap (
 sid_eq-decides : (left right : SidValue) → Decides (sid_eq left right) (left ≡ right)
 sid_eq-decides left right =
     Decides-like (sid_eq left right) (same_parts left right) (parts_same left right)
-    (Decides-and (left.authority == right.authority) (bytes_eq left.subs right.subs) (Decides-eqb left.authority right.authority) (bytes_eq-Decides left.subs right.subs))
+    (Decides-and (left.authority == right.authority) (bytes_eq left.subs right.subs)
+    (Decides-eqb left.authority right.authority) (bytes_eq-Decides left.subs right.subs))
 
 is_eq-then : (o p : Ordering) → is_eq (ordering_then o p) ≡ (is_eq o && is_eq p)
 is_eq-then Less p = refl
@@ -42,7 +43,8 @@ is_eq-sid_cmp left right =
     ∙ ap (λ b. b && is_eq (slice_cmp nat_cmp left.subs right.subs)) (is_eq-nat_cmp left.authority right.authority)
     ∙ ap (λ b. (left.authority == right.authority) && b) (is_eq-slice_cmp left.subs right.subs)
 
-pub equal_sids : (left right : SidValue) → ((sid_eq left right ≡ true) ↔ (left ≡ right)) × ((sid_cmp left right ≡ Equal) ↔ (left ≡ right))
+pub equal_sids : (left right : SidValue) → ((sid_eq left right ≡ true) ↔ (left ≡ right))
+    × ((sid_cmp left right ≡ Equal) ↔ (left ≡ right))
 equal_sids left right =
     let same = sid_eq-decides left right in
     let equal = Equal-is (sid_cmp left right) in

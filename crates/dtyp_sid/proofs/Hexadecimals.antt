@@ -1,5 +1,6 @@
 -- Hexadecimal numbers of at most twelve digits
-use Rattle.std.proofs.Common.{◌≡◌, ℕ, zero, suc, ◌+◌, ◌*◌, ◌/◌, ◌%◌, ◌^◌, ◌<◌, ◌≤◌, length, arith, refl, add-one, ◌∙◌, lit<}
+use Rattle.std.proofs.Common.{◌≡◌, ℕ, zero, suc, ◌+◌, ◌*◌, ◌/◌, ◌%◌, ◌^◌, ◌<◌, ◌≤◌, length, arith, refl, add-one, ◌∙◌}
+use Rattle.std.proofs.Common.{lit<}
 use Rattle.std.proofs.Math.Nat.{pow-le-pow_right}
 use Rattle.std.proofs.lemmas.Int.Digits.{digits_push, digits_value_push}
 use Rattle.std.proofs.lemmas.List.{length-append}
@@ -23,7 +24,8 @@ pub hexadecimal_are_digits : (count number : ℕ) → AllDigits 16 (hexadecimal 
 unfolding hexadecimal
 hexadecimal_are_digits zero number = tt
 hexadecimal_are_digits (suc count) number =
-    digits_push 16 (hexadecimal count (number / 16)) _ (hexadecimal_are_digits count (number / 16)) (rw (digit_value-char (number % 16) (omega arith)) (omega arith))
+    digits_push 16 (hexadecimal count (number / 16)) _ (hexadecimal_are_digits count (number / 16))
+    (rw (digit_value-char (number % 16) (omega arith)) (omega arith))
 
 pub length-hexadecimal : (count number : ℕ) → length (hexadecimal count number) ≡ count
 unfolding hexadecimal
@@ -32,13 +34,15 @@ length-hexadecimal (suc count) number =
     length-append (hexadecimal count (number / 16)) _ ∙ omega (arith, length-hexadecimal count (number / 16))
 
 -- the digits are those of the number
-pub digits_value-hexadecimal : (count number : ℕ) → number < 16 ^ count → digits_value 16 (hexadecimal count number) ≡ number
+pub digits_value-hexadecimal : (count number : ℕ) → number < 16 ^ count → digits_value 16 (hexadecimal count number)
+    ≡ number
 unfolding hexadecimal
 digits_value-hexadecimal zero number below = omega arith
 digits_value-hexadecimal (suc count) number below =
     digits_value_push 16 (hexadecimal count (number / 16)) _
     ∙ (let power : 16 ^ (count + 1) ≡ 16 ^ count * 16 = pow_more 16 count in
     let high : number / 16 < 16 ^ count = omega (arith, rw add-one at power) in
-    let front : digits_value 16 (hexadecimal count (number / 16)) ≡ number / 16 = digits_value-hexadecimal count (number / 16) high in
+    let front : digits_value 16 (hexadecimal count (number / 16)) ≡ number / 16 =
+    digits_value-hexadecimal count (number / 16) high in
     let last : digit_value (digit_char (number % 16)) ≡ number % 16 = digit_value-char (number % 16) (omega arith) in
     omega arith)

@@ -1,6 +1,8 @@
--- The bytes of a SID (MS-DTYP 2.4.2.2): revision 1, the count of sub-authorities, the authority in six bytes with the highest
+-- The bytes of a SID (MS-DTYP 2.4.2.2): revision 1, the count of sub-authorities, the authority in six bytes with the
+-- highest
 -- first, and each sub-authority in four bytes with the lowest first
-use Rattle.std.specs.Prelude.{◌≡◌, ℕ, zero, suc, ◌+◌, ◌*◌, ◌<◌, List, [], ◌∷◌, ◌++◌, length, drop, slice_index, nat_lt, not, ◌==◌, if◌then◌else◌, All}
+use Rattle.std.specs.Prelude.{◌≡◌, ℕ, zero, suc, ◌+◌, ◌*◌, ◌<◌, List, [], ◌∷◌, ◌++◌, length, drop, slice_index, nat_lt}
+use Rattle.std.specs.Prelude.{not, ◌==◌, if◌then◌else◌, All}
 use Rattle.std.specs.Int.{w32, w64, bytes_high_first, to_le_bytes, from_le_bytes, from_be_bytes}
 use Rattle.std.specs.List.{flat_map}
 use Rattle.std.specs.declared.result.Result.{Result}
@@ -37,7 +39,11 @@ sid_of_bytes bytes =
     else (if not (slice_index bytes 0 == 1) then Err Revision
     else (if nat_lt sid_max_sub_authorities (slice_index bytes 1) then Err Count
     else (if nat_lt (length bytes) (8 + 4 * slice_index bytes 1) then Err Short
-    else Ok (record { authority = authority_at_front (drop 2 bytes); subs = subs_at_front (slice_index bytes 1) (drop 8 bytes) }))))
+    else Ok (record {
+      authority = authority_at_front (drop 2 bytes);
+      subs =
+          subs_at_front (slice_index bytes 1) (drop 8 bytes);
+    }))))
 
 -- the bytes begin with those of the SID
 abbrev pub BeginWithSid : List ℕ → SidValue → Type 0
@@ -53,4 +59,5 @@ WrittenBytesHaveLengths = (sid : SidValue) → length (bytes_of sid) ≡ 8 + 4 *
 
 -- what is read is a SID, and the bytes begin with its written ones
 abbrev pub ReadBytesAreWritten : Type 0
-ReadBytesAreWritten = (bytes : List ℕ) (sid : SidValue) → All (λ byte. byte < 256) bytes → sid_of_bytes bytes ≡ Ok sid → IsSid sid × BeginWithSid bytes sid
+ReadBytesAreWritten = (bytes : List ℕ) (sid : SidValue) → All (λ byte. byte < 256) bytes → sid_of_bytes bytes ≡ Ok sid →
+    IsSid sid × BeginWithSid bytes sid

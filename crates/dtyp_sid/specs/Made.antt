@@ -1,4 +1,5 @@
--- What is made of an authority and a list of sub-authorities, and of a SID and a relative identifier (RID), its last sub-authority
+-- What is made of an authority and a list of sub-authorities, and of a SID and a relative identifier (RID), its last
+-- sub-authority
 use Rattle.std.specs.Prelude.{ℕ, ◌^◌, List, [], ◌∷◌, ◌++◌, length, nat_lt, nat_le, if◌then◌else◌}
 use Rattle.std.specs.declared.result.Result.{Result}
 use Rattle.std.specs.declared.result.Result.TheVariants.{Ok, Err}

@@ -26,4 +26,5 @@ sid_hashed sid = fed.u64 sid.authority ++ fed.slice fed.u32 sid.subs
 
 -- equality and order tell SIDs apart by their values
 abbrev pub EqualSidsAreOne : Type 0
-EqualSidsAreOne = (left right : SidValue) → ((sid_eq left right ≡ true) ↔ (left ≡ right)) × ((sid_cmp left right ≡ Equal) ↔ (left ≡ right))
+EqualSidsAreOne = (left right : SidValue) → ((sid_eq left right ≡ true) ↔ (left ≡ right))
+    × ((sid_cmp left right ≡ Equal) ↔ (left ≡ right))

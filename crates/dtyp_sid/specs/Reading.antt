@@ -1,5 +1,6 @@
 -- How a text is read, byte by byte: the stages of the reader, and the SID that it has read
-use Rattle.std.specs.Prelude.{◌≡◌, ℕ, ◌+◌, ◌-◌, ◌*◌, ◌^◌, ◌<◌, ◌≤◌, ◌↔◌, ◌&&◌, not, List, [], ◌∷◌, length, slice_index, nat_lt, ◌==◌, if◌then◌else◌, codes, option_and_then, option_map}
+use Rattle.std.specs.Prelude.{◌≡◌, ℕ, ◌+◌, ◌-◌, ◌*◌, ◌^◌, ◌<◌, ◌≤◌, ◌↔◌, ◌&&◌, not, List, [], ◌∷◌, length, slice_index}
+use Rattle.std.specs.Prelude.{nat_lt, ◌==◌, if◌then◌else◌, codes, option_and_then, option_map}
 use Rattle.std.specs.Char.{is_ascii_digit, digit_value, is_digit}
 use Rattle.std.specs.declared.option.Option.{Option}
 use Rattle.std.specs.declared.option.Option.TheVariants.{Some, None}
@@ -16,7 +17,8 @@ first_digit byte = if is_ascii_digit byte then Some (byte - 48) else None
 -- a number of 32 bits with one more digit, which none has behind a leading zero
 abbrev pub more_digits : ℕ → ℕ → Option ℕ
 more_digits number byte =
-    if is_ascii_digit byte && (not (number == 0) && nat_lt (number * 10 + (byte - 48)) (2 ^ 32)) then Some (number * 10 + (byte - 48)) else None
+    if is_ascii_digit byte && (not (number == 0) && nat_lt (number * 10 + (byte - 48)) (2 ^ 32)) then
+    Some (number * 10 + (byte - 48)) else None
 
 -- the stage after one more byte, where a text may go on so
 unfoldable pub stage_after : Stage → ℕ → Option Stage
@@ -25,9 +27,11 @@ stage_after (Opening count) byte =
     else option_map Decimal (first_digit byte)
 stage_after (Decimal number) byte =
     if byte == 45 then Some (Dashed (authority_alone number))
-    else (if (byte == 120) && (number == 0) then Some (Hexadecimal 0 0) else option_map Decimal (more_digits number byte))
+    else (if (byte == 120) && (number == 0) then Some (Hexadecimal 0 0) else
+    option_map Decimal (more_digits number byte))
 stage_after (Hexadecimal count number) byte =
-    if nat_lt count 12 then (if is_digit byte 16 then Some (Hexadecimal (count + 1) (number * 16 + digit_value byte)) else None)
+    if nat_lt count 12 then (if is_digit byte 16 then Some (Hexadecimal (count + 1) (number * 16 + digit_value byte))
+    else None)
     else (if byte == 45 then Some (Dashed (authority_alone number)) else None)
 stage_after (Dashed sid) byte = option_map (Sub sid) (first_digit byte)
 stage_after (Sub sid number) byte =

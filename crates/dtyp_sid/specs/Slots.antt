@@ -38,7 +38,8 @@ pushed count slots sub are room = record {
 }
 
 -- the last slot that is taken is freed
-pub popped : (count last : ℕ) (slots : List ℕ) → AreSlots count slots → last + 1 ≡ count → AreSlots last (set slots last 0)
+pub popped : (count last : ℕ) (slots : List ℕ) → AreSlots count slots → last + 1 ≡ count →
+    AreSlots last (set slots last 0)
 popped count last slots are before = record {
   count_fits = omega arith;
   all_there = length-set slots last 0 ∙ are.all_there;

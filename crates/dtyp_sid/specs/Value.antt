@@ -1,4 +1,5 @@
--- The value of a SID (MS-DTYP 2.4.2): an identifier authority of 48 bits, and at most fifteen sub-authorities of 32 bits
+-- The value of a SID (MS-DTYP 2.4.2): an identifier authority of 48 bits, and at most fifteen sub-authorities of 32
+-- bits
 use Rattle.std.specs.Prelude.{ℕ, ◌^◌, ◌<◌, ◌≤◌, List, length, All}
 
 -- SID_MAX_SUB_AUTHORITIES: the most sub-authorities of a SID

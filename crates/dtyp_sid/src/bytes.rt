@@ -1,6 +1,5 @@
 // Reading and writing the bytes of a SID.
 ghost use Rattle.std.specs.Prelude.{◌≡◌, ◌+◌, ◌*◌, ◌^◌, ◌<◌, ◌≤◌, ◌++◌, length, take, drop, IfOk};
-ghost use Rattle.std.specs.Int.{w32, from_le_bytes};
 ghost use Rattle.dtyp_sid.specs.Bytes.{bytes_of, sid_of_bytes, authority_at_front, BeginWithSid};
 
 use crate::{BytesError, SID_MAX_SUB_AUTHORITIES, Sid};
@@ -67,12 +66,4 @@ fn authority_at_front(bytes: &[u8]) -> u64
     u64::from_be_bytes([
         0, 0, bytes[0], bytes[1], bytes[2], bytes[3], bytes[4], bytes[5],
     ])
-}
-
-/// The number of the four bytes at the front, the lowest first.
-pub(crate) fn sub_at_front(bytes: &[u8]) -> u32
-    requires { 4 ≤ length bytes.now }
-    ensures { result ≡ from_le_bytes w32 bytes.now }
-{
-    u32::from_le_bytes([bytes[0], bytes[1], bytes[2], bytes[3]])
 }

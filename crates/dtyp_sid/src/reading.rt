@@ -54,10 +54,7 @@ fn step(stage: Stage, byte: u8) -> Option<Stage>
         Stage::Opening(count) => step_opening(count, byte),
         Stage::Decimal(number) => step_decimal(number, byte),
         Stage::Hexadecimal(count, number) => step_hexadecimal(count, number, byte),
-        Stage::Dashed(sid) => match first_digit(byte) {
-            Some(number) => Some(Stage::Sub(sid, number)),
-            None => None,
-        },
+        Stage::Dashed(sid) => Some(Stage::Sub(sid, first_digit(byte)?)),
         Stage::Sub(sid, number) => step_sub(sid, number, byte),
     }
 }
@@ -76,10 +73,7 @@ fn step_opening(count: usize, byte: u8) -> Option<Stage>
             None
         }
     } else {
-        match first_digit(byte) {
-            Some(number) => Some(Stage::Decimal(number)),
-            None => None,
-        }
+        Some(Stage::Decimal(first_digit(byte)?))
     }
 }
 
@@ -94,10 +88,7 @@ fn step_decimal(number: u32, byte: u8) -> Option<Stage>
     if byte == b'x' && number == 0 {
         return Some(Stage::Hexadecimal(0, 0));
     }
-    match more_digits(number, byte) {
-        Some(number) => Some(Stage::Decimal(number)),
-        None => None,
-    }
+    Some(Stage::Decimal(more_digits(number, byte)?))
 }
 
 #[tactic(auto, unfolding(crate::specs::Reading::stage_after))]
@@ -108,10 +99,8 @@ fn step_hexadecimal(count: usize, number: u64, byte: u8) -> Option<Stage>
     ensures stage { IfSome result IsStage }
 {
     if count < 12 {
-        match char::from(byte).to_digit(16) {
-            Some(digit) => Some(Stage::Hexadecimal(count + 1, number * 16 + u64::from(digit))),
-            None => None,
-        }
+        let digit = char::from(byte).to_digit(16)?;
+        Some(Stage::Hexadecimal(count + 1, number * 16 + u64::from(digit)))
     } else if byte == b'-' {
         Some(Stage::Dashed(Sid::of_authority(number)))
     } else {
@@ -127,18 +116,12 @@ fn step_sub(sid: Sid, number: u32, byte: u8) -> Option<Stage>
 {
     if byte == b'-' {
         if sid.subs().len() < SID_MAX_SUB_AUTHORITIES - 1 {
-            match sid.with_rid(number) {
-                Some(longer) => Some(Stage::Dashed(longer)),
-                None => None,
-            }
+            Some(Stage::Dashed(sid.with_rid(number)?))
         } else {
             None
         }
     } else {
-        match more_digits(number, byte) {
-            Some(number) => Some(Stage::Sub(sid, number)),
-            None => None,
-        }
+        Some(Stage::Sub(sid, more_digits(number, byte)?))
     }
 }
 

@@ -2,9 +2,8 @@
 ghost use Rattle.std.specs.Prelude.{◌≡◌, ◌+◌, ◌*◌, ◌<◌, ◌≤◌, ◌^◌, [], length, MatchOption, Some, None};
 ghost use Rattle.dtyp_sid.specs.Value.{IsSid, sid_max_sub_authorities};
 
-use crate::bytes::sub_at_front;
 use crate::errors::SidError;
-use acct_base::rest_of;
+use acct_base::{front_u32, rest_of};
 use std::marker::Model;
 
 /// The most sub-authorities of a SID (MS-DTYP 2.4.2).
@@ -34,9 +33,11 @@ impl Model for Sid {
 
     ghost invariant = { λ sid. (sid.authority < 2 ^ 48) × AreSlots sid.count sid.slots };
 
-    ghost inverse = { λ value. record { authority = value.authority; count = length value.subs; slots = slots_of value.subs } };
+    ghost inverse = { λ value.
+        record { authority = value.authority; count = length value.subs; slots = slots_of value.subs } };
 
-    ghost inverse_ok = { λ sid holds. Prim.rw (slots_of_taken sid.count sid.slots holds.1, length_taken sid.count sid.slots holds.1) };
+    ghost inverse_ok = { λ sid holds.
+        Prim.rw (slots_of_taken sid.count sid.slots holds.1, length_taken sid.count sid.slots holds.1) };
 }
 
 impl Sid {
@@ -84,7 +85,7 @@ impl Sid {
     {
         let mut slots = [0; SID_MAX_SUB_AUTHORITIES];
         for place in 0..count {
-            slots[place] = sub_at_front(rest_of(bytes, 4 * place));
+            slots[place] = front_u32(rest_of(bytes, 4 * place));
         }
         Sid {
             authority,

@@ -41,12 +41,12 @@ fn texts_and_bytes_spell_one_sid(rt: HostRuntime) -> Result<(), Fail> {
     assert!(rt; spell_one(&rt, alloc, "S-1-5-32-544", administrators)?);
     let high = b"\x01\x01\x00\x00\x00\x00\x00\x10\x00\x30\x00\x00";
     assert!(rt; spell_one(&rt, alloc, "S-1-16-12288", high)?);
-    let service =
-        b"\x01\x06\x00\x00\x00\x00\x00\x05\x50\x00\x00\x00\xb5\x89\xfb\x38\x19\x84\xc2\xcb\x5c\x6c\x23\x6d\x57\x00\x77\x6e\xc0\x02\x64\x87";
+    let service = b"\x01\x06\x00\x00\x00\x00\x00\x05\x50\x00\x00\x00\
+        \xb5\x89\xfb\x38\x19\x84\xc2\xcb\x5c\x6c\x23\x6d\x57\x00\x77\x6e\xc0\x02\x64\x87";
     let text = "S-1-5-80-956008885-3418522649-1831038044-1853292631-2271478464";
     assert!(rt; spell_one(&rt, alloc, text, service)?);
-    let limits =
-        b"\x01\x05\x00\x00\x00\x00\x00\x05\x15\x00\x00\x00\xff\xff\xff\xff\x00\x00\x00\x00\x01\x00\x00\x00\xf4\x01\x00\x00";
+    let limits = b"\x01\x05\x00\x00\x00\x00\x00\x05\x15\x00\x00\x00\
+        \xff\xff\xff\xff\x00\x00\x00\x00\x01\x00\x00\x00\xf4\x01\x00\x00";
     assert!(rt; spell_one(&rt, alloc, "S-1-5-21-4294967295-0-1-500", limits)?);
     assert!(rt; spell_one(&rt, alloc, "S-1-5", b"\x01\x00\x00\x00\x00\x00\x00\x05")?);
     Ok(())
@@ -141,6 +141,19 @@ fn the_last_number_is_split_off_and_put_back(rt: HostRuntime) {
     assert!(rt; sid_of(&rt, "S-1-5").split_rid().is_none());
     let full = sid_of(&rt, "S-1-5-1-2-3-4-5-6-7-8-9-10-11-12-13-14-15");
     assert!(rt; full.with_rid(16).is_none());
+}
+
+#[test]
+fn refusals_tell_in_words(rt: HostRuntime) -> Result<(), Fail> {
+    let alloc = rt.alloc();
+    let bad = format!(in alloc; "{}", BadText { place: 7 })?;
+    assert_eq!(rt;
+        bad.as_str(),
+        "no text of a SID goes on as this one does from byte 7 on"
+    );
+    let count = format!(in alloc; "{}", BytesError::Count)?;
+    assert_eq!(rt; count.as_str(), "there are more than 15 sub-authorities");
+    Ok(())
 }
 
 #[test]

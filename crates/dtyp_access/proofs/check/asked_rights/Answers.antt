@@ -1,3 +1,4 @@
+-- `asked_rights` meets its contract: what the search leaves open.
 use Rattle.std.proofs.Common.{refl}
 use Rattle.dtyp_access.specs.Opening.{asks}
 use Rattle.dtyp_access.proofs.Masks.{shares-and, shares-or, shares-if}

@@ -1,3 +1,4 @@
+-- `decided` meets its contract: what the search leaves open.
 use Rattle.std.proofs.Common.{◌^◌, ap, ◌∙◌, sym, refl, arith}
 use Rattle.std.specs.Prelude.{◌&&◌}
 use Rattle.dtyp_access.specs.Granted.{shares}
@@ -10,11 +11,13 @@ returns-in-Allow-clause-granted c = λ bit within. rw (shares-or, shares-and, c.
 
 pub returns-in-Allow-clause-undecided : goal.returns-in-Allow-clause-undecided
 returns-in-Allow-clause-undecided c = λ bit within.
-    shares-and c.args.walk.undecided _ bit ∙ ap (λ b. shares c.args.walk.undecided (2 ^ bit) && b) (shares-not c.args.mask bit (omega arith) within)
+    shares-and c.args.walk.undecided _ bit
+    ∙ ap (λ b. shares c.args.walk.undecided (2 ^ bit) && b) (shares-not c.args.mask bit (omega arith) within)
 
 pub returns-in-Deny-clause-undecided : goal.returns-in-Deny-clause-undecided
 returns-in-Deny-clause-undecided c = λ bit within.
-    shares-and c.args.walk.undecided _ bit ∙ ap (λ b. shares c.args.walk.undecided (2 ^ bit) && b) (shares-not c.args.mask bit (omega arith) within)
+    shares-and c.args.walk.undecided _ bit
+    ∙ ap (λ b. shares c.args.walk.undecided (2 ^ bit) && b) (shares-not c.args.mask bit (omega arith) within)
 
 pub returns-in-Deny-clause-granted : goal.returns-in-Deny-clause-granted
 returns-in-Deny-clause-granted c = λ bit within. rw c.in-Deny.is (sym (or_false (shares c.args.walk.granted (2 ^ bit))))

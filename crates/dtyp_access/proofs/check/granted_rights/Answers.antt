@@ -1,3 +1,4 @@
+-- `granted_rights` meets its contract: what the search leaves open.
 use Rattle.std.proofs.Common.{◌≡◌, ◌^◌, ◌∙◌, ap, sym, List, Some}
 use Rattle.dtyp_access.specs.declared.ace.Ace.{Ace}
 use Rattle.std.specs.Prelude.{◌&&◌, not, ◌==◌}

@@ -1,3 +1,4 @@
+-- `is_granted` meets its contract: what the search leaves open.
 use Rattle.std.proofs.Common.{◌≡◌, ℕ, ◌^◌, ◌∙◌, ap, sym, subst, bit_and, List}
 use Rattle.dtyp_sid.specs.Value.{SidValue}
 use Rattle.std.specs.Prelude.{not, ◌==◌}
@@ -8,5 +9,7 @@ pub returns : goal.returns
 unfolding shares
 returns c =
     let bit = c.requires in
-    subst (λ (right : ℕ). not (bit_and c.granted_rights.result right == 0) ≡ granted c.args.token.now c.args.d.now right) (sym bit.2)
-    (c.granted_rights.ensures bit.0 bit.1 ∙ ap (λ (sids : List SidValue). granted sids c.args.d.now (2 ^ bit.0)) c.sids.ensures)
+    subst (λ (right : ℕ). not (bit_and c.granted_rights.result right == 0)
+    ≡ granted c.args.token.now c.args.d.now right) (sym bit.2)
+    (c.granted_rights.ensures bit.0 bit.1
+    ∙ ap (λ (sids : List SidValue). granted sids c.args.d.now (2 ^ bit.0)) c.sids.ensures)

@@ -1,3 +1,4 @@
+-- `listed_rights` meets its contract: what the search leaves open.
 use Rattle.std.proofs.Common.{◌≡◌, List, ◌^◌, ◌+◌, ◌++◌, ◌∷◌, [], take, ap, ◌∙◌, sym, subst}
 use Rattle.std.specs.Prelude.{◌&&◌, not}
 use Rattle.std.specs.Int.{bit_not, w32}
@@ -18,7 +19,8 @@ loop-ace-init c = λ bit within.
     walked_none c.args.token.now c.args.owner.now (2 ^ bit) _ _ owners
     (shares-and 0x0DFF_FFFF (bit_not w32 granted) bit
     ∙ ap (λ b. b && shares (bit_not w32 granted) (2 ^ bit)) (shares-named bit within)
-    ∙ ap (λ b. is_named (2 ^ bit) && b) (shares-not granted bit c.owners_rights-granted.type_inv within ∙ ap not owners))
+    ∙ ap (λ b. is_named (2 ^ bit) && b)
+    (shares-not granted bit c.owners_rights-granted.type_inv within ∙ ap not owners))
 
 pub loop-ace-preserved : goal.loop-ace-preserved
 loop-ace-preserved c = λ bit within.
@@ -31,11 +33,19 @@ loop-ace-preserved c = λ bit within.
     let more : take (index + 1) aces ≡ take index aces ++ ace ∷ [] =
     take_more aces index ace c.loop-ace-test.true ∙ ap (λ (a : Ace). take index aces ++ a ∷ []) (sym c.ace-item.is) in
     let walked = c.loop-ace.invariant bit within in
-    subst (λ (aces : List Ace). IsWalked token owner right aces (shares c.if-speaks_of.walk.granted right) (shares c.if-speaks_of.walk.undecided right)) (sym more)
+    subst (λ (aces : List Ace). IsWalked token owner right aces (shares c.if-speaks_of.walk.granted right)
+    (shares c.if-speaks_of.walk.undecided right)) (sym more)
     (elim c.if-speaks_of.branch [
-      | then-speaks_of w ↦ subst (λ (walk : Walk). IsWalked token owner right (take index aces ++ ace ∷ []) (shares walk.granted right) (shares walk.undecided right)) (sym w.walk-is)
-          (walked_as token owner right (take index aces ++ ace ∷ []) _ _ _ _ (w.decided-walk.ensures.granted bit within) (w.decided-walk.ensures.undecided bit within)
-          (walked_by token owner right (take index aces) ace _ _ (sym c.speaks_of.ensures ∙ w.if-speaks_of.true) walked))
-      | else-speaks_of w ↦ subst (λ (walk : Walk). IsWalked token owner right (take index aces ++ ace ∷ []) (shares walk.granted right) (shares walk.undecided right)) (sym w.walk-is)
-          (walked_past token owner right (take index aces) ace _ _ (sym c.speaks_of.ensures ∙ w.if-speaks_of.false) walked)
+      | then-speaks_of w ↦ subst (λ (walk : Walk).
+          IsWalked token owner right (take index aces ++ ace ∷ []) (shares walk.granted right)
+          (shares walk.undecided right)) (sym w.walk-is)
+          (walked_as token owner right (take index aces ++ ace ∷ []) _ _ _ _ (w.decided-walk.ensures.granted bit within)
+          (w.decided-walk.ensures.undecided bit within)
+          (walked_by token owner right (take index aces) ace _ _
+          (sym c.speaks_of.ensures ∙ w.if-speaks_of.true) walked))
+      | else-speaks_of w ↦ subst (λ (walk : Walk).
+          IsWalked token owner right (take index aces ++ ace ∷ []) (shares walk.granted right)
+          (shares walk.undecided right)) (sym w.walk-is)
+          (walked_past token owner right (take index aces) ace _ _
+          (sym c.speaks_of.ensures ∙ w.if-speaks_of.false) walked)
     ])

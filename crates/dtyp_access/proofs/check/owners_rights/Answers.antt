@@ -1,3 +1,4 @@
+-- `owners_rights` meets its contract: what the search leaves open.
 use Rattle.std.proofs.Common.{◌∙◌, sym}
 use Rattle.dtyp_access.specs.Granted.{is_owners}
 use Rattle.dtyp_access.proofs.Masks.{shares-none}

@@ -1,3 +1,4 @@
+-- The law `grants_are_valid`.
 use Rattle.dtyp_access.proofs.AccessLaws.{grant_valid}
 use Rattle.dtyp_access.proofs.laws.grants_are_valid.Goals as goal
 

@@ -1,3 +1,4 @@
+-- The law `nothing_is_granted`.
 use Rattle.dtyp_access.proofs.AccessLaws.{nothing_granted}
 use Rattle.dtyp_access.proofs.laws.nothing_is_granted.Goals as goal
 

@@ -1,7 +1,9 @@
+-- The law `written_bytes_are_read`.
 use Rattle.dtyp_access.specs.Written.{descriptor_bytes}
 use Rattle.std.proofs.Common.{◌++◌}
 use Rattle.dtyp_access.proofs.SpelledIsRead.{spelled_is_read}
 use Rattle.dtyp_access.proofs.laws.written_bytes_are_read.Goals as goal
 
 pub returns : goal.returns
-returns c = λ d rest is. spelled_is_read c.written_bytes_are_read.ensures (descriptor_bytes d ++ rest) d (c.written_bytes_spell.ensures d rest is)
+returns c = λ d rest is. spelled_is_read c.written_bytes_are_read.ensures (descriptor_bytes d ++ rest) d
+    (c.written_bytes_spell.ensures d rest is)

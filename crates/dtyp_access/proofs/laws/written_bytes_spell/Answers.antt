@@ -1,3 +1,4 @@
+-- The law `written_bytes_spell`.
 use Rattle.dtyp_access.proofs.WrittenIsSpelled.{written_is_spelled}
 use Rattle.dtyp_access.proofs.laws.written_bytes_spell.Goals as goal
 

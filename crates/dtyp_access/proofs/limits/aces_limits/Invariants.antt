@@ -1,3 +1,4 @@
+-- What the loop of `aces_limits` keeps.
 use Rattle.std.proofs.Common.{All, take}
 use Rattle.dtyp_access.specs.Limits.{IsAce}
 use Rattle.dtyp_access.proofs.limits.aces_limits.Given as goal

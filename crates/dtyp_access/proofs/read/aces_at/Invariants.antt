@@ -1,7 +1,9 @@
+-- What the loop of `aces_at` keeps.
 use Rattle.std.proofs.Common.{◌≡◌, ◌≤◌, ◌-◌, ◌++◌, length, Ok}
 use Rattle.dtyp_access.specs.Reading.{aces_at, then_read}
 use Rattle.dtyp_access.proofs.read.aces_at.Given as goal
 
 abbrev pub invariant-loop-done : goal.invariant-loop-done
 invariant-loop-done l = (l.place ≤ length l.bytes)
-    × (aces_at l.count l.first l.end l.bytes ≡ then_read (aces_at (l.count - l._done) l.place l.end l.bytes) (λ aces. Ok (l.aces.items ++ aces)))
+    × (aces_at l.count l.first l.end l.bytes
+    ≡ then_read (aces_at (l.count - l._done) l.place l.end l.bytes) (λ aces. Ok (l.aces.items ++ aces)))

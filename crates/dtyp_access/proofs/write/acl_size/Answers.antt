@@ -1,3 +1,4 @@
+-- `acl_size` meets its contract: what the search leaves open.
 use Rattle.std.proofs.Common.{◌≡◌, ◌+◌, ◌++◌, ◌∷◌, [], take, length, arith, ap, ◌∙◌, sym}
 use Rattle.std.proofs.lemmas.List.{take_more, length-append}
 use Rattle.dtyp_access.specs.declared.ace.Ace.{Ace}
@@ -15,6 +16,10 @@ loop-ace-preserved c =
     let ace : Ace = c.ace-item.result in
     let more : take (index + 1) aces ≡ take index aces ++ ace ∷ [] =
     take_more aces index ace c.loop-ace-test.true ∙ ap (λ (a : Ace). take index aces ++ a ∷ []) (sym c.ace-item.is) in
-    let bytes : length (aces_bytes (take (index + 1) aces)) ≡ length (aces_bytes (take index aces)) + length (ace_bytes ace) =
-    ap length (aces_bytes-take_more aces index ace c.loop-ace-test.true more) ∙ length-append (aces_bytes (take index aces)) (ace_bytes ace) in
-    (omega (arith, length-ace_bytes ace, c.loop-ace.invariant.0, c.ace_size-size.ensures.size), omega (arith, c.loop-ace.invariant.1, c.ace_size-size.ensures.small))
+    let bytes : length (aces_bytes (take (index + 1) aces)) ≡ length (aces_bytes (take index aces))
+    + length (ace_bytes ace) =
+    ap length (aces_bytes-take_more aces index ace c.loop-ace-test.true more)
+    ∙ length-append (aces_bytes (take index aces)) (ace_bytes ace) in (
+      omega (arith, length-ace_bytes ace, c.loop-ace.invariant.0, c.ace_size-size.ensures.size),
+      omega (arith, c.loop-ace.invariant.1, c.ace_size-size.ensures.small),
+    )

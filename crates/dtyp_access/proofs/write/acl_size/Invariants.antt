@@ -1,3 +1,4 @@
+-- What the loop of `acl_size` keeps.
 use Rattle.std.proofs.Common.{◌≡◌, ◌≤◌, ◌+◌, ◌*◌, length, take}
 use Rattle.dtyp_access.specs.Written.{aces_bytes}
 use Rattle.dtyp_access.proofs.write.acl_size.Given as goal

@@ -1,3 +1,4 @@
+-- `push_aces` meets its contract: what the search leaves open.
 use Rattle.std.proofs.Common.{◌≡◌, ◌+◌, ◌++◌, ◌∷◌, [], take, ap, ◌∙◌, sym}
 use Rattle.std.proofs.lemmas.List.{take_more, append-nil}
 use Rattle.dtyp_access.specs.declared.ace.Ace.{Ace}
@@ -15,5 +16,6 @@ loop-ace-preserved c =
     let ace : Ace = c.ace-item.result in
     let more : take (index + 1) aces ≡ take index aces ++ ace ∷ [] =
     take_more aces index ace c.loop-ace-test.true ∙ ap (λ (a : Ace). take index aces ++ a ∷ []) (sym c.ace-item.is) in
-    pushed_more c.args.out.now.items (aces_bytes (take index aces)) (ace_bytes ace) c.loop-ace.out.items c.push_ace.new.out.items c.loop-ace.invariant c.in_ok-push_ace.ensures
+    pushed_more c.args.out.now.items (aces_bytes (take index aces))
+    (ace_bytes ace) c.loop-ace.out.items c.push_ace.new.out.items c.loop-ace.invariant c.in_ok-push_ace.ensures
     ∙ ap (λ bytes. c.args.out.now.items ++ bytes) (sym (aces_bytes-take_more aces index ace c.loop-ace-test.true more))

@@ -1,3 +1,4 @@
+-- The law `read_bytes_are_written`.
 use Rattle.dtyp_sid.proofs.SidBytes.{read_written_back}
 use Rattle.dtyp_sid.proofs.laws.read_bytes_are_written.Goals as goal
 

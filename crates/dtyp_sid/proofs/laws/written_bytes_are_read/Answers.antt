@@ -1,3 +1,4 @@
+-- The law `written_bytes_are_read`.
 use Rattle.dtyp_sid.proofs.SidBytes.{read_written}
 use Rattle.dtyp_sid.proofs.laws.written_bytes_are_read.Goals as goal
 

@@ -1,3 +1,4 @@
+-- The law `written_texts_are_texts`.
 use Rattle.dtyp_sid.proofs.Texts.{written_text}
 use Rattle.dtyp_sid.proofs.laws.written_texts_are_texts.Goals as goal
 

@@ -1,3 +1,4 @@
+-- The law `written_texts_differ`.
 use Rattle.dtyp_sid.proofs.Texts.{written_one}
 use Rattle.dtyp_sid.proofs.laws.written_texts_differ.Goals as goal
 

@@ -1,3 +1,4 @@
+-- `parse_text` meets its contract: what the search leaves open.
 use Rattle.std.proofs.Common.{◌≡◌, ℕ, ◌<◌, ◌≤◌, ap, sym, ◌∙◌, get_or, length, subst, List}
 use Rattle.std.proofs.lemmas.List.{take_all}
 use Rattle.dtyp_sid.specs.Reading.{read_on, stage_after}
@@ -9,8 +10,10 @@ pub returns-in-None-clause-refused : goal.returns-in-None-clause-refused
 returns-in-None-clause-refused c =
     let text = c.args.text.now in
     let bytes : c.as_bytes-bytes.result.now ≡ text = cc in
-    let inside : c.loop-place.place < length text = subst (λ (bytes : List ℕ). c.loop-place.place < length bytes) bytes c.loop-place-test.true in
-    let step : c.step.result ≡ stage_after c.loop-place.stage (get_or text c.loop-place.place 0) = c.step.ensures.value ∙ ap (λ bytes. stage_after c.loop-place.stage (get_or bytes c.loop-place.place 0)) bytes in
+    let inside : c.loop-place.place < length text =
+    subst (λ (bytes : List ℕ). c.loop-place.place < length bytes) bytes c.loop-place-test.true in
+    let step : c.step.result ≡ stage_after c.loop-place.stage (get_or text c.loop-place.place 0) = c.step.ensures.value
+    ∙ ap (λ bytes. stage_after c.loop-place.stage (get_or bytes c.loop-place.place 0)) bytes in
     bad_at text c.loop-place.place c.loop-place.stage inside c.loop-place.invariant.0 (sym step ∙ c.in-None.is)
 
 pub returns-in-None-clause-value : goal.returns-in-None-clause-value
@@ -22,15 +25,20 @@ pub loop-place-preserved : goal.loop-place-preserved
 loop-place-preserved c =
     let text = c.args.text.now in
     let bytes : c.as_bytes-bytes.result.now ≡ text = cc in
-    let inside : c.loop-place.place < length text = subst (λ (bytes : List ℕ). c.loop-place.place < length bytes) bytes c.loop-place-test.true in
-    let step : c.step.result ≡ stage_after c.loop-place.stage (get_or text c.loop-place.place 0) = c.step.ensures.value ∙ ap (λ bytes. stage_after c.loop-place.stage (get_or bytes c.loop-place.place 0)) bytes in
-    (read_byte text c.loop-place.place c.loop-place.stage inside c.loop-place.invariant.0 ∙ (sym step ∙ c.in-Some.is), c.in-Some.ensures.stage)
+    let inside : c.loop-place.place < length text =
+    subst (λ (bytes : List ℕ). c.loop-place.place < length bytes) bytes c.loop-place-test.true in
+    let step : c.step.result ≡ stage_after c.loop-place.stage (get_or text c.loop-place.place 0) = c.step.ensures.value
+    ∙ ap (λ bytes. stage_after c.loop-place.stage (get_or bytes c.loop-place.place 0)) bytes in (
+      read_byte text c.loop-place.place c.loop-place.stage inside c.loop-place.invariant.0 ∙ (sym step ∙ c.in-Some.is),
+      c.in-Some.ensures.stage,
+    )
 
 pub returns-in-Some-finish-clause-ok : goal.returns-in-Some-finish-clause-ok
 returns-in-Some-finish-clause-ok c =
     let text = c.args.text.now in
     let bytes : c.as_bytes-bytes.result.now ≡ text = cc in
-    let behind : length text ≤ c.loop-place.place = subst (λ (bytes : List ℕ). length bytes ≤ c.loop-place.place) bytes c.loop-place-test.false in
+    let behind : length text ≤ c.loop-place.place =
+    subst (λ (bytes : List ℕ). length bytes ≤ c.loop-place.place) bytes c.loop-place-test.false in
     read_text text c.loop-place.stage c.in-Some-finish.sid
     (ap (read_on (Opening 0)) (sym (take_all c.loop-place.place text behind)) ∙ c.loop-place.invariant.0)
     (sym c.finish.ensures ∙ c.in-Some-finish.is)
@@ -43,7 +51,8 @@ pub returns-in-None-finish-clause-refused : goal.returns-in-None-finish-clause-r
 returns-in-None-finish-clause-refused c =
     let text = c.args.text.now in
     let bytes : c.as_bytes-bytes.result.now ≡ text = cc in
-    let behind : length text ≤ c.loop-place.place = subst (λ (bytes : List ℕ). length bytes ≤ c.loop-place.place) bytes c.loop-place-test.false in
+    let behind : length text ≤ c.loop-place.place =
+    subst (λ (bytes : List ℕ). length bytes ≤ c.loop-place.place) bytes c.loop-place-test.false in
     bad_end text c.loop-place.stage
     (ap (read_on (Opening 0)) (sym (take_all c.loop-place.place text behind)) ∙ c.loop-place.invariant.0)
     (sym c.finish.ensures ∙ c.in-None-finish.is)

@@ -1,3 +1,4 @@
+-- What the loop of `parse_text` keeps.
 use Rattle.std.proofs.Common.{◌≡◌, take, Some}
 use Rattle.dtyp_sid.specs.Reading.{read_on, IsStage}
 use Rattle.dtyp_sid.specs.declared.reading.Stage.TheVariants.{Opening}

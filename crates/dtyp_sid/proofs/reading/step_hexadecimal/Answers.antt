@@ -1,3 +1,4 @@
+-- `step_hexadecimal` meets its contract: what the search leaves open.
 use Rattle.std.proofs.Common.{arith, ◌<◌}
 use Rattle.std.specs.Char.{digit_value}
 use Rattle.dtyp_sid.proofs.Hexadecimals.{below_2_44}
@@ -7,8 +8,13 @@ pub overflow_mul-result : goal.overflow_mul-result
 overflow_mul-result c =
     omega (arith, below_2_44 c.args.count c.args.number c.if-count-lt12.true c.requires.number)
 
-pub overflow_add-result-in-Some : goal.overflow_add-result-in-Some
-overflow_add-result-in-Some c =
-    let digit = c.in-Some.ensures in
+pub overflow_add-result-then-count-lt12 : goal.overflow_add-result-then-count-lt12
+overflow_add-result-then-count-lt12 c =
+    let digit = c.in_ok-digit.ensures in
     let below : digit_value c.from.result < 16 = digit.value.0 in
-    omega (arith, below_2_44 c.args.count c.args.number c.if-count-lt12.true c.requires.number, digit.value.1, c.from-in-Some.ensures)
+    omega (
+      arith,
+      below_2_44 c.args.count c.args.number c.if-count-lt12.true c.requires.number,
+      digit.value.1,
+      c.from-then-count-lt12.ensures,
+    )

@@ -1,3 +1,4 @@
+-- `from_front` meets its contract: what the search leaves open.
 use Rattle.std.proofs.Common.{◌≡◌, ◌<◌, ◌∷◌, ◌++◌, [], refl, arith, ap, ◌∙◌, sym, length, add-one, take, drop, ◌*◌, ◌+◌}
 use Rattle.std.specs.Int.{w32, from_le_bytes}
 use Rattle.std.proofs.lemmas.List.{take_more_set}
@@ -17,9 +18,10 @@ loop-place-preserved c =
     let inside : c.loop-place.place < length c.loop-place.slots = omega (arith, are.all_there) in
     let bytes = c.args.bytes.now in
     let place = c.loop-place.place in
-    let sub : c.sub_at_front.result ≡ from_le_bytes w32 (drop (4 * place) bytes) = c.sub_at_front.ensures ∙ ap (from_le_bytes w32) c.rest_of.ensures.value in
-    let more : take place c.loop-place.slots ++ c.sub_at_front.result ∷ [] ≡ subs_at_front (place + 1) bytes =
-    ap (λ subs. subs ++ c.sub_at_front.result ∷ []) c.loop-place.invariant.1
+    let sub : c.front_u32.result ≡ from_le_bytes w32 (drop (4 * place) bytes) = c.front_u32.ensures
+    ∙ ap (from_le_bytes w32) c.rest_of.ensures.value in
+    let more : take place c.loop-place.slots ++ c.front_u32.result ∷ [] ≡ subs_at_front (place + 1) bytes =
+    ap (λ subs. subs ++ c.front_u32.result ∷ []) c.loop-place.invariant.1
     ∙ ap (λ sub. subs_at_front place bytes ++ sub ∷ []) sub
     ∙ sym (rw add-one (subs_at_front-more place bytes)) in
-    (pushed _ _ _ are room, take_more_set c.loop-place.slots c.loop-place.place c.sub_at_front.result inside ∙ more)
+    (pushed _ _ _ are room, take_more_set c.loop-place.slots c.loop-place.place c.front_u32.result inside ∙ more)

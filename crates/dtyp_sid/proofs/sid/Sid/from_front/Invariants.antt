@@ -1,3 +1,4 @@
+-- What the loop of `from_front` keeps.
 use Rattle.std.proofs.Common.{◌≡◌, take}
 use Rattle.dtyp_sid.specs.Slots.{AreSlots}
 use Rattle.dtyp_sid.specs.Bytes.{subs_at_front}

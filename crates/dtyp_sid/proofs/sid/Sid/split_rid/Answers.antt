@@ -1,3 +1,4 @@
+-- `split_rid` meets its contract: what the search leaves open.
 use Rattle.std.proofs.Common.{arith}
 use Rattle.dtyp_sid.specs.Slots.{popped}
 use Rattle.dtyp_sid.proofs.sid.Sid.split_rid.Goals as goal

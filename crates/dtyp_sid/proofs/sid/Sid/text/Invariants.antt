@@ -1,3 +1,4 @@
+-- What the loop of `text` keeps.
 use Rattle.std.proofs.Common.{◌≡◌, ◌++◌, take, codes}
 use Rattle.std.specs.String.{string_bytes}
 use Rattle.dtyp_sid.specs.Text.{authority_text, subs_text}

@@ -1,3 +1,4 @@
+-- What the loop of `to_bytes` keeps.
 use Rattle.std.proofs.Common.{◌≡◌, ◌+◌, ◌*◌, ◌++◌, take, drop}
 use Rattle.dtyp_sid.specs.Bytes.{header_of, sub_bytes}
 use Rattle.dtyp_sid.proofs.sid.Sid.to_bytes.Given as goal

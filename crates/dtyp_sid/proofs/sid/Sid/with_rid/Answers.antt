@@ -1,3 +1,4 @@
+-- `with_rid` meets its contract: what the search leaves open.
 use Rattle.std.proofs.Common.{arith}
 use Rattle.dtyp_sid.specs.Slots.{pushed}
 use Rattle.dtyp_sid.proofs.sid.Sid.with_rid.Goals as goal
