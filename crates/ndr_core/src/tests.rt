@@ -147,6 +147,16 @@ fn bad_places_are_told(rt: HostRuntime) {
 }
 
 #[test]
+fn refusals_tell_in_words(rt: HostRuntime) -> Result<(), Fail> {
+    let told = format!(in rt.alloc(); "{}", NdrError::Count(8))?;
+    assert_eq!(rt;
+        told.as_str(),
+        "the number at byte 8 of the stub breaks a rule"
+    );
+    Ok(())
+}
+
+#[test]
 fn null_takes_no_referent(rt: HostRuntime) -> Result<(), Fail> {
     let mut to = Out::new(rt.alloc());
     to.pointer(false)?;

@@ -1,5 +1,6 @@
 -- What is read can be written again.
-use Rattle.std.proofs.Common.{◌≡◌, ℕ, ◌+◌, ◌*◌, ◌≤◌, ◌<◌, Bool, true, false, List, [], ◌∷◌, length, take, drop, get_or, All, sym, ap, arith, refl, inl, inr}
+use Rattle.std.proofs.Common.{◌≡◌, ℕ, ◌+◌, ◌*◌, ◌≤◌, ◌<◌, Bool, true, false, List, [], ◌∷◌, length, take, drop, get_or}
+use Rattle.std.proofs.Common.{All, sym, ap, arith, refl, inl, inr}
 use Rattle.std.specs.List.{AllByRecursion, sum_by}
 use Rattle.std.proofs.lemmas.List.Sums.{sum_by-cons}
 use Rattle.std.proofs.lemmas.Bool.{cases_lt}
@@ -11,11 +12,13 @@ use Rattle.rpc_pdu.specs.declared.pdus.Side.TheVariants.{Server, Client}
 use Rattle.rpc_pdu.specs.declared.pdus.Element.{Element}
 use Rattle.rpc_pdu.specs.declared.pdus.Outcome.{Outcome}
 use Rattle.rpc_pdu.specs.declared.pdus.Pdu.{Pdu}
-use Rattle.rpc_pdu.specs.declared.pdus.Pdu.TheVariants.{Bind, Alter, Request, Cancel, Orphaned, BindAck, AlterResp, BindNak, Response, Fault}
+use Rattle.rpc_pdu.specs.declared.pdus.Pdu.TheVariants.{Bind, Alter, Request, Cancel, Orphaned, BindAck, AlterResp}
+use Rattle.rpc_pdu.specs.declared.pdus.Pdu.TheVariants.{BindNak, Response, Fault}
 use Rattle.rpc_pdu.specs.Lists.{element_size}
 use Rattle.rpc_pdu.specs.Grammar.{SyntaxAt, ElementAt, OutcomeAt, EachAt, IsBinding, IsBindingAnswer, IsRequest, IsPdu}
 use Rattle.rpc_pdu.specs.Headers.{has_object}
-use Rattle.rpc_pdu.specs.Written.{size_of, HasFewTransfers, HasFewParts, IsWhole, IsWholeElement, IsWholeOutcome, HasWholeIds}
+use Rattle.rpc_pdu.specs.Written.{size_of, HasFewTransfers, HasFewParts, IsWhole, IsWholeElement, IsWholeOutcome}
+use Rattle.rpc_pdu.specs.Written.{HasWholeIds}
 use Rattle.rpc_pdu.proofs.Places.{twenties}
 
 abbrev pub AreBytes : List ℕ → Type 0

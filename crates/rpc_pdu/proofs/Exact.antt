@@ -1,5 +1,6 @@
 -- A whole PDU in front is exactly a PDU of the grammar.
-use Rattle.std.proofs.Common.{◌≡◌, ℕ, ◌+◌, ◌≤◌, ◌<◌, Bool, true, false, cond, ltb, ◌==◌, List, length, take, drop, get_or, Option, Some, None, refl, sym, ap, subst, ◌∙◌, arith, inl, inr}
+use Rattle.std.proofs.Common.{◌≡◌, ℕ, ◌+◌, ◌≤◌, ◌<◌, Bool, true, false, cond, ltb, ◌==◌, List, length, take, drop}
+use Rattle.std.proofs.Common.{get_or, Option, Some, None, refl, sym, ap, subst, ◌∙◌, arith, inl, inr}
 use Rattle.std.specs.List.{sum_by}
 use Rattle.std.proofs.lemmas.Bool.{ltb-false, le-ltb, eqb-true, false≢true}
 use Rattle.std.proofs.lemmas.List.{length-take-le}
@@ -8,7 +9,8 @@ use Rattle.rpc_pdu.specs.declared.pdus.Side.TheVariants.{Server, Client}
 use Rattle.rpc_pdu.specs.declared.pdus.Element.{Element}
 use Rattle.rpc_pdu.specs.declared.pdus.Outcome.{Outcome}
 use Rattle.rpc_pdu.specs.declared.pdus.Pdu.{Pdu}
-use Rattle.rpc_pdu.specs.declared.pdus.Pdu.TheVariants.{Bind, Alter, Request, Cancel, Orphaned, BindAck, AlterResp, BindNak, Response, Fault}
+use Rattle.rpc_pdu.specs.declared.pdus.Pdu.TheVariants.{Bind, Alter, Request, Cancel, Orphaned, BindAck, AlterResp}
+use Rattle.rpc_pdu.specs.declared.pdus.Pdu.TheVariants.{BindNak, Response, Fault}
 use Rattle.rpc_pdu.specs.declared.headers.Kind.{Kind}
 use Rattle.rpc_pdu.specs.declared.headers.Kind.TheVariants as kind
 use Rattle.rpc_pdu.specs.Numbers.{u16_at, u32_at}
@@ -17,7 +19,8 @@ use Rattle.rpc_pdu.specs.Reading.{many}
 use Rattle.rpc_pdu.specs.Lists.{element_at, outcome_at, element_size}
 use Rattle.rpc_pdu.specs.Bodies.{bind_of, alter_of, outcomes_place, outcomes_in, bind_ack_of, alter_resp_of, body_of}
 use Rattle.rpc_pdu.specs.Front.{Whole, front}
-use Rattle.rpc_pdu.specs.Grammar.{IsHeader, ElementAt, OutcomeAt, HasSizes, IsBinding, IsBindingAnswer, IsRequest, IsPdu}
+use Rattle.rpc_pdu.specs.Grammar.{IsHeader, ElementAt, OutcomeAt, HasSizes, IsBinding, IsBindingAnswer, IsRequest}
+use Rattle.rpc_pdu.specs.Grammar.{IsPdu}
 use Rattle.rpc_pdu.specs.Written.{type_of, reader_of, call_id}
 use Rattle.rpc_pdu.specs.Laws.{IsExact}
 use Rattle.rpc_pdu.proofs.HeaderFacts.{chosen, least_16, IsLong, header_long, long_header}

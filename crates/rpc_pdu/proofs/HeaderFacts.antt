@@ -1,9 +1,11 @@
 -- What a header that gives a length comes to.
-use Rattle.std.proofs.Common.{◌≡◌, ℕ, ◌≤◌, Bool, true, false, cond, ltb, leb, ◌==◌, not, ◌&&◌, List, get_or, Option, Some, None, refl, sym, subst, ap, arith, inl, inr, ◌⊎◌}
+use Rattle.std.proofs.Common.{◌≡◌, ℕ, ◌≤◌, Bool, true, false, cond, ltb, leb, ◌==◌, not, ◌&&◌, List, get_or, Option}
+use Rattle.std.proofs.Common.{Some, None, refl, sym, subst, ap, arith, inl, inr, ◌⊎◌}
 use Rattle.std.proofs.lemmas.Bool.{ltb-false, le-ltb, leb-true, le-leb, eqb-true, eq-eqb, not-false, and_parts}
 use Rattle.rpc_pdu.specs.declared.pdus.Side.{Side}
 use Rattle.rpc_pdu.specs.declared.headers.Kind.{Kind}
-use Rattle.rpc_pdu.specs.declared.headers.Kind.TheVariants.{Request, Response, Fault, Bind, BindAck, BindNak, Alter, AlterResp, Cancel, Orphaned}
+use Rattle.rpc_pdu.specs.declared.headers.Kind.TheVariants.{Request, Response, Fault, Bind, BindAck, BindNak, Alter}
+use Rattle.rpc_pdu.specs.declared.headers.Kind.TheVariants.{AlterResp, Cancel, Orphaned}
 use Rattle.rpc_pdu.specs.declared.headers.Header.{Header}
 use Rattle.rpc_pdu.specs.declared.headers.Header.TheVariants.{Bad, Long}
 use Rattle.rpc_pdu.specs.Numbers.{u16_at}

@@ -1,5 +1,6 @@
 -- A written PDU in front of a stream.
-use Rattle.std.proofs.Common.{◌≡◌, ℕ, ◌+◌, ◌≤◌, false, ltb, List, [], ◌++◌, length, take, Some, refl, sym, ap, ◌∙◌, arith, length-append, All}
+use Rattle.std.proofs.Common.{◌≡◌, ℕ, ◌+◌, ◌≤◌, false, ltb, List, [], ◌++◌, length, take, Some, refl, sym, ap, ◌∙◌}
+use Rattle.std.proofs.Common.{arith, length-append, All}
 use Rattle.std.specs.List.{flat_map}
 use Rattle.std.proofs.Math.Seq.{take-append_seam}
 use Rattle.std.proofs.lemmas.Bool.{le-ltb}
@@ -7,7 +8,8 @@ use Rattle.std.proofs.lemmas.List.{append-nil}
 use Rattle.rpc_pdu.specs.declared.pdus.Element.{Element}
 use Rattle.rpc_pdu.specs.declared.pdus.Outcome.{Outcome}
 use Rattle.rpc_pdu.specs.declared.pdus.Pdu.{Pdu}
-use Rattle.rpc_pdu.specs.declared.pdus.Pdu.TheVariants.{Bind, Alter, Request, Cancel, Orphaned, BindAck, AlterResp, BindNak, Response, Fault}
+use Rattle.rpc_pdu.specs.declared.pdus.Pdu.TheVariants.{Bind, Alter, Request, Cancel, Orphaned, BindAck, AlterResp}
+use Rattle.rpc_pdu.specs.declared.pdus.Pdu.TheVariants.{BindNak, Response, Fault}
 use Rattle.rpc_pdu.specs.declared.headers.Kind.{Kind}
 use Rattle.rpc_pdu.specs.declared.headers.Kind.TheVariants as kind
 use Rattle.rpc_pdu.specs.Headers.{least_length, kind_of}
@@ -15,7 +17,8 @@ use Rattle.rpc_pdu.specs.Reading.{Reader, many}
 use Rattle.rpc_pdu.specs.Lists.{element_at, outcome_at}
 use Rattle.rpc_pdu.specs.Bodies.{bind_of, alter_of, outcomes_in, bind_ack_of, alter_resp_of, body_of}
 use Rattle.rpc_pdu.specs.Front.{Whole, front}
-use Rattle.rpc_pdu.specs.Written.{type_of, reader_of, flags_of, element_bytes, outcome_bytes, body_bytes, size_of, written, HasWholeIds, LacksObject, IsWholeElement, IsWholeOutcome}
+use Rattle.rpc_pdu.specs.Written.{type_of, reader_of, flags_of, element_bytes, outcome_bytes, body_bytes, size_of}
+use Rattle.rpc_pdu.specs.Written.{written, HasWholeIds, LacksObject, IsWholeElement, IsWholeOutcome}
 use Rattle.rpc_pdu.proofs.HeaderFacts.{least_16, IsLong, long_header}
 use Rattle.rpc_pdu.proofs.Whole.{has_front}
 use Rattle.rpc_pdu.proofs.Sizes.{length-written}

@@ -1,5 +1,6 @@
 -- Reading runs out of memory only where a whole PDU of a type that takes memory is read, or its body has no reading.
-use Rattle.std.proofs.Common.{◌≡◌, ℕ, ◌≤◌, Bool, true, false, nat_lt, List, length, take, drop, get_or, Option, Some, None, refl}
+use Rattle.std.proofs.Common.{◌≡◌, ℕ, ◌≤◌, Bool, true, false, nat_lt, List, length, take, drop, get_or, Option, Some}
+use Rattle.std.proofs.Common.{None, refl}
 use Rattle.std.proofs.lemmas.Bool.{le-ltb}
 use Rattle.rpc_pdu.specs.declared.pdus.Side.{Side}
 use Rattle.rpc_pdu.specs.declared.pdus.Pdu.{Pdu}
@@ -8,7 +9,8 @@ use Rattle.rpc_pdu.specs.declared.pdus.Element.{Element}
 use Rattle.rpc_pdu.specs.Numbers.{u16_at, u32_at}
 use Rattle.rpc_pdu.specs.Lists.{element_at}
 use Rattle.rpc_pdu.specs.declared.headers.Kind.{Kind}
-use Rattle.rpc_pdu.specs.declared.headers.Kind.TheVariants.{Request, Response, Fault, Bind, BindAck, BindNak, Alter, AlterResp, Cancel, Orphaned}
+use Rattle.rpc_pdu.specs.declared.headers.Kind.TheVariants.{Request, Response, Fault, Bind, BindAck, BindNak, Alter}
+use Rattle.rpc_pdu.specs.declared.headers.Kind.TheVariants.{AlterResp, Cancel, Orphaned}
 use Rattle.rpc_pdu.specs.declared.headers.Header.TheVariants.{Long}
 use Rattle.rpc_pdu.specs.Reading.{◌>>=◌, many}
 use Rattle.rpc_pdu.specs.Headers.{header_of}

@@ -5,7 +5,8 @@ use Rattle.std.proofs.Math.Seq.{take-length}
 use Rattle.rpc_pdu.specs.declared.pdus.Pdu.{Pdu}
 use Rattle.rpc_pdu.specs.Front.{Whole, front}
 use Rattle.rpc_pdu.specs.Grammar.{IsPdu}
-use Rattle.rpc_pdu.specs.Written.{type_of, flags_of, call_id, header_bytes, body_bytes, reader_of, size_of, written, HasWholeIds, LacksObject}
+use Rattle.rpc_pdu.specs.Written.{type_of, flags_of, call_id, header_bytes, body_bytes, reader_of, size_of, written}
+use Rattle.rpc_pdu.specs.Written.{HasWholeIds, LacksObject}
 use Rattle.rpc_pdu.specs.Laws.{AreReadBack}
 use Rattle.rpc_pdu.proofs.Sizes.{length-body_bytes, length-written}
 use Rattle.rpc_pdu.proofs.ReadBack.{written_front}

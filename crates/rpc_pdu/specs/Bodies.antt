@@ -1,12 +1,14 @@
 -- What a whole PDU says, by its type (C706, section 12.6.4).
-use Rattle.std.specs.Prelude.{◌≡◌, ℕ, ◌+◌, ◌*◌, ◌/◌, Bool, true, false, List, length, drop, Option, Some, None, Result, Ok, Err, if◌then◌else◌, nat_lt, slice_index}
+use Rattle.std.specs.Prelude.{◌≡◌, ℕ, ◌+◌, ◌*◌, ◌/◌, Bool, true, false, List, length, drop, Option, Some, None, Result}
+use Rattle.std.specs.Prelude.{Ok, Err, if◌then◌else◌, nat_lt, slice_index}
 use Rattle.rpc_pdu.specs.declared.lists.Lack.{Lack}
 use Rattle.rpc_pdu.specs.declared.lists.Lack.TheVariants.{Memory, Short}
 use Rattle.rpc_pdu.specs.declared.headers.Kind.{Kind}
 use Rattle.rpc_pdu.specs.declared.headers.Kind.TheVariants as kind
 use Rattle.rpc_pdu.specs.declared.pdus.Outcome.{Outcome}
 use Rattle.rpc_pdu.specs.declared.pdus.Pdu.{Pdu}
-use Rattle.rpc_pdu.specs.declared.pdus.Pdu.TheVariants.{Bind, Alter, Request, Cancel, Orphaned, BindAck, AlterResp, BindNak, Response, Fault}
+use Rattle.rpc_pdu.specs.declared.pdus.Pdu.TheVariants.{Bind, Alter, Request, Cancel, Orphaned, BindAck, AlterResp}
+use Rattle.rpc_pdu.specs.declared.pdus.Pdu.TheVariants.{BindNak, Response, Fault}
 use Rattle.rpc_pdu.specs.Numbers.{u16_at, u32_at}
 use Rattle.rpc_pdu.specs.Headers.{has_object}
 use Rattle.rpc_pdu.specs.Reading.{◌>>=◌, many}

@@ -1,12 +1,15 @@
 -- The header of a PDU (C706, section 12.6.3.1), and which of it is refused: version, representation, packet type,
 -- length, verifier, in
 -- this order, each with its place.
-use Rattle.std.specs.Prelude.{ℕ, ◌==◌, Bool, List, Option, Some, None, if◌then◌else◌, nat_lt, nat_le, not, ◌&&◌, bit_and, slice_index}
-use Rattle.acct_codes.specs.Causes.{cause_version, cause_representation, cause_packet_type, cause_length, cause_verifier}
+use Rattle.std.specs.Prelude.{ℕ, ◌==◌, Bool, List, Option, Some, None, if◌then◌else◌, nat_lt, nat_le, not, ◌&&◌}
+use Rattle.std.specs.Prelude.{bit_and, slice_index}
+use Rattle.acct_codes.specs.Causes.{cause_version, cause_representation, cause_packet_type, cause_length}
+use Rattle.acct_codes.specs.Causes.{cause_verifier}
 use Rattle.rpc_pdu.specs.declared.pdus.Side.{Side}
 use Rattle.rpc_pdu.specs.declared.pdus.Side.TheVariants.{Server, Client}
 use Rattle.rpc_pdu.specs.declared.headers.Kind.{Kind}
-use Rattle.rpc_pdu.specs.declared.headers.Kind.TheVariants.{Request, Response, Fault, Bind, BindAck, BindNak, Alter, AlterResp, Cancel, Orphaned}
+use Rattle.rpc_pdu.specs.declared.headers.Kind.TheVariants.{Request, Response, Fault, Bind, BindAck, BindNak, Alter}
+use Rattle.rpc_pdu.specs.declared.headers.Kind.TheVariants.{AlterResp, Cancel, Orphaned}
 use Rattle.rpc_pdu.specs.declared.headers.Header.{Header}
 use Rattle.rpc_pdu.specs.declared.headers.Header.TheVariants.{Bad, Long}
 use Rattle.rpc_pdu.specs.Numbers.{u16_at}

@@ -1,6 +1,7 @@
 -- Reading fields one after the other: a reader gives a value and the bytes after it, or nothing where bytes are
 -- missing.
-use Rattle.std.specs.Prelude.{◌≡◌, ℕ, zero, suc, List, [], ◌∷◌, length, take, drop, Option, Some, None, Result, Ok, Err, if◌then◌else◌, nat_lt}
+use Rattle.std.specs.Prelude.{◌≡◌, ℕ, zero, suc, List, [], ◌∷◌, length, take, drop, Option, Some, None, Result, Ok, Err}
+use Rattle.std.specs.Prelude.{if◌then◌else◌, nat_lt}
 use Rattle.rpc_pdu.specs.declared.lists.Lack.{Lack}
 use Rattle.rpc_pdu.specs.declared.lists.Lack.TheVariants.{Memory, Short}
 

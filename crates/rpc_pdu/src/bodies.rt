@@ -2,7 +2,8 @@
 ghost use Rattle.std.specs.Prelude.{◌≡◌, ◌≤◌, length, slice_index};
 ghost use Rattle.rpc_pdu.specs.Headers.{least_length};
 ghost use Rattle.rpc_pdu.specs.Reading.{ReadsWhole};
-ghost use Rattle.rpc_pdu.specs.Bodies.{stub_place, bind_of, alter_of, request_of, response_of, outcomes_place, outcomes_in, bind_ack_of, alter_resp_of, fault_of, body_of, OnlyWhereTaken};
+ghost use Rattle.rpc_pdu.specs.Bodies.{stub_place, bind_of, alter_of, request_of, response_of, outcomes_place};
+ghost use Rattle.rpc_pdu.specs.Bodies.{outcomes_in, bind_ack_of, alter_resp_of, fault_of, body_of, OnlyWhereTaken};
 
 use crate::headers::{Kind, has_object};
 use crate::lists::{Fields, Lack};

@@ -1,7 +1,10 @@
 // The bytes of a PDU.
 ghost use Rattle.std.specs.Prelude.{◌≡◌, ◌∷◌, ◌≤◌, ◌++◌, length, All, IfOk, OnOk};
 ghost use Rattle.std.specs.List.{flat_map};
-ghost use Rattle.rpc_pdu.specs.Written.{type_of, flags_of, call_id, size_of, header_bytes, element_bytes, outcome_bytes, sizes_bytes, elements_bytes, outcomes_bytes, body_bytes, written, HasFewTransfers, HasFewParts, IsWhole, IsWholeElement, IsWholeOutcome, HasWholeIds};
+ghost use Rattle.rpc_pdu.specs.Written.{type_of, flags_of, call_id, size_of, header_bytes, element_bytes};
+ghost use Rattle.rpc_pdu.specs.Written.{outcome_bytes, sizes_bytes, elements_bytes, outcomes_bytes, body_bytes};
+ghost use Rattle.rpc_pdu.specs.Written.{written, HasFewTransfers, HasFewParts, IsWhole, IsWholeElement, IsWholeOutcome};
+ghost use Rattle.rpc_pdu.specs.Written.{HasWholeIds};
 ghost use Rattle.rpc_pdu.specs.Numbers.{u16_bytes, u32_bytes};
 ghost use Rattle.rpc_pdu.specs.Syntaxes.{syntax_bytes};
 ghost use Rattle.uuid.specs.Parts.{swap_fields};

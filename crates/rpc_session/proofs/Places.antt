@@ -1,5 +1,6 @@
 -- The place of what is left, and the bytes that wait, are the length of the stream.
-use Rattle.std.proofs.Common.{◌≡◌, ℕ, zero, suc, ◌+◌, ◌<◌, ◌^◌, List, length, drop, Option, refl, sym, subst, arith, length-drop}
+use Rattle.std.proofs.Common.{◌≡◌, ℕ, zero, suc, ◌+◌, ◌<◌, ◌^◌, List, length, drop, Option, refl, sym, subst, arith}
+use Rattle.std.proofs.Common.{length-drop}
 use Rattle.rpc_pdu.specs.Laws.{IsStable}
 use Rattle.rpc_session.specs.declared.sessions.Act.{Act}
 use Rattle.rpc_session.specs.declared.sessions.Session.{Session}

@@ -1,5 +1,6 @@
 -- The acts of a connection's stream.
-use Rattle.std.specs.Prelude.{◌≡◌, ◌↔◌, ℕ, ◌+◌, ◌≤◌, ◌<◌, ◌^◌, Bool, true, false, List, [], ◌∷◌, ◌++◌, length, All, Option, Some, None, slice_get}
+use Rattle.std.specs.Prelude.{◌≡◌, ◌↔◌, ℕ, ◌+◌, ◌≤◌, ◌<◌, ◌^◌, Bool, true, false, List, [], ◌∷◌, ◌++◌, length, All}
+use Rattle.std.specs.Prelude.{Option, Some, None, slice_get}
 use Rattle.acct_codes.specs.Limits.{least_fragment, most_fragment, most_stub}
 use Rattle.rpc_pdu.specs.declared.pdus.Pdu.{Pdu}
 use Rattle.rpc_pdu.specs.declared.pdus.Side.TheVariants.{Server}
@@ -75,7 +76,8 @@ acts_of_end place (Refused at cause ptype id) = closing (place + at) cause ptype
 abbrev pub acts_of : ℕ → ℕ → Session → List (Pdu × List ℕ) → List ℕ → List Act
 acts_of conn place session [] end = acts_of_end place (front Server end)
 acts_of conn place session (part ∷ parts) end =
-    acts_of_step place part.0 (taken conn session part.0) (λ after. acts_of conn (place + length part.1) after parts end)
+    acts_of_step place part.0 (taken conn session part.0)
+    (λ after. acts_of conn (place + length part.1) after parts end)
 
 -- the acts of a stream are those of its PDUs, however it is divided into some
 abbrev pub AreOfPdus : Type 0

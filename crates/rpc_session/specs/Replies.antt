@@ -1,5 +1,6 @@
 -- The bytes that answer a call: a fault, or a reply's stub cut into responses (C706, sections 12.6.3 and 12.6.4).
-use Rattle.std.specs.Prelude.{◌≡◌, ℕ, zero, suc, ◌+◌, ◌-◌, ◌*◌, ◌/◌, ◌≤◌, ◌<◌, Bool, true, false, List, [], ◌∷◌, ◌++◌, length, take, drop, min, if◌then◌else◌, nat_le}
+use Rattle.std.specs.Prelude.{◌≡◌, ℕ, zero, suc, ◌+◌, ◌-◌, ◌*◌, ◌/◌, ◌≤◌, ◌<◌, Bool, true, false, List, [], ◌∷◌, ◌++◌}
+use Rattle.std.specs.Prelude.{length, take, drop, min, if◌then◌else◌, nat_le}
 use Rattle.std.specs.List.{concat}
 use Rattle.acct_codes.specs.Limits.{least_fragment}
 use Rattle.rpc_pdu.specs.declared.pdus.Pdu.TheVariants.{Response, Fault}

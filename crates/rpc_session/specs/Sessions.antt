@@ -1,7 +1,8 @@
 -- What one whole PDU does in a session (C706, sections 12.6.3 and 12.6.4): which act it gives, and how the session
 -- stands after it, or the cause for which it is refused.
 use Rattle.std.specs.Prelude.{ℕ, ◌==◌, List, [], ◌++◌, length, Option, Some, None, if◌then◌else◌, nat_lt, bit_and}
-use Rattle.acct_codes.specs.Causes.{cause_first_twice, cause_no_first, cause_stub_too_long, cause_bind_order, cause_too_many_contexts}
+use Rattle.acct_codes.specs.Causes.{cause_first_twice, cause_no_first, cause_stub_too_long, cause_bind_order}
+use Rattle.acct_codes.specs.Causes.{cause_too_many_contexts}
 use Rattle.acct_codes.specs.Faults.{fault_unknown_interface}
 use Rattle.acct_codes.specs.Limits.{most_stub, most_contexts}
 use Rattle.rpc_pdu.specs.declared.pdus.Pdu.{Pdu}

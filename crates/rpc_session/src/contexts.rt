@@ -1,7 +1,8 @@
 // Which presentation contexts are accepted.
 ghost use Rattle.std.specs.Prelude.{◌≡◌, ◌==◌, not, map, Some, None, IfOk, OnOk};
 ghost use Rattle.std.specs.List.{filter};
-ghost use Rattle.rpc_session.specs.Contexts.{no_syntax, face_of, offers_ndr, judged, accepted, answered, outcome, replaced, with_element, with_elements, face_at};
+ghost use Rattle.rpc_session.specs.Contexts.{no_syntax, face_of, offers_ndr, judged, accepted, answered, outcome};
+ghost use Rattle.rpc_session.specs.Contexts.{replaced, with_element, with_elements, face_at};
 
 use acct_base::Seq;
 use acct_calls::Face;
@@ -43,10 +44,8 @@ fn accepted(element: &Element) -> Option<Face>
     ensures { result ≡ accepted element.now }
 {
     let offered = offers_ndr(element.transfers.as_slice());
-    match face_of(&element.subject) {
-        None => None,
-        Some(face) => { if offered { Some(face) } else { None } }
-    }
+    let face = face_of(&element.subject)?;
+    if offered { Some(face) } else { None }
 }
 
 fn rejected(reason: u16) -> Outcome

@@ -1,5 +1,6 @@
 // What a connection hears.
-ghost use Rattle.std.specs.Prelude.{◌≡◌, ◌++◌, ◌+◌, ◌^◌, ◌<◌, ◌≤◌, [], length, drop, List, ℕ, OnOk, OnErr, IfOk, IsErr, IsOk};
+ghost use Rattle.std.specs.Prelude.{◌≡◌, ◌++◌, ◌+◌, ◌^◌, ◌<◌, ◌≤◌, [], length, drop, List, ℕ, OnOk, OnErr, IfOk, IsErr};
+ghost use Rattle.std.specs.Prelude.{IsOk};
 ghost use Rattle.rpc_session.specs.declared.hearing.Hearing.TheVariants.{Going, Ended, Lost};
 ghost use Rattle.rpc_session.specs.Hearings.{Heard, heard_next, joined, listed, hear, is_going, on, Begins, HasRoom};
 ghost use Rattle.rpc_session.specs.Acts.{acts, IsSoFar};

@@ -2,7 +2,8 @@
 ghost use Rattle.std.specs.Prelude.{◌≡◌, ◌==◌, ◌++◌, ◌≤◌, not, bit_and, IfOk, length, Some, None};
 ghost use Rattle.acct_codes.specs.Limits.{most_stub};
 ghost use Rattle.rpc_pdu.specs.Written.{HasFewParts};
-ghost use Rattle.rpc_session.specs.Sessions.{binds, asked, gathers, begins, goes_on, requests, without, taken_first, taken_later, taken};
+ghost use Rattle.rpc_session.specs.Sessions.{binds, asked, gathers, begins, goes_on, requests, without, taken_first};
+ghost use Rattle.rpc_session.specs.Sessions.{taken_later, taken};
 
 use crate::answers::{alter_answer, bind_answer, sizes_for};
 use crate::contexts::{Context, face_at, with_elements};
