@@ -2,6 +2,18 @@
 ghost use Rattle.std.specs.Prelude.{◌≡◌};
 ghost use Rattle.acct_layouts.specs.Classes.{is_password_class, set_arm, shown_arm};
 
+use acct_codes::info_class::{
+    ALIAS_ADMIN_COMMENT_INFORMATION, ALIAS_GENERAL_INFORMATION, ALIAS_NAME_INFORMATION,
+    DOMAIN_LOCKOUT_INFORMATION, DOMAIN_NAME_INFORMATION, DOMAIN_OEM_INFORMATION,
+    DOMAIN_PASSWORD_INFORMATION, GROUP_ADMIN_COMMENT_INFORMATION, GROUP_ATTRIBUTE_INFORMATION,
+    GROUP_GENERAL_INFORMATION, GROUP_NAME_INFORMATION, POLICY_ACCOUNT_DOMAIN_INFORMATION,
+    POLICY_PRIMARY_DOMAIN_INFORMATION, USER_ACCOUNT_NAME_INFORMATION,
+    USER_ADMIN_COMMENT_INFORMATION, USER_ALL_INFORMATION, USER_CONTROL_INFORMATION,
+    USER_FULL_NAME_INFORMATION, USER_GENERAL_INFORMATION, USER_INTERNAL1_INFORMATION,
+    USER_INTERNAL4_INFORMATION, USER_INTERNAL4_NEW_INFORMATION, USER_INTERNAL5_INFORMATION,
+    USER_INTERNAL5_NEW_INFORMATION, USER_NAME_INFORMATION, USER_PRIMARY_GROUP_INFORMATION,
+};
+
 /// The objects that have classes of information.
 #[derive(Clone, Copy, Debug, PartialEq, Eq)]
 pub enum Subject {
@@ -29,14 +41,27 @@ pub enum Arm {
 pub fn set_arm(subject: Subject, class: u16) -> Option<Arm>
     ensures { result ≡ set_arm subject class }
 {
-    match (subject, class) {
-        (Subject::Domain, 4) => Some(Arm::Text),
-        (Subject::Group, 2 | 4) => Some(Arm::Text),
-        (Subject::Group, 3) => Some(Arm::Number),
-        (Subject::Alias, 2 | 3) => Some(Arm::Text),
-        (Subject::User, 7 | 8 | 13) => Some(Arm::Text),
-        (Subject::User, 9 | 16) => Some(Arm::Number),
-        _ => None,
+    match subject {
+        Subject::Domain => match class {
+            DOMAIN_OEM_INFORMATION => Some(Arm::Text),
+            _ => None,
+        },
+        Subject::Group => match class {
+            GROUP_NAME_INFORMATION | GROUP_ADMIN_COMMENT_INFORMATION => Some(Arm::Text),
+            GROUP_ATTRIBUTE_INFORMATION => Some(Arm::Number),
+            _ => None,
+        },
+        Subject::Alias => match class {
+            ALIAS_NAME_INFORMATION | ALIAS_ADMIN_COMMENT_INFORMATION => Some(Arm::Text),
+            _ => None,
+        },
+        Subject::User => match class {
+            USER_ACCOUNT_NAME_INFORMATION | USER_FULL_NAME_INFORMATION => Some(Arm::Text),
+            USER_ADMIN_COMMENT_INFORMATION => Some(Arm::Text),
+            USER_PRIMARY_GROUP_INFORMATION | USER_CONTROL_INFORMATION => Some(Arm::Number),
+            _ => None,
+        },
+        Subject::Policy => None,
     }
 }
 
@@ -45,12 +70,13 @@ pub fn shown_arm(subject: Subject, class: u16) -> Option<Arm>
     ensures { result ≡ shown_arm subject class }
 {
     match (subject, class) {
-        (Subject::Domain, 5) => Some(Arm::Text),
-        (Subject::Group, 1) => Some(Arm::Group),
-        (Subject::Alias, 1) => Some(Arm::Alias),
-        (Subject::User, 1) => Some(Arm::User),
-        (Subject::User, 6) => Some(Arm::TwoTexts),
-        (Subject::Policy, 3 | 5) => Some(Arm::Place),
+        (Subject::Domain, DOMAIN_NAME_INFORMATION) => Some(Arm::Text),
+        (Subject::Group, GROUP_GENERAL_INFORMATION) => Some(Arm::Group),
+        (Subject::Alias, ALIAS_GENERAL_INFORMATION) => Some(Arm::Alias),
+        (Subject::User, USER_GENERAL_INFORMATION) => Some(Arm::User),
+        (Subject::User, USER_NAME_INFORMATION) => Some(Arm::TwoTexts),
+        (Subject::Policy, POLICY_PRIMARY_DOMAIN_INFORMATION) => Some(Arm::Place),
+        (Subject::Policy, POLICY_ACCOUNT_DOMAIN_INFORMATION) => Some(Arm::Place),
         _ => set_arm(subject, class),
     }
 }
@@ -60,8 +86,19 @@ pub fn is_password(subject: Subject, class: u16) -> bool
     ensures { result ≡ is_password_class subject class }
 {
     match subject {
-        Subject::Domain => matches!(class, 1 | 12),
+        Subject::Domain => matches!(
+            class,
+            DOMAIN_PASSWORD_INFORMATION | DOMAIN_LOCKOUT_INFORMATION
+        ),
         Subject::Group | Subject::Alias | Subject::Policy => false,
-        Subject::User => matches!(class, 18 | 21 | 23 | 24 | 25 | 26),
+        Subject::User => matches!(
+            class,
+            USER_INTERNAL1_INFORMATION
+                | USER_ALL_INFORMATION
+                | USER_INTERNAL4_INFORMATION
+                | USER_INTERNAL5_INFORMATION
+                | USER_INTERNAL4_NEW_INFORMATION
+                | USER_INTERNAL5_NEW_INFORMATION
+        ),
     }
 }

@@ -75,3 +75,12 @@ short_names (Some xs) h = (h.1, all_as {P = IsAccount} {Q = HasShortName} xs (λ
 pub accounts_listed : (entries : Option (List RidName)) → rid_names.Fits entries
     → IfThere (IsListed HasShortName) entries
 accounts_listed entries h = short_names entries ((rid_names_values entries).0 h)
+
+-- ---- what one writer asks for, as one name
+
+pub ruleset value_asked = (short_text, short_part)
+
+pub ruleset listed_asked =
+    (accounts_listed, texts_listed, sids_counted, rids_counted, members_listed, members_counted)
+
+pub ruleset searched_asked = (sids_counted, sought_short)

@@ -160,14 +160,16 @@ pub two_texts_has : Has (join text text) (λ x. IsText x.0 × IsText x.1)
 two_texts_has = join_has text text text_has text_has
 
 pub group_has : Has (join text (join (flat u32) (join (flat u32) text)))
-    (λ x. IsText x.0 × (IsLong x.1.0 × (IsLong x.1.1.0 × IsText x.1.1.1)))
+    (λ (name, (bits, (members, comment))). IsText name × (IsLong bits × (IsLong members × IsText comment)))
 group_has = join_has text _ text_has (join_has (flat u32) _ long_has (join_has (flat u32) text long_has text_has))
 
-pub alias_has : Has (join text (join (flat u32) text)) (λ x. IsText x.0 × (IsLong x.1.0 × IsText x.1.1))
+pub alias_has : Has (join text (join (flat u32) text))
+    (λ (name, (members, comment)). IsText name × (IsLong members × IsText comment))
 alias_has = join_has text _ text_has (join_has (flat u32) text long_has text_has)
 
 pub user_has : Has (join text (join text (join (flat u32) (join text empty_text))))
-    (λ x. IsText x.0 × (IsText x.1.0 × (IsLong x.1.1.0 × (IsText x.1.1.1.0 × Anything x.1.1.1.1))))
+    (λ (name, (full, (primary, (comment, none)))).
+    IsText name × (IsText full × (IsLong primary × (IsText comment × Anything none))))
 user_has =
     join_has text _ text_has
     (join_has text _ text_has (join_has (flat u32) _ long_has (join_has text empty_text text_has empty_has)))
@@ -182,13 +184,16 @@ value_complete arm.Text = made_complete info.Text text_in text_complete (λ x h.
 value_complete arm.TwoTexts =
     made_complete (λ x. info.TwoTexts x.0 x.1) two_texts_in (whole_complete _ two_texts_has) (λ x h. (h, refl))
 value_complete arm.Group =
-    made_complete (λ x. info.Group x.0 x.1.0 x.1.1.0 x.1.1.1) group_in (whole_complete _ group_has) (λ x h. (h, refl))
+    made_complete (λ (name, (bits, (members, comment))). info.Group name bits members comment) group_in
+    (whole_complete _ group_has) (λ x h. (h, refl))
 value_complete arm.Alias =
-    made_complete (λ x. info.Alias x.0 x.1.0 x.1.1) alias_in (whole_complete _ alias_has) (λ x h. (h, refl))
+    made_complete (λ (name, (members, comment)). info.Alias name members comment) alias_in
+    (whole_complete _ alias_has) (λ x h. (h, refl))
 value_complete arm.Place =
     made_complete (λ x. info.Place x.0 x.1) place_in (whole_complete _ place_has) (λ x h. (h, refl))
 value_complete arm.User =
-    made_complete (λ x. info.User x.0 x.1.0 x.1.1.0 x.1.1.1.0) user_in (whole_complete _ user_has) (λ x h. (h, refl))
+    made_complete (λ (name, (full, (primary, (comment, _)))). info.User name full primary comment) user_in
+    (whole_complete _ user_has) (λ x h. (h, refl))
 
 set_value_complete : (class : ℕ) (a : Option Arm) → IsComplete (set_value class a)
 set_value_complete class None = given_complete info.Unserved

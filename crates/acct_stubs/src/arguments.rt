@@ -155,7 +155,7 @@ fn read_searched(alloc: Global, from: &mut In<'_>, layout: Search) -> Result<Arg
     }
 }
 
-#[tactic(auto, using(crate::proofs::Asked::sids_counted, crate::proofs::Asked::sought_short), unfolding(crate::specs::Arguments::searched),)]
+#[tactic(auto, using(crate::proofs::Asked::searched_asked), unfolding(crate::specs::Arguments::searched))]
 fn write_searched(to: &mut Out, layout: Search, args: &Args) -> Result<(), NoMemory>
     requires { (searched layout).Fits args.now }
     ensures { OnOk result (to.new ≡ (searched layout).write args.now to.old) }

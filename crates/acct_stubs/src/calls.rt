@@ -67,17 +67,13 @@ fn call_in<I: Interface>(alloc: Global, opnum: u16, stub: &[u8]) -> Result<Call,
     if withheld(layout.fields, stub) {
         return Err(WireError::NotServed(opnum));
     }
-    match read_stub::<I>(alloc, &mut In::new(stub), layout.fields) {
-        Ok((handle, args)) => Ok(Call {
-            face,
-            opnum,
-            handle,
-            args,
-        }),
-        Err(NdrError::Short(place)) => Err(WireError::BadStub(place)),
-        Err(NdrError::Count(place)) => Err(WireError::BadStub(place)),
-        Err(NdrError::Memory) => Err(WireError::Memory),
-    }
+    let (handle, args) = read_stub::<I>(alloc, &mut In::new(stub), layout.fields)?;
+    Ok(Call {
+        face,
+        opnum,
+        handle,
+        args,
+    })
 }
 
 /// The call that a stub spells. Bytes behind it are taken. `NotServed` is answered exactly off the table, and for a

@@ -127,7 +127,7 @@ fn read_value(alloc: Global, from: &mut In<'_>, arm: Arm) -> Result<Info, NdrErr
     }
 }
 
-#[tactic(auto, using(crate::proofs::Asked::short_text, crate::proofs::Asked::short_part), unfolding(crate::specs::Infos::value_of, crate::specs::Infos::empty_text),)]
+#[tactic(auto, using(crate::proofs::Asked::value_asked), unfolding(crate::specs::Infos::value_of, crate::specs::Infos::empty_text))]
 fn write_value(to: &mut Out, arm: Arm, value: &Info) -> Result<(), NoMemory>
     requires { (value_of arm).Fits value.now }
     ensures { OnOk result (to.new ≡ (value_of arm).write value.now to.old) }

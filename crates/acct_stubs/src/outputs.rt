@@ -172,7 +172,7 @@ fn read_listed(alloc: Global, from: &mut In<'_>, layout: Listed) -> Result<Outs,
     }
 }
 
-#[tactic(auto, using(crate::proofs::Asked::accounts_listed, crate::proofs::Asked::texts_listed, crate::proofs::Asked::sids_counted, crate::proofs::Asked::rids_counted, crate::proofs::Asked::members_listed, crate::proofs::Asked::members_counted,), unfolding(crate::specs::Outputs::listed_outs),)]
+#[tactic(auto, using(crate::proofs::Asked::listed_asked), unfolding(crate::specs::Outputs::listed_outs))]
 fn write_listed(to: &mut Out, layout: Listed, outs: &Outs) -> Result<(), NoMemory>
     requires { (listed_outs layout).Fits outs.now }
     ensures { OnOk result (to.new ≡ (listed_outs layout).write outs.now to.old) }

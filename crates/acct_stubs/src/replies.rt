@@ -10,7 +10,7 @@ use crate::outputs::{read_done, write_done};
 use crate::{NoMemory, WireError};
 use acct_calls::Reply;
 use acct_layouts::layout_of;
-use ndr_core::{In, NdrError, Out};
+use ndr_core::{In, Out};
 use std::alloc::Global;
 
 #[tactic(auto, unfolding(crate::specs::Replies::reply_at))]
@@ -20,12 +20,7 @@ fn reply_in<I: Interface>(alloc: Global, opnum: u16, stub: &[u8]) -> Result<Repl
     let Some(layout) = layout_of(I::face(), opnum) else {
         return Err(WireError::NotServed(opnum));
     };
-    match read_done::<I>(alloc, &mut In::new(stub), layout.outputs) {
-        Ok(reply) => Ok(reply),
-        Err(NdrError::Short(place)) => Err(WireError::BadStub(place)),
-        Err(NdrError::Count(place)) => Err(WireError::BadStub(place)),
-        Err(NdrError::Memory) => Err(WireError::Memory),
-    }
+    Ok(read_done::<I>(alloc, &mut In::new(stub), layout.outputs)?)
 }
 
 /// The reply that a stub spells. Bytes behind it are taken. `NotServed` is answered exactly off the table; else

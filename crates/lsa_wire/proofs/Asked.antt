@@ -23,6 +23,7 @@ use Rattle.ndr_types.proofs.Parts.{all_as}
 use Rattle.ndr_types.proofs.Records.{privilege_set_kind}
 use Rattle.ndr_types.proofs.ShapeValues.{list_values, referenced_values}
 use Rattle.ndr_types.proofs.Texts.{text_has}
+use Rattle.acct_stubs.proofs.Asked.{texts_listed, sids_counted}
 use Rattle.lsa_wire.specs.Arguments.{counted}
 use Rattle.lsa_wire.specs.FieldValues.{counted_few, counted_all}
 
@@ -80,3 +81,13 @@ pub names_short : (names : List (List ℕ)) → (counted most_translated_names t
 names_short names h =
     all_as {P = PartFits text} {Q = IsShort} names (λ us fits. (text_has.kind us fits).0)
     (counted_all most_translated_names text names h)
+
+-- ---- what one writer asks for, as one name
+
+pub ruleset policy_outs_asked = (few_or_none, short_or_none, texts_listed, sids_counted, privileges_listed)
+
+pub ruleset translated_asked = (domains_listed, entries_counted, entries_listed)
+
+pub ruleset policy_args_asked = (few_privileges, few_or_none, short_or_none, texts_listed)
+
+pub ruleset names_asked = (names_counted, names_short, sids_counted)

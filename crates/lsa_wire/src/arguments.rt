@@ -93,7 +93,7 @@ fn read_policy(alloc: Global, from: &mut In<'_>, row: PolicyFields) -> Result<Ar
     }
 }
 
-#[tactic(auto, using(crate::proofs::Asked::few_privileges, crate::proofs::Asked::few_or_none, crate::proofs::Asked::short_or_none, acct_stubs::proofs::Asked::texts_listed,), unfolding(crate::specs::Arguments::policy_args),)]
+#[tactic(auto, using(crate::proofs::Asked::policy_args_asked), unfolding(crate::specs::Arguments::policy_args))]
 fn write_policy(to: &mut Out, row: PolicyFields, args: &Args) -> Result<(), NoMemory>
     requires { (policy_args row).Fits args.now }
     ensures { OnOk result (to.new ≡ (policy_args row).write args.now to.old) }
@@ -218,7 +218,7 @@ fn read_sought(alloc: Global, from: &mut In<'_>, row: Translation) -> Result<Arg
     }
 }
 
-#[tactic(auto, using(crate::proofs::Asked::names_counted, crate::proofs::Asked::names_short, acct_stubs::proofs::Asked::sids_counted,), unfolding(crate::specs::Arguments::translation_args),)]
+#[tactic(auto, using(crate::proofs::Asked::names_asked), unfolding(crate::specs::Arguments::translation_args))]
 fn write_sought(to: &mut Out, row: Translation, args: &Args) -> Result<(), NoMemory>
     requires { (translation_args row).Fits args.now }
     ensures { OnOk result (to.new ≡ (translation_args row).write args.now to.old) }

@@ -58,7 +58,7 @@ fn read_policy(alloc: Global, from: &mut In<'_>, row: PolicyOutputs) -> Result<O
     }
 }
 
-#[tactic(auto, using(crate::proofs::Asked::few_or_none, crate::proofs::Asked::short_or_none, acct_stubs::proofs::Asked::texts_listed, acct_stubs::proofs::Asked::sids_counted, crate::proofs::Asked::privileges_listed,), unfolding(crate::specs::Outputs::policy_outs),)]
+#[tactic(auto, using(crate::proofs::Asked::policy_outs_asked), unfolding(crate::specs::Outputs::policy_outs))]
 fn write_policy(to: &mut Out, row: PolicyOutputs, outs: &Outs) -> Result<(), NoMemory>
     requires { (policy_outs row).Fits outs.now }
     ensures { OnOk result (to.new ≡ (policy_outs row).write outs.now to.old) }
@@ -164,7 +164,7 @@ fn read_translated(alloc: Global, from: &mut In<'_>, row: Translation) -> Result
     }
 }
 
-#[tactic(auto, using(crate::proofs::Asked::domains_listed, crate::proofs::Asked::entries_counted, crate::proofs::Asked::entries_listed,), unfolding(crate::specs::Outputs::translated),)]
+#[tactic(auto, using(crate::proofs::Asked::translated_asked), unfolding(crate::specs::Outputs::translated))]
 fn write_translated(to: &mut Out, row: Translation, reply: &Reply) -> Result<(), NoMemory>
     requires { (translated row).Fits reply.now }
     ensures { OnOk result (to.new ≡ (translated row).write reply.now to.old) }
