@@ -4,8 +4,9 @@ use Rattle.std.proofs.Common.{inl, inr}
 use Rattle.std.proofs.lemmas.List.Elements.{All-nil, All-cons}
 use Rattle.std.specs.Cmp.{first_so, second_so}
 use Rattle.acct_rows.specs.Keyed.{same_key, at, is_ascending}
-use Rattle.acct_rows.specs.Laws.{EachIsGood}
-use Rattle.acct_rows.specs.Rows.{domain_key, account_key, domain_at, account_at}
+use Rattle.acct_rows.specs.Laws.{EachIsGood, EachMemberIsFound}
+use Rattle.acct_rows.specs.Rows.{domain_key, account_key, member_key, alias_key, domain_at, account_at, member_at}
+use Rattle.acct_rows.specs.Rows.{alias_row_at}
 use Rattle.acct_rows.specs.Sound.{IsGoodDomain, IsGoodAccount}
 use Rattle.acct_rows.proofs.Lookups.{tested, key_found}
 use Rattle.acct_rows.proofs.Tables.{same_key-is, same_key-itself, below_apart}
@@ -41,4 +42,14 @@ each_good r sound = record {
       let key : account_key a ≡ domain ∷ rid ∷ [] = key_found account_key _ r.accounts a e in cc;
   account_rid = λ domain rid a e.
       let key : account_key a ≡ domain ∷ rid ∷ [] = key_found account_key _ r.accounts a e in cc;
+}
+
+pub each_member_found : EachMemberIsFound
+each_member_found r sound = record {
+  members = all_found member_key (λ m. member_at r m.group m.user ≡ Some m) r.members sound.members_ascend
+      (λ q m e. subst (λ k. at member_key k r.members ≡ Some m) (sym (key_found member_key q r.members m e)) e);
+  aliases = all_found alias_key (λ a. alias_row_at r a.domain a.alias a.member ≡ Some a) r.aliases sound.aliases_ascend
+      (λ q a e. subst (λ k. at alias_key k r.aliases ≡ Some a) (sym (key_found alias_key q r.aliases a e)) e);
+  member_keys = λ group user m e.
+      let key : member_key m ≡ group ∷ user ∷ [] = key_found member_key _ r.members m e in (cc, cc);
 }

@@ -12,3 +12,5 @@ pub mod Kept
 pub mod Moves
 pub mod Purges
 pub mod Rising
+pub mod Without
+pub mod Undoing

@@ -41,7 +41,7 @@ use Rattle.acct_rows.proofs.Kept.{Kept, MembersKept, good_kept, moved}
 pub equals : (m n : ℕ) → m ≡ n → (m == n) ≡ true
 equals m n e = grind (arith, nat_tests)
 
-equal_is : (m n : ℕ) → (m == n) ≡ true → m ≡ n
+pub equal_is : (m n : ℕ) → (m == n) ≡ true → m ≡ n
 equal_is m n e = grind (arith, nat_tests)
 
 -- a SID is itself
@@ -464,7 +464,7 @@ unused_name_free r a none j b e one = absurd (
     let yes : has_name a.domain a.name b ≡ true = has_it r a b j e one in cc (no, yes))
 
 -- what a search finds is at its key, and passes
-search_found : {A : Type 0} (key : A → List ℕ) (p : A → Bool) (xs : List A) (x : A) → is_ascending key xs ≡ true
+pub search_found : {A : Type 0} (key : A → List ℕ) (p : A → Bool) (xs : List A) (x : A) → is_ascending key xs ≡ true
     → find p xs ≡ Some x → (at key (key x) xs ≡ Some x) × (p x ≡ true)
 search_found key p [] x h e = cc
 search_found key p (y ∷ ys) x h e =

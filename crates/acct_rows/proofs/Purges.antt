@@ -51,7 +51,7 @@ removed-aliases : (xs : List AliasRow) (r : Lists)
 removed-aliases [] r = refl
 removed-aliases (x ∷ xs) r = removed-aliases xs _
 
-all_removed : (r : Lists) (domain rid : ℕ) (sid : SidValue)
+pub all_removed : (r : Lists) (domain rid : ℕ) (sid : SidValue)
     → removed (naming r domain rid sid) r ≡ left r domain rid sid
 all_removed r domain rid sid =
     let ms = filter (is_member_of domain rid) r.members in

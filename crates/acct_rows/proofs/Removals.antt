@@ -89,7 +89,8 @@ module _ {A : Type 0} (key : A → List ℕ) where
         later true b h = refl
         later false b h = h
 
-    unlisted : ((x y : A) → key x ≡ key y → p x ≡ p y) → (q : List ℕ) (xs : List A) (b : A) → key b ≡ q → p b ≡ false
+    pub unlisted : ((x y : A) → key x ≡ key y → p x ≡ p y) → (q : List ℕ) (xs : List A) (b : A) → key b ≡ q
+        → p b ≡ false
         → list_any (λ k. same_key k q) (map key (filter p xs)) ≡ false
     unlisted alike q [] b e f = refl
     unlisted alike q (x ∷ xs) b e f =

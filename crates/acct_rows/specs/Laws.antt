@@ -1,12 +1,14 @@
 -- What changes of rows keep: sound rows stay sound, and the objects that are there stay
-use Rattle.std.specs.Prelude.{◌≡◌, ◌≢◌, ℕ, ◌<◌, ◌≤◌, ◌==◌, Bool, true, false, ◌&&◌, ◌||◌, List, [], ◌∷◌, ◌++◌, map}
-use Rattle.std.specs.Prelude.{Some, None, is_some, All}
+use Rattle.std.specs.Prelude.{◌≡◌, ◌≢◌, ℕ, ◌<◌, ◌≤◌, ◌==◌, Bool, true, false, ◌&&◌, ◌||◌, not, List, [], ◌∷◌, ◌++◌}
+use Rattle.std.specs.Prelude.{map, Some, None, is_some, All}
 use Rattle.std.specs.List.{filter}
 use Rattle.acct_codes.specs.declared.kind.Kind.TheVariants.{Group, Alias, User}
 use Rattle.acct_codes.specs.Rids.{domain_group_rid_users}
 use Rattle.dtyp_sid.specs.Value.{SidValue, IsSid}
 use Rattle.dtyp_sid.specs.Order.{sid_eq}
 use Rattle.acct_calls.specs.Folding.{is_same}
+use Rattle.acct_rows.specs.Keyed.{without}
+use Rattle.acct_rows.specs.Rows.{account_key}
 use Rattle.acct_rows.specs.Rows.{Lists, domain_at, account_at, member_at, alias_row_at, lsa_at, find_name, same_kind}
 use Rattle.acct_rows.specs.Rows.{is_of}
 use Rattle.acct_rows.specs.Rows.{put_row, remove_row, removed}
@@ -186,3 +188,55 @@ pub record EachStands (lists : Lists) : Type 0 where
 
 abbrev pub EachIsGood : Type 0
 EachIsGood = (lists : Lists) → IsSoundRows lists → EachStands lists
+
+-- so it is with each member row and each alias row
+pub record EachMemberStands (lists : Lists) : Type 0 where
+  pub members : All (λ (m : MemberRow). member_at lists m.group m.user ≡ Some m) lists.members
+  pub aliases : All (λ (a : AliasRow). alias_row_at lists a.domain a.alias a.member ≡ Some a) lists.aliases
+  pub member_keys : (group user : ℕ) (m : MemberRow) → member_at lists group user ≡ Some m
+      → (m.group ≡ group) × (m.user ≡ user)
+
+abbrev pub EachMemberIsFound : Type 0
+EachMemberIsFound = (lists : Lists) → IsSoundRows lists → EachMemberStands lists
+
+-- An account and every row that names it are gone, and every other row is left as it was: neither the account's RID nor
+-- its name finds it.
+pub record IsWithout (domain rid : ℕ) (sid : SidValue) (lists later : Lists) : Type 0 where
+  pub domains : later.domains ≡ lists.domains
+  pub accounts : later.accounts ≡ without account_key (domain ∷ rid ∷ []) lists.accounts
+  pub members : later.members ≡ filter (λ m. not (is_member_of domain rid m)) lists.members
+  pub aliases : later.aliases ≡ filter (λ a. not (is_alias_row_of domain rid sid a)) lists.aliases
+  pub lsa : later.lsa ≡ lists.lsa
+  pub rid_free : account_at later domain rid ≡ None
+  pub name_free : (a : AccountRow) → account_at lists domain rid ≡ Some a → find_name later domain a.name ≡ None
+
+-- so it is once the keys of an account and of every row that names it are removed
+abbrev pub NamingIsRemoved : Type 0
+NamingIsRemoved = (lists : Lists) (domain rid : ℕ) (sid : SidValue) → IsSoundRows lists
+    → IsWithout domain rid sid lists (removed (naming lists domain rid sid) lists)
+
+-- at every key but that of a row that was put, what was there is found
+pub record LeavesOthers (lists : Lists) : Type 0 where
+  pub domain : (d : DomainRow) (number : ℕ) → number ≢ d.number
+      → domain_at (put_row (rows.Domain d) lists) number ≡ domain_at lists number
+  pub account : (a : AccountRow) (domain rid : ℕ) → ¬ ((domain ≡ a.domain) × (rid ≡ a.rid))
+      → account_at (put_row (rows.Account a) lists) domain rid ≡ account_at lists domain rid
+  pub member : (m : MemberRow) (group user : ℕ) → ¬ ((group ≡ m.group) × (user ≡ m.user))
+      → member_at (put_row (rows.Member m) lists) group user ≡ member_at lists group user
+  pub alias : (a : AliasRow) (domain alias : ℕ) (member : SidValue)
+      → ¬ ((domain ≡ a.domain) × (alias ≡ a.alias) × (member ≡ a.member))
+      → alias_row_at (put_row (rows.Alias a) lists) domain alias member ≡ alias_row_at lists domain alias member
+  pub lsa : (l : LsaRow) (sid : SidValue) → sid ≢ l.sid → lsa_at (put_row (rows.Lsa l) lists) sid ≡ lsa_at lists sid
+
+abbrev pub PutsLeaveOthers : Type 0
+PutsLeaveOthers = (lists : Lists) → LeavesOthers lists
+
+-- a member row or an alias row that wasn't there, put and removed again, leaves the rows as they were
+pub record IsUndone (lists : Lists) : Type 0 where
+  pub member : (m : MemberRow) → member_at lists m.group m.user ≡ None
+      → remove_row (key_of_member m) (put_row (rows.Member m) lists) ≡ lists
+  pub alias : (a : AliasRow) → alias_row_at lists a.domain a.alias a.member ≡ None
+      → remove_row (key_of_alias a) (put_row (rows.Alias a) lists) ≡ lists
+
+abbrev pub PutsAreUndone : Type 0
+PutsAreUndone = (lists : Lists) → IsUndone lists

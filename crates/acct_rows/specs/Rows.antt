@@ -105,6 +105,20 @@ is_in_group group m = m.group == group
 abbrev pub members_of : Lists → ℕ → List MemberRow
 members_of lists group = filter (is_in_group group) lists.members
 
+-- the groups of a user by ascending group, each as the member row
+abbrev pub is_of_user : ℕ → MemberRow → Bool
+is_of_user user m = m.user == user
+
+abbrev pub groups_of : Lists → ℕ → List MemberRow
+groups_of lists user = filter (is_of_user user) lists.members
+
+-- the members of an alias by ascending SID, each as the alias row
+abbrev pub is_in_alias : ℕ → ℕ → AliasRow → Bool
+is_in_alias domain alias a = (a.domain == domain) && (a.alias == alias)
+
+abbrev pub alias_members_of : Lists → ℕ → ℕ → List AliasRow
+alias_members_of lists domain alias = filter (is_in_alias domain alias) lists.aliases
+
 -- whether an alias row is of the domain, with one of the SIDs
 abbrev pub has_one : ℕ → List SidValue → AliasRow → Bool
 has_one domain sids a = (a.domain == domain) && list_any (sid_eq a.member) sids

@@ -5,10 +5,16 @@ ghost use Rattle.acct_rows.specs.Laws.{ReplacedAccountsStaySound, OwnNameIsFree,
 ghost use Rattle.acct_rows.specs.Laws.{MembersStaySound, RemovedMembersStaySound, AliasRowsStaySound};
 ghost use Rattle.acct_rows.specs.Laws.{RemovedAliasRowsStaySound, LsaAccountsStaySound, RemovedLsaAccountsStaySound};
 ghost use Rattle.acct_rows.specs.Laws.{OthersAreNoPrimary, RemovedAccountsStaySound, EachIsGood, PutsAreFound};
+ghost use Rattle.acct_rows.specs.Laws.{PutsLeaveOthers, NamingIsRemoved, EachMemberIsFound, PutsAreUndone};
 
 /// A row that was put is found at its key.
 pub fn puts_are_found()
     ensures { PutsAreFound }
+{}
+
+/// A row that was put changes what is found at its key alone.
+pub fn puts_leave_others()
+    ensures { PutsLeaveOthers }
 {}
 
 /// Rows stay sound when a domain's row is replaced by one that keeps the rules, with a next RID that is not lower.
@@ -91,7 +97,23 @@ pub fn removed_accounts_stay_sound()
     ensures { RemovedAccountsStaySound }
 {}
 
+/// Without an account and every row that names it, the other rows are as they were, and neither its RID nor its name
+/// finds it.
+pub fn naming_is_removed()
+    ensures { NamingIsRemoved }
+{}
+
 /// Each domain and each account of sound rows stands at its key and keeps its rules.
 pub fn each_is_good()
     ensures { EachIsGood }
+{}
+
+/// Each member row and each alias row of sound rows is found at its key.
+pub fn each_member_is_found()
+    ensures { EachMemberIsFound }
+{}
+
+/// A member row or an alias row that is put and removed again leaves the rows as they were.
+pub fn puts_are_undone()
+    ensures { PutsAreUndone }
 {}

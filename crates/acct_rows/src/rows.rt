@@ -7,6 +7,7 @@ ghost use Rattle.std.specs.Option.{option_copied};
 ghost use Rattle.acct_rows.specs.Keyed.{is_ascending};
 ghost use Rattle.acct_rows.specs.Rows.{members_of, aliases_of, HasRoom, domain_key, account_key, member_key, alias_key};
 ghost use Rattle.acct_rows.specs.Rows.{lsa_key, domain_at};
+ghost use Rattle.acct_rows.specs.Rows.{alias_row_at};
 ghost use Rattle.acct_rows.specs.Rows.{account_at, member_at, lsa_at, has_name, find_name, put_row, remove_row};
 ghost use Rattle.acct_rows.specs.Rows.{removed, with_puts, after};
 
@@ -194,6 +195,13 @@ impl Rows {
         ensures { IfOk result (λ members. members.items ≡ members_of self.now.lists group) }
     {
         Ok(members_among(self.members.rows(), group).to_vec(alloc)?)
+    }
+
+    /// A SID's row as a member of an alias of a domain.
+    pub fn alias_row(&self, domain: u8, alias: u32, member: &Sid) -> Option<&AliasRow>
+        ensures { option_copied result ≡ alias_row_at self.now.lists domain alias member.now }
+    {
+        self.aliases.find(&(domain, alias, *member))
     }
 
     /// The RIDs of the aliases of a domain that have one of the SIDs as a member, ascending, each once.

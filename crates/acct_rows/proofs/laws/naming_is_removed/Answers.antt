@@ -1,0 +1,5 @@
+use Rattle.acct_rows.proofs.Without.{naming_removed}
+use Rattle.acct_rows.proofs.laws.naming_is_removed.Goals as goal
+
+pub returns : goal.returns
+returns c = naming_removed

@@ -1,0 +1,38 @@
+-- A put is found at its key alone.
+use Rattle.std.proofs.Common.{◌≡◌, ℕ, List, [], ◌∷◌, ap, ◌∙◌}
+use Rattle.dtyp_sid.specs.Value.{SidValue}
+use Rattle.acct_rows.specs.Rows.{domain_key, account_key, member_key, alias_key, lsa_key, sid_key}
+use Rattle.acct_rows.proofs.Lookups.{put_elsewhere}
+use Rattle.acct_rows.proofs.laws.puts_leave_others.Goals as goal
+
+first : (m n : ℕ) (ms ns : List ℕ) → m ∷ ms ≡ n ∷ ns → m ≡ n
+first m n ms ns e = cc
+
+rest : (m n : ℕ) (ms ns : List ℕ) → m ∷ ms ≡ n ∷ ns → ms ≡ ns
+rest m n ms ns e = cc
+
+one_sid : (s t : SidValue) → sid_key s ≡ sid_key t → s ≡ t
+one_sid s t e =
+    let authority : s.authority ≡ t.authority = first s.authority t.authority s.subs t.subs e in
+    let subs : s.subs ≡ t.subs = rest s.authority t.authority s.subs t.subs e in
+    ap (λ a. record { authority = a; subs = s.subs }) authority
+    ∙ ap (λ ns. record { authority = t.authority; subs = ns }) subs
+
+pub returns : goal.returns
+returns c = λ r. record {
+  domain = λ d n apart. put_elsewhere domain_key (n ∷ []) d r.domains (λ same. apart (first _ _ _ _ same));
+  account = λ a n i apart. put_elsewhere account_key (n ∷ i ∷ []) a r.accounts (λ same. apart (
+    first _ _ _ _ same,
+    first _ _ _ _ (rest _ _ _ _ same),
+  ));
+  member = λ m g u apart. put_elsewhere member_key (g ∷ u ∷ []) m r.members (λ same. apart (
+    first _ _ _ _ same,
+    first _ _ _ _ (rest _ _ _ _ same),
+  ));
+  alias = λ a n i s apart. put_elsewhere alias_key (n ∷ i ∷ sid_key s) a r.aliases (λ same. apart (
+    first _ _ _ _ same,
+    first _ _ _ _ (rest _ _ _ _ same),
+    one_sid s a.member (rest _ _ _ _ (rest _ _ _ _ same)),
+  ));
+  lsa = λ l s apart. put_elsewhere lsa_key (sid_key s) l r.lsa (λ same. apart (one_sid s l.sid same));
+}
