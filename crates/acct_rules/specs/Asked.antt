@@ -1,8 +1,10 @@
 -- What the arguments of a call ask for.
-use Rattle.std.specs.Prelude.{ℕ, Bool, false, is_some, List, [], Option, Some, None}
+use Rattle.std.specs.Prelude.{ℕ, Bool, false, is_some, List, [], length, Option, Some, None}
 use Rattle.dtyp_sid.specs.Value.{SidValue}
 use Rattle.acct_calls.specs.declared.calls.Args.{Args}
 use Rattle.acct_calls.specs.declared.calls.Args.TheVariants as args
+use Rattle.acct_calls.specs.declared.info.Info.{Info}
+use Rattle.acct_calls.specs.declared.info.Info.TheVariants as info
 use Rattle.acct_rows.specs.Rows.{Lists, lsa_at}
 
 -- the class of information that is asked for, or set
@@ -61,3 +63,47 @@ asked_context _ = 0
 abbrev pub asked_length : Args → ℕ
 asked_length (args.Page context filter preferred) = preferred
 asked_length _ = 0
+
+-- the control bits of which an entry needs one; 0 where it needs none
+abbrev pub asked_filter : Args → ℕ
+asked_filter (args.Page context filter preferred) = filter
+asked_filter _ = 0
+
+-- ---- what a creation asks for
+
+-- the name of the new account
+abbrev pub made_name : Args → Option (List ℕ)
+made_name (args.Make name bits access) = Some name
+made_name _ = None
+
+-- the control bits that it begins with; 0 where there are none
+abbrev pub made_bits : Args → ℕ
+made_bits (args.Make name bits access) = bits
+made_bits _ = 0
+
+-- ---- what a set asks for
+
+-- the text of a class of information that is one text
+abbrev pub text_of : Info → Option (List ℕ)
+text_of (info.Text text) = Some text
+text_of _ = None
+
+-- the number of one that is one number; 0 where it is none
+abbrev pub number_of : Info → ℕ
+number_of (info.Number number) = number
+number_of _ = 0
+
+-- the text that is set
+abbrev pub put_text : Args → Option (List ℕ)
+put_text (args.Put class value) = text_of value
+put_text _ = None
+
+-- the number that is set; 0 where none is
+abbrev pub put_number : Args → ℕ
+put_number (args.Put class value) = number_of value
+put_number _ = 0
+
+-- how many units a name or a text has; 0 where there is none
+abbrev pub units_in : Option (List ℕ) → ℕ
+units_in None = 0
+units_in (Some units) = length units

@@ -1,6 +1,6 @@
 -- What an operation decides: its conditions in order, each with the status that it answers where it fails, and what is
 -- planned where none fails. The condition of an opening stands last of all, and is the machine's.
-use Rattle.std.specs.Prelude.{ℕ, Bool, true, false, not, List, [], ◌∷◌, ◌||◌, nat_lt, length, is_some, Option, Some}
+use Rattle.std.specs.Prelude.{ℕ, Bool, true, false, not, List, [], ◌∷◌, ◌||◌, nat_lt, length, Option, Some}
 use Rattle.std.specs.Prelude.{None, if◌then◌else◌}
 use Rattle.std.specs.List.{list_all}
 use Rattle.acct_calls.specs.declared.handle.Handle.{Handle}
@@ -8,6 +8,7 @@ use Rattle.acct_calls.specs.declared.replies.Outs.{Outs}
 use Rattle.acct_calls.specs.declared.replies.Outs.TheVariants as outs
 use Rattle.acct_codes.specs.Statuses.{status_success}
 use Rattle.acct_rows.specs.declared.object.Object.{Object}
+use Rattle.acct_rows.specs.declared.row.Row.{Row}
 use Rattle.acct_rules.specs.declared.planned.Opening.{Opening}
 use Rattle.acct_rules.specs.declared.planned.Effect.{Effect}
 use Rattle.acct_rules.specs.declared.planned.Effect.TheVariants as effects
@@ -27,6 +28,11 @@ pub record Ruled : Type 0 where
 
 abbrev pub none_fails : List Condition → Bool
 none_fails conditions = list_all (λ (c : Condition). not c.fails) conditions
+
+-- the status of the first condition that fails, where one does
+abbrev pub first_failed : List Condition → Option ℕ
+first_failed [] = None
+first_failed (c ∷ cs) = if c.fails then Some c.status else first_failed cs
 
 -- ---- common plans
 
@@ -51,6 +57,15 @@ abbrev pub opens : Object → ℕ → Planned
 opens object desired =
     record (answers status_success (outs.Handle zero_handle)) {
       effect = effects.Opens (record { object = object; desired = desired });
+    }
+
+-- A creation: rows that are put, and the opening of what is new, by its RID. Its outputs have the zero handle and no
+-- grant until it is granted.
+abbrev pub creates : Object → ℕ → ℕ → List Row → Planned
+creates object desired rid puts =
+    record (opens object desired) {
+      outs = outs.Created zero_handle 0 rid;
+      plan = record { puts = puts; removes = [] };
     }
 
 -- the end of the handle that was brought, in whose place the zero handle goes back

@@ -2,9 +2,10 @@
 ghost use Rattle.std.specs.Prelude.{◌≡◌};
 ghost use Rattle.std.specs.Option.{option_copied};
 ghost use Rattle.acct_rules.specs.Asked.{class_of, desired_access, has_account, asked_sid, asked_rid, asked_name};
-ghost use Rattle.acct_rules.specs.Asked.{asked_names, asked_rids, asked_context, asked_length};
+ghost use Rattle.acct_rules.specs.Asked.{asked_names, asked_rids, asked_context, asked_length, asked_filter};
+ghost use Rattle.acct_rules.specs.Asked.{made_name, made_bits, put_text, put_number, units_in};
 
-use acct_calls::{Args, Name};
+use acct_calls::{Args, Info, Name};
 use acct_rows::Rows;
 use dtyp_sid::Sid;
 
@@ -112,5 +113,71 @@ pub fn asked_length(args: &Args) -> u32
     match args {
         Args::Page { preferred, .. } => *preferred,
         _ => 0,
+    }
+}
+
+/// The control bits of which an entry of it needs one; 0 where it needs none.
+pub fn asked_filter(args: &Args) -> u32
+    ensures { result ≡ asked_filter args.now }
+{
+    match args {
+        Args::Page { filter, .. } => *filter,
+        _ => 0,
+    }
+}
+
+/// The name of the new account.
+pub fn made_name(args: &Args) -> Option<&Name>
+    ensures { option_copied result ≡ made_name args.now }
+{
+    match args {
+        Args::Make { name, .. } => Some(name),
+        _ => None,
+    }
+}
+
+/// The control bits that the new account begins with; 0 where there are none.
+pub fn made_bits(args: &Args) -> u32
+    ensures { result ≡ made_bits args.now }
+{
+    match args {
+        Args::Make { bits, .. } => *bits,
+        _ => 0,
+    }
+}
+
+/// The text that is set.
+pub fn put_text(args: &Args) -> Option<&Name>
+    ensures { option_copied result ≡ put_text args.now }
+{
+    match args {
+        Args::Put {
+            value: Info::Text(text),
+            ..
+        } => Some(text),
+        _ => None,
+    }
+}
+
+/// The number that is set; 0 where none is.
+pub fn put_number(args: &Args) -> u32
+    ensures { result ≡ put_number args.now }
+{
+    match args {
+        Args::Put {
+            value: Info::Number(number),
+            ..
+        } => *number,
+        _ => 0,
+    }
+}
+
+/// How many units a name or a text has; 0 where there is none.
+pub fn units_in(text: Option<&Name>) -> usize
+    ensures { result ≡ units_in (option_copied text.entry) }
+{
+    match text {
+        Some(text) => text.units().len(),
+        None => 0,
     }
 }

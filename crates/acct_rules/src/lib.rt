@@ -19,13 +19,13 @@ mod profile;
 pub use acct_calls::NoMemory;
 pub use acct_rows::Object;
 pub use asked::{
-    asked_context, asked_length, asked_name, asked_names, asked_rid, asked_rids, asked_sid,
-    class_of, desired_access,
+    asked_context, asked_filter, asked_length, asked_name, asked_names, asked_rid, asked_rids,
+    asked_sid, class_of, desired_access, made_bits, made_name, put_number, put_text, units_in,
 };
 pub use mapped::mapped_status;
 pub use outputs::fill;
-pub use pages::page_status;
-pub use planned::{Effect, Opening, Planned, answers, closes, opens, refusal};
+pub use pages::{PageRoom, page_status};
+pub use planned::{Effect, Opening, Planned, answers, closes, creates, opens, refusal};
 pub use profile::{Brings, Kinds, Memory, Needs, Profile, asking, needed_bits};
 
 #[cfg(test)]

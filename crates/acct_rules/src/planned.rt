@@ -1,11 +1,11 @@
 // What a call does that its conditions let pass, and what a refusal does: a plan.
 ghost use Rattle.std.specs.Prelude.{◌≡◌};
-ghost use Rattle.acct_rules.specs.Planned.{answers, opens, closes, refusal};
+ghost use Rattle.acct_rules.specs.Planned.{answers, opens, creates, closes, refusal};
 
 use acct_base::Seq;
 use acct_calls::{Handle, Outs};
 use acct_codes::status::STATUS_SUCCESS;
-use acct_rows::{Object, Plan};
+use acct_rows::{Object, Plan, Row};
 use std::alloc::Global;
 
 /// What is opened, and with which access.
@@ -72,6 +72,25 @@ pub fn opens(alloc: Global, object: Object, desired: u32) -> Planned
     Planned {
         effect: Effect::Opens(Opening { object, desired }),
         ..answers(alloc, STATUS_SUCCESS, Outs::Handle(ZERO_HANDLE))
+    }
+}
+
+/// A creation: rows that are put, and the opening of what is new, by its RID.
+pub fn creates(alloc: Global, object: Object, desired: u32, rid: u32, puts: Seq<Row>) -> Planned
+    ensures { result ≡ creates object desired rid puts }
+{
+    Planned {
+        status: STATUS_SUCCESS,
+        outs: Outs::Created {
+            handle: ZERO_HANDLE,
+            granted: 0,
+            rid,
+        },
+        plan: Plan {
+            puts,
+            removes: Seq::new(alloc),
+        },
+        effect: Effect::Opens(Opening { object, desired }),
     }
 }
 
