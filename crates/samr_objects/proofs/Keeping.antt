@@ -1,4 +1,4 @@
--- What an operation opens is there, and no operation changes a row.
+-- What an operation opens is there, and look-ups and openings change no row.
 use Rattle.std.proofs.Common.{◌≡◌, ℕ, Bool, true, false, not, cond, All, List, [], ◌∷◌, Option, Some, None}
 use Rattle.std.proofs.Common.{is_some, refl, sym, ap, subst, ◌∙◌, arith}
 use Rattle.std.specs.Prelude.{◌&&◌}

@@ -1,4 +1,11 @@
 pub mod Asking
+pub mod Continuing
+pub mod Creating
+pub mod Deleting
 pub mod Keeping
+pub mod Listing
 pub mod Paging
+pub mod Querying
+pub mod Setting
 pub mod Shaping
+pub mod Showing

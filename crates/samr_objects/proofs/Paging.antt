@@ -1,13 +1,15 @@
 -- A page has no more entries than are left, so that its context stays a number of 32 bits.
 use Rattle.std.proofs.Common.{◌≡◌, ℕ, ◌+◌, ◌-◌, ◌^◌, ◌<◌, ◌≤◌, Bool, true, false, cond, List, [], ◌∷◌, length, map}
-use Rattle.std.proofs.Common.{drop, arith}
+use Rattle.std.proofs.Common.{◌++◌, drop, ap, ◌∙◌, arith}
 use Rattle.std.specs.Prelude.{min, nat_le}
 use Rattle.std.proofs.lemmas.List.{length-drop, length-map}
 use Rattle.acct_calls.specs.declared.lists.RidName.{RidName}
 use Rattle.acct_codes.specs.Limits.{most_page}
 use Rattle.acct_rows.specs.declared.row.DomainRow.{DomainRow}
-use Rattle.acct_rules.specs.Pages.{within, page}
-use Rattle.samr_objects.specs.Domains.{cost, listed}
+use Rattle.acct_rules.specs.Pages.{within, page, preferred_room, given_in}
+use Rattle.acct_rules.specs.declared.pages.PageRoom.{PageRoom}
+use Rattle.samr_objects.specs.Domains.{listed}
+use Rattle.samr_objects.specs.Entries.{cost}
 
 either-few : {A : Type 0} (b : Bool) (x : A) (given xs : List A) → length given ≤ length xs
     → length (cond b (x ∷ given) []) ≤ length (x ∷ xs)
@@ -18,7 +20,7 @@ within-few : {A : Type 0} (cost : A → ℕ) (left : ℕ) (xs : List A) → leng
 within-few cost left [] = omega arith
 within-few cost left (x ∷ xs) = either-few (nat_le (cost x) left) x _ xs (within-few cost (left - cost x) xs)
 
-page-few : {A : Type 0} (cost : A → ℕ) (preferred : ℕ) (xs : List A) → length (page cost preferred xs) ≤ length xs
+pub page-few : {A : Type 0} (cost : A → ℕ) (preferred : ℕ) (xs : List A) → length (page cost preferred xs) ≤ length xs
 page-few cost preferred [] = omega arith
 page-few cost preferred (x ∷ xs) = let rest = within-few cost (min preferred most_page - cost x) xs in omega arith
 
@@ -30,20 +32,23 @@ few-left context domains preferred =
     let dropped = length-drop context domains in
     omega arith
 
-pub page-fits : (context preferred : ℕ) (domains left : List DomainRow) (entries given : List RidName)
-    → length domains < 2 ^ 32 → left ≡ drop context domains → entries ≡ page cost preferred (map listed left)
-    → given ≡ entries → length given < 2 ^ 32
-page-fits context preferred domains left entries given few is-left is-page same =
-    let most = few-left context domains preferred in
-    let e : length given ≡ length (page cost preferred (map listed (drop context domains))) = cc in
-    omega arith
+in-room : (room : PageRoom) (preferred : ℕ) (xs : List RidName) → room ≡ preferred_room preferred
+    → given_in cost room xs ≡ page cost preferred xs
+in-room room preferred xs is = ap (λ r. given_in cost r xs) is
 
-pub context-fits : (context preferred : ℕ) (domains left : List DomainRow) (entries given : List RidName)
-    → length domains < 2 ^ 32 → left ≡ drop context domains → entries ≡ page cost preferred (map listed left)
-    → given ≡ entries → context < 2 ^ 32 → context + length given < 2 ^ 32
-context-fits context preferred domains left entries given few is-left is-page same fits =
+-- a page of domains that was filled has no more of them than are left
+pub given-few : (context preferred : ℕ) (domains left : List DomainRow) (room : PageRoom)
+    (before entries given : List RidName)
+    → left ≡ drop context domains → before ≡ [] → room ≡ preferred_room preferred
+    → entries ≡ before ++ given_in cost room (map listed left) → given ≡ entries
+    → length given ≤ length domains - context
+given-few context preferred domains left room before entries given is-left none is-room is-page same =
     let most = few-left context domains preferred in
-    let e : length given ≡ length (page cost preferred (map listed (drop context domains))) = cc in
+    let e : length given ≡ length (page cost preferred (map listed (drop context domains))) =
+    ap length (same ∙ is-page
+    ∙ ap (λ (b : List RidName). b ++ given_in cost room (map listed left)) none
+    ∙ in-room room preferred (map listed left) is-room
+    ∙ ap (λ (d : List DomainRow). page cost preferred (map listed d)) is-left) in
     omega arith
 
 pub page-few-left : (context preferred : ℕ) (domains : List DomainRow) → length domains + 0 < 2 ^ 32

@@ -1,5 +1,5 @@
 -- What the operations answer has the outputs of their layouts.
-use Rattle.std.proofs.Common.{◌≡◌, ℕ, ◌+◌, ◌-◌, ◌^◌, ◌<◌, ◌≤◌, nat_le, nat_lt, Bool, true, false, cond}
+use Rattle.std.proofs.Common.{◌≡◌, ℕ, ◌+◌, ◌-◌, ◌^◌, ◌<◌, ◌≤◌, nat_le, Bool, true, false, cond}
 use Rattle.std.proofs.Common.{All, List, [], ◌∷◌, length, map, drop, Option, Some, None, refl, sym, subst, arith, lit<}
 use Rattle.std.specs.Prelude.{min, zero, suc, ◌++◌, get_or}
 use Rattle.std.specs.Str.{chars}
@@ -27,7 +27,8 @@ use Rattle.acct_rules.specs.Mapped.{is_mapped, mapped_status}
 use Rattle.acct_rules.specs.Pages.{within, page, page_status}
 use Rattle.dtyp_sid.specs.Made.{with_last}
 use Rattle.dtyp_sid.specs.Value.{SidValue, IsSid}
-use Rattle.samr_objects.specs.Domains.{listed, cost, sid_in, sid_of_rid}
+use Rattle.samr_objects.specs.Domains.{listed, sid_in, sid_of_rid}
+use Rattle.samr_objects.specs.Entries.{cost}
 use Rattle.samr_objects.specs.Found.{is_named, domain_named, use_of, use_in, rid_in, name_in}
 
 -- ---- statuses
@@ -49,11 +50,11 @@ either : (p : ℕ → Type 0) (a : Bool) → p status_more_entries → p status_
 either p true more done = more
 either p false more done = done
 
-pub page-full : (given left : ℕ) → is_refusal (page_status given left) ≡ false
-page-full given left = either (λ s. is_refusal s ≡ false) (nat_lt given left) refl refl
+pub page-full : (more : Bool) → is_refusal (page_status more) ≡ false
+page-full more = either (λ s. is_refusal s ≡ false) more refl refl
 
-pub page-long : (given left : ℕ) → IsLong (page_status given left)
-page-long given left = either IsLong (nat_lt given left) (lit< tt) (lit< tt)
+pub page-long : (more : Bool) → IsLong (page_status more)
+page-long more = either IsLong more (lit< tt) (lit< tt)
 
 -- ---- SIDs
 
@@ -104,7 +105,7 @@ of-rid None rid good long = tt
 of-rid (Some d) rid good long =
     with-rid (nat_le (length d.sid.subs) most_domain_subs) rid d.sid refl good.sid_whole long
 
-at-good : (r : Lists) (n : ℕ) (o : Option DomainRow) → IsSoundRows r → domain_at r n ≡ o → IfThere IsGoodDomain o
+pub at-good : (r : Lists) (n : ℕ) (o : Option DomainRow) → IsSoundRows r → domain_at r n ≡ o → IfThere IsGoodDomain o
 at-good r n None sound at = tt
 at-good r n (Some d) sound at = sound.domain_rules n d at
 
@@ -128,7 +129,7 @@ short-by d good zero is most = account-short d.name (good.account_name is)
 short-by d good (suc zero) is most = builtin-short d.name (good.builtin_named is)
 short-by d good (suc (suc n)) is most = absurd (omega (arith, most))
 
-listed-good : (d : DomainRow) → IsGoodDomain d → IsAccount (listed d)
+pub listed-good : (d : DomainRow) → IsGoodDomain d → IsAccount (listed d)
 listed-good d good =
     let short : length d.name ≤ 15 = short-by d good d.number refl good.number_most in
     (lit< tt, (omega (arith, short), good.name_units))
@@ -144,7 +145,7 @@ within-all left (x ∷ xs) all =
     either-all (nat_le (cost x) left) x (within cost (left - cost x) xs) (All-head IsAccount x xs all)
     (within-all (left - cost x) xs (All-tail IsAccount x xs all))
 
-page-all : (preferred : ℕ) (xs : List RidName) → All IsAccount xs → All IsAccount (page cost preferred xs)
+pub page-all : (preferred : ℕ) (xs : List RidName) → All IsAccount xs → All IsAccount (page cost preferred xs)
 page-all preferred [] all = All-nil IsAccount
 page-all preferred (x ∷ xs) all =
     All-cons IsAccount x _ (All-head IsAccount x xs all)
@@ -160,11 +161,11 @@ page-shaped each r context preferred sound =
 
 -- ---- accounts that were looked for
 
-next-long : (r : Lists) (n : ℕ) (o : Option DomainRow) → IsSoundRows r → domain_at r n ≡ o → next_rid_of o ≤ 0x3FFFFFFF
+pub next-long : (r : Lists) (n : ℕ) (o : Option DomainRow) → IsSoundRows r → domain_at r n ≡ o → next_rid_of o ≤ 0x3FFFFFFF
 next-long r n None sound at = omega arith
 next-long r n (Some d) sound at = (sound.domain_rules n d at).next_most
 
-account-long : (r : Lists) (a : AccountRow) → IsSoundRows r → IsGoodAccount r a → IsLong a.rid
+pub account-long : (r : Lists) (a : AccountRow) → IsSoundRows r → IsGoodAccount r a → IsLong a.rid
 account-long r a sound good =
     omega (arith, good.below, next-long r a.domain (domain_at r a.domain) sound refl)
 
@@ -201,7 +202,7 @@ name-short k name is =
     let few : length name ≤ most_units k = grind (arith, nat_tests) in
     omega (arith, few, kind-most k)
 
-name-text : (r : Lists) (o : Option AccountRow) → IfThere (IsGoodAccount r) o → IsText (name_in o)
+pub name-text : (r : Lists) (o : Option AccountRow) → IfThere (IsGoodAccount r) o → IsText (name_in o)
 name-text r None good = (omega arith, All-nil (λ unit. unit < 2 ^ 16))
 name-text r (Some a) good =
     (omega (arith, name-short a.kind a.name good.itself.named), good.itself.name_units)
@@ -217,7 +218,7 @@ find-account P p [] all = tt
 find-account P p (x ∷ xs) all =
     pick-account P (p x) x (find p xs) (All-head P x xs all) (find-account P p xs (All-tail P x xs all))
 
-accounts-good : EachIsGood → (r : Lists) → IsSoundRows r → All (IsGoodAccount r) r.accounts
+pub accounts-good : EachIsGood → (r : Lists) → IsSoundRows r → All (IsGoodAccount r) r.accounts
 accounts-good each r sound = λ k a lt. ((each r sound).accounts k a lt).1
 
 name-good : EachIsGood → (r : Lists) (domain : ℕ) (name : List ℕ) → IsSoundRows r
@@ -225,7 +226,7 @@ name-good : EachIsGood → (r : Lists) (domain : ℕ) (name : List ℕ) → IsSo
 name-good each r domain name sound =
     find-account (IsGoodAccount r) (has_name domain name) r.accounts (accounts-good each r sound)
 
-rid-good : (r : Lists) (domain rid : ℕ) (o : Option AccountRow) → IsSoundRows r → account_at r domain rid ≡ o
+pub rid-good : (r : Lists) (domain rid : ℕ) (o : Option AccountRow) → IsSoundRows r → account_at r domain rid ≡ o
     → IfThere (IsGoodAccount r) o
 rid-good r domain rid None sound at = tt
 rid-good r domain rid (Some a) sound at = sound.account_rules domain rid a at

@@ -1,11 +1,11 @@
 -- The operations on domains: to look for one by its name, to list them, to open one, and the SID of a RID.
-use Rattle.std.specs.Prelude.{ℕ, ◌+◌, ◌*◌, not, [], ◌∷◌, length, map, drop, Option, Some, None, is_some}
+use Rattle.std.specs.Prelude.{ℕ, ◌+◌, not, [], ◌∷◌, length, map, drop, Option, Some, None, is_some}
 use Rattle.std.specs.Prelude.{nat_le, if◌then◌else◌}
 use Rattle.std.specs.Option.{option_map}
 use Rattle.acct_calls.specs.declared.calls.Args.{Args}
 use Rattle.acct_calls.specs.declared.lists.RidName.{RidName}
 use Rattle.acct_calls.specs.declared.replies.Outs.TheVariants as outs
-use Rattle.acct_codes.specs.Limits.{page_entry_cost, most_domain_subs}
+use Rattle.acct_codes.specs.Limits.{most_domain_subs}
 use Rattle.acct_codes.specs.Statuses.{status_success, status_no_such_domain}
 use Rattle.acct_rows.specs.Objects.{domain_of}
 use Rattle.acct_rows.specs.Rows.{Lists, domain_at}
@@ -13,10 +13,11 @@ use Rattle.acct_rows.specs.declared.object.Object.{Object}
 use Rattle.acct_rows.specs.declared.object.Object.TheVariants.{Domain}
 use Rattle.acct_rows.specs.declared.row.DomainRow.{DomainRow}
 use Rattle.acct_rules.specs.Asked.{asked_name, asked_sid, asked_rid, asked_context, asked_length, desired_access}
-use Rattle.acct_rules.specs.Pages.{page, page_status}
+use Rattle.acct_rules.specs.Pages.{page, page_status, leaves_some}
 use Rattle.acct_rules.specs.Planned.{Ruled, when, answers, opens}
 use Rattle.dtyp_sid.specs.Made.{with_last}
 use Rattle.dtyp_sid.specs.Value.{SidValue}
+use Rattle.samr_objects.specs.Entries.{entry, cost}
 use Rattle.samr_objects.specs.Found.{domain_named, domain_of_sid, number_of}
 
 abbrev pub sid_in : Option DomainRow → Option SidValue
@@ -33,21 +34,17 @@ look_domain r object asked =
 
 -- A domain is listed by its name, with the RID 0.
 abbrev pub listed : DomainRow → RidName
-listed d = record { rid = 0; name = d.name }
-
--- an entry costs its name's bytes, and some more
-abbrev pub cost : RidName → ℕ
-cost entry = page_entry_cost + 2 * length entry.name
+listed d = entry 0 d.name
 
 -- SamrEnumerateDomainsInSamServer (MS-SAMR 3.1.5.2.1); the context counts the domains that were listed before
 abbrev pub list_domains : Lists → Object → Args → Ruled
 list_domains r object asked =
-    let left = drop (asked_context asked) r.domains in
-    let given = page cost (asked_length asked) (map listed left) in
+    let left = map listed (drop (asked_context asked) r.domains) in
+    let given = page cost (asked_length asked) left in
     record {
       conditions = [];
       planned =
-          answers (page_status (length given) (length left))
+          answers (page_status (leaves_some given left))
           (outs.Page (asked_context asked + length given) (Some given));
     }
 

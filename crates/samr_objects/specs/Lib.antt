@@ -1,6 +1,13 @@
 pub mod Accounts
+pub mod Creations
+pub mod Deletions
 pub mod Domains
+pub mod Entries
+pub mod Enumerations
 pub mod Found
 pub mod Laws
 pub mod Lookups
+pub mod Naming
+pub mod Queries
+pub mod Settings
 pub mod Table

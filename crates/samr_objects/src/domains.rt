@@ -1,13 +1,13 @@
 // The operations on domains.
 ghost use Rattle.std.specs.Prelude.{◌≡◌, ◌+◌, ◌<◌, ◌++◌, IfOk, OnOk, OnErr, length, map, drop, min};
-ghost use Rattle.acct_rules.specs.Pages.{within, page};
+ghost use Rattle.acct_rules.specs.Pages.{given_in, leaves_some};
 ghost use Rattle.acct_rules.specs.Planned.{decision};
-ghost use Rattle.samr_objects.specs.Domains.{look_domain, list_domains, open_domain, rid_to_sid, listed, cost};
+ghost use Rattle.samr_objects.specs.Domains.{look_domain, list_domains, open_domain, rid_to_sid, listed};
+ghost use Rattle.samr_objects.specs.Entries.{cost};
 
+use crate::entries::Page;
 use crate::found::{domain_named, domain_of_sid};
-use acct_base::Seq;
-use acct_calls::{Args, Outs, RidName, RidNames};
-use acct_codes::limit::{MOST_PAGE, PAGE_ENTRY_COST};
+use acct_calls::{Args, Outs};
 use acct_codes::status::{STATUS_NO_SUCH_DOMAIN, STATUS_SUCCESS};
 use acct_rows::{DomainRow, Object, Rows};
 use acct_rules::{
@@ -32,54 +32,21 @@ pub fn look_domain(
     }
 }
 
-fn listed(alloc: Global, domain: &DomainRow) -> Result<RidName, NoMemory>
-    ensures { IfOk result (λ entry. entry ≡ listed domain.now) }
-{
-    Ok(RidName {
-        rid: 0,
-        name: domain.name.copy(alloc)?,
-    })
-}
-
-fn cost(entry: &RidName) -> usize
-    ensures { result ≡ cost entry.now }
-{
-    PAGE_ENTRY_COST as usize + 2 * entry.name.units().len()
-}
-
-// The entries of the domains while their costs keep within what is left.
-fn push_within(
-    alloc: Global,
-    entries: &mut RidNames,
-    domains: &[DomainRow],
-    mut left: usize,
-) -> Result<(), NoMemory>
-    ensures { OnOk result (entries.new ≡ entries.old ++ within cost left (map listed domains.now)) }
+// Gives the domains while there is room, and tells whether some are left behind them.
+fn give_domains(alloc: Global, page: &mut Page, domains: &[DomainRow]) -> Result<bool, NoMemory>
+    ensures given { OnOk result (
+        let left = map listed domains.now in
+        page.new.entries ≡ page.old.entries ++ given_in cost page.old.room left) }
+    ensures more { IfOk result (λ more.
+        let left = map listed domains.now in
+        more ≡ leaves_some (given_in cost page.old.room left) left) }
 {
     for domain in domains {
-        let entry = listed(alloc, domain)?;
-        let cost = cost(&entry);
-        if left < cost {
-            return Ok(());
+        if !page.give(alloc, 0, &domain.name)? {
+            return Ok(true);
         }
-        left -= cost;
-        entries.push(entry)?;
     }
-    Ok(())
-}
-
-fn page(alloc: Global, domains: &[DomainRow], preferred: u32) -> Result<RidNames, NoMemory>
-    ensures { IfOk result (λ entries. entries ≡ page cost preferred (map listed domains.now)) }
-{
-    let mut entries = Seq::new(alloc);
-    let [first, rest @ ..] = domains else {
-        return Ok(entries);
-    };
-    let entry = listed(alloc, first)?;
-    let left = (preferred.min(MOST_PAGE) as usize).saturating_sub(cost(&entry));
-    entries.push(entry)?;
-    push_within(alloc, &mut entries, rest, left)?;
-    Ok(entries)
+    Ok(false)
 }
 
 // The domains behind those that were listed before.
@@ -102,14 +69,14 @@ pub fn list_domains(
 {
     rows.has_few_rows();
     let context = asked_context(args);
-    let left = domains_left(rows, context);
-    let entries = page(alloc, left, asked_length(args))?;
-    let given = entries.as_slice().len();
+    let mut page = Page::new(alloc, asked_length(args));
+    let more = give_domains(alloc, &mut page, domains_left(rows, context))?;
+    let given = page.entries.as_slice().len();
     let page = Outs::Page {
         context: context + given as u32,
-        entries: Some(entries),
+        entries: Some(page.entries),
     };
-    Ok(answers(alloc, page_status(given, left.len()), page))
+    Ok(answers(alloc, page_status(more), page))
 }
 
 /// SamrOpenDomain (MS-SAMR 3.1.5.1.5): opens the domain of a SID. It takes no memory.

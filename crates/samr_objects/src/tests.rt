@@ -1,5 +1,10 @@
 // The domains and accounts that Windows and Samba make (MS-SAMR 3.1.4.2): looked for, listed and opened. The rows are
 // one text, which one function tells.
+mod deletions;
+mod enumerations;
+mod queries;
+mod settings;
+
 use crate::{
     list_domains, look_domain, look_ids, look_names, open_alias, open_domain, open_group,
     open_user, rid_to_sid,
@@ -13,6 +18,8 @@ use dtyp_sid::{Sid, parse_text};
 use std::alloc::Global;
 use std::process::Abort;
 use std::test::Fail;
+
+mod creations;
 
 /// Each row: the operation, the object of its handle (the server, a domain, a user by RID, an alias of BUILTIN), what is
 /// asked for, the status, and the outputs or what is opened with which access. CORP costs 20 of a page, BUILTIN 26.

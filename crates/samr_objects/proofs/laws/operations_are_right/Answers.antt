@@ -13,18 +13,25 @@ use Rattle.acct_layouts.specs.Table.{samr_layout, lsa_layout}
 use Rattle.acct_rows.specs.Laws.{EachIsGood}
 use Rattle.acct_rows.specs.Objects.{domain_of}
 use Rattle.acct_rows.specs.Rows.{Lists, find_name, account_at}
-use Rattle.acct_rows.specs.declared.row.DomainRow.{DomainRow}
 use Rattle.acct_rules.specs.Asked.{asked_name, asked_names, asked_rids, asked_rid, asked_context, asked_length}
 use Rattle.acct_rules.specs.Operations.{IsRight}
-use Rattle.acct_rules.specs.Pages.{page}
-use Rattle.samr_objects.specs.Domains.{listed, cost}
+use Rattle.acct_rules.specs.Pages.{page, leaves_some}
+use Rattle.samr_objects.specs.Domains.{listed}
+use Rattle.samr_objects.specs.Entries.{cost}
 use Rattle.samr_objects.specs.Found.{use_in}
 use Rattle.samr_objects.specs.Table.{lookup_domain_in_sam_server, enumerate_domains_in_sam_server}
 use Rattle.samr_objects.specs.Table.{open_domain_in_sam_server, lookup_names_in_domain, lookup_ids_in_domain}
 use Rattle.samr_objects.specs.Table.{open_group_in_domain, open_alias_in_domain, open_user_in_domain}
 use Rattle.samr_objects.specs.Table.{sid_of_rid_in_domain}
 use Rattle.samr_objects.proofs.Asking.{arguments, asks}
+use Rattle.samr_objects.proofs.Listing.{list_groups-right, list_aliases-right, list_users-right}
+use Rattle.samr_objects.proofs.Deleting.{delete_group-right, delete_alias-right, delete_user-right}
+use Rattle.samr_objects.proofs.Creating.{create_group-right, create_alias-right, create_user-right, create_user2-right}
 use Rattle.samr_objects.proofs.Paging.{page-few-left, context-long}
+use Rattle.samr_objects.proofs.Setting.{set_domain-right, set_group-right, set_alias-right, set_user-right}
+use Rattle.samr_objects.proofs.Setting.{set_user2-right}
+use Rattle.samr_objects.proofs.Querying.{query_domain-right, query_domain2-right, query_group-right, query_alias-right}
+use Rattle.samr_objects.proofs.Querying.{query_user-right, query_user2-right}
 use Rattle.samr_objects.proofs.Shaping.{mapped-full, mapped-long, page-full, page-long, sid-shaped, rid-shaped}
 use Rattle.samr_objects.proofs.Shaping.{page-shaped, rids-shaped, uses-shaped, names-shaped}
 use Rattle.samr_objects.proofs.laws.operations_are_right.Goals as goal
@@ -60,21 +67,21 @@ look_domain each = record {
   shaped = λ r object call few is none. (lit< tt, sid-shaped each r (asked_name call.args) is.rows, λ refused. refl);
 }
 
-abbrev left-of : Lists → Args → List DomainRow
-left-of r asked = drop (asked_context asked) r.domains
+abbrev left-of : Lists → Args → List RidName
+left-of r asked = map listed (drop (asked_context asked) r.domains)
 
 abbrev page-of : Lists → Args → List RidName
-page-of r asked = page cost (asked_length asked) (map listed (left-of r asked))
+page-of r asked = page cost (asked_length asked) (left-of r asked)
 
 list_domains : EachIsGood → IsRight enumerate_domains_in_sam_server
 unfolding HasShape samr_layout lsa_layout
 list_domains each = record {
   laid_out = refl;
   refuses = λ r object asked. refl;
-  succeeds = λ r object asked. page-full (length (page-of r asked)) (length (left-of r asked));
+  succeeds = λ r object asked. page-full (leaves_some (page-of r asked) (left-of r asked));
   frugal = λ r object asked. refl;
   shaped = λ r object call few is none. (
-    page-long (length (page-of r call.args)) (length (left-of r call.args)),
+    page-long (leaves_some (page-of r call.args) (left-of r call.args)),
     (
       context-long (asked_context call.args) (asked_length call.args) r.domains few.domains
           (long-context call is.face is.opnum is.spelled),
@@ -188,4 +195,25 @@ returns c = record {
   open_alias = open_alias;
   open_user = open_user;
   rid_to_sid = rid_to_sid;
+  list_groups = list_groups-right c.each_is_good.ensures;
+  list_aliases = list_aliases-right c.each_is_good.ensures;
+  list_users = list_users-right c.each_is_good.ensures;
+  delete_group = delete_group-right;
+  delete_alias = delete_alias-right;
+  delete_user = delete_user-right;
+  set_domain = set_domain-right;
+  set_group = set_group-right;
+  set_alias = set_alias-right;
+  set_user = set_user-right;
+  set_user2 = set_user2-right;
+  query_domain = query_domain-right;
+  query_domain2 = query_domain2-right;
+  query_group = query_group-right;
+  query_alias = query_alias-right;
+  query_user = query_user-right c.each_is_good.ensures;
+  query_user2 = query_user2-right c.each_is_good.ensures;
+  create_group = create_group-right;
+  create_alias = create_alias-right;
+  create_user = create_user-right;
+  create_user2 = create_user2-right;
 }

@@ -1,0 +1,196 @@
+// The operations that delete an account of a domain.
+ghost use Rattle.std.specs.Prelude.{◌≡◌, ◌++◌, true, map, IfOk, OnOk, OnErr};
+ghost use Rattle.std.specs.List.{filter};
+ghost use Rattle.acct_rows.specs.Laws.{naming, is_member_of, is_alias_row_of, key_of_member, key_of_alias};
+ghost use Rattle.acct_rows.specs.Objects.{rid_of};
+ghost use Rattle.acct_rules.specs.Planned.{decision, none_fails};
+ghost use Rattle.samr_objects.specs.Deletions.{is_special, has_primary, is_primary, account_sid, keys_of, deletes};
+ghost use Rattle.samr_objects.specs.Deletions.{delete_group, delete_alias, delete_user};
+
+use acct_base::Seq;
+use acct_calls::{Args, Handle, Outs};
+use acct_codes::Kind;
+use acct_codes::rid::FIRST_CREATED_RID;
+use acct_codes::status::{STATUS_MEMBERS_PRIMARY_GROUP, STATUS_SPECIAL_ACCOUNT, STATUS_SUCCESS};
+use acct_rows::{AccountRow, AliasRow, MemberRow, Object, Plan, RowKey, Rows};
+use acct_rules::{Effect, NoMemory, Planned, answers, refusal};
+use dtyp_sid::Sid;
+use std::alloc::Global;
+
+// The account is well-known.
+fn is_special(object: &Object) -> bool
+    ensures { result ≡ is_special object.now }
+{
+    object.rid() < FIRST_CREATED_RID
+}
+
+fn has_primary(account: &AccountRow, rid: u32) -> bool
+    ensures { result ≡ has_primary rid account.now }
+{
+    account.kind == Kind::User && account.primary == rid
+}
+
+// The group is some user's primary group.
+fn is_primary(rows: &Rows, group: &Object) -> bool
+    ensures { result ≡ is_primary rows.now.lists (rid_of group.now) }
+{
+    let rid = group.rid();
+    rows.accounts()
+        .iter()
+        .any(|account| has_primary(account, rid))
+}
+
+fn is_member_of(member: &MemberRow, domain: u8, rid: u32) -> bool
+    ensures { result ≡ is_member_of domain rid member.now }
+{
+    domain == 0 && (member.group == rid || member.user == rid)
+}
+
+// Adds the keys of the member rows that have the account as a group or a user.
+fn push_members(
+    keys: &mut Seq<RowKey>,
+    members: &[MemberRow],
+    domain: u8,
+    rid: u32,
+) -> Result<(), NoMemory>
+    ensures { OnOk result
+        (keys.new ≡ keys.old ++ map key_of_member (filter (is_member_of domain rid) members.now)) }
+{
+    for member in members {
+        if is_member_of(member, domain, rid) {
+            keys.push(RowKey::Member {
+                group: member.group,
+                user: member.user,
+            })?;
+        }
+    }
+    Ok(())
+}
+
+fn is_alias_row_of(row: &AliasRow, domain: u8, rid: u32, sid: Sid) -> bool
+    ensures { result ≡ is_alias_row_of domain rid sid row.now }
+{
+    (row.domain == domain && row.alias == rid) || row.member == sid
+}
+
+// Adds the keys of the alias rows that are of the account, or have its SID.
+fn push_aliases(
+    keys: &mut Seq<RowKey>,
+    aliases: &[AliasRow],
+    domain: u8,
+    rid: u32,
+    sid: Sid,
+) -> Result<(), NoMemory>
+    ensures { OnOk result
+        (keys.new ≡ keys.old ++ map key_of_alias (filter (is_alias_row_of domain rid sid) aliases.now)) }
+{
+    for row in aliases {
+        if is_alias_row_of(row, domain, rid, sid) {
+            keys.push(RowKey::Alias {
+                domain: row.domain,
+                alias: row.alias,
+                member: row.member,
+            })?;
+        }
+    }
+    Ok(())
+}
+
+// The keys of an account of a SID and of every row that names it.
+fn naming(
+    alloc: Global,
+    rows: &Rows,
+    domain: u8,
+    rid: u32,
+    sid: Sid,
+) -> Result<Seq<RowKey>, NoMemory>
+    ensures { IfOk result (λ keys. keys ≡ naming rows.now.lists domain rid sid) }
+{
+    let mut keys = Seq::new(alloc);
+    push_members(&mut keys, rows.member_rows(), domain, rid)?;
+    push_aliases(&mut keys, rows.alias_rows(), domain, rid, sid)?;
+    keys.push(RowKey::Account { domain, rid })?;
+    Ok(keys)
+}
+
+fn account_sid(rows: &Rows, object: &Object) -> Option<Sid>
+    ensures { result ≡ account_sid rows.now.lists object.now }
+{
+    match rows.domain(object.domain()) {
+        Some(domain) => domain.sid.with_rid(object.rid()),
+        None => None,
+    }
+}
+
+fn keys_of(alloc: Global, rows: &Rows, object: &Object) -> Result<Seq<RowKey>, NoMemory>
+    ensures { let sid = account_sid rows.now.lists object.now in
+        IfOk result (λ keys. keys ≡ keys_of rows.now.lists object.now sid) }
+{
+    match account_sid(rows, object) {
+        Some(sid) => naming(alloc, rows, object.domain(), object.rid(), sid),
+        None => Ok(Seq::new(alloc)),
+    }
+}
+
+fn deletes(alloc: Global, rows: &Rows, object: &Object) -> Result<Planned, NoMemory>
+    ensures { IfOk result (λ p. p ≡ deletes rows.now.lists object.now) }
+{
+    let removes = keys_of(alloc, rows, object)?;
+    let puts = Seq::new(alloc);
+    Ok(Planned {
+        plan: Plan { puts, removes },
+        effect: Effect::Deletes(*object),
+        ..answers(alloc, STATUS_SUCCESS, Outs::Handle(Handle { number: 0 }))
+    })
+}
+
+/// SamrDeleteGroup (MS-SAMR 3.1.5.7.1): deletes a group that is no user's primary group, with its members.
+pub fn delete_group(
+    alloc: Global,
+    rows: &Rows,
+    group: Object,
+    args: &Args,
+) -> Result<Planned, NoMemory>
+    ensures decided { IfOk result (λ p. p ≡ decision (delete_group rows.now.lists group args.now)) }
+    ensures frugal { OnErr result (none_fails (delete_group rows.now.lists group args.now).conditions ≡ true) }
+{
+    if is_special(&group) {
+        return Ok(refusal(alloc, STATUS_SPECIAL_ACCOUNT));
+    }
+    if is_primary(rows, &group) {
+        return Ok(refusal(alloc, STATUS_MEMBERS_PRIMARY_GROUP));
+    }
+    deletes(alloc, rows, &group)
+}
+
+/// SamrDeleteAlias (MS-SAMR 3.1.5.7.2): deletes an alias with its members.
+pub fn delete_alias(
+    alloc: Global,
+    rows: &Rows,
+    alias: Object,
+    args: &Args,
+) -> Result<Planned, NoMemory>
+    ensures decided { IfOk result (λ p. p ≡ decision (delete_alias rows.now.lists alias args.now)) }
+    ensures frugal { OnErr result (none_fails (delete_alias rows.now.lists alias args.now).conditions ≡ true) }
+{
+    if is_special(&alias) {
+        return Ok(refusal(alloc, STATUS_SPECIAL_ACCOUNT));
+    }
+    deletes(alloc, rows, &alias)
+}
+
+/// SamrDeleteUser (MS-SAMR 3.1.5.7.3): deletes a user, which is no member from then on.
+pub fn delete_user(
+    alloc: Global,
+    rows: &Rows,
+    user: Object,
+    args: &Args,
+) -> Result<Planned, NoMemory>
+    ensures decided { IfOk result (λ p. p ≡ decision (delete_user rows.now.lists user args.now)) }
+    ensures frugal { OnErr result (none_fails (delete_user rows.now.lists user args.now).conditions ≡ true) }
+{
+    if is_special(&user) {
+        return Ok(refusal(alloc, STATUS_SPECIAL_ACCOUNT));
+    }
+    deletes(alloc, rows, &user)
+}
