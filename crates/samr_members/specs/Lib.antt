@@ -1,0 +1,5 @@
+pub mod Aliases
+pub mod Changes
+pub mod Groups
+pub mod Laws
+pub mod Table
