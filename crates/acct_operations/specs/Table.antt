@@ -17,14 +17,39 @@ use Rattle.acct_operations.specs.declared.table.Work.{Work}
 use Rattle.acct_operations.specs.declared.table.Work.TheVariants.{SamrConnect2, SamrConnect4, SamrConnect5}
 use Rattle.acct_operations.specs.declared.table.Work.TheVariants.{SamrCloseHandle, SamrLookupDomainInSamServer}
 use Rattle.acct_operations.specs.declared.table.Work.TheVariants.{SamrEnumerateDomainsInSamServer, SamrOpenDomain}
-use Rattle.acct_operations.specs.declared.table.Work.TheVariants.{SamrLookupNamesInDomain, SamrLookupIdsInDomain}
-use Rattle.acct_operations.specs.declared.table.Work.TheVariants.{SamrOpenGroup, SamrOpenAlias, SamrOpenUser}
+use Rattle.acct_operations.specs.declared.table.Work.TheVariants.{SamrQueryInformationDomain}
+use Rattle.acct_operations.specs.declared.table.Work.TheVariants.{SamrQueryInformationDomain2, SamrSetInformationDomain}
+use Rattle.acct_operations.specs.declared.table.Work.TheVariants.{SamrCreateGroupInDomain, SamrEnumerateGroupsInDomain}
+use Rattle.acct_operations.specs.declared.table.Work.TheVariants.{SamrCreateUserInDomain, SamrEnumerateUsersInDomain}
+use Rattle.acct_operations.specs.declared.table.Work.TheVariants.{SamrCreateAliasInDomain, SamrEnumerateAliasesInDomain}
+use Rattle.acct_operations.specs.declared.table.Work.TheVariants.{SamrGetAliasMembership, SamrLookupNamesInDomain}
+use Rattle.acct_operations.specs.declared.table.Work.TheVariants.{SamrLookupIdsInDomain, SamrOpenGroup}
+use Rattle.acct_operations.specs.declared.table.Work.TheVariants.{SamrQueryInformationGroup, SamrSetInformationGroup}
+use Rattle.acct_operations.specs.declared.table.Work.TheVariants.{SamrAddMemberToGroup, SamrDeleteGroup}
+use Rattle.acct_operations.specs.declared.table.Work.TheVariants.{SamrRemoveMemberFromGroup, SamrGetMembersInGroup}
+use Rattle.acct_operations.specs.declared.table.Work.TheVariants.{SamrOpenAlias, SamrQueryInformationAlias}
+use Rattle.acct_operations.specs.declared.table.Work.TheVariants.{SamrSetInformationAlias, SamrDeleteAlias}
+use Rattle.acct_operations.specs.declared.table.Work.TheVariants.{SamrAddMemberToAlias, SamrRemoveMemberFromAlias}
+use Rattle.acct_operations.specs.declared.table.Work.TheVariants.{SamrGetMembersInAlias, SamrOpenUser, SamrDeleteUser}
+use Rattle.acct_operations.specs.declared.table.Work.TheVariants.{SamrQueryInformationUser, SamrSetInformationUser}
+use Rattle.acct_operations.specs.declared.table.Work.TheVariants.{SamrGetGroupsForUser, SamrQueryInformationUser2}
+use Rattle.acct_operations.specs.declared.table.Work.TheVariants.{SamrCreateUser2InDomain, SamrSetInformationUser2}
 use Rattle.acct_operations.specs.declared.table.Work.TheVariants.{SamrRidToSid, LsarOpenPolicy2, LsarClose}
 use Rattle.acct_operations.specs.Openings.{connect, open_policy}
 use Rattle.acct_operations.specs.Closings.{close}
+use Rattle.samr_members.specs.Table.{get_alias_membership, add_member_to_group, remove_member_from_group}
+use Rattle.samr_members.specs.Table.{get_members_in_group, add_member_to_alias, remove_member_from_alias}
+use Rattle.samr_members.specs.Table.{get_members_in_alias, get_groups_for_user}
 use Rattle.samr_objects.specs.Table.{lookup_domain_in_sam_server, enumerate_domains_in_sam_server}
-use Rattle.samr_objects.specs.Table.{open_domain_in_sam_server, lookup_names_in_domain, lookup_ids_in_domain}
-use Rattle.samr_objects.specs.Table.{open_group_in_domain, open_alias_in_domain, open_user_in_domain}
+use Rattle.samr_objects.specs.Table.{open_domain_in_sam_server, query_information_domain, query_information_domain2}
+use Rattle.samr_objects.specs.Table.{set_information_domain, create_group_in_domain, enumerate_groups_in_domain}
+use Rattle.samr_objects.specs.Table.{create_user_in_domain, enumerate_users_in_domain, create_alias_in_domain}
+use Rattle.samr_objects.specs.Table.{enumerate_aliases_in_domain, lookup_names_in_domain, lookup_ids_in_domain}
+use Rattle.samr_objects.specs.Table.{open_group_in_domain, query_information_group, set_information_group}
+use Rattle.samr_objects.specs.Table.{delete_group_in_domain, open_alias_in_domain, query_information_alias}
+use Rattle.samr_objects.specs.Table.{set_information_alias, delete_alias_in_domain, open_user_in_domain}
+use Rattle.samr_objects.specs.Table.{delete_user_in_domain, query_information_user, set_information_user}
+use Rattle.samr_objects.specs.Table.{query_information_user2, create_user2_in_domain, set_information_user2}
 use Rattle.samr_objects.specs.Table.{sid_of_rid_in_domain}
 
 -- It brings no handle and needs no bit, and memory may want for the new handle alone.
@@ -50,11 +75,40 @@ operation SamrCloseHandle = record { profile = closing Samr samr_close_handle ki
 operation SamrLookupDomainInSamServer = lookup_domain_in_sam_server
 operation SamrEnumerateDomainsInSamServer = enumerate_domains_in_sam_server
 operation SamrOpenDomain = open_domain_in_sam_server
+operation SamrQueryInformationDomain = query_information_domain
+operation SamrQueryInformationDomain2 = query_information_domain2
+operation SamrSetInformationDomain = set_information_domain
+operation SamrCreateGroupInDomain = create_group_in_domain
+operation SamrEnumerateGroupsInDomain = enumerate_groups_in_domain
+operation SamrCreateUserInDomain = create_user_in_domain
+operation SamrEnumerateUsersInDomain = enumerate_users_in_domain
+operation SamrCreateAliasInDomain = create_alias_in_domain
+operation SamrEnumerateAliasesInDomain = enumerate_aliases_in_domain
+operation SamrGetAliasMembership = get_alias_membership
 operation SamrLookupNamesInDomain = lookup_names_in_domain
 operation SamrLookupIdsInDomain = lookup_ids_in_domain
 operation SamrOpenGroup = open_group_in_domain
+operation SamrQueryInformationGroup = query_information_group
+operation SamrSetInformationGroup = set_information_group
+operation SamrAddMemberToGroup = add_member_to_group
+operation SamrDeleteGroup = delete_group_in_domain
+operation SamrRemoveMemberFromGroup = remove_member_from_group
+operation SamrGetMembersInGroup = get_members_in_group
 operation SamrOpenAlias = open_alias_in_domain
+operation SamrQueryInformationAlias = query_information_alias
+operation SamrSetInformationAlias = set_information_alias
+operation SamrDeleteAlias = delete_alias_in_domain
+operation SamrAddMemberToAlias = add_member_to_alias
+operation SamrRemoveMemberFromAlias = remove_member_from_alias
+operation SamrGetMembersInAlias = get_members_in_alias
 operation SamrOpenUser = open_user_in_domain
+operation SamrDeleteUser = delete_user_in_domain
+operation SamrQueryInformationUser = query_information_user
+operation SamrSetInformationUser = set_information_user
+operation SamrGetGroupsForUser = get_groups_for_user
+operation SamrQueryInformationUser2 = query_information_user2
+operation SamrCreateUser2InDomain = create_user2_in_domain
+operation SamrSetInformationUser2 = set_information_user2
 operation SamrRidToSid = sid_of_rid_in_domain
 operation LsarOpenPolicy2 = record { profile = opening Lsa lsar_open_policy2; rule = open_policy }
 operation LsarClose = record { profile = closing Lsa lsar_close kinds.Lsa; rule = close }
@@ -68,11 +122,40 @@ works =
     ∷ SamrLookupDomainInSamServer
     ∷ SamrEnumerateDomainsInSamServer
     ∷ SamrOpenDomain
+    ∷ SamrQueryInformationDomain
+    ∷ SamrQueryInformationDomain2
+    ∷ SamrSetInformationDomain
+    ∷ SamrCreateGroupInDomain
+    ∷ SamrEnumerateGroupsInDomain
+    ∷ SamrCreateUserInDomain
+    ∷ SamrEnumerateUsersInDomain
+    ∷ SamrCreateAliasInDomain
+    ∷ SamrEnumerateAliasesInDomain
+    ∷ SamrGetAliasMembership
     ∷ SamrLookupNamesInDomain
     ∷ SamrLookupIdsInDomain
     ∷ SamrOpenGroup
+    ∷ SamrQueryInformationGroup
+    ∷ SamrSetInformationGroup
+    ∷ SamrAddMemberToGroup
+    ∷ SamrDeleteGroup
+    ∷ SamrRemoveMemberFromGroup
+    ∷ SamrGetMembersInGroup
     ∷ SamrOpenAlias
+    ∷ SamrQueryInformationAlias
+    ∷ SamrSetInformationAlias
+    ∷ SamrDeleteAlias
+    ∷ SamrAddMemberToAlias
+    ∷ SamrRemoveMemberFromAlias
+    ∷ SamrGetMembersInAlias
     ∷ SamrOpenUser
+    ∷ SamrDeleteUser
+    ∷ SamrQueryInformationUser
+    ∷ SamrSetInformationUser
+    ∷ SamrGetGroupsForUser
+    ∷ SamrQueryInformationUser2
+    ∷ SamrCreateUser2InDomain
+    ∷ SamrSetInformationUser2
     ∷ SamrRidToSid
     ∷ LsarOpenPolicy2
     ∷ LsarClose

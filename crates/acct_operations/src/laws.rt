@@ -7,6 +7,7 @@ ghost use Rattle.acct_operations.specs.Laws.{AreRight, KeepRows};
 pub fn operations_are_right()
     ensures { AreRight }
 {
+    samr_members::laws::operations_are_right();
     samr_objects::laws::operations_are_right();
 }
 
@@ -14,5 +15,6 @@ pub fn operations_are_right()
 pub fn operations_keep_rows()
     ensures { KeepRows }
 {
+    samr_members::laws::operations_keep_rows();
     samr_objects::laws::operations_keep_rows();
 }

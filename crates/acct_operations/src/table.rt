@@ -1,29 +1,136 @@
 // The table of operations.
 ghost use Rattle.std.specs.Prelude.{◌≡◌, true, IfOk, OnErr};
 ghost use Rattle.std.specs.List.{find};
+ghost use Rattle.acct_calls.specs.declared.calls.Face.TheVariants.{Samr};
 ghost use Rattle.acct_rules.specs.Planned.{decision};
-ghost use Rattle.acct_rules.specs.Profiles.{is_anywhere};
+ghost use Rattle.acct_rules.specs.Profiles.{asking, is_anywhere};
+ghost use Rattle.acct_codes.specs.Rights.{domain_lookup};
+ghost use Rattle.acct_codes.specs.declared.kind.Kind.TheVariants as kind;
+ghost use Rattle.acct_rules.specs.declared.profile.Kinds.TheVariants.{Only};
+ghost use Rattle.acct_rules.specs.declared.profile.Memory.TheVariants.{Anywhere, BehindConditions};
 ghost use Rattle.acct_operations.specs.Table.{opening, closing, operation, works, is_work_of, work_of, has_operation};
+ghost use Rattle.samr_objects.specs.Table.{asking_user};
 
 use crate::closings::close;
-use crate::openings::{connect, open_policy};
-use acct_calls::{Args, Face};
+use crate::openings::connect;
+use crate::openings::open_policy;
+use acct_calls::Args;
+use acct_calls::Face;
 use acct_codes::Kind;
+use acct_codes::alias_rights::ALIAS_ADD_MEMBER;
+use acct_codes::alias_rights::ALIAS_LIST_MEMBERS;
+use acct_codes::alias_rights::ALIAS_READ_INFORMATION;
+use acct_codes::alias_rights::ALIAS_REMOVE_MEMBER;
+use acct_codes::alias_rights::ALIAS_WRITE_ACCOUNT;
+use acct_codes::domain_rights::DOMAIN_CREATE_ALIAS;
+use acct_codes::domain_rights::DOMAIN_CREATE_GROUP;
+use acct_codes::domain_rights::DOMAIN_CREATE_USER;
+use acct_codes::domain_rights::DOMAIN_GET_ALIAS_MEMBERSHIP;
+use acct_codes::domain_rights::DOMAIN_LIST_ACCOUNTS;
 use acct_codes::domain_rights::DOMAIN_LOOKUP;
-use acct_codes::lsa_opnum::{LSAR_CLOSE, LSAR_OPEN_POLICY2};
-use acct_codes::samr_opnum::{
-    SAMR_CLOSE_HANDLE, SAMR_CONNECT2, SAMR_CONNECT4, SAMR_CONNECT5,
-    SAMR_ENUMERATE_DOMAINS_IN_SAM_SERVER, SAMR_LOOKUP_DOMAIN_IN_SAM_SERVER,
-    SAMR_LOOKUP_IDS_IN_DOMAIN, SAMR_LOOKUP_NAMES_IN_DOMAIN, SAMR_OPEN_ALIAS, SAMR_OPEN_DOMAIN,
-    SAMR_OPEN_GROUP, SAMR_OPEN_USER, SAMR_RID_TO_SID,
-};
-use acct_codes::server_rights::{SAM_SERVER_ENUMERATE_DOMAINS, SAM_SERVER_LOOKUP_DOMAIN};
-use acct_rows::{Object, Rows};
-use acct_rules::{Brings, Kinds, Memory, Needs, NoMemory, Planned, Profile, asking};
-use samr_objects::{
-    list_domains, look_domain, look_ids, look_names, open_alias, open_domain, open_group,
-    open_user, rid_to_sid,
-};
+use acct_codes::domain_rights::DOMAIN_READ_OTHER_PARAMETERS;
+use acct_codes::domain_rights::DOMAIN_WRITE_OTHER_PARAMETERS;
+use acct_codes::group_rights::GROUP_ADD_MEMBER;
+use acct_codes::group_rights::GROUP_LIST_MEMBERS;
+use acct_codes::group_rights::GROUP_READ_INFORMATION;
+use acct_codes::group_rights::GROUP_REMOVE_MEMBER;
+use acct_codes::group_rights::GROUP_WRITE_ACCOUNT;
+use acct_codes::info_class::USER_CONTROL_INFORMATION;
+use acct_codes::lsa_opnum::LSAR_CLOSE;
+use acct_codes::lsa_opnum::LSAR_OPEN_POLICY2;
+use acct_codes::samr_opnum::SAMR_ADD_MEMBER_TO_ALIAS;
+use acct_codes::samr_opnum::SAMR_ADD_MEMBER_TO_GROUP;
+use acct_codes::samr_opnum::SAMR_CLOSE_HANDLE;
+use acct_codes::samr_opnum::SAMR_CONNECT2;
+use acct_codes::samr_opnum::SAMR_CONNECT4;
+use acct_codes::samr_opnum::SAMR_CONNECT5;
+use acct_codes::samr_opnum::SAMR_CREATE_ALIAS_IN_DOMAIN;
+use acct_codes::samr_opnum::SAMR_CREATE_GROUP_IN_DOMAIN;
+use acct_codes::samr_opnum::SAMR_CREATE_USER_IN_DOMAIN;
+use acct_codes::samr_opnum::SAMR_CREATE_USER2_IN_DOMAIN;
+use acct_codes::samr_opnum::SAMR_DELETE_ALIAS;
+use acct_codes::samr_opnum::SAMR_DELETE_GROUP;
+use acct_codes::samr_opnum::SAMR_DELETE_USER;
+use acct_codes::samr_opnum::SAMR_ENUMERATE_ALIASES_IN_DOMAIN;
+use acct_codes::samr_opnum::SAMR_ENUMERATE_DOMAINS_IN_SAM_SERVER;
+use acct_codes::samr_opnum::SAMR_ENUMERATE_GROUPS_IN_DOMAIN;
+use acct_codes::samr_opnum::SAMR_ENUMERATE_USERS_IN_DOMAIN;
+use acct_codes::samr_opnum::SAMR_GET_ALIAS_MEMBERSHIP;
+use acct_codes::samr_opnum::SAMR_GET_GROUPS_FOR_USER;
+use acct_codes::samr_opnum::SAMR_GET_MEMBERS_IN_ALIAS;
+use acct_codes::samr_opnum::SAMR_GET_MEMBERS_IN_GROUP;
+use acct_codes::samr_opnum::SAMR_LOOKUP_DOMAIN_IN_SAM_SERVER;
+use acct_codes::samr_opnum::SAMR_LOOKUP_IDS_IN_DOMAIN;
+use acct_codes::samr_opnum::SAMR_LOOKUP_NAMES_IN_DOMAIN;
+use acct_codes::samr_opnum::SAMR_OPEN_ALIAS;
+use acct_codes::samr_opnum::SAMR_OPEN_DOMAIN;
+use acct_codes::samr_opnum::SAMR_OPEN_GROUP;
+use acct_codes::samr_opnum::SAMR_OPEN_USER;
+use acct_codes::samr_opnum::SAMR_QUERY_INFORMATION_ALIAS;
+use acct_codes::samr_opnum::SAMR_QUERY_INFORMATION_DOMAIN;
+use acct_codes::samr_opnum::SAMR_QUERY_INFORMATION_DOMAIN2;
+use acct_codes::samr_opnum::SAMR_QUERY_INFORMATION_GROUP;
+use acct_codes::samr_opnum::SAMR_QUERY_INFORMATION_USER;
+use acct_codes::samr_opnum::SAMR_QUERY_INFORMATION_USER2;
+use acct_codes::samr_opnum::SAMR_REMOVE_MEMBER_FROM_ALIAS;
+use acct_codes::samr_opnum::SAMR_REMOVE_MEMBER_FROM_GROUP;
+use acct_codes::samr_opnum::SAMR_RID_TO_SID;
+use acct_codes::samr_opnum::SAMR_SET_INFORMATION_ALIAS;
+use acct_codes::samr_opnum::SAMR_SET_INFORMATION_DOMAIN;
+use acct_codes::samr_opnum::SAMR_SET_INFORMATION_GROUP;
+use acct_codes::samr_opnum::SAMR_SET_INFORMATION_USER;
+use acct_codes::samr_opnum::SAMR_SET_INFORMATION_USER2;
+use acct_codes::server_rights::SAM_SERVER_ENUMERATE_DOMAINS;
+use acct_codes::server_rights::SAM_SERVER_LOOKUP_DOMAIN;
+use acct_codes::standard_rights::DELETE;
+use acct_codes::user_rights::USER_LIST_GROUPS;
+use acct_codes::user_rights::USER_READ_ACCOUNT;
+use acct_codes::user_rights::USER_READ_GENERAL;
+use acct_codes::user_rights::USER_WRITE_ACCOUNT;
+use acct_rows::Object;
+use acct_rows::Rows;
+use acct_rules::Brings;
+use acct_rules::Kinds;
+use acct_rules::Memory;
+use acct_rules::Needs;
+use acct_rules::NoMemory;
+use acct_rules::Planned;
+use acct_rules::Profile;
+use acct_rules::asking;
+use samr_members::add_alias_member;
+use samr_members::add_group_member;
+use samr_members::alias_members;
+use samr_members::alias_membership;
+use samr_members::group_members;
+use samr_members::remove_alias_member;
+use samr_members::remove_group_member;
+use samr_members::user_groups;
+use samr_objects::create_alias;
+use samr_objects::create_group;
+use samr_objects::create_user;
+use samr_objects::delete_alias;
+use samr_objects::delete_group;
+use samr_objects::delete_user;
+use samr_objects::list_aliases;
+use samr_objects::list_domains;
+use samr_objects::list_groups;
+use samr_objects::list_users;
+use samr_objects::look_domain;
+use samr_objects::look_ids;
+use samr_objects::look_names;
+use samr_objects::open_alias;
+use samr_objects::open_domain;
+use samr_objects::open_group;
+use samr_objects::open_user;
+use samr_objects::query_alias;
+use samr_objects::query_domain;
+use samr_objects::query_group;
+use samr_objects::query_user;
+use samr_objects::rid_to_sid;
+use samr_objects::set_alias;
+use samr_objects::set_domain;
+use samr_objects::set_group;
+use samr_objects::set_user;
 use std::alloc::Global;
 
 /// The operations.
@@ -36,11 +143,40 @@ pub enum Work {
     SamrLookupDomainInSamServer,
     SamrEnumerateDomainsInSamServer,
     SamrOpenDomain,
+    SamrQueryInformationDomain,
+    SamrQueryInformationDomain2,
+    SamrSetInformationDomain,
+    SamrCreateGroupInDomain,
+    SamrEnumerateGroupsInDomain,
+    SamrCreateUserInDomain,
+    SamrEnumerateUsersInDomain,
+    SamrCreateAliasInDomain,
+    SamrEnumerateAliasesInDomain,
+    SamrGetAliasMembership,
     SamrLookupNamesInDomain,
     SamrLookupIdsInDomain,
     SamrOpenGroup,
+    SamrQueryInformationGroup,
+    SamrSetInformationGroup,
+    SamrAddMemberToGroup,
+    SamrDeleteGroup,
+    SamrRemoveMemberFromGroup,
+    SamrGetMembersInGroup,
     SamrOpenAlias,
+    SamrQueryInformationAlias,
+    SamrSetInformationAlias,
+    SamrDeleteAlias,
+    SamrAddMemberToAlias,
+    SamrRemoveMemberFromAlias,
+    SamrGetMembersInAlias,
     SamrOpenUser,
+    SamrDeleteUser,
+    SamrQueryInformationUser,
+    SamrSetInformationUser,
+    SamrGetGroupsForUser,
+    SamrQueryInformationUser2,
+    SamrCreateUser2InDomain,
+    SamrSetInformationUser2,
     SamrRidToSid,
     LsarOpenPolicy2,
     LsarClose,
@@ -58,11 +194,40 @@ pub fn works() -> &'static [Work]
         Work::SamrLookupDomainInSamServer,
         Work::SamrEnumerateDomainsInSamServer,
         Work::SamrOpenDomain,
+        Work::SamrQueryInformationDomain,
+        Work::SamrQueryInformationDomain2,
+        Work::SamrSetInformationDomain,
+        Work::SamrCreateGroupInDomain,
+        Work::SamrEnumerateGroupsInDomain,
+        Work::SamrCreateUserInDomain,
+        Work::SamrEnumerateUsersInDomain,
+        Work::SamrCreateAliasInDomain,
+        Work::SamrEnumerateAliasesInDomain,
+        Work::SamrGetAliasMembership,
         Work::SamrLookupNamesInDomain,
         Work::SamrLookupIdsInDomain,
         Work::SamrOpenGroup,
+        Work::SamrQueryInformationGroup,
+        Work::SamrSetInformationGroup,
+        Work::SamrAddMemberToGroup,
+        Work::SamrDeleteGroup,
+        Work::SamrRemoveMemberFromGroup,
+        Work::SamrGetMembersInGroup,
         Work::SamrOpenAlias,
+        Work::SamrQueryInformationAlias,
+        Work::SamrSetInformationAlias,
+        Work::SamrDeleteAlias,
+        Work::SamrAddMemberToAlias,
+        Work::SamrRemoveMemberFromAlias,
+        Work::SamrGetMembersInAlias,
         Work::SamrOpenUser,
+        Work::SamrDeleteUser,
+        Work::SamrQueryInformationUser,
+        Work::SamrSetInformationUser,
+        Work::SamrGetGroupsForUser,
+        Work::SamrQueryInformationUser2,
+        Work::SamrCreateUser2InDomain,
+        Work::SamrSetInformationUser2,
         Work::SamrRidToSid,
         Work::LsarOpenPolicy2,
         Work::LsarClose,
@@ -122,6 +287,58 @@ fn closing(face: Face, opnum: u16, kinds: Kinds) -> Profile
     asking(face, opnum, kinds, 0, Memory::Never)
 }
 
+// An operation that takes a handle to an object of a kind of the account database, whose grant has these bits.
+fn on(kind: Kind, opnum: u16, bits: u32) -> Profile
+    ensures { result ≡ asking Samr opnum (Only kind) bits Anywhere }
+{
+    asking(Face::Samr, opnum, Kinds::Only(kind), bits, Memory::Anywhere)
+}
+
+fn on_domain(opnum: u16, bits: u32) -> Profile
+    ensures { result ≡ asking Samr opnum (Only kind.Domain) bits Anywhere }
+{
+    on(Kind::Domain, opnum, bits)
+}
+
+// An operation that opens an object by a handle to another: memory may want for the new handle alone.
+fn opening_by(kind: Kind, opnum: u16, bits: u32) -> Profile
+    ensures { result ≡ asking Samr opnum (Only kind) bits BehindConditions }
+{
+    asking(
+        Face::Samr,
+        opnum,
+        Kinds::Only(kind),
+        bits,
+        Memory::BehindConditions,
+    )
+}
+
+fn opening_account(opnum: u16) -> Profile
+    ensures { result ≡ asking Samr opnum (Only kind.Domain) domain_lookup BehindConditions }
+{
+    opening_by(Kind::Domain, opnum, DOMAIN_LOOKUP)
+}
+
+// An operation that shows a user: its control needs another right than all else.
+fn showing_user(opnum: u16) -> Profile
+    ensures { result ≡ asking_user opnum }
+{
+    Profile {
+        needs: Needs::ByClass {
+            class: USER_CONTROL_INFORMATION,
+            bits: USER_READ_ACCOUNT,
+            others: USER_READ_GENERAL,
+        },
+        ..asking(
+            Face::Samr,
+            opnum,
+            Kinds::Only(Kind::User),
+            0,
+            Memory::Anywhere,
+        )
+    }
+}
+
 /// The profile of an operation.
 #[tactic(auto, unfolding(crate::specs::Table::operation))]
 pub fn profile_of(work: Work) -> Profile
@@ -139,54 +356,116 @@ pub fn profile_of(work: Work) -> Profile
             SAM_SERVER_LOOKUP_DOMAIN,
             Memory::Never,
         ),
-        Work::SamrEnumerateDomainsInSamServer => asking(
-            Face::Samr,
+        Work::SamrEnumerateDomainsInSamServer => on(
+            Kind::Server,
             SAMR_ENUMERATE_DOMAINS_IN_SAM_SERVER,
-            Kinds::Only(Kind::Server),
             SAM_SERVER_ENUMERATE_DOMAINS,
-            Memory::Anywhere,
         ),
-        Work::SamrOpenDomain => asking(
-            Face::Samr,
+        Work::SamrOpenDomain => opening_by(
+            Kind::Server,
             SAMR_OPEN_DOMAIN,
-            Kinds::Only(Kind::Server),
             SAM_SERVER_LOOKUP_DOMAIN,
-            Memory::BehindConditions,
         ),
-        Work::SamrLookupNamesInDomain => asking(
-            Face::Samr,
-            SAMR_LOOKUP_NAMES_IN_DOMAIN,
-            Kinds::Only(Kind::Domain),
-            DOMAIN_LOOKUP,
-            Memory::Anywhere,
+        Work::SamrQueryInformationDomain => on_domain(
+            SAMR_QUERY_INFORMATION_DOMAIN,
+            DOMAIN_READ_OTHER_PARAMETERS,
         ),
-        Work::SamrLookupIdsInDomain => asking(
-            Face::Samr,
-            SAMR_LOOKUP_IDS_IN_DOMAIN,
-            Kinds::Only(Kind::Domain),
-            DOMAIN_LOOKUP,
-            Memory::Anywhere,
+        Work::SamrQueryInformationDomain2 => on_domain(
+            SAMR_QUERY_INFORMATION_DOMAIN2,
+            DOMAIN_READ_OTHER_PARAMETERS,
         ),
-        Work::SamrOpenGroup => asking(
-            Face::Samr,
-            SAMR_OPEN_GROUP,
-            Kinds::Only(Kind::Domain),
-            DOMAIN_LOOKUP,
-            Memory::BehindConditions,
+        Work::SamrSetInformationDomain => on_domain(
+            SAMR_SET_INFORMATION_DOMAIN,
+            DOMAIN_WRITE_OTHER_PARAMETERS,
         ),
-        Work::SamrOpenAlias => asking(
-            Face::Samr,
-            SAMR_OPEN_ALIAS,
-            Kinds::Only(Kind::Domain),
-            DOMAIN_LOOKUP,
-            Memory::BehindConditions,
+        Work::SamrCreateGroupInDomain => on_domain(
+            SAMR_CREATE_GROUP_IN_DOMAIN,
+            DOMAIN_CREATE_GROUP,
         ),
-        Work::SamrOpenUser => asking(
-            Face::Samr,
-            SAMR_OPEN_USER,
-            Kinds::Only(Kind::Domain),
-            DOMAIN_LOOKUP,
-            Memory::BehindConditions,
+        Work::SamrEnumerateGroupsInDomain => on_domain(
+            SAMR_ENUMERATE_GROUPS_IN_DOMAIN,
+            DOMAIN_LIST_ACCOUNTS,
+        ),
+        Work::SamrCreateUserInDomain => on_domain(SAMR_CREATE_USER_IN_DOMAIN, DOMAIN_CREATE_USER),
+        Work::SamrEnumerateUsersInDomain => on_domain(
+            SAMR_ENUMERATE_USERS_IN_DOMAIN,
+            DOMAIN_LIST_ACCOUNTS,
+        ),
+        Work::SamrCreateAliasInDomain => on_domain(
+            SAMR_CREATE_ALIAS_IN_DOMAIN,
+            DOMAIN_CREATE_ALIAS,
+        ),
+        Work::SamrEnumerateAliasesInDomain => on_domain(
+            SAMR_ENUMERATE_ALIASES_IN_DOMAIN,
+            DOMAIN_LIST_ACCOUNTS,
+        ),
+        Work::SamrGetAliasMembership => on_domain(
+            SAMR_GET_ALIAS_MEMBERSHIP,
+            DOMAIN_GET_ALIAS_MEMBERSHIP,
+        ),
+        Work::SamrLookupNamesInDomain => on_domain(SAMR_LOOKUP_NAMES_IN_DOMAIN, DOMAIN_LOOKUP),
+        Work::SamrLookupIdsInDomain => on_domain(SAMR_LOOKUP_IDS_IN_DOMAIN, DOMAIN_LOOKUP),
+        Work::SamrOpenGroup => opening_account(SAMR_OPEN_GROUP),
+        Work::SamrQueryInformationGroup => on(
+            Kind::Group,
+            SAMR_QUERY_INFORMATION_GROUP,
+            GROUP_READ_INFORMATION,
+        ),
+        Work::SamrSetInformationGroup => on(
+            Kind::Group,
+            SAMR_SET_INFORMATION_GROUP,
+            GROUP_WRITE_ACCOUNT,
+        ),
+        Work::SamrAddMemberToGroup => on(Kind::Group, SAMR_ADD_MEMBER_TO_GROUP, GROUP_ADD_MEMBER),
+        Work::SamrDeleteGroup => on(Kind::Group, SAMR_DELETE_GROUP, DELETE),
+        Work::SamrRemoveMemberFromGroup => on(
+            Kind::Group,
+            SAMR_REMOVE_MEMBER_FROM_GROUP,
+            GROUP_REMOVE_MEMBER,
+        ),
+        Work::SamrGetMembersInGroup => on(
+            Kind::Group,
+            SAMR_GET_MEMBERS_IN_GROUP,
+            GROUP_LIST_MEMBERS,
+        ),
+        Work::SamrOpenAlias => opening_account(SAMR_OPEN_ALIAS),
+        Work::SamrQueryInformationAlias => on(
+            Kind::Alias,
+            SAMR_QUERY_INFORMATION_ALIAS,
+            ALIAS_READ_INFORMATION,
+        ),
+        Work::SamrSetInformationAlias => on(
+            Kind::Alias,
+            SAMR_SET_INFORMATION_ALIAS,
+            ALIAS_WRITE_ACCOUNT,
+        ),
+        Work::SamrDeleteAlias => on(Kind::Alias, SAMR_DELETE_ALIAS, DELETE),
+        Work::SamrAddMemberToAlias => on(Kind::Alias, SAMR_ADD_MEMBER_TO_ALIAS, ALIAS_ADD_MEMBER),
+        Work::SamrRemoveMemberFromAlias => on(
+            Kind::Alias,
+            SAMR_REMOVE_MEMBER_FROM_ALIAS,
+            ALIAS_REMOVE_MEMBER,
+        ),
+        Work::SamrGetMembersInAlias => on(
+            Kind::Alias,
+            SAMR_GET_MEMBERS_IN_ALIAS,
+            ALIAS_LIST_MEMBERS,
+        ),
+        Work::SamrOpenUser => opening_account(SAMR_OPEN_USER),
+        Work::SamrDeleteUser => on(Kind::User, SAMR_DELETE_USER, DELETE),
+        Work::SamrQueryInformationUser => showing_user(SAMR_QUERY_INFORMATION_USER),
+        Work::SamrSetInformationUser => on(
+            Kind::User,
+            SAMR_SET_INFORMATION_USER,
+            USER_WRITE_ACCOUNT,
+        ),
+        Work::SamrGetGroupsForUser => on(Kind::User, SAMR_GET_GROUPS_FOR_USER, USER_LIST_GROUPS),
+        Work::SamrQueryInformationUser2 => showing_user(SAMR_QUERY_INFORMATION_USER2),
+        Work::SamrCreateUser2InDomain => on_domain(SAMR_CREATE_USER2_IN_DOMAIN, DOMAIN_CREATE_USER),
+        Work::SamrSetInformationUser2 => on(
+            Kind::User,
+            SAMR_SET_INFORMATION_USER2,
+            USER_WRITE_ACCOUNT,
         ),
         Work::SamrRidToSid => asking(
             Face::Samr,
@@ -220,11 +499,40 @@ pub fn decide(
         Work::SamrLookupDomainInSamServer => look_domain(alloc, rows, object, args),
         Work::SamrEnumerateDomainsInSamServer => list_domains(alloc, rows, object, args),
         Work::SamrOpenDomain => open_domain(alloc, rows, object, args),
+        Work::SamrQueryInformationDomain => query_domain(alloc, rows, object, args),
+        Work::SamrQueryInformationDomain2 => query_domain(alloc, rows, object, args),
+        Work::SamrSetInformationDomain => set_domain(alloc, rows, object, args),
+        Work::SamrCreateGroupInDomain => create_group(alloc, rows, object, args),
+        Work::SamrEnumerateGroupsInDomain => list_groups(alloc, rows, object, args),
+        Work::SamrCreateUserInDomain => create_user(alloc, rows, object, args),
+        Work::SamrEnumerateUsersInDomain => list_users(alloc, rows, object, args),
+        Work::SamrCreateAliasInDomain => create_alias(alloc, rows, object, args),
+        Work::SamrEnumerateAliasesInDomain => list_aliases(alloc, rows, object, args),
+        Work::SamrGetAliasMembership => alias_membership(alloc, rows, object, args),
         Work::SamrLookupNamesInDomain => look_names(alloc, rows, object, args),
         Work::SamrLookupIdsInDomain => look_ids(alloc, rows, object, args),
         Work::SamrOpenGroup => open_group(alloc, rows, object, args),
+        Work::SamrQueryInformationGroup => query_group(alloc, rows, object, args),
+        Work::SamrSetInformationGroup => set_group(alloc, rows, object, args),
+        Work::SamrAddMemberToGroup => add_group_member(alloc, rows, object, args),
+        Work::SamrDeleteGroup => delete_group(alloc, rows, object, args),
+        Work::SamrRemoveMemberFromGroup => remove_group_member(alloc, rows, object, args),
+        Work::SamrGetMembersInGroup => group_members(alloc, rows, object, args),
         Work::SamrOpenAlias => open_alias(alloc, rows, object, args),
+        Work::SamrQueryInformationAlias => query_alias(alloc, rows, object, args),
+        Work::SamrSetInformationAlias => set_alias(alloc, rows, object, args),
+        Work::SamrDeleteAlias => delete_alias(alloc, rows, object, args),
+        Work::SamrAddMemberToAlias => add_alias_member(alloc, rows, object, args),
+        Work::SamrRemoveMemberFromAlias => remove_alias_member(alloc, rows, object, args),
+        Work::SamrGetMembersInAlias => alias_members(alloc, rows, object, args),
         Work::SamrOpenUser => open_user(alloc, rows, object, args),
+        Work::SamrDeleteUser => delete_user(alloc, rows, object, args),
+        Work::SamrQueryInformationUser => query_user(alloc, rows, object, args),
+        Work::SamrSetInformationUser => set_user(alloc, rows, object, args),
+        Work::SamrGetGroupsForUser => user_groups(alloc, rows, object, args),
+        Work::SamrQueryInformationUser2 => query_user(alloc, rows, object, args),
+        Work::SamrCreateUser2InDomain => create_user(alloc, rows, object, args),
+        Work::SamrSetInformationUser2 => set_user(alloc, rows, object, args),
         Work::SamrRidToSid => rid_to_sid(alloc, rows, object, args),
         Work::LsarOpenPolicy2 => Ok(open_policy(alloc, rows, object, args)),
         Work::LsarClose => Ok(close(alloc, rows, object, args)),
