@@ -6,8 +6,11 @@ ghost use Rattle.std.specs.Io.KnownBytes.{ReadConsumes, WriteAppends};
 ghost use Rattle.acct_streams.specs.Causes.{HasCause};
 ghost use Rattle.acct_streams.specs.Ends.{answers_end};
 
+use thiserror::Error;
+
 /// What a call answers whose object's count of faults has risen.
-#[derive(Clone, Copy, Debug, PartialEq, Eq)]
+#[derive(Clone, Copy, Debug, PartialEq, Eq, Error)]
+#[error("what is outside failed")]
 pub struct Failed;
 
 /// Where bytes come from. A source in memory tells what it has left, a real one doesn't.

@@ -38,3 +38,10 @@ fn the_listed_writes_fail(rt: HostRuntime) -> Result<(), Fail> {
     assert_eq!(rt; write_all(&mut SteadySink, b"abc"), Ok(()));
     Ok(())
 }
+
+#[test]
+fn faults_tell_in_words(rt: HostRuntime) -> Result<(), Fail> {
+    let told = format!(in rt.alloc(); "{}", WholeError::TooLong)?;
+    assert_eq!(rt; told.as_str(), "there are more than 67108864 bytes");
+    Ok(())
+}

@@ -1,20 +1,25 @@
 // Reading a source to its end.
 ghost use Rattle.std.specs.Prelude.{◌≡◌, ◌≤◌, IfOk, IfErr};
-ghost use Rattle.acct_streams.specs.declared.whole.WholeError.TheVariants.{Memory};
+ghost use Rattle.acct_streams.specs.declared.whole.WholeError.TheVariants.{Fault, Memory};
 ghost use Rattle.acct_streams.specs.Whole.{WholeCause, IsWhole};
 
-use crate::Source;
+use crate::{Failed, Source};
 use std::alloc::{AllocError, Global};
+use thiserror::Error;
 
 const MOST_BYTES: usize = 67_108_864;
 
 /// Why a source wasn't read to its end.
-#[derive(Clone, Copy, Debug, PartialEq, Eq)]
+#[derive(Clone, Copy, Debug, PartialEq, Eq, Error)]
 pub enum WholeError {
     /// A read failed.
+    #[error("a read failed")]
     Fault,
     /// There are more than 67,108,864 bytes.
+    #[error("there are more than {most} bytes", most = MOST_BYTES)]
     TooLong,
+    /// Memory was wanted.
+    #[error("there is no memory for the bytes")]
     Memory,
 }
 
@@ -23,6 +28,14 @@ impl From<AllocError> for WholeError {
 
     fn from(_: AllocError) -> Self {
         WholeError::Memory
+    }
+}
+
+impl From<Failed> for WholeError {
+    ghost from_gives = { λ _ e. e ≡ Fault };
+
+    fn from(_: Failed) -> Self {
+        WholeError::Fault
     }
 }
 
@@ -35,17 +48,13 @@ pub fn read_whole<S: Source>(alloc: Global, source: &mut S) -> Result<Vec<u8>, W
     let mut whole = Vec::new(alloc);
     let mut buf = [0u8; 4096];
     loop {
-        match source.read(&mut buf) {
-            Err(_) => return Err(WholeError::Fault),
-            Ok(count) => {
-                if count == 0 {
-                    return Ok(whole);
-                }
-                if count > MOST_BYTES - whole.len() {
-                    return Err(WholeError::TooLong);
-                }
-                whole.extend_from_slice(&buf[..count])?;
-            }
+        let count = source.read(&mut buf)?;
+        if count == 0 {
+            return Ok(whole);
         }
+        if count > MOST_BYTES - whole.len() {
+            return Err(WholeError::TooLong);
+        }
+        whole.extend_from_slice(&buf[..count])?;
     }
 }

@@ -1,3 +1,4 @@
+-- What the loop of `read_whole` keeps.
 use Rattle.std.proofs.Common.{◌≤◌, ◌-◌, vec_len}
 use Rattle.std.specs.Io.KnownBytes.{Consumes}
 use Rattle.acct_streams.specs.Whole.{most_bytes}

@@ -1,3 +1,4 @@
+-- `write_all` meets its contract: what the search leaves open.
 use Rattle.std.proofs.Common.{◌≡◌, take, drop, List, ℕ, arith, subst}
 use Rattle.std.specs.Io.KnownBytes.{Appends}
 use Rattle.acct_streams.proofs.Bytes.{Appends-then, take-more}

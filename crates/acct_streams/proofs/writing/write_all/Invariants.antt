@@ -1,3 +1,4 @@
+-- What the loop of `write_all` keeps.
 use Rattle.std.proofs.Common.{◌≤◌, ◌-◌, length, take}
 use Rattle.std.specs.Io.KnownBytes.{Appends}
 use Rattle.acct_streams.proofs.writing.write_all.Given as goal

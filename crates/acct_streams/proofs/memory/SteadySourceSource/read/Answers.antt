@@ -1,3 +1,4 @@
+-- `read` meets its contract: what the search leaves open.
 use Rattle.std.proofs.Common.{◌≡◌, List, ℕ, drop, sym, ap, ◌∙◌, ◌++◌, ◌+◌}
 use Rattle.acct_streams.specs.Memory.{SteadyInMemory}
 use Rattle.acct_streams.proofs.Bytes.{read-splits, none-behind}

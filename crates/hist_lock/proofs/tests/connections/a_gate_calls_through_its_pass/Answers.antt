@@ -1,3 +1,4 @@
+-- `a_gate_calls_through_its_pass` meets its contract: what the search leaves open.
 use Rattle.hist_lock.proofs.tests.connections.a_gate_calls_through_its_pass.Goals as goal
 
 pub call_through-requires : goal.call_through-requires

@@ -1,3 +1,4 @@
+-- `call_next` meets its contract: what the search leaves open.
 use Rattle.std.proofs.Common.{◌≡◌, ℕ, ◌+◌, ◌<◌, List, [], ◌∷◌, ◌++◌, length, drop, sym, ap, ◌∙◌, subst, ⊎_elim, arith}
 use Rattle.std.proofs.Common.{Ok, Err, Result, append-nil}
 use Rattle.std.specs.Prelude.{MatchResult}

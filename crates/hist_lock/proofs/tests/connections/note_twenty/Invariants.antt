@@ -1,3 +1,4 @@
+-- What the loop of `note_twenty` keeps.
 use Rattle.hist_lock.specs.Views.{IsSamePass}
 use Rattle.hist_lock.specs.Passes.{view, IsPassOf}
 use Rattle.hist_lock.proofs.tests.connections.note_twenty.Given as goal

@@ -1,3 +1,4 @@
+-- `work` meets its contract: what the search leaves open.
 use Rattle.std.proofs.Common.{refl}
 use Rattle.hist_lock.proofs.tests.connections.work.Goals as goal
 

@@ -1,3 +1,4 @@
+-- What the loop of `work` keeps.
 use Rattle.std.proofs.Common.{◌≡◌, ℕ, ◌<◌}
 use Rattle.hist_lock.specs.Histories.{In, Opened}
 use Rattle.hist_lock.specs.Passes.{view, IsPassOf}

@@ -1,3 +1,4 @@
+-- What the loop of `push_hundred` keeps.
 use Rattle.std.proofs.Common.{◌≡◌}
 use Rattle.hist_lock.specs.Passes.{view, IsPassOf}
 use Rattle.hist_lock.proofs.tests.numbers.push_hundred.Given as goal

@@ -1,3 +1,4 @@
+-- `has` meets its contract: what the search leaves open.
 use Rattle.std.proofs.Common.{◌≡◌, ℕ, zero, suc, List, [], ◌∷◌, get_or, sym, ap, ◌∙◌, subst, arith, rules}
 use mathlib.Core.Option.{some, some-injective, some-ne-none}
 use mathlib.Core.Logic.{dite}

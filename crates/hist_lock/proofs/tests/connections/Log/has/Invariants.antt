@@ -1,3 +1,4 @@
+-- What the loop of `has` keeps.
 use Rattle.std.proofs.Common.{ℕ, ◌<◌}
 use Rattle.hist_lock.specs.Lanes.{IsOfLane}
 use Rattle.hist_lock.specs.Histories.{At}
