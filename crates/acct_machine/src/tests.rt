@@ -13,7 +13,9 @@ use crate::{
     Object, Opened, Outs, Reply, Verdict, read_config, seed_rows,
 };
 use acct_codes::Kind;
+use acct_operations::{Work, profile_of, works};
 use acct_rules::{Brings, Kinds};
+use dtyp_sid::Sid;
 use std::alloc::Global;
 use std::process::Abort;
 use std::test::Fail;
@@ -384,6 +386,93 @@ fn handles_are_checked(rt: HostRuntime) {
         Access::Unknown
     );
     assert_eq!(rt; access_with(Brings::Nothing, 0x200, None), Access::Passed);
+}
+
+/// The operations, each with the kinds of objects whose handles it takes: server, domain, group, alias, user, policy,
+/// account of the policy (C). One that brings no handle looks at none.
+const TAKEN: &str = "Samr 57 SDGAUPC
+Samr 62 SDGAUPC
+Samr 64 SDGAUPC
+Samr 1 SDGAU
+Samr 5 S
+Samr 6 S
+Samr 7 S
+Samr 8 D
+Samr 46 D
+Samr 9 D
+Samr 10 D
+Samr 11 D
+Samr 12 D
+Samr 13 D
+Samr 14 D
+Samr 15 D
+Samr 16 D
+Samr 17 D
+Samr 18 D
+Samr 19 D
+Samr 20 G
+Samr 21 G
+Samr 22 G
+Samr 23 G
+Samr 24 G
+Samr 25 G
+Samr 27 D
+Samr 28 A
+Samr 29 A
+Samr 30 A
+Samr 31 A
+Samr 32 A
+Samr 33 A
+Samr 34 D
+Samr 35 U
+Samr 36 U
+Samr 37 U
+Samr 39 U
+Samr 47 U
+Samr 50 D
+Samr 58 U
+Samr 65 DGAU
+Lsa 44 SDGAUPC
+Lsa 0 PC
+";
+
+/// The row of an operation, by the check of a handle of each kind with every bit.
+fn taken_by(alloc: Global, work: Work, account: Sid) -> Result<String, Fail> {
+    let profile = profile_of(work);
+    let mut row = format!(in alloc; "{:?} {} ", profile.face, profile.opnum)?;
+    for (letter, object) in [
+        ('S', Object::Server),
+        ('D', Object::Domain(0)),
+        ('G', Object::Group(512)),
+        ('A', Object::Alias(1, 544)),
+        ('U', Object::User(500)),
+        ('P', Object::Policy),
+        ('C', Object::Account(account)),
+    ] {
+        let held = Held {
+            conn: 1,
+            serial: 1,
+            object,
+            granted: u32::MAX,
+        };
+        if access_with(profile.brings, 1, Some(&held)) == Access::Passed {
+            row.push(letter)?;
+        }
+    }
+    row.push('\n')?;
+    Ok(row)
+}
+
+#[test]
+fn a_handle_of_each_kind_at_each_operation(rt: HostRuntime) -> Result<(), Fail> {
+    let alloc = rt.alloc();
+    let config = configured(&rt, alloc, PLAIN);
+    let mut rows = String::new(alloc);
+    for work in works() {
+        rows.push_str(taken_by(alloc, *work, config.sid)?.as_str())?;
+    }
+    assert_eq!(rt; rows.as_str(), TAKEN);
+    Ok(())
 }
 
 #[test]
