@@ -25,6 +25,7 @@ use Rattle.acct_server.specs.Leaves.{IsRunThrough, IsOfRun, ConfigCause, EventsC
 use Rattle.acct_server.specs.Leaves.{asked_status, IsAsked}
 use Rattle.acct_server.specs.Replaying.{Telling, Parts, RunsLines, HasRunLines, IsReplay}
 use Rattle.acct_server.specs.Replayed.{replayed}
+use Rattle.acct_server.specs.declared.replays.Replayed.{Replayed}
 
 -- a configuration that is taken breaks no rule
 pub breaks_none : (left : Option (List ℕ)) (config : Config) → IsConfigured left config → BreaksNone left
@@ -181,17 +182,15 @@ events-complete (Some document) (Some bytes) before now history status none caus
     events-asked document bytes before now history status none cause still
 
 run-complete : (left told : Option (List ℕ)) (config : Config) (events : List ℕ) (held now : Option (List ℕ))
-    (before after : ℕ) (status : Status) (history : List Entry) → IsConfigured left config
+    (before after : ℕ) (end : Replayed) → IsConfigured left config
     → IfSome left (λ document. length document ≤ most_bytes) → IsWhole told events
-    → RunsLines (begun config) events held now before after status history → NotRisen before after
-    → Asks left told history status
-run-complete None told config events held now before after status history configured short whole runs still = tt
-run-complete (Some document) None config events held now before after status history configured short whole runs still =
-    tt
-run-complete (Some document) (Some bytes) config events held now before after status history configured short whole runs
-    still =
-    subst (λ (bs : List ℕ). IsAsked document bs history status) whole.all
-    (asked-run document events history config status short configured.told whole.within runs.possible
+    → RunsLines (begun config) events held now before after end → NotRisen before after
+    → Asks left told end.history end.status
+run-complete None told config events held now before after end configured short whole runs still = tt
+run-complete (Some document) None config events held now before after end configured short whole runs still = tt
+run-complete (Some document) (Some bytes) config events held now before after end configured short whole runs still =
+    subst (λ (bs : List ℕ). IsAsked document bs end.history end.status) whole.all
+    (asked-run document events end.history config end.status short configured.told whole.within runs.possible
     (λ fault. not_risen before after still (runs.write fault)) (λ ran. (runs.through ran).ends))
 
 -- ---- a replay, by what it came to
@@ -200,42 +199,63 @@ run-complete (Some document) (Some bytes) config events held now before after st
 same-later : (m n : ℕ) → n ≡ m → m ≤ n
 same-later m n same = omega (arith, same)
 
-pub config-not-taken : {S T : Type 0} (told : Telling S T) (old new : Parts S T) (status : Status)
-    (history : List Entry) → history ≡ [] → new.out ≡ old.out → new.events ≡ old.events
-    → ConfigCause (told.left old.config) (told.read_faults old.config) (told.read_faults new.config) status
-    → told.read_faults old.config ≤ told.read_faults new.config → IsReplay told old new status history
-config-not-taken told old new status history nothing out events cause later = record {
-  leaves = inl (record { nothing = nothing; out = out; cause = inl (cause, events) });
+-- no machine was made
+pub record MadeNone (left : Replayed) : Type 0 where
+  pub opening : left.opening ≡ None
+  pub nothing : left.history ≡ []
+  pub rows : left.rows ≡ None
+
+pub made-none : (left : Replayed) → left.opening ≡ None → left.history ≡ [] → left.rows ≡ None → MadeNone left
+made-none left opening nothing rows = record { opening = opening; nothing = nothing; rows = rows }
+
+pub config-not-taken : {S T : Type 0} (told : Telling S T) (old new : Parts S T) (left : Replayed) → MadeNone left
+    → new.out ≡ old.out → new.events ≡ old.events
+    → ConfigCause (told.left old.config) (told.read_faults old.config) (told.read_faults new.config) left.status
+    → told.read_faults old.config ≤ told.read_faults new.config → IsReplay told old new left
+config-not-taken told old new left none out events cause later = record {
+  leaves = inl (record {
+    opening = none.opening;
+    nothing = none.nothing;
+    rows = none.rows;
+    out = out;
+    cause = inl (cause, events);
+  });
   complete = λ quiet. config-complete (told.left old.config) (told.left old.events) (told.read_faults old.config)
-      (told.read_faults new.config) history status cause quiet.config;
+      (told.read_faults new.config) left.history left.status cause quiet.config;
   config_later = later;
   events_later = same-later (told.read_faults old.events) (told.read_faults new.events) (ap told.read_faults events);
   out_later = same-later (told.write_faults old.out) (told.write_faults new.out) (ap told.write_faults out);
 }
 
-pub events-not-taken : {S T : Type 0} (told : Telling S T) (old new : Parts S T) (status : Status)
-    (history : List Entry) → history ≡ [] → new.out ≡ old.out → BreaksNone (told.left old.config)
-    → EventsCause (told.left old.events) (told.read_faults old.events) (told.read_faults new.events) status
+pub events-not-taken : {S T : Type 0} (told : Telling S T) (old new : Parts S T) (left : Replayed) → MadeNone left
+    → new.out ≡ old.out → BreaksNone (told.left old.config)
+    → EventsCause (told.left old.events) (told.read_faults old.events) (told.read_faults new.events) left.status
     → told.read_faults old.config ≤ told.read_faults new.config
     → told.read_faults old.events ≤ told.read_faults new.events
-    → IsReplay told old new status history
-events-not-taken told old new status history nothing out none cause config_later events_later = record {
-  leaves = inl (record { nothing = nothing; out = out; cause = inr (none, cause) });
+    → IsReplay told old new left
+events-not-taken told old new left none out breaks cause config_later events_later = record {
+  leaves = inl (record {
+    opening = none.opening;
+    nothing = none.nothing;
+    rows = none.rows;
+    out = out;
+    cause = inr (breaks, cause);
+  });
   complete = λ quiet. events-complete (told.left old.config) (told.left old.events) (told.read_faults old.events)
-      (told.read_faults new.events) history status none cause quiet.events;
+      (told.read_faults new.events) left.history left.status breaks cause quiet.events;
   config_later = config_later;
   events_later = events_later;
   out_later = same-later (told.write_faults old.out) (told.write_faults new.out) (ap told.write_faults out);
 }
 
-pub lines-run : {S T : Type 0} (told : Telling S T) (old new : Parts S T) (status : Status) (history : List Entry)
-    → HasRunLines told old new status history → told.read_faults old.config ≤ told.read_faults new.config
+pub lines-run : {S T : Type 0} (told : Telling S T) (old new : Parts S T) (left : Replayed)
+    → HasRunLines told old new left → told.read_faults old.config ≤ told.read_faults new.config
     → told.read_faults old.events ≤ told.read_faults new.events → told.write_faults old.out ≤ told.write_faults new.out
-    → IsReplay told old new status history
-lines-run told old new status history has config_later events_later out_later = record {
+    → IsReplay told old new left
+lines-run told old new left has config_later events_later out_later = record {
   leaves = inr has;
   complete = λ quiet. run-complete (told.left old.config) (told.left old.events) has.config has.events
-      (told.held old.out) (told.held new.out) (told.write_faults old.out) (told.write_faults new.out) status history
+      (told.held old.out) (told.held new.out) (told.write_faults old.out) (told.write_faults new.out) left
       has.configured has.short has.whole has.runs quiet.out;
   config_later = config_later;
   events_later = events_later;

@@ -1,12 +1,13 @@
--- The contract of a replay, by the sources and the sink before and after it. The functions tell of a source the bytes
--- that it has left and
--- its count of faults, of a sink the bytes that it holds and its count.
-use Rattle.std.specs.Prelude.{◌≡◌, ℕ, ◌≤◌, ◌⊎◌, List, [], Option, IfSome, length}
+-- The contract of a replay, by the sources and the sink before and after it, and what it leaves. The functions tell of a
+-- source the bytes that it has left and its count of faults, of a sink the bytes that it holds and its count.
+use Rattle.std.specs.Prelude.{◌≡◌, ℕ, ◌≤◌, ◌⊎◌, List, [], Option, Some, None, IfSome, length}
+use Rattle.std.specs.Option.{option_map}
 use Rattle.acct_config.specs.declared.config.Config.{Config}
-use Rattle.acct_machine.specs.declared.entry.Entry.{Entry}
 use Rattle.acct_machine.specs.State.{Start}
+use Rattle.acct_machine.specs.Step.{state_at}
 use Rattle.acct_machine.specs.Legal.{Legal}
-use Rattle.acct_server.specs.declared.status.Status.{Status}
+use Rattle.acct_rows.specs.Rows.{Lists, Shown}
+use Rattle.acct_server.specs.declared.replays.Replayed.{Replayed}
 use Rattle.acct_server.specs.declared.status.Status.TheVariants.{WriteFault, NoMemory}
 use Rattle.acct_streams.specs.Causes.{Rose, NotRisen}
 use Rattle.acct_streams.specs.Whole.{most_bytes, IsWhole}
@@ -30,51 +31,56 @@ pub record Parts (S T : Type 0) : Type 0 where
   pub events : S
   pub out : T
 
--- The lines weren't run: nothing has happened and nothing was written. Either the configuration wasn't taken, and the
--- events are
--- untouched, or it was, and the events weren't.
-pub record HasNotRun {S T : Type 0} (told : Telling S T) (old new : Parts S T) (status : Status)
-    (history : List Entry) : Type 0 where
-  pub nothing : history ≡ []
+-- the lists of rows that were left, if any were
+abbrev pub lists_in : Option Shown → Option Lists
+lists_in rows = option_map (λ (r : Shown). r.lists) rows
+
+-- The lines weren't run: no machine was made, nothing has happened and nothing was written. Either the configuration
+-- wasn't taken, and the events are untouched, or it was, and the events weren't.
+pub record HasNotRun {S T : Type 0} (told : Telling S T) (old new : Parts S T) (left : Replayed) : Type 0 where
+  pub opening : left.opening ≡ None
+  pub nothing : left.history ≡ []
+  pub rows : left.rows ≡ None
   pub out : new.out ≡ old.out
-  pub cause : (ConfigCause (told.left old.config) (told.read_faults old.config) (told.read_faults new.config) status
-      × (new.events ≡ old.events))
+  pub cause : (ConfigCause (told.left old.config) (told.read_faults old.config) (told.read_faults new.config)
+      left.status × (new.events ≡ old.events))
       ⊎ (BreaksNone (told.left old.config)
-      × EventsCause (told.left old.events) (told.read_faults old.events) (told.read_faults new.events) status)
+      × EventsCause (told.left old.events) (told.read_faults old.events) (told.read_faults new.events) left.status)
 
 -- Lines were run from one beginning.
-pub record RunsLines (start : Start) (events : List ℕ) (held now : Option (List ℕ)) (before after : ℕ) (status : Status)
-    (history : List Entry) : Type 0 where
-  pub possible : IsOfRun status
+pub record RunsLines (start : Start) (events : List ℕ) (held now : Option (List ℕ)) (before after : ℕ)
+    (left : Replayed) : Type 0 where
+  pub possible : IsOfRun left.status
+  -- the rows from which the history began, and those of the state after it
+  pub opening : lists_in left.opening ≡ Some start.rows
+  pub rows : lists_in left.rows ≡ Some (state_at start left.history).rows
   -- run to the end, to a refused line or to a full history: history, lines and status are those of the events, with
   -- the verdicts of the history
-  pub through : IsRunThrough status → Leaves start held now events history status
+  pub through : IsRunThrough left.status → Leaves start held now events left.history left.status
   -- what was sent on each connection is the transcript of the acts of what came, with the replies of its calls
-  pub transcribes : IsRunThrough status → (k : ℕ)
-      → let effects = (replayed start events history).effects in
-      IsTranscribed start history k (found_full k effects) (received k effects) (sent k effects)
+  pub transcribes : IsRunThrough left.status → (k : ℕ)
+      → let effects = (replayed start events left.history).effects in
+      IsTranscribed start left.history k (found_full k effects) (received k effects) (sent k effects)
   -- after a fault of the sink, whose count rose: the entries up to the event whose lines met it, and a front of its
   -- lines
-  pub breaks : status ≡ WriteFault → Breaks start held now events history
-  pub write : status ≡ WriteFault → Rose before after
+  pub breaks : left.status ≡ WriteFault → Breaks start held now events left.history
+  pub write : left.status ≡ WriteFault → Rose before after
   -- after want of memory: a front of the entries, and a front of the lines
-  pub stops : status ≡ NoMemory → Stops start held now events history
+  pub stops : left.status ≡ NoMemory → Stops start held now events left.history
   -- the history is legal, and access is denied there exactly where a grant or an opening's check lacks a bit
-  pub legal : Legal start history
-  pub denies : DeniesExactlyIn start history
+  pub legal : Legal start left.history
+  pub denies : DeniesExactlyIn start left.history
 
 -- The lines were run, from the seed rows, under the one configuration that the document spells and over the bytes of
--- the events; where a
--- source doesn't tell, under some right one, and over some bytes.
-pub record HasRunLines {S T : Type 0} (told : Telling S T) (old new : Parts S T) (status : Status)
-    (history : List Entry) : Type 0 where
+-- the events; where a source doesn't tell, under some right one, and over some bytes.
+pub record HasRunLines {S T : Type 0} (told : Telling S T) (old new : Parts S T) (left : Replayed) : Type 0 where
   pub config : Config
   pub events : List ℕ
   pub configured : IsConfigured (told.left old.config) config
   pub short : IfSome (told.left old.config) (λ document. length document ≤ most_bytes)
   pub whole : IsWhole (told.left old.events) events
   pub runs : RunsLines (begun config) events (told.held old.out) (told.held new.out) (told.write_faults old.out)
-      (told.write_faults new.out) status history
+      (told.write_faults new.out) left
 
 -- no count rose
 pub record AllQuiet {S T : Type 0} (told : Telling S T) (old new : Parts S T) : Type 0 where
@@ -82,13 +88,12 @@ pub record AllQuiet {S T : Type 0} (told : Telling S T) (old new : Parts S T) : 
   pub events : NotRisen (told.read_faults old.events) (told.read_faults new.events)
   pub out : NotRisen (told.write_faults old.out) (told.write_faults new.out)
 
-pub record IsReplay {S T : Type 0} (told : Telling S T) (old new : Parts S T) (status : Status)
-    (history : List Entry) : Type 0 where
-  pub leaves : HasNotRun told old new status history ⊎ HasRunLines told old new status history
+pub record IsReplay {S T : Type 0} (told : Telling S T) (old new : Parts S T) (left : Replayed) : Type 0 where
+  pub leaves : HasNotRun told old new left ⊎ HasRunLines told old new left
   -- where no count rose, the status is the one that the configuration and the events ask for, or memory was wanted
   pub complete : AllQuiet told old new
       → IfSome (told.left old.config)
-      (λ document. IfSome (told.left old.events) (λ bytes. IsAsked document bytes history status))
+      (λ document. IfSome (told.left old.events) (λ bytes. IsAsked document bytes left.history left.status))
   pub config_later : told.read_faults old.config ≤ told.read_faults new.config
   pub events_later : told.read_faults old.events ≤ told.read_faults new.events
   pub out_later : told.write_faults old.out ≤ told.write_faults new.out

@@ -1,5 +1,5 @@
 // A replay of event lines.
-ghost use Rattle.std.specs.Prelude.{◌≡◌, ◌<◌, ◌≤◌, ◌^◌, [], length, IfSome, IfOk, IfErr, OnOk};
+ghost use Rattle.std.specs.Prelude.{◌≡◌, ◌<◌, ◌≤◌, ◌^◌, [], None, length, IfSome, IfOk, IfErr, OnOk};
 ghost use Rattle.acct_server.specs.declared.status.Status.TheVariants.{NoMemory, WriteFault};
 ghost use Rattle.acct_streams.specs.Causes.{Rose};
 ghost use Rattle.acct_streams.specs.Whole.{most_bytes};
@@ -13,15 +13,18 @@ use crate::lines::next_line;
 use crate::running::Run;
 use crate::{Sink, Source, Status, WholeError, read_whole, write_all};
 use acct_base::Seq;
-use acct_machine::{Config, ConfigError, Entry, access_is_denied_exactly, read_config};
+use acct_machine::{Config, ConfigError, Entry, Rows, access_is_denied_exactly, read_config};
 use rpc_session::streams_are_cut_anywhere;
 use std::alloc::Global;
 
-/// What a replay leaves: how it ended, and the history of its machine.
+/// What a replay leaves: how it ended, the rows from which the history of its machine began, the history, and the rows
+/// after it. There are rows exactly where the machine was made, so that lines were run.
 #[derive(Drop)]
 pub struct Replayed {
     pub status: Status,
+    pub opening: Option<Rows>,
     pub history: Seq<Entry>,
+    pub rows: Option<Rows>,
 }
 
 fn unread(e: WholeError) -> Status
@@ -122,11 +125,15 @@ fn run_lines<T: Sink>(alloc: Global, run: &mut Run, bytes: &[u8], out: &mut T) -
 // A replay whose lines weren't run.
 fn not_run(alloc: Global, status: Status) -> Replayed
     ensures status { result.status ≡ status }
+    ensures opening { result.opening ≡ None }
     ensures history { result.history ≡ [] }
+    ensures rows { result.rows ≡ None }
 {
     Replayed {
         status,
+        opening: None,
         history: Seq::new(alloc),
+        rows: None,
     }
 }
 
@@ -136,15 +143,18 @@ fn run_events<T: Sink>(alloc: Global, mut run: Run, events: &[u8], out: &mut T) 
     requires peers { run.peers ≡ [] }
     requires short { length events.now < 2 ^ 32 }
     ensures runs { RunsLines run.machine.start events.now (T.held out.old) (T.held out.new) (T.faults out.old)
-        (T.faults out.new) result.status result.history }
+        (T.faults out.new) result }
     ensures later { T.faults out.old ≤ T.faults out.new }
 {
     let status = run_lines(alloc, &mut run, events, out);
     streams_are_cut_anywhere();
     access_is_denied_exactly();
+    let (opening, history, rows) = run.into_parts();
     Replayed {
         status,
-        history: Seq::from_vec(run.into_history()),
+        opening: Some(opening),
+        history: Seq::from_vec(history),
+        rows: Some(rows),
     }
 }
 
@@ -158,7 +168,7 @@ pub fn replay<S: Source, T: Sink>(
 ) -> Replayed
     ensures { IsReplay (record { left = S.left; read_faults = S.faults; held = T.held; write_faults = T.faults })
         (record { config = config.old; events = events.old; out = out.old })
-        (record { config = config.new; events = events.new; out = out.new }) result.status result.history }
+        (record { config = config.new; events = events.new; out = out.new }) result }
 {
     let configuration = match read_configuration(alloc, config) {
         Ok(configuration) => configuration,

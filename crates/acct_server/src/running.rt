@@ -32,7 +32,7 @@ use crate::printing::{closed_line, full_line, gone_line, out_line};
 use crate::requests::{Answer, Asked, request};
 use acct_base::is_same;
 use acct_codes::fault::NCA_S_SERVER_TOO_BUSY;
-use acct_machine::{Config, Entry, Listener, Machine, Opened, seed_rows};
+use acct_machine::{Config, Entry, Listener, Machine, Opened, Rows, seed_rows};
 use rpc_session::{
     Act, calls_fit, fault_bytes, refusals_are_last, room_by_length, streams_are_cut_anywhere,
 };
@@ -149,13 +149,14 @@ impl Run {
         })
     }
 
-    /// The history of the machine.
-    pub fn into_history(self) -> Vec<Entry>
-        ensures all { result.items ≡ self.machine.history }
-        ensures legal { Legal self.machine.start result.items }
+    /// The rows from which the machine's history began, the history, and the rows of the state after it.
+    pub fn into_parts(self) -> (Rows, Vec<Entry>, Rows)
+        ensures opening { result.0.lists ≡ self.machine.start.rows }
+        ensures history { result.1.items ≡ self.machine.history }
+        ensures rows { result.2.lists ≡ (state_of self.machine).rows }
+        ensures legal { Legal self.machine.start result.1.items }
     {
-        let (_opening, history, _rows) = self.machine.into_parts();
-        history
+        self.machine.into_parts()
     }
 
     // How a connection stands, by its number.
