@@ -1,10 +1,12 @@
 -- What a world shows over the calls of a command.
 use Rattle.std.proofs.Common.{◌≡◌, ◌≢◌, ℕ, ◌≤◌, ◌⊎◌, inl, inr, Bool, true, false, List, ◌∷◌, [], ◌++◌, Result, Ok, Err}
+use Rattle.std.proofs.Common.{Option, Some, None}
 use Rattle.std.proofs.Common.{refl, sym, ◌∙◌, ap, subst, arith, append_assoc, MatchResult}
 use Rattle.std.specs.Str.{bytes_eq}
 use Rattle.std.proofs.lemmas.List.{append-nil}
 use Rattle.std.proofs.lemmas.Slice.Eq.{bytes_eq-Decides}
 use Rattle.acct_streams.specs.Causes.{Rose}
+use Rattle.acct_server.specs.declared.replays.Replayed.{Replayed}
 use Rattle.acct_server.specs.declared.status.Status.{Status}
 use Rattle.acct_server.specs.declared.status.Status.TheVariants.{NoMemory}
 use Rattle.acct_server.specs.Replaying.{Telling, Parts, IsReplay}
@@ -15,7 +17,7 @@ use Rattle.acct_prog.specs.declared.part.Part.{Part}
 use Rattle.acct_prog.specs.declared.part.Part.TheVariants as part
 use Rattle.acct_prog.specs.World.{Seen, Asks, TakesSource, GivesSource, TakesSink, GivesSink, KeepsPeriod}
 use Rattle.acct_prog.specs.Commanded.{standard_input, wanted, AsksFront, TakeCause, Returned, Commanded, read_status}
-use Rattle.acct_prog.specs.Commanded.{write_status}
+use Rattle.acct_prog.specs.Commanded.{write_status, period_of, Keeps, KeepsAny}
 
 -- what holds of a name and of each other name holds of all
 by_name : (P : List ℕ → Type 0) (name other : List ℕ) → P name → (other ≢ name → P other) → P other
@@ -58,39 +60,61 @@ asked-more start old new front p so_far asks = asks ∙ ap (λ (ps : List Part).
 
 -- ---- the command
 
-abbrev Answers : {S T : Type 0} → Seen S T → Seen S T → Period → Status → Status → Type 0
-Answers old new period ended status =
-    ((status ≡ ended) × (old.tells ≡ true → new.periods ≡ old.periods ++ period ∷ [])) ⊎
-    ((status ≡ NoMemory) × (new.periods ≡ old.periods))
+keeps-one : {S T E : Type 0} (old new : Seen S T) (period : Period) (ended status : Status)
+    (answer : Result (Unit {0}) E) → KeepsPeriod old new period answer
+    → MatchResult answer (λ u. status ≡ ended) (λ e. status ≡ NoMemory) → Keeps old new (Some period) ended status
+keeps-one old new period ended status (Ok u) keeps is = inl (is, keeps.kept)
+keeps-one old new period ended status (Err e) keeps is = inr (is, keeps.none)
 
-answers : {S T E : Type 0} (w3 w4 w7 : Seen S T) (period : Period) (ended status : Status)
-    (answer : Result (Unit {0}) E) → KeepsPeriod w3 w4 period answer → w7.periods ≡ w4.periods
-    → MatchResult answer (λ u. status ≡ ended) (λ e. status ≡ NoMemory) → Answers w3 w7 period ended status
-answers w3 w4 w7 period ended status (Ok u) keeps same is = inl (is, λ tells. same ∙ keeps.kept tells)
-answers w3 w4 w7 period ended status (Err e) keeps same is = inr (is, same ∙ keeps.none)
+-- the world was asked to keep the period
+pub kept-one : {S T E : Type 0} (old new : Seen S T) (period : Period) (ended status : Status)
+    (answer : Result (Unit {0}) E) → KeepsPeriod old new period answer
+    → MatchResult answer (λ u. status ≡ ended) (λ e. status ≡ NoMemory) → KeepsAny old new (Some period) ended status
+kept-one old new period ended status answer keeps is = record {
+  periods = keeps-one old new period ended status answer keeps is;
+  sources = keeps.sources;
+  sink = keeps.sink;
+  tells = keeps.tells;
+  knows = keeps.knows;
+  asked = keeps.asked;
+}
 
-pub returned : {S T E : Type 0} (told : Telling S T) (name : List ℕ) (before after : Parts S T)
-    (w3 w4 w5 w6 w7 : Seen S T) (period : Period) (ended status : Status) (answer : Result (Unit {0}) E)
-    → name ≢ standard_input
-    → IsReplay told before after ended period.history → KeepsPeriod w3 w4 period answer → GivesSink w4 w5 after.out
-    → GivesSource w5 w6 standard_input after.events → GivesSource w6 w7 name after.config
-    → MatchResult answer (λ u. status ≡ ended) (λ e. status ≡ NoMemory) → Returned told name before w3 w7 status
-returned told name before after w3 w4 w5 w6 w7 period ended status answer differs replayed keeps sink events config is =
+-- what is kept is told by the periods alone
+keeps-later : {S T : Type 0} (old mid new : Seen S T) (period : Option Period) (ended status : Status)
+    → new.periods ≡ mid.periods → Keeps old mid period ended status → Keeps old new period ended status
+keeps-later old mid new None ended status same keeps = (keeps.0, same ∙ keeps.1)
+keeps-later old mid new (Some period) ended status same (inl is) = inl (is.0, λ tells. same ∙ is.1 tells)
+keeps-later old mid new (Some period) ended status same (inr is) = inr (is.0, same ∙ is.1)
+
+keeps-earlier : {S T : Type 0} (old mid new : Seen S T) (period : Option Period) (ended status : Status)
+    → mid.periods ≡ old.periods → mid.tells ≡ old.tells → Keeps mid new period ended status
+    → Keeps old new period ended status
+keeps-earlier old mid new None ended status same telling keeps = (keeps.0, keeps.1 ∙ same)
+keeps-earlier old mid new (Some period) ended status same telling (inl is) =
+    inl (is.0, λ tells. is.1 (telling ∙ tells) ∙ ap (λ (ps : List Period). ps ++ period ∷ []) same)
+keeps-earlier old mid new (Some period) ended status same telling (inr is) = inr (is.0, is.1 ∙ same)
+
+pub returned : {S T : Type 0} (told : Telling S T) (name : List ℕ) (before after : Parts S T)
+    (w3 w4 w5 w6 w7 : Seen S T) (left : Replayed) (status : Status) → name ≢ standard_input
+    → IsReplay told before after left → KeepsAny w3 w4 (period_of left) left.status status
+    → GivesSink w4 w5 after.out → GivesSource w5 w6 standard_input after.events → GivesSource w6 w7 name after.config
+    → Returned told name before w3 w7 status
+returned told name before after w3 w4 w5 w6 w7 left status differs replayed keeps sink events config =
     let tells5 : w5.tells ≡ w3.tells = sink.tells ∙ keeps.tells in
     let knows5 : w5.knows ≡ w3.knows = sink.knows ∙ keeps.knows in
     let tells6 : w6.tells ≡ w3.tells = events.tells ∙ tells5 in
     let knows6 : w6.knows ≡ w3.knows = events.knows ∙ knows5 in
     record {
       after = after;
-      ended = ended;
-      period = period;
+      left = left;
       replayed = replayed;
       gave_config = λ tells knows. config.holds (tells6 ∙ tells) (ap (λ (f : List ℕ → Bool). f name) knows6 ∙ knows);
       gave_events = λ tells knows. config.others standard_input (λ same. differs (sym same))
           ∙ events.holds (tells5 ∙ tells) (ap (λ (f : List ℕ → Bool). f standard_input) knows5 ∙ knows);
       gave_sink = λ tells. config.sink ∙ events.sink ∙ sink.holds (keeps.tells ∙ tells);
       asked = config.asked ∙ events.asked ∙ sink.asked ∙ keeps.asked;
-      answers = answers w3 w4 w7 period ended status answer keeps (config.periods ∙ events.periods ∙ sink.periods) is;
+      keeps = keeps-later w3 w4 w7 (period_of left) left.status status
+          (config.periods ∙ events.periods ∙ sink.periods) keeps.periods;
     }
 
 read_cause : {S T : Type 0} (old mid new : Seen S T) (e : TakeError)
@@ -198,8 +222,7 @@ has-run told name w0 w1 w2 w3 w7 config events out status differs takes taken si
     inr (record {
       before = record { config = config; events = events; out = out };
       after = back.after;
-      ended = back.ended;
-      period = back.period;
+      left = back.left;
       replayed = back.replayed;
       took_config = λ tells. (takes.part tells).0;
       took_events = λ tells. sym (takes.others standard_input (λ same. differs (sym same)))
@@ -219,12 +242,5 @@ has-run told name w0 w1 w2 w3 w7 config events out status differs takes taken si
           ∙ asked-more w0.asked w2.asked w3.asked (part.Source name ∷ part.Source standard_input ∷ []) part.Sink
           (asked-more w0.asked w1.asked w2.asked (part.Source name ∷ []) (part.Source standard_input) first second)
           third;
-      answers = elim back.answers [
-        | inl is ↦ inl (
-          is.0,
-          λ tells. is.1 (tells3 ∙ tells)
-              ∙ ap (λ (ps : List Period). ps ++ back.period ∷ []) periods3,
-        )
-        | inr is ↦ inr (is.0, is.1 ∙ periods3)
-      ];
+      keeps = keeps-earlier w0 w3 w7 (period_of back.left) back.left.status status periods3 tells3 back.keeps;
     })

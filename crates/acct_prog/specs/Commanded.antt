@@ -1,6 +1,9 @@
 -- What the command `replay CONFIG` does to a world.
-use Rattle.std.specs.Prelude.{◌≡◌, ℕ, true, List, ◌∷◌, [], ◌++◌, ◌⊎◌, codes, Some}
+use Rattle.std.specs.Prelude.{◌≡◌, ℕ, true, List, ◌∷◌, [], ◌++◌, ◌⊎◌, codes, Option, Some, None, MatchOption}
+use Rattle.acct_machine.specs.declared.entry.Entry.{Entry}
+use Rattle.acct_rows.specs.Rows.{Shown}
 use Rattle.acct_streams.specs.Causes.{Rose}
+use Rattle.acct_server.specs.declared.replays.Replayed.{Replayed}
 use Rattle.acct_server.specs.declared.status.Status.{Status}
 use Rattle.acct_server.specs.declared.status.Status.TheVariants.{ReadFault, WriteFault, NoMemory}
 use Rattle.acct_server.specs.Replaying.{Telling, Parts, IsReplay}
@@ -41,16 +44,40 @@ pub record NotHandedOut {S T : Type 0} (name : List ℕ) (old new : Seen S T) (s
   pub periods : new.periods ≡ old.periods
   pub asked : old.tells ≡ true → AsksFront (wanted name) old.asked new.asked
 
--- All parts were handed out: a replay ran over them, its history was given to the world as one period, and the world
--- has the
--- parts again.
+-- the period of rows, if there are both, and a history
+abbrev pub period_between : Option Shown → List Entry → Option Shown → Option Period
+period_between (Some opening) history (Some rows) =
+    Some (record { opening = opening; history = history; rows = rows })
+period_between _ history _ = None
+
+-- the period that a replay leaves, if its machine was made
+abbrev pub period_of : Replayed → Option Period
+period_of left = period_between left.opening left.history left.rows
+
+-- The world keeps the period, and what is answered is how it ended; or it found no memory to keep it. Where there is no
+-- period, it is asked to keep none.
+abbrev pub Keeps : {S T : Type 0} → Seen S T → Seen S T → Option Period → Status → Status → Type 0
+Keeps old new period ended status =
+    MatchOption period ((status ≡ ended) × (new.periods ≡ old.periods))
+    (λ kept. ((status ≡ ended) × (old.tells ≡ true → new.periods ≡ old.periods ++ kept ∷ []))
+    ⊎ ((status ≡ NoMemory) × (new.periods ≡ old.periods)))
+
+-- A world was asked to keep a period, if there is one, and nothing else of it has changed.
+pub record KeepsAny {S T : Type 0} (old new : Seen S T) (period : Option Period) (ended status : Status) : Type 0 where
+  pub periods : Keeps old new period ended status
+  pub sources : (name : List ℕ) → new.source name ≡ old.source name
+  pub sink : new.sink ≡ old.sink
+  pub tells : new.tells ≡ old.tells
+  pub knows : new.knows ≡ old.knows
+  pub asked : new.asked ≡ old.asked
+
+-- All parts were handed out: a replay ran over them, the world keeps the period that it left, and has the parts again.
 pub record HasRun {S T : Type 0} (told : Telling S T) (name : List ℕ) (old new : Seen S T) (status : Status) : Type 0
   where
     pub before : Parts S T
     pub after : Parts S T
-    pub ended : Status
-    pub period : Period
-    pub replayed : IsReplay told before after ended period.history
+    pub left : Replayed
+    pub replayed : IsReplay told before after left
     pub took_config : old.tells ≡ true → old.source name ≡ Some before.config
     pub took_events : old.tells ≡ true → old.source standard_input ≡ Some before.events
     pub took_sink : old.tells ≡ true → old.sink ≡ Some before.out
@@ -58,23 +85,19 @@ pub record HasRun {S T : Type 0} (told : Telling S T) (name : List ℕ) (old new
     pub gave_events : old.tells ≡ true → new.source standard_input ≡ Some after.events
     pub gave_sink : old.tells ≡ true → new.sink ≡ Some after.out
     pub asked : old.tells ≡ true → new.asked ≡ old.asked ++ wanted name
-    -- the status is the replay's, and the world keeps the period; or it found no memory to keep it
-    pub answers : ((status ≡ ended) × (old.tells ≡ true → new.periods ≡ old.periods ++ period ∷ [])) ⊎
-        ((status ≡ NoMemory) × (new.periods ≡ old.periods))
+    pub keeps : Keeps old new (period_of left) left.status status
 
--- A replay ran over parts that were out: it left its period to the world, and the world has the parts again.
+-- A replay ran over parts that were out: the world keeps the period that it left, and has the parts again.
 pub record Returned {S T : Type 0} (told : Telling S T) (name : List ℕ) (before : Parts S T) (old new : Seen S T)
     (status : Status) : Type 0 where
   pub after : Parts S T
-  pub ended : Status
-  pub period : Period
-  pub replayed : IsReplay told before after ended period.history
+  pub left : Replayed
+  pub replayed : IsReplay told before after left
   pub gave_config : old.tells ≡ true → old.knows name ≡ true → new.source name ≡ Some after.config
   pub gave_events : old.tells ≡ true → old.knows standard_input ≡ true → new.source standard_input ≡ Some after.events
   pub gave_sink : old.tells ≡ true → new.sink ≡ Some after.out
   pub asked : new.asked ≡ old.asked
-  pub answers : ((status ≡ ended) × (old.tells ≡ true → new.periods ≡ old.periods ++ period ∷ [])) ⊎
-      ((status ≡ NoMemory) × (new.periods ≡ old.periods))
+  pub keeps : Keeps old new (period_of left) left.status status
 
 abbrev pub Commanded : {S T : Type 0} → Telling S T → List ℕ → Seen S T → Seen S T → Status → Type 0
 Commanded told name old new status = NotHandedOut name old new status ⊎ HasRun told name old new status

@@ -3,9 +3,9 @@ ghost use Rattle.std.specs.Prelude.{◌≡◌, ◌≢◌, ◌↔◌, ℕ, List, 
 ghost use Rattle.std.specs.String.{string_bytes};
 ghost use Rattle.acct_server.specs.declared.status.Status.TheVariants.{Usage, NoMemory};
 ghost use Rattle.acct_prog.specs.Words.{form_of};
-ghost use Rattle.acct_prog.specs.Commanded.{Commanded, Returned, standard_input, read_status, write_status};
+ghost use Rattle.acct_prog.specs.Commanded.{Commanded, Returned, KeepsAny, standard_input, read_status, write_status};
 
-use crate::period::Period;
+use crate::period::{Period, period_of};
 use crate::take::TakeError;
 use crate::world::World;
 use acct_server::{Status, replay};
@@ -54,6 +54,16 @@ fn status_after(ended: Status, kept: Result<(), AllocError>) -> Status
     }
 }
 
+// Asks the world to keep a period, if there is one.
+fn keep<W: World>(world: &mut W, period: Option<Period>, ended: Status) -> Status
+    ensures { KeepsAny (W.seen world.old) (W.seen world.new) period ended result }
+{
+    match period {
+        Some(period) => status_after(ended, world.keep_period(period)),
+        None => ended,
+    }
+}
+
 // Runs a replay over parts that were handed out, leaves its period to the world, and gives the parts back.
 fn run_parts<W: World>(
     alloc: Global,
@@ -75,10 +85,7 @@ fn run_parts<W: World>(
 {
     let replayed = replay(alloc, &mut config, &mut events, &mut out);
     let ended = replayed.status;
-    let kept = world.keep_period(Period {
-        history: replayed.history,
-    });
-    let status = status_after(ended, kept);
+    let status = keep(world, period_of(replayed), ended);
     world.give_sink(out);
     world.give_source("-", events);
     world.give_source(name, config);

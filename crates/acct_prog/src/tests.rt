@@ -3,7 +3,7 @@
 use crate::opened::Opened;
 use crate::words::text_of;
 use crate::{HostSink, HostSource, MemoryWorld, Part, account};
-use acct_machine::Entry;
+use acct_machine::{Entry, Rows};
 use acct_server::{
     MemorySink, MemorySource, Sink, Source, Status, SteadySink, SteadySource, read_whole, write_all,
 };
@@ -11,6 +11,7 @@ use std::alloc::Global;
 use std::process::Abort;
 use std::test::Fail;
 
+mod accounts;
 mod limits;
 mod objects;
 mod several;
@@ -39,6 +40,9 @@ fn line_of(name: &str) -> &'static str {
         return text;
     }
     if let Some(text) = line_in(limits::LINES, name) {
+        return text;
+    }
+    if let Some(text) = line_in(accounts::LINES, name) {
         return text;
     }
     line_in(several::LINES, name).unwrap_or("a line without a name")
@@ -182,7 +186,7 @@ fn entry_text(alloc: Global, entry: &Entry) -> Result<String, Fail> {
     })
 }
 
-/// The history of the one period in words, or that there is none.
+/// The histories of the periods in words, or that there is none.
 fn history_text(
     alloc: Global,
     world: &MemoryWorld<MemorySource, MemorySink>,
@@ -295,6 +299,11 @@ fn domains_and_accounts_are_looked_up(rt: HostRuntime) -> Result<(), Fail> {
 }
 
 #[test]
+fn accounts_are_created_shown_set_and_deleted(rt: HostRuntime) -> Result<(), Fail> {
+    tell_all(&rt, rt.alloc(), accounts::ACCOUNTS)
+}
+
+#[test]
 fn several_connections_are_served(rt: HostRuntime) -> Result<(), Fail> {
     tell_all(&rt, rt.alloc(), several::SEVERAL)
 }
@@ -331,6 +340,37 @@ fn written_text(
 ) -> Result<String, Fail> {
     let text = std::str::from_utf8(written(world)).ok().unwrap_or("");
     Ok(String::from_str(alloc, text)?)
+}
+
+/// The numbers of the domains of rows, each with the RIDs of its accounts.
+fn rows_text(alloc: Global, rows: &Rows) -> Result<String, Fail> {
+    let mut text = String::new(alloc);
+    for domain in rows.domains() {
+        text.push_str(format!(in alloc; "{}:", domain.number)?.as_str())?;
+        for account in rows.accounts() {
+            if account.domain == domain.number {
+                text.push_str(format!(in alloc; " {}", account.rid)?.as_str())?;
+            }
+        }
+        text.push(';')?;
+    }
+    Ok(text)
+}
+
+#[test]
+fn a_period_has_the_rows_before_and_after(rt: HostRuntime) -> Result<(), Fail> {
+    let alloc = rt.alloc();
+    let words = words_of(alloc, "replay first.toml")?;
+    let events = lines_of(alloc, "OPEN BIND CONNECT")?;
+    let mut world = world_of(alloc, config_of(alloc, "")?, events, making_of(""))?;
+    assert_eq!(rt; account(alloc, &words, &mut world), Status::Done);
+    assert_eq!(rt; world.periods().len(), 1);
+    let seeded = "0: 500 501 512 513 514;1: 544 545 546;";
+    for period in world.periods() {
+        assert_eq!(rt; rows_text(alloc, &period.opening)?.as_str(), seeded);
+        assert_eq!(rt; rows_text(alloc, &period.rows)?.as_str(), seeded);
+    }
+    Ok(())
 }
 
 /// A run of the events as they are.

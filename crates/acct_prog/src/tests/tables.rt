@@ -118,20 +118,20 @@ pub const OTHER_WORDS: &str = "||||/0|Usage|none
 |play first.toml||OPEN|/0|Usage|none";
 
 /// Other configurations. `PART>TEXT` has a text in the place of a part; in the last rows the server has a descriptor.
-pub const CONFIGURATIONS: &str = "|replay first.toml|[domain]>[domain|OPEN|/0|Config(0)|
-|replay first.toml|sid = \"S-1-5-21-1-2-3\">|OPEN|/0|Config(1)|
-|replay first.toml|S-1-5-21-1-2-3\">S-1-5-32\"|OPEN|/0|Config(3)|
-|replay first.toml|name = \"a\">name = \"A\"|OPEN|/0|Config(4)|
-|replay first.toml|4045>65536|OPEN|/0|Config(5)|
+pub const CONFIGURATIONS: &str = "|replay first.toml|[domain]>[domain|OPEN|/0|Config(0)|none
+|replay first.toml|sid = \"S-1-5-21-1-2-3\">|OPEN|/0|Config(1)|none
+|replay first.toml|S-1-5-21-1-2-3\">S-1-5-32\"|OPEN|/0|Config(3)|none
+|replay first.toml|name = \"a\">name = \"A\"|OPEN|/0|Config(4)|none
+|replay first.toml|4045>65536|OPEN|/0|Config(5)|none
 |replay first.toml|cut|OPEN BIND CONNECT CLOSE END|ACK CONNECTED CLOSED GONE|Done|opened 1 0;called 1 57 Ran 8;called 1 1 Ran 20;gone 1;
 |replay first.toml|deny-allow|OPEN-B BIND CONNECT-10 CONNECT-20 CONNECT|ACK DENIED CONNECTED CONNECTED-AGAIN GONE|Done|opened 1 1;called 1 57 Ran 8;called 1 57 Ran 8;called 1 57 Ran 8;gone 1;
 |replay first.toml|deny-allow|OPEN BIND CONNECT-10|ACK CONNECTED GONE|Done|opened 1 0;called 1 57 Ran 8;gone 1;
 |replay first.toml|allow-deny|OPEN-B BIND CONNECT-10|ACK CONNECTED GONE|Done|opened 1 1;called 1 57 Ran 8;gone 1;";
 
 /// Reads, writes and handings out that fail. `LINES/N` are the first N bytes of these lines.
-pub const FAULTS: &str = "c1|replay first.toml||OPEN|/0|ReadFault|
-e1|replay first.toml||OPEN|/0|ReadFault|
-e2|replay first.toml||OPEN|/0|ReadFault|
+pub const FAULTS: &str = "c1|replay first.toml||OPEN|/0|ReadFault|none
+e1|replay first.toml||OPEN|/0|ReadFault|none
+e2|replay first.toml||OPEN|/0|ReadFault|none
 w1|replay first.toml||OPEN BIND CONNECT CLOSE END|/0|WriteFault|opened 1 0;
 w2|replay first.toml||OPEN BIND CONNECT CLOSE END|ACK|WriteFault|opened 1 0;called 1 57 Ran 8;
 w3|replay first.toml||OPEN BIND CONNECT CLOSE END|ACK CONNECTED|WriteFault|opened 1 0;called 1 57 Ran 8;called 1 1 Ran 20;

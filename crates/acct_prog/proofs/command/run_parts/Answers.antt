@@ -10,10 +10,7 @@ returns g c =
     returned (record { left = s.left; read_faults = s.faults; held = t.held; write_faults = t.faults }) c.args.name.now
     (record { config = c.args.config; events = c.args.events; out = c.args.out })
     (record { config = r.new.config; events = r.new.events; out = r.new.out }) (w.seen c.args.world.now)
-    (w.seen c.keep_period-kept.new.self) (w.seen c.give_sink.new.self) (w.seen c.give_source.new.self)
-    (w.seen c.give_source-2.new.self)
-    (record { history = r.result.history }) r.result.status c.status_after-status.result c.keep_period-kept.result
-    c.requires
-    r.ensures
-    c.keep_period-kept.ensures.keeps c.give_sink.ensures.gives c.give_source.ensures.gives c.give_source-2.ensures.gives
-    c.status_after-status.ensures
+    (w.seen c.keep-status.new.world) (w.seen c.give_sink.new.self) (w.seen c.give_source.new.self)
+    (w.seen c.give_source-2.new.self) r.result c.keep-status.result c.requires r.ensures
+    (rw c.period_of.ensures at c.keep-status.ensures) c.give_sink.ensures.gives c.give_source.ensures.gives
+    c.give_source-2.ensures.gives
