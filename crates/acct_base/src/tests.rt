@@ -1,4 +1,4 @@
-use crate::{Seq, front_u16, front_u32, is_same, push_u16, push_u32, rest_of};
+use crate::{Seq, decimal, front_u16, front_u32, is_same, parted, push_u16, push_u32, rest_of};
 use std::test::Fail;
 
 #[test]
@@ -29,4 +29,22 @@ fn numbers_stand_low_byte_first(rt: HostRuntime) -> Result<(), Fail> {
     assert_eq!(rt; front_u16(&[2, 1, 6]), 0x0102);
     assert_eq!(rt; front_u32(&[6, 5, 4, 3, 2]), 0x0304_0506);
     Ok(())
+}
+
+#[test]
+fn words_and_decimals_are_read(rt: HostRuntime) {
+    assert_eq!(rt;
+        parted(b"end 7 8", b' '),
+        Some((b"end".as_slice(), b"7 8".as_slice()))
+    );
+    assert_eq!(rt;
+        parted(b" 7", b' '),
+        Some((b"".as_slice(), b"7".as_slice()))
+    );
+    assert_eq!(rt; parted(b"end", b' '), None);
+    assert_eq!(rt; decimal(b"4294967296"), Some(4_294_967_296));
+    assert_eq!(rt; decimal(b"007"), Some(7));
+    assert_eq!(rt; decimal(b""), Some(0));
+    assert_eq!(rt; decimal(b"1/"), None);
+    assert_eq!(rt; decimal(b":1"), None);
 }

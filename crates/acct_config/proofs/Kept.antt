@@ -27,7 +27,7 @@ use Rattle.acct_config.specs.Spelled.{count_of, listener_of, ace_at, acl_of, des
 use Rattle.acct_config.specs.Spelled.{config_of}
 use Rattle.acct_calls.specs.Domains.{is_domain_sid}
 use Rattle.acct_config.specs.Values.{administrators, is_listener_name, are_distinct}
-use Rattle.acct_config.specs.Words.{is_within}
+use Rattle.acct_base.specs.Words.{is_within}
 
 -- where no rule is broken, each is kept
 nth_kept : (number : ℕ) (rules : List Bool) (i : ℕ) (k : Bool) → first_broken_from number rules ≡ None →

@@ -9,7 +9,7 @@ use Rattle.std.proofs.lemmas.List.Sums.{split_at_first, passes_at_first}
 use Rattle.std.specs.Char.{digit_value}
 use Rattle.std.specs.List.{list_any, before_first, after_first, position_or_len}
 use Rattle.std.specs.Str.Parse.{AllDigits}
-use Rattle.acct_config.specs.Words.{parted}
+use Rattle.acct_base.specs.Words.{parted}
 
 -- the separator stands behind what has none
 position_behind : (p : ℕ → Bool) (front : List ℕ) (c : ℕ) (rest : List ℕ) → list_any p front ≡ false → p c ≡ true →

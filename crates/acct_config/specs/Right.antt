@@ -13,7 +13,7 @@ use Rattle.acct_config.specs.Kinds.{kinds}
 use Rattle.acct_config.specs.Ranges.{range_of}
 use Rattle.acct_calls.specs.Domains.{is_domain_name, is_domain_sid}
 use Rattle.acct_config.specs.Values.{is_listener_name, are_distinct}
-use Rattle.acct_config.specs.Words.{is_within}
+use Rattle.acct_base.specs.Words.{is_within}
 
 -- a listener has a name and an address, a token of 1 to 64 SIDs, 1 to 64 workers, and a number of links of 32 bits
 abbrev pub is_right_listener : Listener → Bool

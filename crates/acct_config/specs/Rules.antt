@@ -17,7 +17,7 @@ use Rattle.acct_config.specs.Ranges.{each_limit, limit_key, range_of}
 use Rattle.acct_config.specs.Shape.{is_document, found}
 use Rattle.acct_calls.specs.Domains.{name_of_text, is_domain_name, is_domain_sid}
 use Rattle.acct_config.specs.Values.{is_listener_name, are_distinct}
-use Rattle.acct_config.specs.Words.{is_within}
+use Rattle.acct_base.specs.Words.{is_within}
 
 -- the account domain
 abbrev pub domain_name : Data → List ℕ

@@ -4,7 +4,7 @@ use Rattle.std.specs.List.{list_all, list_any}
 use Rattle.std.specs.Str.{bytes_eq}
 use Rattle.acct_codes.specs.Rids.{security_nt_authority, security_builtin_domain_rid, domain_alias_rid_admins}
 use Rattle.dtyp_sid.specs.Value.{SidValue}
-use Rattle.acct_config.specs.Words.{is_within}
+use Rattle.acct_base.specs.Words.{is_within}
 
 -- the SID of the administrators, S-1-5-32-544 (MS-DTYP 2.4.2.4)
 abbrev pub administrators : SidValue

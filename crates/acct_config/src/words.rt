@@ -1,6 +1,9 @@
 // Words and numbers in a text.
 ghost use Rattle.std.specs.Prelude.{◌≡◌, ◌<◌, ◌≤◌, length, option_map};
-ghost use Rattle.acct_config.specs.Words.{parted, decimal_from, decimal_of, hexadecimal_from};
+ghost use Rattle.acct_base.specs.Words.{parted, decimal_from};
+ghost use Rattle.acct_config.specs.Words.{decimal_of, hexadecimal_from};
+
+use acct_base::decimal;
 
 /// What stands before the first separator, and what stands behind it.
 pub fn parted(text: &str, separator: char) -> Option<(&str, &str)>
@@ -8,21 +11,6 @@ pub fn parted(text: &str, separator: char) -> Option<(&str, &str)>
     ensures { option_map (λ parts. (parts.0.now, parts.1.now)) result ≡ parted separator text.now }
 {
     text.split_once(separator)
-}
-
-// The number that at most five decimal digits spell.
-fn decimal_from_zero(text: &[u8]) -> Option<u32>
-    requires { length text.now ≤ 5 }
-    ensures { result ≡ decimal_from 0 text.now }
-{
-    let mut number: u32 = 0;
-    for byte in text {
-        if *byte < b'0' || b'9' < *byte {
-            return None;
-        }
-        number = 10 * number + (*byte - b'0') as u32;
-    }
-    Some(number)
 }
 
 /// The number that a text spells in at most so many decimal digits, five or fewer, without leading zeros.
@@ -34,7 +22,7 @@ pub fn decimal_of(most: usize, text: &[u8]) -> Option<u32>
     if text.is_empty() || most < text.len() || (text[0] == b'0' && 1 < text.len()) {
         return None;
     }
-    decimal_from_zero(text)
+    Some(decimal(text)? as u32)
 }
 
 /// The number that at most eight hexadecimal digits of either case spell.

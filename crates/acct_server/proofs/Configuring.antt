@@ -9,7 +9,7 @@ use Rattle.acct_config.specs.declared.errors.ConfigError.TheVariants as refusal
 use Rattle.acct_config.specs.Errors.{IsFirst}
 use Rattle.acct_config.specs.Rules.{first_broken}
 use Rattle.acct_config.specs.Spelled.{IsSpelledBy}
-use Rattle.acct_config.specs.Words.{is_within}
+use Rattle.acct_base.specs.Words.{is_within}
 use Rattle.acct_machine.specs.declared.entry.Entry.{Entry}
 use Rattle.acct_server.specs.declared.status.Status.{Status}
 use Rattle.acct_server.specs.declared.status.Status.TheVariants.{Done, NoMemory, Usage, Config as ConfigBroken}

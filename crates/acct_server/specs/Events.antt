@@ -1,8 +1,8 @@
 -- The lines of an event file, and what each of them says.
 use Rattle.std.specs.Prelude.{ℕ, ◌+◌, ◌-◌, ◌*◌, ◌^◌, ◌≤◌, ◌==◌, Bool, false, ◌&&◌, not, List, [], ◌∷◌, length, codes}
 use Rattle.std.specs.Prelude.{Option, Some, None, Result, Ok, Err, if◌then◌else◌, nat_lt, nat_le}
-use Rattle.std.specs.List.{before_first, after_first, position_or_len}
 use Rattle.std.specs.Str.{bytes_eq}
+use Rattle.acct_base.specs.Words.{parted, decimal_from}
 use Rattle.hex.specs.Hex.{decode_of}
 use Rattle.hex.specs.declared.FromHexError.{FromHexError}
 use Rattle.acct_server.specs.declared.events.Event.{Event}
@@ -22,21 +22,6 @@ lines_of [] = []
 lines_of (b ∷ bytes) =
     if b == 10 then [] ∷ lines_of bytes
     else (if (b == 13) && begins_with_feed bytes then lines_of bytes else first_line b (lines_of bytes))
-
-abbrev pub is_space : ℕ → Bool
-is_space b = b == 32
-
--- what stands before the first space, and what stands behind it
-abbrev pub parted : List ℕ → Option (List ℕ × List ℕ)
-parted bytes =
-    if nat_lt (position_or_len is_space bytes) (length bytes)
-    then Some (before_first is_space bytes, after_first is_space bytes)
-    else None
-
--- the number that decimal digits spell, behind those of a number
-abbrev pub decimal_from : ℕ → List ℕ → Option ℕ
-decimal_from n [] = Some n
-decimal_from n (b ∷ bytes) = if nat_le 48 b && nat_le b 57 then decimal_from (10 * n + (b - 48)) bytes else None
 
 abbrev pub below_2^32 : Option ℕ → Option ℕ
 below_2^32 None = None
@@ -75,12 +60,12 @@ of_two command (Some (word, rest)) =
 abbrev pub of_command : Option (List ℕ × List ℕ) → Option Event
 of_command None = None
 of_command (Some (command, rest)) =
-    if bytes_eq command (codes "end") then ends (number_of rest) else of_two command (parted rest)
+    if bytes_eq command (codes "end") then ends (number_of rest) else of_two command (parted 32 rest)
 
 -- what a line says: `open N LISTENER`, `data N HEX`, `end N`, or nothing in an empty line and behind a `#`
 unfoldable pub event_of : List ℕ → Option Event
 event_of [] = Some Nothing
-event_of (b ∷ line) = if b == 35 then Some Nothing else of_command (parted (b ∷ line))
+event_of (b ∷ line) = if b == 35 then Some Nothing else of_command (parted 32 (b ∷ line))
 
 -- data has at most so many bytes
 abbrev pub DataFits : ℕ → Event → Type 0

@@ -3,13 +3,15 @@ ghost use Rattle.std.specs.Prelude.{◌≡◌, ◌+◌, ◌≤◌, Some, None, O
 ghost use Rattle.std.specs.Prelude.{option_map};
 ghost use Rattle.std.specs.List.{position_or_len};
 ghost use Rattle.acct_server.specs.declared.events.LineError.TheVariants.{NoMemory, Refused};
-ghost use Rattle.acct_server.specs.Events.{is_space, parted, decimal_from, number_of, brings, of_two, of_command};
+ghost use Rattle.acct_base.specs.Words.{parted};
+ghost use Rattle.acct_server.specs.Events.{number_of, brings, of_two, of_command};
 ghost use Rattle.acct_server.specs.Events.{event_of, DataFits};
 ghost use Rattle.hex.specs.Hex.{decode_of};
 
-use acct_base::{Seq, is_same, rest_of};
+use acct_base::{Seq, decimal, is_same, parted};
 use hex::FromHexError;
 use std::alloc::{AllocError, Global};
+use thiserror::Error;
 
 /// What a line of an event file says.
 #[derive(Debug, Drop)]
@@ -25,10 +27,12 @@ pub enum Event {
 }
 
 /// Why a line wasn't run.
-#[derive(Clone, Copy, Debug, PartialEq, Eq)]
+#[derive(Clone, Copy, Debug, PartialEq, Eq, Error)]
 pub enum LineError {
     /// It has no form, or its condition fails.
+    #[error("the line has no form, or nothing stands open for it")]
     Refused,
+    #[error("there is no memory to run the line")]
     NoMemory,
 }
 
@@ -40,34 +44,6 @@ impl From<AllocError> for LineError {
     }
 }
 
-// What stands before the first space, and what stands behind it.
-fn parted(bytes: &[u8]) -> Option<(&[u8], &[u8])>
-    ensures value { option_map (λ parts. (parts.0.now, parts.1.now)) result ≡ parted bytes.now }
-    ensures shorter { IfSome result (λ parts. length parts.1.now < length bytes.now) }
-{
-    for i in 0..bytes.len() {
-        if bytes[i] == b' ' {
-            return Some((&bytes[..i], rest_of(bytes, i + 1)));
-        }
-    }
-    None
-}
-
-// The number that at most ten digits spell.
-fn decimal_from_zero(word: &[u8]) -> Option<u64>
-    requires { length word.now ≤ 10 }
-    ensures { result ≡ decimal_from 0 word.now }
-{
-    let mut number: u64 = 0;
-    for byte in word {
-        if *byte < b'0' || b'9' < *byte {
-            return None;
-        }
-        number = 10 * number + (*byte - b'0') as u64;
-    }
-    Some(number)
-}
-
 // The number below 2^32 that digits without a leading zero spell.
 #[tactic(auto, unfolding(crate::specs::Events::number_of))]
 fn number_of(word: &[u8]) -> Option<u32>
@@ -76,7 +52,7 @@ fn number_of(word: &[u8]) -> Option<u32>
     if word.is_empty() || 10 < word.len() || word[0] == b'0' {
         return None;
     }
-    let number = decimal_from_zero(word)?;
+    let number = decimal(word)?;
     if number < 0x1_0000_0000 {
         Some(number as u32)
     } else {
@@ -123,11 +99,11 @@ fn of_two(alloc: Global, command: &[u8], word: &[u8], rest: &[u8]) -> Result<Eve
 
 // A line with a command.
 fn of_command(alloc: Global, line: &[u8]) -> Result<Event, LineError>
-    ensures found { IfOk result (λ event. of_command (parted line.now) ≡ Some event) }
+    ensures found { IfOk result (λ event. of_command (parted 32 line.now) ≡ Some event) }
     ensures short { IfOk result (DataFits (length line.now)) }
-    ensures refused { result ≡ Err Refused → of_command (parted line.now) ≡ None }
+    ensures refused { result ≡ Err Refused → of_command (parted 32 line.now) ≡ None }
 {
-    let Some((command, rest)) = parted(line) else {
+    let Some((command, rest)) = parted(line, b' ') else {
         return Err(LineError::Refused);
     };
     if is_same(command, b"end") {
@@ -136,7 +112,7 @@ fn of_command(alloc: Global, line: &[u8]) -> Result<Event, LineError>
             None => Err(LineError::Refused),
         };
     }
-    match parted(rest) {
+    match parted(rest, b' ') {
         Some((word, rest)) => of_two(alloc, command, word, rest),
         None => Err(LineError::Refused),
     }
