@@ -199,6 +199,14 @@ pub record EachMemberStands (lists : Lists) : Type 0 where
 abbrev pub EachMemberIsFound : Type 0
 EachMemberIsFound = (lists : Lists) → IsSoundRows lists → EachMemberStands lists
 
+-- so it is with each account of the policy, which keeps its rules
+pub record EachLsaStands (lists : Lists) : Type 0 where
+  pub accounts : All (λ (l : LsaRow). (lsa_at lists l.sid ≡ Some l) × IsGoodLsa l) lists.lsa
+  pub account_sid : (sid : SidValue) (l : LsaRow) → lsa_at lists sid ≡ Some l → l.sid ≡ sid
+
+abbrev pub EachLsaIsGood : Type 0
+EachLsaIsGood = (lists : Lists) → IsSoundRows lists → EachLsaStands lists
+
 -- An account and every row that names it are gone, and every other row is left as it was: neither the account's RID nor
 -- its name finds it.
 pub record IsWithout (domain rid : ℕ) (sid : SidValue) (lists later : Lists) : Type 0 where

@@ -38,6 +38,13 @@ alias_key a = a.domain ∷ a.alias ∷ sid_key a.member
 abbrev pub lsa_key : LsaRow → List ℕ
 lsa_key l = sid_key l.sid
 
+-- the numbers of the account domain, which has every group and every user, and of BUILTIN, which has aliases alone
+abbrev pub account_domain : ℕ
+account_domain = 0
+
+abbrev pub builtin_domain : ℕ
+builtin_domain = 1
+
 -- the rows: the domains, their accounts, the members of groups and of aliases, and the accounts of the policy
 pub record Lists : Type 0 where
   pub domains : List DomainRow

@@ -5,7 +5,7 @@ ghost use Rattle.acct_rows.specs.Laws.{ReplacedAccountsStaySound, OwnNameIsFree,
 ghost use Rattle.acct_rows.specs.Laws.{MembersStaySound, RemovedMembersStaySound, AliasRowsStaySound};
 ghost use Rattle.acct_rows.specs.Laws.{RemovedAliasRowsStaySound, LsaAccountsStaySound, RemovedLsaAccountsStaySound};
 ghost use Rattle.acct_rows.specs.Laws.{OthersAreNoPrimary, RemovedAccountsStaySound, EachIsGood, PutsAreFound};
-ghost use Rattle.acct_rows.specs.Laws.{PutsLeaveOthers, NamingIsRemoved, EachMemberIsFound, PutsAreUndone};
+ghost use Rattle.acct_rows.specs.Laws.{PutsLeaveOthers, NamingIsRemoved, EachMemberIsFound, PutsAreUndone, EachLsaIsGood};
 
 /// A row that was put is found at its key.
 pub fn puts_are_found()
@@ -111,6 +111,11 @@ pub fn each_is_good()
 /// Each member row and each alias row of sound rows is found at its key.
 pub fn each_member_is_found()
     ensures { EachMemberIsFound }
+{}
+
+/// Each account of the policy of sound rows stands at its key and keeps its rules.
+pub fn each_lsa_is_good()
+    ensures { EachLsaIsGood }
 {}
 
 /// A member row or an alias row that is put and removed again leaves the rows as they were.

@@ -18,7 +18,10 @@ mod seed;
 
 pub use object::Object;
 pub use plan::Plan;
-pub use row::{AccountRow, AliasRow, DomainRow, Held, LsaRow, MemberRow, Privileges, Row, RowKey};
+pub use row::{
+    ACCOUNT_DOMAIN, AccountRow, AliasRow, BUILTIN_DOMAIN, DomainRow, Held, LsaRow, MemberRow,
+    Privileges, Row, RowKey,
+};
 pub use rows::Rows;
 
 #[cfg(test)]

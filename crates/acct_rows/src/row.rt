@@ -4,7 +4,13 @@ use acct_calls::Name;
 use acct_codes::Kind;
 use dtyp_sid::Sid;
 
-/// A domain: 0 is the account domain, 1 is BUILTIN. A created account takes the next relative identifier (RID).
+/// The number of the account domain, which has every group and every user.
+pub const ACCOUNT_DOMAIN: u8 = 0;
+
+/// The number of BUILTIN, which has aliases alone.
+pub const BUILTIN_DOMAIN: u8 = 1;
+
+/// A domain by its number. A created account takes the next relative identifier (RID).
 #[derive(Debug, Drop, PartialEq, Eq)]
 pub struct DomainRow {
     pub number: u8,

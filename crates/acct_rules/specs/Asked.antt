@@ -107,3 +107,8 @@ put_number _ = 0
 abbrev pub units_in : Option (List ℕ) → ℕ
 units_in None = 0
 units_in (Some units) = length units
+
+-- a name or a text that was brought; the empty one where none was
+abbrev pub or_empty : Option (List ℕ) → List ℕ
+or_empty None = []
+or_empty (Some units) = units

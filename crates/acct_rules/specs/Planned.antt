@@ -9,6 +9,7 @@ use Rattle.acct_calls.specs.declared.replies.Outs.TheVariants as outs
 use Rattle.acct_codes.specs.Statuses.{status_success}
 use Rattle.acct_rows.specs.declared.object.Object.{Object}
 use Rattle.acct_rows.specs.declared.row.Row.{Row}
+use Rattle.acct_rows.specs.declared.row.RowKey.{RowKey}
 use Rattle.acct_rules.specs.declared.planned.Opening.{Opening}
 use Rattle.acct_rules.specs.declared.planned.Effect.{Effect}
 use Rattle.acct_rules.specs.declared.planned.Effect.TheVariants as effects
@@ -67,6 +68,14 @@ creates object desired rid puts =
       outs = outs.Created zero_handle 0 rid;
       plan = record { puts = puts; removes = [] };
     }
+
+-- some rows are put, and nothing is shown
+abbrev pub puts : List Row → Planned
+puts rows = record (answers status_success outs.Nothing) { plan = record { puts = rows; removes = [] } }
+
+-- the rows at some keys are removed, and nothing is shown
+abbrev pub removes : List RowKey → Planned
+removes keys = record (answers status_success outs.Nothing) { plan = record { puts = []; removes = keys } }
 
 -- the end of the handle that was brought, in whose place the zero handle goes back
 abbrev pub closes : Planned

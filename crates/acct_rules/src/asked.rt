@@ -1,13 +1,14 @@
 // What the arguments of a call ask for.
-ghost use Rattle.std.specs.Prelude.{◌≡◌};
+ghost use Rattle.std.specs.Prelude.{◌≡◌, IfOk};
 ghost use Rattle.std.specs.Option.{option_copied};
 ghost use Rattle.acct_rules.specs.Asked.{class_of, desired_access, has_account, asked_sid, asked_rid, asked_name};
 ghost use Rattle.acct_rules.specs.Asked.{asked_names, asked_rids, asked_context, asked_length, asked_filter};
-ghost use Rattle.acct_rules.specs.Asked.{made_name, made_bits, put_text, put_number, units_in};
+ghost use Rattle.acct_rules.specs.Asked.{made_name, made_bits, put_text, put_number, units_in, or_empty};
 
-use acct_calls::{Args, Info, Name};
+use acct_calls::{Args, Info, Name, NoMemory};
 use acct_rows::Rows;
 use dtyp_sid::Sid;
+use std::alloc::Global;
 
 /// The class of information that is asked for, or set.
 pub fn class_of(args: &Args) -> u16
@@ -179,5 +180,15 @@ pub fn units_in(text: Option<&Name>) -> usize
     match text {
         Some(text) => text.units().len(),
         None => 0,
+    }
+}
+
+/// A copy of a name or a text; the empty one where there is none.
+pub fn text_or_empty(alloc: Global, text: Option<&Name>) -> Result<Name, NoMemory>
+    ensures { IfOk result (λ copy. copy ≡ or_empty (option_copied text.entry)) }
+{
+    match text {
+        Some(text) => text.copy(alloc),
+        None => Ok(Name::from_units(Vec::new(alloc))),
     }
 }

@@ -20,12 +20,15 @@ pub use acct_calls::NoMemory;
 pub use acct_rows::Object;
 pub use asked::{
     asked_context, asked_filter, asked_length, asked_name, asked_names, asked_rid, asked_rids,
-    asked_sid, class_of, desired_access, made_bits, made_name, put_number, put_text, units_in,
+    asked_sid, class_of, desired_access, made_bits, made_name, put_number, put_text, text_or_empty,
+    units_in,
 };
 pub use mapped::mapped_status;
 pub use outputs::fill;
 pub use pages::{PageRoom, page_status};
-pub use planned::{Effect, Opening, Planned, answers, closes, creates, opens, refusal};
+pub use planned::{
+    Effect, Opening, Planned, answers, closes, creates, opens, puts, refusal, removes,
+};
 pub use profile::{Brings, Kinds, Memory, Needs, Profile, asking, needed_bits};
 
 #[cfg(test)]

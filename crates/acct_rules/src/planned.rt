@@ -1,11 +1,11 @@
 // What a call does that its conditions let pass, and what a refusal does: a plan.
 ghost use Rattle.std.specs.Prelude.{◌≡◌};
-ghost use Rattle.acct_rules.specs.Planned.{answers, opens, creates, closes, refusal};
+ghost use Rattle.acct_rules.specs.Planned.{answers, opens, creates, puts, removes, closes, refusal};
 
 use acct_base::Seq;
 use acct_calls::{Handle, Outs};
 use acct_codes::status::STATUS_SUCCESS;
-use acct_rows::{Object, Plan, Row};
+use acct_rows::{Object, Plan, Row, RowKey};
 use std::alloc::Global;
 
 /// What is opened, and with which access.
@@ -91,6 +91,32 @@ pub fn creates(alloc: Global, object: Object, desired: u32, rid: u32, puts: Seq<
             removes: Seq::new(alloc),
         },
         effect: Effect::Opens(Opening { object, desired }),
+    }
+}
+
+/// Rows that are put, with nothing shown.
+pub fn puts(alloc: Global, rows: Seq<Row>) -> Planned
+    ensures { result ≡ puts rows }
+{
+    Planned {
+        plan: Plan {
+            puts: rows,
+            removes: Seq::new(alloc),
+        },
+        ..answers(alloc, STATUS_SUCCESS, Outs::Nothing)
+    }
+}
+
+/// Rows that are removed, by their keys, with nothing shown.
+pub fn removes(alloc: Global, keys: Seq<RowKey>) -> Planned
+    ensures { result ≡ removes keys }
+{
+    Planned {
+        plan: Plan {
+            puts: Seq::new(alloc),
+            removes: keys,
+        },
+        ..answers(alloc, STATUS_SUCCESS, Outs::Nothing)
     }
 }
 

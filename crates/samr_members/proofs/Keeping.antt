@@ -15,10 +15,9 @@ use Rattle.acct_rows.specs.declared.object.Object.TheVariants as objects
 use Rattle.acct_rows.specs.declared.row.AccountRow.{AccountRow}
 use Rattle.acct_rules.specs.Asked.{asked_rid, asked_sid}
 use Rattle.acct_rules.specs.Operations.{KeepsRows, Keeps}
-use Rattle.acct_rules.specs.Planned.{answers}
+use Rattle.acct_rules.specs.Planned.{answers, puts, removes}
 use Rattle.dtyp_sid.specs.Value.{SidValue, IsSid}
 use Rattle.samr_members.specs.Aliases.{added_row, added_rows, removed_keys}
-use Rattle.samr_members.specs.Changes.{puts, removes}
 use Rattle.samr_members.specs.Groups.{added_rid, added_member, is_user, is_member, is_primary, has_primary}
 use Rattle.samr_members.specs.Table.{add_member_to_group, remove_member_from_group, add_member_to_alias}
 use Rattle.samr_members.specs.Table.{remove_member_from_alias}

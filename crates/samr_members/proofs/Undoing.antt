@@ -13,11 +13,10 @@ use Rattle.acct_rows.specs.declared.object.Object.{Object}
 use Rattle.acct_rows.specs.declared.row.AccountRow.{AccountRow}
 use Rattle.acct_rows.specs.declared.row.RowKey.TheVariants as keys
 use Rattle.acct_rules.specs.Asked.{asked_rid, asked_sid}
-use Rattle.acct_rules.specs.Planned.{none_fails}
+use Rattle.acct_rules.specs.Planned.{none_fails, puts, removes}
 use Rattle.dtyp_sid.specs.Value.{SidValue}
 use Rattle.samr_members.specs.Aliases.{is_alias_member, added_row, added_rows, removed_keys, add_alias_member}
 use Rattle.samr_members.specs.Aliases.{remove_alias_member}
-use Rattle.samr_members.specs.Changes.{puts, removes}
 use Rattle.samr_members.specs.Groups.{added_rid, added_member, is_user, is_member, is_primary, has_primary}
 use Rattle.samr_members.specs.Groups.{add_group_member, remove_group_member}
 use Rattle.samr_members.specs.Laws.{with_member, with_alias_member}

@@ -13,9 +13,8 @@ use Rattle.acct_rows.specs.declared.row.Row.TheVariants as rows
 use Rattle.acct_rows.specs.declared.row.RowKey.{RowKey}
 use Rattle.acct_rows.specs.declared.row.RowKey.TheVariants as keys
 use Rattle.acct_rules.specs.Asked.{asked_sid}
-use Rattle.acct_rules.specs.Planned.{Ruled, when, answers}
+use Rattle.acct_rules.specs.Planned.{Ruled, when, answers, puts, removes}
 use Rattle.dtyp_sid.specs.Value.{SidValue}
-use Rattle.samr_members.specs.Changes.{puts, removes}
 
 -- ---- changes
 

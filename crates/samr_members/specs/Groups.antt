@@ -8,15 +8,14 @@ use Rattle.acct_codes.specs.Statuses.{status_success, status_no_such_user, statu
 use Rattle.acct_codes.specs.Statuses.{status_member_not_in_group, status_members_primary_group}
 use Rattle.acct_codes.specs.declared.kind.Kind.TheVariants as kind
 use Rattle.acct_rows.specs.Objects.{rid_of}
-use Rattle.acct_rows.specs.Rows.{Lists, account_at, is_of, member_at, members_of, groups_of}
+use Rattle.acct_rows.specs.Rows.{Lists, account_domain, account_at, is_of, member_at, members_of, groups_of}
 use Rattle.acct_rows.specs.declared.object.Object.{Object}
 use Rattle.acct_rows.specs.declared.row.AccountRow.{AccountRow}
 use Rattle.acct_rows.specs.declared.row.MemberRow.{MemberRow}
 use Rattle.acct_rows.specs.declared.row.Row.TheVariants as rows
 use Rattle.acct_rows.specs.declared.row.RowKey.TheVariants as keys
 use Rattle.acct_rules.specs.Asked.{asked_rid}
-use Rattle.acct_rules.specs.Planned.{Ruled, when, answers}
-use Rattle.samr_members.specs.Changes.{puts, removes}
+use Rattle.acct_rules.specs.Planned.{Ruled, when, answers, puts, removes}
 
 -- ---- what is brought
 
@@ -31,10 +30,6 @@ added_attributes (args.RidBits rid bits) = bits
 added_attributes _ = 0
 
 -- ---- conditions
-
--- the number of the account domain
-abbrev pub account_domain : ℕ
-account_domain = 0
 
 -- a user has the RID
 abbrev pub is_user : Lists → ℕ → Bool

@@ -1,5 +1,4 @@
 pub mod Aliases
-pub mod Changes
 pub mod Groups
 pub mod Laws
 pub mod Table

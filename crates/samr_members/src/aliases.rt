@@ -6,12 +6,11 @@ ghost use Rattle.acct_rules.specs.Planned.{decision, none_fails};
 ghost use Rattle.samr_members.specs.Aliases.{is_alias_member, added_rows, removed_keys, sids_shown, asked_sids};
 ghost use Rattle.samr_members.specs.Aliases.{alias_membership, add_alias_member, remove_alias_member, alias_members};
 
-use crate::changes::{puts, removes};
 use acct_base::Seq;
 use acct_calls::{Args, Outs, Rids, Sids};
 use acct_codes::status::{STATUS_MEMBER_IN_ALIAS, STATUS_MEMBER_NOT_IN_ALIAS, STATUS_SUCCESS};
 use acct_rows::{AliasRow, Object, Row, RowKey, Rows};
-use acct_rules::{NoMemory, Planned, answers, asked_sid, refusal};
+use acct_rules::{NoMemory, Planned, answers, asked_sid, puts, refusal, removes};
 use std::alloc::Global;
 
 // The SID that was brought is a member of the alias.

@@ -5,7 +5,6 @@ ghost use Rattle.samr_members.specs.Groups.{added_rid, added_attributes, is_user
 ghost use Rattle.samr_members.specs.Groups.{members_shown, groups_shown, add_group_member};
 ghost use Rattle.samr_members.specs.Groups.{remove_group_member, group_members, user_groups};
 
-use crate::changes::{puts, removes};
 use acct_base::Seq;
 use acct_calls::{Args, Outs, RidBits, RidBitsList};
 use acct_codes::Kind;
@@ -13,12 +12,9 @@ use acct_codes::status::{
     STATUS_MEMBER_IN_GROUP, STATUS_MEMBER_NOT_IN_GROUP, STATUS_MEMBERS_PRIMARY_GROUP,
     STATUS_NO_SUCH_USER, STATUS_SUCCESS,
 };
-use acct_rows::{MemberRow, Object, Row, RowKey, Rows};
-use acct_rules::{NoMemory, Planned, answers, asked_rid, refusal};
+use acct_rows::{ACCOUNT_DOMAIN, MemberRow, Object, Row, RowKey, Rows};
+use acct_rules::{NoMemory, Planned, answers, asked_rid, puts, refusal, removes};
 use std::alloc::Global;
-
-/// The number of the account domain, which has every group and every user.
-const ACCOUNT_DOMAIN: u8 = 0;
 
 // The RID of the member that is added.
 fn added_rid(args: &Args) -> u32

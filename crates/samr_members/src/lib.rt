@@ -10,7 +10,6 @@
 #![tactic(auto)]
 
 mod aliases;
-mod changes;
 mod groups;
 pub mod laws;
 

@@ -37,7 +37,7 @@ use Rattle.acct_rows.specs.Laws.{PutsAreFound, IsNew, nothing}
 use Rattle.acct_rows.specs.Laws as laws
 use Rattle.acct_rows.specs.Objects.{kind_of, domain_of, exists}
 use Rattle.acct_rows.specs.Rows.{Lists, domain_at, account_at, find_name, same_kind, is_of, put_row, with_puts}
-use Rattle.acct_rows.specs.Rows.{account_key, has_name}
+use Rattle.acct_rows.specs.Rows.{builtin_domain, account_key, has_name}
 use Rattle.acct_rows.specs.Sound.{IsSoundRows, IsGoodDomain, IsGoodRow, is_user_type, control_is_good, next_rid_of}
 use Rattle.acct_rows.specs.Sound.{is_account_kind, good_place, good_bits, good_primary}
 use Rattle.acct_rows.specs.declared.object.Object.{Object}
@@ -47,11 +47,11 @@ use Rattle.acct_rows.specs.declared.row.DomainRow.{DomainRow}
 use Rattle.acct_rows.specs.declared.row.MemberRow.{MemberRow}
 use Rattle.acct_rows.specs.declared.row.Row.{Row}
 use Rattle.acct_rows.specs.declared.row.Row.TheVariants as rows
-use Rattle.acct_rules.specs.Asked.{made_name, made_bits}
+use Rattle.acct_rules.specs.Asked.{made_name, made_bits, or_empty}
 use Rattle.acct_rules.specs.Operations.{Keeps, IsRight, KeepsRows, is_condition_status}
 use Rattle.acct_rules.specs.Planned.{creates, none_fails, when, zero_handle}
-use Rattle.samr_objects.specs.Creations.{new_conditions, new_rid, risen, risen_row, or_empty, new_account, new_rows}
-use Rattle.samr_objects.specs.Creations.{new_group, new_user, new_control, new_member, builtin}
+use Rattle.samr_objects.specs.Creations.{new_conditions, new_rid, risen, risen_row, new_account, new_rows}
+use Rattle.samr_objects.specs.Creations.{new_group, new_user, new_control, new_member}
 use Rattle.samr_objects.specs.Laws.{IsCreated, Creates}
 use Rattle.samr_objects.specs.Naming.{is_invalid_name, holder, is_another, exists_as, exists_status}
 use Rattle.samr_objects.specs.Naming.{gives_no_rid}
@@ -521,7 +521,7 @@ create_user2-right = record {
 
 group-in : RowLaws → (r : Lists) (n : ℕ) (d : DomainRow) (asked : Args) → IsSoundRows r → domain_at r n ≡ Some d
     → AreUnits (or_empty (made_name asked))
-    → none_fails (when (n == builtin) status_not_supported ∷ new_conditions r kind.Group n asked) ≡ true
+    → none_fails (when (n == builtin_domain) status_not_supported ∷ new_conditions r kind.Group n asked) ≡ true
     → Made r (with_puts (new_rows r (new_group r n asked)) r) (objects.Group (new_rid r n))
 group-in l r n d asked sound there units none =
     group-made l r n d asked sound there
@@ -530,7 +530,7 @@ group-in l r n d asked sound there units none =
 
 user-in : RowLaws → (r : Lists) (n : ℕ) (d : DomainRow) (asked : Args) → IsSoundRows r → domain_at r n ≡ Some d
     → AreUnits (or_empty (made_name asked))
-    → none_fails (when (n == builtin) status_not_supported
+    → none_fails (when (n == builtin_domain) status_not_supported
     ∷ when (not (is_user_type (made_bits asked))) status_invalid_parameter
     ∷ new_conditions r kind.User n asked) ≡ true
     → Made r (with_puts (user-rows r n asked) r) (objects.User (new_rid r n))
@@ -629,7 +629,7 @@ with-member r d a m was = record {
 
 group-created : FoundLaws → (r : Lists) (n : ℕ) (d : DomainRow) (asked : Args) → IsSoundRows r
     → domain_at r n ≡ Some d → AreUnits (or_empty (made_name asked))
-    → none_fails (when (n == builtin) status_not_supported ∷ new_conditions r kind.Group n asked) ≡ true
+    → none_fails (when (n == builtin_domain) status_not_supported ∷ new_conditions r kind.Group n asked) ≡ true
     → IsCreated kind.Group r (with_puts (new_rows r (new_group r n asked)) r) n (or_empty (made_name asked))
     (outs.Created zero_handle 0 (new_rid r n))
 group-created l r n d asked sound there units none =
@@ -656,7 +656,7 @@ alias-created l r n d asked sound there units none =
 
 user-created : FoundLaws → (r : Lists) (n : ℕ) (d : DomainRow) (asked : Args) → IsSoundRows r
     → domain_at r n ≡ Some d → AreUnits (or_empty (made_name asked))
-    → none_fails (when (n == builtin) status_not_supported
+    → none_fails (when (n == builtin_domain) status_not_supported
     ∷ when (not (is_user_type (made_bits asked))) status_invalid_parameter
     ∷ new_conditions r kind.User n asked) ≡ true
     → IsCreated kind.User r (with_puts (user-rows r n asked) r) n (or_empty (made_name asked))

@@ -40,13 +40,13 @@ use Rattle.acct_rows.specs.declared.object.Object.TheVariants as objects
 use Rattle.acct_rows.specs.declared.row.AccountRow.{AccountRow}
 use Rattle.acct_rows.specs.declared.row.DomainRow.{DomainRow}
 use Rattle.acct_rows.specs.declared.row.Row.TheVariants as rows
-use Rattle.acct_rules.specs.Asked.{class_of, put_text, put_number}
+use Rattle.acct_rules.specs.Asked.{class_of, put_text, put_number, or_empty}
 use Rattle.acct_rules.specs.Operations.{IsRight, KeepsRows, Keeps, is_condition_status}
-use Rattle.acct_rules.specs.Planned.{Condition, none_fails}
+use Rattle.acct_rules.specs.Planned.{Condition, none_fails, puts}
 use Rattle.samr_objects.specs.Laws.{AccountIsSet, DomainIsSet, SetsAccount, SetsDomain}
 use Rattle.samr_objects.specs.Naming.{is_invalid_name, holder, is_another, exists_as, exists_status, is_too_long}
-use Rattle.samr_objects.specs.Settings.{set_field, sets_oem, field_conditions, text_in, with_field, with_oem}
-use Rattle.samr_objects.specs.Settings.{account_puts, domain_puts, sets}
+use Rattle.samr_objects.specs.Settings.{set_field, sets_oem, field_conditions, with_field, with_oem}
+use Rattle.samr_objects.specs.Settings.{account_puts, domain_puts}
 use Rattle.samr_objects.specs.Table.{set_information_domain, set_information_group, set_information_alias}
 use Rattle.samr_objects.specs.Table.{set_information_user, set_information_user2}
 use Rattle.samr_objects.specs.declared.settings.Field.{Field}
@@ -194,11 +194,11 @@ unfolding samr_layout
 user2-asks call face opnum spelled =
     asks-put subject.User call.args (arguments call Samr samr_set_information_user2 face opnum spelled).1
 
-text-units : (o : Option (List ℕ)) → IfThere IsText o → AreUnits (text_in o)
+text-units : (o : Option (List ℕ)) → IfThere IsText o → AreUnits (or_empty o)
 text-units None text = All-nil (λ unit. unit < 2 ^ 16)
 text-units (Some t) text = text.1
 
-text-most : (o : Option (List ℕ)) → is_too_long o ≡ false → length (text_in o) ≤ most_text
+text-most : (o : Option (List ℕ)) → is_too_long o ≡ false → length (or_empty o) ≤ most_text
 text-most None short = omega arith
 text-most (Some t) short = grind (arith, nat_tests)
 
@@ -225,7 +225,7 @@ module _ (own : OwnNameIsFree) (unused : UnusedNameIsFree) (found : NameFoundIsF
       found r (record old { name = name }) b sound is (one-rid b.rid old.rid another)
 
   name-set : (o : Option (List ℕ)) → IfThere IsText o → is_invalid_name old.kind o ≡ false
-      → is_another (Some old.rid) (holder r old.domain o) ≡ false → Replaces r old (record old { name = text_in o })
+      → is_another (Some old.rid) (holder r old.domain o) ≡ false → Replaces r old (record old { name = or_empty o })
   name-set None text valid another = cc
   name-set (Some name) text valid another = record {
     there = there;
@@ -249,7 +249,7 @@ module _ (own : OwnNameIsFree) (unused : UnusedNameIsFree) (found : NameFoundIsF
   }
 
   full_name-set : (o : Option (List ℕ)) → IfThere IsText o → is_too_long o ≡ false
-      → Replaces r old (record old { full_name = text_in o })
+      → Replaces r old (record old { full_name = or_empty o })
   full_name-set o text short = record {
     there = there;
     kind = refl;
@@ -266,13 +266,13 @@ module _ (own : OwnNameIsFree) (unused : UnusedNameIsFree) (found : NameFoundIsF
       control = good.itself.control;
       primary_kind = good.itself.primary_kind;
     };
-    free = own r old (record old { full_name = text_in o }) sound there refl;
+    free = own r old (record old { full_name = or_empty o }) sound there refl;
     primary_group = good.primary_group;
     primary_member = good.primary_member;
   }
 
   comment-set : (o : Option (List ℕ)) → IfThere IsText o → is_too_long o ≡ false
-      → Replaces r old (record old { comment = text_in o })
+      → Replaces r old (record old { comment = or_empty o })
   comment-set o text short = record {
     there = there;
     kind = refl;
@@ -289,7 +289,7 @@ module _ (own : OwnNameIsFree) (unused : UnusedNameIsFree) (found : NameFoundIsF
       control = good.itself.control;
       primary_kind = good.itself.primary_kind;
     };
-    free = own r old (record old { comment = text_in o }) sound there refl;
+    free = own r old (record old { comment = or_empty o }) sound there refl;
     primary_group = good.primary_group;
     primary_member = good.primary_member;
   }
@@ -451,7 +451,7 @@ pub record SetLaws : Type 0 where
 account-keeps : SetLaws → (r : Lists) (k : Kind) (object : Object) (asked : Args) → IsSoundRows r
     → is_account_kind k ≡ true → exists r object ≡ true → same_kind k (kind_of object) ≡ true → AsksPut asked
     → none_fails (field_conditions r k object asked (set_field k (class_of asked))) ≡ true
-    → Keeps r (sets (account_puts (set_field k (class_of asked)) asked
+    → Keeps r (puts (account_puts (set_field k (class_of asked)) asked
     (account_at r (domain_of object) (rid_of object))))
 account-keeps laws r k object asked sound account there taken asks none =
     let f = set_field k (class_of asked) in
@@ -459,7 +459,7 @@ account-keeps laws r k object asked sound account there taken asks none =
     let fit = set-fits k (class_of asked) in
     let replaces = field-set laws.own laws.unused laws.found r k object asked w.0 sound w.1 asks f fit none in
     let law = laws.replaced r w.0 (with_field f asked w.0) sound replaces in
-    subst (λ o. Keeps r (sets (account_puts f asked o))) (sym w.1.found)
+    subst (λ o. Keeps r (puts (account_puts f asked o))) (sym w.1.found)
     (record { sound = law.sound; stays = λ x was other. law.stays x was refl; opens = λ opening is. cc })
 
 pub set_group-keeps : SetLaws → KeepsRows set_information_group
@@ -501,7 +501,7 @@ domain-there each r objects.Policy sound there taken = cc
 domain-there each r (objects.Account s) sound there taken = cc
 
 oem-good : (d : DomainRow) (o : Option (List ℕ)) → IsGoodDomain d → IfThere IsText o → is_too_long o ≡ false
-    → IsGoodDomain (record d { oem = text_in o })
+    → IsGoodDomain (record d { oem = or_empty o })
 oem-good d o good text short = record {
   sid_whole = good.sid_whole;
   name_units = good.name_units;
@@ -524,7 +524,7 @@ set_domain-keeps stay each r object call is none =
     let short = second-holds (not (sets_oem (class_of call.args))) (is_too_long (put_text call.args)) none in
     let good = oem-good w.0 (put_text call.args) (is.rows.domain_rules w.0.number w.0 stands) asks.text short in
     let law = stay r w.0 (with_oem call.args w.0) is.rows stands good (omega arith) in
-    subst (λ o. Keeps r (sets (domain_puts call.args o))) (sym w.1)
+    subst (λ o. Keeps r (puts (domain_puts call.args o))) (sym w.1)
     (record { sound = law.sound; stays = λ x was other. law.stays x was refl; opens = λ opening is. cc })
 
 -- ---- what was set is there
@@ -573,12 +573,12 @@ some-field r k object asked (Some f) none = refl
 account-set : PutsAreFound → PutsLeaveOthers → EachIsGood → (r : Lists) (k : Kind) (object : Object) (asked : Args)
     → IsSoundRows r → is_account_kind k ≡ true → exists r object ≡ true → same_kind k (kind_of object) ≡ true
     → AccountIsSet object (with_field (set_field k (class_of asked)) asked) r
-    (after (sets (account_puts (set_field k (class_of asked)) asked
+    (after (puts (account_puts (set_field k (class_of asked)) asked
     (account_at r (domain_of object) (rid_of object)))).plan r)
 account-set found leave each r k object asked sound account there taken =
     let f = set_field k (class_of asked) in
     let w = is-there each r k object sound account there taken in
-    subst (λ o. AccountIsSet object (with_field f asked) r (after (sets (account_puts f asked o)).plan r))
+    subst (λ o. AccountIsSet object (with_field f asked) r (after (puts (account_puts f asked o)).plan r))
     (sym w.1.found)
     (row-set found leave r object w.0 (with_field f asked w.0) (with_field f asked) w.1.found refl
     (key-domain f asked w.0 ∙ w.1.domain) (key-rid f asked w.0 ∙ w.1.rid))
@@ -611,7 +611,7 @@ pub domain-set : PutsAreFound → PutsLeaveOthers → EachIsGood → SetsDomain 
 domain-set found leave each r object call is none =
     let w = domain-there each r object is.rows is.there is.taken in
     let later = with_oem call.args w.0 in
-    subst (λ o. DomainIsSet object (with_oem call.args) r (after (sets (domain_puts call.args o)).plan r)) (sym w.1)
+    subst (λ o. DomainIsSet object (with_oem call.args) r (after (puts (domain_puts call.args o)).plan r)) (sym w.1)
     (record {
       row =
           subst (λ n. domain_at (put_row (rows.Domain later) r) n ≡ Some later) w.2 ((found r).domain later)

@@ -8,7 +8,7 @@ use Rattle.acct_codes.specs.UserControl.{user_account_disabled, user_password_no
 use Rattle.acct_codes.specs.declared.kind.Kind.{Kind}
 use Rattle.acct_codes.specs.declared.kind.Kind.TheVariants as kind
 use Rattle.acct_rows.specs.Objects.{domain_of}
-use Rattle.acct_rows.specs.Rows.{Lists, domain_at}
+use Rattle.acct_rows.specs.Rows.{Lists, builtin_domain, domain_at}
 use Rattle.acct_rows.specs.Sound.{is_user_type, next_rid_of}
 use Rattle.acct_rows.specs.declared.object.Object.{Object}
 use Rattle.acct_rows.specs.declared.object.Object.TheVariants.{Group, Alias, User}
@@ -17,15 +17,11 @@ use Rattle.acct_rows.specs.declared.row.DomainRow.{DomainRow}
 use Rattle.acct_rows.specs.declared.row.MemberRow.{MemberRow}
 use Rattle.acct_rows.specs.declared.row.Row.{Row}
 use Rattle.acct_rows.specs.declared.row.Row.TheVariants as rows
-use Rattle.acct_rules.specs.Asked.{made_name, made_bits, desired_access}
+use Rattle.acct_rules.specs.Asked.{made_name, made_bits, desired_access, or_empty}
 use Rattle.acct_rules.specs.Planned.{Condition, Ruled, when, creates}
 use Rattle.samr_objects.specs.Naming.{name_conditions, gives_no_rid}
 
 -- ---- what they share
-
--- the number of BUILTIN, which has aliases alone
-abbrev pub builtin : ℕ
-builtin = 1
 
 -- the conditions of every new account: it may take its name, and its domain has a RID for it
 abbrev pub new_conditions : Lists → Kind → ℕ → Args → List Condition
@@ -45,11 +41,6 @@ risen d = record d { next_rid = d.next_rid + 1 }
 abbrev pub risen_row : Option DomainRow → List Row
 risen_row None = []
 risen_row (Some d) = rows.Domain (risen d) ∷ []
-
--- the name that was asked for, or the empty one
-abbrev pub or_empty : Option (List ℕ) → List ℕ
-or_empty None = []
-or_empty (Some name) = name
 
 -- a new account has the name that was asked for, no full name and no comment
 abbrev pub new_account : Lists → Kind → ℕ → Args → AccountRow
@@ -79,7 +70,7 @@ create_group r domain asked =
     let number = domain_of domain in
     let group = new_group r number asked in
     record {
-      conditions = when (number == builtin) status_not_supported ∷ new_conditions r kind.Group number asked;
+      conditions = when (number == builtin_domain) status_not_supported ∷ new_conditions r kind.Group number asked;
       planned = creates (Group group.rid) (desired_access asked) group.rid (new_rows r group);
     }
 
@@ -122,7 +113,7 @@ create_user r domain asked =
     let user = new_user r number asked in
     record {
       conditions =
-          when (number == builtin) status_not_supported
+          when (number == builtin_domain) status_not_supported
           ∷ when (not (is_user_type (made_bits asked))) status_invalid_parameter
           ∷ new_conditions r kind.User number asked;
       planned =

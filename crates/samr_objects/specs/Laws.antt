@@ -12,7 +12,7 @@ use Rattle.acct_layouts.specs.Classes.{shown_arm}
 use Rattle.acct_layouts.specs.declared.classes.Subject.TheVariants as subject
 use Rattle.acct_rows.specs.Objects.{exists, domain_of, rid_of}
 use Rattle.acct_rows.specs.declared.object.Object.TheVariants as object
-use Rattle.acct_rules.specs.Asked.{class_of, made_name}
+use Rattle.acct_rules.specs.Asked.{class_of, made_name, or_empty}
 use Rattle.acct_rules.specs.Pages.{page, page_status}
 use Rattle.acct_rules.specs.Planned.{Ruled, none_fails, zero_handle, decision, answers}
 use Rattle.samr_objects.specs.Entries.{cost}
@@ -43,7 +43,6 @@ use Rattle.samr_objects.specs.Deletions.{account_sid}
 use Rattle.samr_objects.specs.Settings.{set_field, with_field, with_oem}
 use Rattle.acct_calls.specs.declared.replies.Outs.{Outs}
 use Rattle.acct_calls.specs.declared.replies.Outs.TheVariants as outs
-use Rattle.samr_objects.specs.Creations.{or_empty}
 
 pub record AreRight : Type 0 where
   pub look_domain : IsRight lookup_domain_in_sam_server

@@ -1,27 +1,25 @@
 -- The operations that set information of a domain or an account, by classes.
 use Rattle.std.specs.Prelude.{ℕ, ◌==◌, Bool, true, not, List, [], ◌∷◌, Option, Some, None, is_some, if◌then◌else◌}
 use Rattle.acct_calls.specs.declared.calls.Args.{Args}
-use Rattle.acct_calls.specs.declared.replies.Outs.TheVariants as outs
 use Rattle.acct_codes.specs.InfoClasses.{domain_oem_information, group_name_information, group_attribute_information}
 use Rattle.acct_codes.specs.InfoClasses.{group_admin_comment_information, alias_name_information}
 use Rattle.acct_codes.specs.InfoClasses.{alias_admin_comment_information, user_account_name_information}
 use Rattle.acct_codes.specs.InfoClasses.{user_full_name_information, user_primary_group_information}
 use Rattle.acct_codes.specs.InfoClasses.{user_admin_comment_information, user_control_information}
-use Rattle.acct_codes.specs.Statuses.{status_success, status_invalid_info_class, status_invalid_parameter}
+use Rattle.acct_codes.specs.Statuses.{status_invalid_info_class, status_invalid_parameter}
 use Rattle.acct_codes.specs.Statuses.{status_no_such_group, status_member_not_in_group}
 use Rattle.acct_codes.specs.declared.kind.Kind.{Kind}
 use Rattle.acct_codes.specs.declared.kind.Kind.TheVariants as kind
 use Rattle.acct_rows.specs.Objects.{domain_of, rid_of}
-use Rattle.acct_rows.specs.Rows.{Lists, domain_at, account_at, member_at, is_of}
+use Rattle.acct_rows.specs.Rows.{Lists, account_domain, domain_at, account_at, member_at, is_of}
 use Rattle.acct_rows.specs.Sound.{control_is_good}
 use Rattle.acct_rows.specs.declared.object.Object.{Object}
 use Rattle.acct_rows.specs.declared.row.AccountRow.{AccountRow}
 use Rattle.acct_rows.specs.declared.row.DomainRow.{DomainRow}
 use Rattle.acct_rows.specs.declared.row.Row.{Row}
 use Rattle.acct_rows.specs.declared.row.Row.TheVariants as rows
-use Rattle.acct_rules.specs.Asked.{class_of, put_text, put_number}
-use Rattle.acct_rules.specs.Planned.{Condition, Ruled, when, answers}
-use Rattle.acct_rules.specs.declared.planned.Planned.{Planned}
+use Rattle.acct_rules.specs.Asked.{class_of, put_text, put_number, or_empty}
+use Rattle.acct_rules.specs.Planned.{Condition, Ruled, when, puts}
 use Rattle.samr_objects.specs.Naming.{name_conditions, is_too_long}
 use Rattle.samr_objects.specs.declared.settings.Field.{Field}
 use Rattle.samr_objects.specs.declared.settings.Field.TheVariants as field
@@ -66,7 +64,7 @@ sets_oem class = class == domain_oem_information
 -- there is no such group, or the user isn't its member
 abbrev pub primary_conditions : Lists → ℕ → ℕ → List Condition
 primary_conditions r group user =
-    when (not (is_of kind.Group (account_at r 0 group))) status_no_such_group
+    when (not (is_of kind.Group (account_at r account_domain group))) status_no_such_group
     ∷ when (not (is_some (member_at r group user))) status_member_not_in_group
     ∷ []
 
@@ -86,22 +84,18 @@ field_conditions r k object asked (Some field.Primary) = primary_conditions r (p
 
 -- ---- what is set
 
-abbrev pub text_in : Option (List ℕ) → List ℕ
-text_in None = []
-text_in (Some text) = text
-
 -- the row with the field as it is asked for, and all else as it was
 abbrev pub with_field : Option Field → Args → AccountRow → AccountRow
 with_field None asked a = a
-with_field (Some field.Name) asked a = record a { name = text_in (put_text asked) }
-with_field (Some field.FullName) asked a = record a { full_name = text_in (put_text asked) }
-with_field (Some field.Comment) asked a = record a { comment = text_in (put_text asked) }
+with_field (Some field.Name) asked a = record a { name = or_empty (put_text asked) }
+with_field (Some field.FullName) asked a = record a { full_name = or_empty (put_text asked) }
+with_field (Some field.Comment) asked a = record a { comment = or_empty (put_text asked) }
 with_field (Some field.Attributes) asked a = record a { bits = put_number asked }
 with_field (Some field.Control) asked a = record a { bits = put_number asked }
 with_field (Some field.Primary) asked a = record a { primary = put_number asked }
 
 abbrev pub with_oem : Args → DomainRow → DomainRow
-with_oem asked d = record d { oem = text_in (put_text asked) }
+with_oem asked d = record d { oem = or_empty (put_text asked) }
 
 abbrev pub account_puts : Option Field → Args → Option AccountRow → List Row
 account_puts set asked None = []
@@ -110,10 +104,6 @@ account_puts set asked (Some a) = rows.Account (with_field set asked a) ∷ []
 abbrev pub domain_puts : Args → Option DomainRow → List Row
 domain_puts asked None = []
 domain_puts asked (Some d) = rows.Domain (with_oem asked d) ∷ []
-
--- rows are put, and no output comes
-abbrev pub sets : List Row → Planned
-sets puts = record (answers status_success outs.Nothing) { plan = record { puts = puts; removes = [] } }
 
 -- ---- operations
 
@@ -124,7 +114,7 @@ set_domain r domain asked = record {
       when (not (sets_oem (class_of asked))) status_invalid_info_class
       ∷ when (is_too_long (put_text asked)) status_invalid_parameter
       ∷ [];
-  planned = sets (domain_puts asked (domain_at r (domain_of domain)));
+  planned = puts (domain_puts asked (domain_at r (domain_of domain)));
 }
 
 -- a set of an account of the kind
@@ -133,7 +123,7 @@ set_account k r object asked =
     let set = set_field k (class_of asked) in
     record {
       conditions = field_conditions r k object asked set;
-      planned = sets (account_puts set asked (account_at r (domain_of object) (rid_of object)));
+      planned = puts (account_puts set asked (account_at r (domain_of object) (rid_of object)));
     }
 
 -- SamrSetInformationGroup (MS-SAMR 3.1.5.6.2)

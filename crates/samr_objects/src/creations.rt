@@ -5,13 +5,13 @@ ghost use Rattle.acct_rows.specs.Sound.{is_user_type};
 ghost use Rattle.acct_rules.specs.Asked.{made_name};
 ghost use Rattle.acct_rules.specs.Planned.{decision, first_failed, none_fails};
 ghost use Rattle.samr_objects.specs.Naming.{gives_no_rid};
-ghost use Rattle.samr_objects.specs.Creations.{new_conditions, new_rid, risen, or_empty, new_account};
+ghost use Rattle.samr_objects.specs.Creations.{new_conditions, new_rid, risen, new_account};
 ghost use Rattle.samr_objects.specs.Creations.{new_rows, new_control, new_member};
 ghost use Rattle.samr_objects.specs.Creations.{create_group, create_alias, create_user};
 
 use crate::naming::{gives_no_rid, refused_name};
 use acct_base::Seq;
-use acct_calls::{Args, Name};
+use acct_calls::Args;
 use acct_codes::Kind;
 use acct_codes::group_attribute::NEW_GROUP_ATTRIBUTES;
 use acct_codes::rid::DOMAIN_GROUP_RID_USERS;
@@ -22,12 +22,11 @@ use acct_codes::user_control::{
     USER_ACCOUNT_DISABLED, USER_NORMAL_ACCOUNT, USER_PASSWORD_NOT_REQUIRED,
     USER_SERVER_TRUST_ACCOUNT, USER_WORKSTATION_TRUST_ACCOUNT,
 };
-use acct_rows::{AccountRow, DomainRow, MemberRow, Object, Row, Rows};
-use acct_rules::{NoMemory, Planned, creates, desired_access, made_bits, made_name, refusal};
+use acct_rows::{AccountRow, BUILTIN_DOMAIN, DomainRow, MemberRow, Object, Row, Rows};
+use acct_rules::{
+    NoMemory, Planned, creates, desired_access, made_bits, made_name, refusal, text_or_empty,
+};
 use std::alloc::Global;
-
-/// The number of BUILTIN, which has aliases alone.
-const BUILTIN: u8 = 1;
 
 // The status that refuses a new account, where one does: its name is refused, or its domain has no RID for it.
 fn refused_account(rows: &Rows, kind: Kind, domain: u8, args: &Args) -> Option<u32>
@@ -63,15 +62,6 @@ fn risen(alloc: Global, domain: &DomainRow) -> Result<DomainRow, NoMemory>
     })
 }
 
-fn new_name(alloc: Global, args: &Args) -> Result<Name, NoMemory>
-    ensures { IfOk result (λ name. name ≡ or_empty (made_name args.now)) }
-{
-    match made_name(args) {
-        Some(name) => name.copy(alloc),
-        None => Ok(Name::from_units(Vec::new(alloc))),
-    }
-}
-
 // An account of the kind with the next RID of its domain and the name that is asked for.
 fn new_account(
     alloc: Global,
@@ -86,7 +76,7 @@ fn new_account(
         domain,
         rid: new_rid(rows, domain),
         kind,
-        name: new_name(alloc, args)?,
+        name: text_or_empty(alloc, made_name(args))?,
         full_name: Name::from_units(Vec::new(alloc)),
         comment: Name::from_units(Vec::new(alloc)),
         bits: 0,
@@ -118,7 +108,7 @@ pub fn create_group(
     ensures frugal { OnErr result (none_fails (create_group rows.now.lists domain args.now).conditions ≡ true) }
 {
     let number = domain.domain();
-    if number == BUILTIN {
+    if number == BUILTIN_DOMAIN {
         return Ok(refusal(alloc, STATUS_NOT_SUPPORTED));
     }
     if let Some(status) = refused_account(rows, Kind::Group, number, args) {
@@ -198,7 +188,7 @@ pub fn create_user(
     ensures frugal { OnErr result (none_fails (create_user rows.now.lists domain args.now).conditions ≡ true) }
 {
     let number = domain.domain();
-    if number == BUILTIN {
+    if number == BUILTIN_DOMAIN {
         return Ok(refusal(alloc, STATUS_NOT_SUPPORTED));
     }
     let bits = made_bits(args);

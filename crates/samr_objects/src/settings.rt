@@ -6,13 +6,13 @@ ghost use Rattle.acct_codes.specs.Statuses.{status_invalid_parameter};
 ghost use Rattle.acct_rows.specs.Rows.{is_of};
 ghost use Rattle.acct_rows.specs.Sound.{control_is_good};
 ghost use Rattle.acct_rules.specs.Planned.{decision, first_failed, none_fails, when};
-ghost use Rattle.samr_objects.specs.Settings.{set_field, sets_oem, primary_conditions, field_conditions, text_in};
-ghost use Rattle.samr_objects.specs.Settings.{with_field, with_oem, account_puts, domain_puts, sets};
+ghost use Rattle.samr_objects.specs.Settings.{set_field, sets_oem, primary_conditions, field_conditions};
+ghost use Rattle.samr_objects.specs.Settings.{with_field, with_oem, account_puts, domain_puts};
 ghost use Rattle.samr_objects.specs.Settings.{set_domain, set_account, set_group, set_alias, set_user};
 
 use crate::naming::{is_too_long, refused_name};
 use acct_base::Seq;
-use acct_calls::{Args, Name, Outs};
+use acct_calls::Args;
 use acct_codes::Kind;
 use acct_codes::info_class::{
     ALIAS_ADMIN_COMMENT_INFORMATION, ALIAS_NAME_INFORMATION, DOMAIN_OEM_INFORMATION,
@@ -22,14 +22,14 @@ use acct_codes::info_class::{
 };
 use acct_codes::status::{
     STATUS_INVALID_INFO_CLASS, STATUS_INVALID_PARAMETER, STATUS_MEMBER_NOT_IN_GROUP,
-    STATUS_NO_SUCH_GROUP, STATUS_SUCCESS,
+    STATUS_NO_SUCH_GROUP,
 };
 use acct_codes::user_control::{
     USER_ACCOUNT_DISABLED, USER_NORMAL_ACCOUNT, USER_PASSWORD_NOT_REQUIRED,
     USER_SERVER_TRUST_ACCOUNT, USER_WORKSTATION_TRUST_ACCOUNT,
 };
-use acct_rows::{AccountRow, DomainRow, Object, Plan, Row, Rows};
-use acct_rules::{NoMemory, Planned, answers, class_of, put_number, put_text, refusal};
+use acct_rows::{ACCOUNT_DOMAIN, AccountRow, DomainRow, Object, Row, Rows};
+use acct_rules::{NoMemory, Planned, class_of, put_number, put_text, puts, refusal, text_or_empty};
 use std::alloc::Global;
 
 /// What is set of an account.
@@ -111,7 +111,7 @@ fn is_group(row: Option<&AccountRow>) -> bool
 fn refused_primary(rows: &Rows, group: u32, user: u32) -> Option<u32>
     ensures { result ≡ first_failed (primary_conditions rows.now.lists group user) }
 {
-    if !is_group(rows.find_rid(0, group)) {
+    if !is_group(rows.find_rid(ACCOUNT_DOMAIN, group)) {
         return Some(STATUS_NO_SUCH_GROUP);
     }
     if rows.member(group, user).is_none() {
@@ -136,15 +136,6 @@ fn refused_field(rows: &Rows, kind: Kind, object: &Object, args: &Args, field: F
     }
 }
 
-fn text_in(alloc: Global, text: Option<&Name>) -> Result<Name, NoMemory>
-    ensures { IfOk result (λ copy. copy ≡ text_in (option_copied text.entry)) }
-{
-    match text {
-        Some(text) => text.copy(alloc),
-        None => Ok(Name::from_units(Vec::new(alloc))),
-    }
-}
-
 // The row with the field as it is asked for.
 fn with_field(
     alloc: Global,
@@ -156,9 +147,9 @@ fn with_field(
 {
     let mut later = row.copy(alloc)?;
     match field {
-        Field::Name => later.name = text_in(alloc, put_text(args))?,
-        Field::FullName => later.full_name = text_in(alloc, put_text(args))?,
-        Field::Comment => later.comment = text_in(alloc, put_text(args))?,
+        Field::Name => later.name = text_or_empty(alloc, put_text(args))?,
+        Field::FullName => later.full_name = text_or_empty(alloc, put_text(args))?,
+        Field::Comment => later.comment = text_or_empty(alloc, put_text(args))?,
         Field::Attributes | Field::Control => later.bits = put_number(args),
         Field::Primary => later.primary = put_number(args),
     }
@@ -186,20 +177,10 @@ fn domain_puts(alloc: Global, row: Option<&DomainRow>, args: &Args) -> Result<Se
     let mut puts = Seq::new(alloc);
     if let Some(row) = row {
         let mut later = row.copy(alloc)?;
-        later.oem = text_in(alloc, put_text(args))?;
+        later.oem = text_or_empty(alloc, put_text(args))?;
         puts.push(Row::Domain(later))?;
     }
     Ok(puts)
-}
-
-fn sets(alloc: Global, puts: Seq<Row>) -> Planned
-    ensures { result ≡ sets puts }
-{
-    let removes = Seq::new(alloc);
-    Planned {
-        plan: Plan { puts, removes },
-        ..answers(alloc, STATUS_SUCCESS, Outs::Nothing)
-    }
 }
 
 /// SamrSetInformationDomain (MS-SAMR 3.1.5.6.1): sets the OEM information of a domain.
@@ -219,7 +200,7 @@ pub fn set_domain(
         return Ok(refusal(alloc, STATUS_INVALID_PARAMETER));
     }
     let row = rows.domain(domain.domain());
-    Ok(sets(alloc, domain_puts(alloc, row, args)?))
+    Ok(puts(alloc, domain_puts(alloc, row, args)?))
 }
 
 // Sets what the class sets of an account of the kind.
@@ -241,7 +222,7 @@ fn set_account(
         return Ok(refusal(alloc, status));
     }
     let row = rows.find_rid(object.domain(), object.rid());
-    Ok(sets(alloc, account_puts(alloc, row, field, args)?))
+    Ok(puts(alloc, account_puts(alloc, row, field, args)?))
 }
 
 /// SamrSetInformationGroup (MS-SAMR 3.1.5.6.2): sets the name, the attributes or the comment of a group.
