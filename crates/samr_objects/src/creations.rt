@@ -1,6 +1,6 @@
 // The operations that create an account of a domain.
-ghost use Rattle.std.specs.Prelude.{◌≡◌, true, false, IfOk, OnErr, Some};
-ghost use Rattle.acct_rows.specs.Rows.{domain_at};
+ghost use Rattle.std.specs.Prelude.{◌≡◌, ◌==◌, true, false, IfOk, OnErr, Some};
+ghost use Rattle.acct_rows.specs.Rows.{builtin_domain, domain_at};
 ghost use Rattle.acct_rows.specs.Sound.{is_user_type};
 ghost use Rattle.acct_rules.specs.Asked.{made_name};
 ghost use Rattle.acct_rules.specs.Planned.{decision, first_failed, none_fails};
@@ -27,6 +27,13 @@ use acct_rules::{
     NoMemory, Planned, creates, desired_access, made_bits, made_name, refusal, text_or_empty,
 };
 use std::alloc::Global;
+
+// The domain has aliases alone.
+fn has_aliases_alone(number: u8) -> bool
+    ensures { result ≡ (number == builtin_domain) }
+{
+    number == BUILTIN_DOMAIN
+}
 
 // The status that refuses a new account, where one does: its name is refused, or its domain has no RID for it.
 fn refused_account(rows: &Rows, kind: Kind, domain: u8, args: &Args) -> Option<u32>
@@ -108,7 +115,7 @@ pub fn create_group(
     ensures frugal { OnErr result (none_fails (create_group rows.now.lists domain args.now).conditions ≡ true) }
 {
     let number = domain.domain();
-    if number == BUILTIN_DOMAIN {
+    if has_aliases_alone(number) {
         return Ok(refusal(alloc, STATUS_NOT_SUPPORTED));
     }
     if let Some(status) = refused_account(rows, Kind::Group, number, args) {
@@ -188,7 +195,7 @@ pub fn create_user(
     ensures frugal { OnErr result (none_fails (create_user rows.now.lists domain args.now).conditions ≡ true) }
 {
     let number = domain.domain();
-    if number == BUILTIN_DOMAIN {
+    if has_aliases_alone(number) {
         return Ok(refusal(alloc, STATUS_NOT_SUPPORTED));
     }
     let bits = made_bits(args);
