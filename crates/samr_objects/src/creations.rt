@@ -11,7 +11,7 @@ ghost use Rattle.samr_objects.specs.Creations.{create_group, create_alias, creat
 
 use crate::naming::{gives_no_rid, refused_name};
 use acct_base::Seq;
-use acct_calls::Args;
+use acct_calls::{Args, Name};
 use acct_codes::Kind;
 use acct_codes::group_attribute::NEW_GROUP_ATTRIBUTES;
 use acct_codes::rid::DOMAIN_GROUP_RID_USERS;
