@@ -12,125 +12,40 @@ ghost use Rattle.acct_operations.specs.Table.{opening, closing, operation, works
 ghost use Rattle.samr_objects.specs.Table.{asking_user};
 
 use crate::closings::close;
-use crate::openings::connect;
-use crate::openings::open_policy;
-use acct_calls::Args;
-use acct_calls::Face;
-use acct_codes::Kind;
-use acct_codes::alias_rights::ALIAS_ADD_MEMBER;
-use acct_codes::alias_rights::ALIAS_LIST_MEMBERS;
-use acct_codes::alias_rights::ALIAS_READ_INFORMATION;
-use acct_codes::alias_rights::ALIAS_REMOVE_MEMBER;
-use acct_codes::alias_rights::ALIAS_WRITE_ACCOUNT;
-use acct_codes::domain_rights::DOMAIN_CREATE_ALIAS;
-use acct_codes::domain_rights::DOMAIN_CREATE_GROUP;
-use acct_codes::domain_rights::DOMAIN_CREATE_USER;
-use acct_codes::domain_rights::DOMAIN_GET_ALIAS_MEMBERSHIP;
-use acct_codes::domain_rights::DOMAIN_LIST_ACCOUNTS;
-use acct_codes::domain_rights::DOMAIN_LOOKUP;
-use acct_codes::domain_rights::DOMAIN_READ_OTHER_PARAMETERS;
-use acct_codes::domain_rights::DOMAIN_WRITE_OTHER_PARAMETERS;
-use acct_codes::group_rights::GROUP_ADD_MEMBER;
-use acct_codes::group_rights::GROUP_LIST_MEMBERS;
-use acct_codes::group_rights::GROUP_READ_INFORMATION;
-use acct_codes::group_rights::GROUP_REMOVE_MEMBER;
-use acct_codes::group_rights::GROUP_WRITE_ACCOUNT;
+use crate::openings::{connect, open_policy};
+use acct_calls::{Args, Face};
+use acct_codes::alias_rights::{
+    ALIAS_ADD_MEMBER, ALIAS_LIST_MEMBERS, ALIAS_READ_INFORMATION, ALIAS_REMOVE_MEMBER,
+    ALIAS_WRITE_ACCOUNT,
+};
+use acct_codes::domain_rights::{
+    DOMAIN_CREATE_ALIAS, DOMAIN_CREATE_GROUP, DOMAIN_CREATE_USER, DOMAIN_GET_ALIAS_MEMBERSHIP,
+    DOMAIN_LIST_ACCOUNTS, DOMAIN_LOOKUP, DOMAIN_READ_OTHER_PARAMETERS,
+    DOMAIN_WRITE_OTHER_PARAMETERS,
+};
+use acct_codes::group_rights::{
+    GROUP_ADD_MEMBER, GROUP_LIST_MEMBERS, GROUP_READ_INFORMATION, GROUP_REMOVE_MEMBER,
+    GROUP_WRITE_ACCOUNT,
+};
 use acct_codes::info_class::USER_CONTROL_INFORMATION;
-use acct_codes::lsa_opnum::LSAR_CLOSE;
-use acct_codes::lsa_opnum::LSAR_OPEN_POLICY2;
-use acct_codes::samr_opnum::SAMR_ADD_MEMBER_TO_ALIAS;
-use acct_codes::samr_opnum::SAMR_ADD_MEMBER_TO_GROUP;
-use acct_codes::samr_opnum::SAMR_CLOSE_HANDLE;
-use acct_codes::samr_opnum::SAMR_CONNECT2;
-use acct_codes::samr_opnum::SAMR_CONNECT4;
-use acct_codes::samr_opnum::SAMR_CONNECT5;
-use acct_codes::samr_opnum::SAMR_CREATE_ALIAS_IN_DOMAIN;
-use acct_codes::samr_opnum::SAMR_CREATE_GROUP_IN_DOMAIN;
-use acct_codes::samr_opnum::SAMR_CREATE_USER_IN_DOMAIN;
-use acct_codes::samr_opnum::SAMR_CREATE_USER2_IN_DOMAIN;
-use acct_codes::samr_opnum::SAMR_DELETE_ALIAS;
-use acct_codes::samr_opnum::SAMR_DELETE_GROUP;
-use acct_codes::samr_opnum::SAMR_DELETE_USER;
-use acct_codes::samr_opnum::SAMR_ENUMERATE_ALIASES_IN_DOMAIN;
-use acct_codes::samr_opnum::SAMR_ENUMERATE_DOMAINS_IN_SAM_SERVER;
-use acct_codes::samr_opnum::SAMR_ENUMERATE_GROUPS_IN_DOMAIN;
-use acct_codes::samr_opnum::SAMR_ENUMERATE_USERS_IN_DOMAIN;
-use acct_codes::samr_opnum::SAMR_GET_ALIAS_MEMBERSHIP;
-use acct_codes::samr_opnum::SAMR_GET_GROUPS_FOR_USER;
-use acct_codes::samr_opnum::SAMR_GET_MEMBERS_IN_ALIAS;
-use acct_codes::samr_opnum::SAMR_GET_MEMBERS_IN_GROUP;
-use acct_codes::samr_opnum::SAMR_LOOKUP_DOMAIN_IN_SAM_SERVER;
-use acct_codes::samr_opnum::SAMR_LOOKUP_IDS_IN_DOMAIN;
-use acct_codes::samr_opnum::SAMR_LOOKUP_NAMES_IN_DOMAIN;
-use acct_codes::samr_opnum::SAMR_OPEN_ALIAS;
-use acct_codes::samr_opnum::SAMR_OPEN_DOMAIN;
-use acct_codes::samr_opnum::SAMR_OPEN_GROUP;
-use acct_codes::samr_opnum::SAMR_OPEN_USER;
-use acct_codes::samr_opnum::SAMR_QUERY_INFORMATION_ALIAS;
-use acct_codes::samr_opnum::SAMR_QUERY_INFORMATION_DOMAIN;
-use acct_codes::samr_opnum::SAMR_QUERY_INFORMATION_DOMAIN2;
-use acct_codes::samr_opnum::SAMR_QUERY_INFORMATION_GROUP;
-use acct_codes::samr_opnum::SAMR_QUERY_INFORMATION_USER;
-use acct_codes::samr_opnum::SAMR_QUERY_INFORMATION_USER2;
-use acct_codes::samr_opnum::SAMR_REMOVE_MEMBER_FROM_ALIAS;
-use acct_codes::samr_opnum::SAMR_REMOVE_MEMBER_FROM_GROUP;
-use acct_codes::samr_opnum::SAMR_RID_TO_SID;
-use acct_codes::samr_opnum::SAMR_SET_INFORMATION_ALIAS;
-use acct_codes::samr_opnum::SAMR_SET_INFORMATION_DOMAIN;
-use acct_codes::samr_opnum::SAMR_SET_INFORMATION_GROUP;
-use acct_codes::samr_opnum::SAMR_SET_INFORMATION_USER;
-use acct_codes::samr_opnum::SAMR_SET_INFORMATION_USER2;
-use acct_codes::server_rights::SAM_SERVER_ENUMERATE_DOMAINS;
-use acct_codes::server_rights::SAM_SERVER_LOOKUP_DOMAIN;
+use acct_codes::server_rights::{SAM_SERVER_ENUMERATE_DOMAINS, SAM_SERVER_LOOKUP_DOMAIN};
 use acct_codes::standard_rights::DELETE;
-use acct_codes::user_rights::USER_LIST_GROUPS;
-use acct_codes::user_rights::USER_READ_ACCOUNT;
-use acct_codes::user_rights::USER_READ_GENERAL;
-use acct_codes::user_rights::USER_WRITE_ACCOUNT;
-use acct_rows::Object;
-use acct_rows::Rows;
-use acct_rules::Brings;
-use acct_rules::Kinds;
-use acct_rules::Memory;
-use acct_rules::Needs;
-use acct_rules::NoMemory;
-use acct_rules::Planned;
-use acct_rules::Profile;
-use acct_rules::asking;
-use samr_members::add_alias_member;
-use samr_members::add_group_member;
-use samr_members::alias_members;
-use samr_members::alias_membership;
-use samr_members::group_members;
-use samr_members::remove_alias_member;
-use samr_members::remove_group_member;
-use samr_members::user_groups;
-use samr_objects::create_alias;
-use samr_objects::create_group;
-use samr_objects::create_user;
-use samr_objects::delete_alias;
-use samr_objects::delete_group;
-use samr_objects::delete_user;
-use samr_objects::list_aliases;
-use samr_objects::list_domains;
-use samr_objects::list_groups;
-use samr_objects::list_users;
-use samr_objects::look_domain;
-use samr_objects::look_ids;
-use samr_objects::look_names;
-use samr_objects::open_alias;
-use samr_objects::open_domain;
-use samr_objects::open_group;
-use samr_objects::open_user;
-use samr_objects::query_alias;
-use samr_objects::query_domain;
-use samr_objects::query_group;
-use samr_objects::query_user;
-use samr_objects::rid_to_sid;
-use samr_objects::set_alias;
-use samr_objects::set_domain;
-use samr_objects::set_group;
-use samr_objects::set_user;
+use acct_codes::user_rights::{
+    USER_LIST_GROUPS, USER_READ_ACCOUNT, USER_READ_GENERAL, USER_WRITE_ACCOUNT,
+};
+use acct_codes::{Kind, lsa_opnum, samr_opnum};
+use acct_rows::{Object, Rows};
+use acct_rules::{Brings, Kinds, Memory, Needs, NoMemory, Planned, Profile, asking};
+use samr_members::{
+    add_alias_member, add_group_member, alias_members, alias_membership, group_members,
+    remove_alias_member, remove_group_member, user_groups,
+};
+use samr_objects::{
+    create_alias, create_group, create_user, delete_alias, delete_group, delete_user, list_aliases,
+    list_domains, list_groups, list_users, look_domain, look_ids, look_names, open_alias,
+    open_domain, open_group, open_user, query_alias, query_domain, query_group, query_user,
+    rid_to_sid, set_alias, set_domain, set_group, set_user,
+};
 use std::alloc::Global;
 
 /// The operations.
@@ -345,137 +260,161 @@ pub fn profile_of(work: Work) -> Profile
     ensures { result ≡ (operation work).profile }
 {
     match work {
-        Work::SamrConnect2 => opening(Face::Samr, SAMR_CONNECT2),
-        Work::SamrConnect4 => opening(Face::Samr, SAMR_CONNECT4),
-        Work::SamrConnect5 => opening(Face::Samr, SAMR_CONNECT5),
-        Work::SamrCloseHandle => closing(Face::Samr, SAMR_CLOSE_HANDLE, Kinds::Samr),
+        Work::SamrConnect2 => opening(Face::Samr, samr_opnum::SAMR_CONNECT2),
+        Work::SamrConnect4 => opening(Face::Samr, samr_opnum::SAMR_CONNECT4),
+        Work::SamrConnect5 => opening(Face::Samr, samr_opnum::SAMR_CONNECT5),
+        Work::SamrCloseHandle => closing(Face::Samr, samr_opnum::SAMR_CLOSE_HANDLE, Kinds::Samr),
         Work::SamrLookupDomainInSamServer => asking(
             Face::Samr,
-            SAMR_LOOKUP_DOMAIN_IN_SAM_SERVER,
+            samr_opnum::SAMR_LOOKUP_DOMAIN_IN_SAM_SERVER,
             Kinds::Only(Kind::Server),
             SAM_SERVER_LOOKUP_DOMAIN,
             Memory::Never,
         ),
         Work::SamrEnumerateDomainsInSamServer => on(
             Kind::Server,
-            SAMR_ENUMERATE_DOMAINS_IN_SAM_SERVER,
+            samr_opnum::SAMR_ENUMERATE_DOMAINS_IN_SAM_SERVER,
             SAM_SERVER_ENUMERATE_DOMAINS,
         ),
         Work::SamrOpenDomain => opening_by(
             Kind::Server,
-            SAMR_OPEN_DOMAIN,
+            samr_opnum::SAMR_OPEN_DOMAIN,
             SAM_SERVER_LOOKUP_DOMAIN,
         ),
         Work::SamrQueryInformationDomain => on_domain(
-            SAMR_QUERY_INFORMATION_DOMAIN,
+            samr_opnum::SAMR_QUERY_INFORMATION_DOMAIN,
             DOMAIN_READ_OTHER_PARAMETERS,
         ),
         Work::SamrQueryInformationDomain2 => on_domain(
-            SAMR_QUERY_INFORMATION_DOMAIN2,
+            samr_opnum::SAMR_QUERY_INFORMATION_DOMAIN2,
             DOMAIN_READ_OTHER_PARAMETERS,
         ),
         Work::SamrSetInformationDomain => on_domain(
-            SAMR_SET_INFORMATION_DOMAIN,
+            samr_opnum::SAMR_SET_INFORMATION_DOMAIN,
             DOMAIN_WRITE_OTHER_PARAMETERS,
         ),
         Work::SamrCreateGroupInDomain => on_domain(
-            SAMR_CREATE_GROUP_IN_DOMAIN,
+            samr_opnum::SAMR_CREATE_GROUP_IN_DOMAIN,
             DOMAIN_CREATE_GROUP,
         ),
         Work::SamrEnumerateGroupsInDomain => on_domain(
-            SAMR_ENUMERATE_GROUPS_IN_DOMAIN,
+            samr_opnum::SAMR_ENUMERATE_GROUPS_IN_DOMAIN,
             DOMAIN_LIST_ACCOUNTS,
         ),
-        Work::SamrCreateUserInDomain => on_domain(SAMR_CREATE_USER_IN_DOMAIN, DOMAIN_CREATE_USER),
+        Work::SamrCreateUserInDomain => on_domain(
+            samr_opnum::SAMR_CREATE_USER_IN_DOMAIN,
+            DOMAIN_CREATE_USER,
+        ),
         Work::SamrEnumerateUsersInDomain => on_domain(
-            SAMR_ENUMERATE_USERS_IN_DOMAIN,
+            samr_opnum::SAMR_ENUMERATE_USERS_IN_DOMAIN,
             DOMAIN_LIST_ACCOUNTS,
         ),
         Work::SamrCreateAliasInDomain => on_domain(
-            SAMR_CREATE_ALIAS_IN_DOMAIN,
+            samr_opnum::SAMR_CREATE_ALIAS_IN_DOMAIN,
             DOMAIN_CREATE_ALIAS,
         ),
         Work::SamrEnumerateAliasesInDomain => on_domain(
-            SAMR_ENUMERATE_ALIASES_IN_DOMAIN,
+            samr_opnum::SAMR_ENUMERATE_ALIASES_IN_DOMAIN,
             DOMAIN_LIST_ACCOUNTS,
         ),
         Work::SamrGetAliasMembership => on_domain(
-            SAMR_GET_ALIAS_MEMBERSHIP,
+            samr_opnum::SAMR_GET_ALIAS_MEMBERSHIP,
             DOMAIN_GET_ALIAS_MEMBERSHIP,
         ),
-        Work::SamrLookupNamesInDomain => on_domain(SAMR_LOOKUP_NAMES_IN_DOMAIN, DOMAIN_LOOKUP),
-        Work::SamrLookupIdsInDomain => on_domain(SAMR_LOOKUP_IDS_IN_DOMAIN, DOMAIN_LOOKUP),
-        Work::SamrOpenGroup => opening_account(SAMR_OPEN_GROUP),
+        Work::SamrLookupNamesInDomain => on_domain(
+            samr_opnum::SAMR_LOOKUP_NAMES_IN_DOMAIN,
+            DOMAIN_LOOKUP,
+        ),
+        Work::SamrLookupIdsInDomain => on_domain(
+            samr_opnum::SAMR_LOOKUP_IDS_IN_DOMAIN,
+            DOMAIN_LOOKUP,
+        ),
+        Work::SamrOpenGroup => opening_account(samr_opnum::SAMR_OPEN_GROUP),
         Work::SamrQueryInformationGroup => on(
             Kind::Group,
-            SAMR_QUERY_INFORMATION_GROUP,
+            samr_opnum::SAMR_QUERY_INFORMATION_GROUP,
             GROUP_READ_INFORMATION,
         ),
         Work::SamrSetInformationGroup => on(
             Kind::Group,
-            SAMR_SET_INFORMATION_GROUP,
+            samr_opnum::SAMR_SET_INFORMATION_GROUP,
             GROUP_WRITE_ACCOUNT,
         ),
-        Work::SamrAddMemberToGroup => on(Kind::Group, SAMR_ADD_MEMBER_TO_GROUP, GROUP_ADD_MEMBER),
-        Work::SamrDeleteGroup => on(Kind::Group, SAMR_DELETE_GROUP, DELETE),
+        Work::SamrAddMemberToGroup => on(
+            Kind::Group,
+            samr_opnum::SAMR_ADD_MEMBER_TO_GROUP,
+            GROUP_ADD_MEMBER,
+        ),
+        Work::SamrDeleteGroup => on(Kind::Group, samr_opnum::SAMR_DELETE_GROUP, DELETE),
         Work::SamrRemoveMemberFromGroup => on(
             Kind::Group,
-            SAMR_REMOVE_MEMBER_FROM_GROUP,
+            samr_opnum::SAMR_REMOVE_MEMBER_FROM_GROUP,
             GROUP_REMOVE_MEMBER,
         ),
         Work::SamrGetMembersInGroup => on(
             Kind::Group,
-            SAMR_GET_MEMBERS_IN_GROUP,
+            samr_opnum::SAMR_GET_MEMBERS_IN_GROUP,
             GROUP_LIST_MEMBERS,
         ),
-        Work::SamrOpenAlias => opening_account(SAMR_OPEN_ALIAS),
+        Work::SamrOpenAlias => opening_account(samr_opnum::SAMR_OPEN_ALIAS),
         Work::SamrQueryInformationAlias => on(
             Kind::Alias,
-            SAMR_QUERY_INFORMATION_ALIAS,
+            samr_opnum::SAMR_QUERY_INFORMATION_ALIAS,
             ALIAS_READ_INFORMATION,
         ),
         Work::SamrSetInformationAlias => on(
             Kind::Alias,
-            SAMR_SET_INFORMATION_ALIAS,
+            samr_opnum::SAMR_SET_INFORMATION_ALIAS,
             ALIAS_WRITE_ACCOUNT,
         ),
-        Work::SamrDeleteAlias => on(Kind::Alias, SAMR_DELETE_ALIAS, DELETE),
-        Work::SamrAddMemberToAlias => on(Kind::Alias, SAMR_ADD_MEMBER_TO_ALIAS, ALIAS_ADD_MEMBER),
+        Work::SamrDeleteAlias => on(Kind::Alias, samr_opnum::SAMR_DELETE_ALIAS, DELETE),
+        Work::SamrAddMemberToAlias => on(
+            Kind::Alias,
+            samr_opnum::SAMR_ADD_MEMBER_TO_ALIAS,
+            ALIAS_ADD_MEMBER,
+        ),
         Work::SamrRemoveMemberFromAlias => on(
             Kind::Alias,
-            SAMR_REMOVE_MEMBER_FROM_ALIAS,
+            samr_opnum::SAMR_REMOVE_MEMBER_FROM_ALIAS,
             ALIAS_REMOVE_MEMBER,
         ),
         Work::SamrGetMembersInAlias => on(
             Kind::Alias,
-            SAMR_GET_MEMBERS_IN_ALIAS,
+            samr_opnum::SAMR_GET_MEMBERS_IN_ALIAS,
             ALIAS_LIST_MEMBERS,
         ),
-        Work::SamrOpenUser => opening_account(SAMR_OPEN_USER),
-        Work::SamrDeleteUser => on(Kind::User, SAMR_DELETE_USER, DELETE),
-        Work::SamrQueryInformationUser => showing_user(SAMR_QUERY_INFORMATION_USER),
+        Work::SamrOpenUser => opening_account(samr_opnum::SAMR_OPEN_USER),
+        Work::SamrDeleteUser => on(Kind::User, samr_opnum::SAMR_DELETE_USER, DELETE),
+        Work::SamrQueryInformationUser => showing_user(samr_opnum::SAMR_QUERY_INFORMATION_USER),
         Work::SamrSetInformationUser => on(
             Kind::User,
-            SAMR_SET_INFORMATION_USER,
+            samr_opnum::SAMR_SET_INFORMATION_USER,
             USER_WRITE_ACCOUNT,
         ),
-        Work::SamrGetGroupsForUser => on(Kind::User, SAMR_GET_GROUPS_FOR_USER, USER_LIST_GROUPS),
-        Work::SamrQueryInformationUser2 => showing_user(SAMR_QUERY_INFORMATION_USER2),
-        Work::SamrCreateUser2InDomain => on_domain(SAMR_CREATE_USER2_IN_DOMAIN, DOMAIN_CREATE_USER),
+        Work::SamrGetGroupsForUser => on(
+            Kind::User,
+            samr_opnum::SAMR_GET_GROUPS_FOR_USER,
+            USER_LIST_GROUPS,
+        ),
+        Work::SamrQueryInformationUser2 => showing_user(samr_opnum::SAMR_QUERY_INFORMATION_USER2),
+        Work::SamrCreateUser2InDomain => on_domain(
+            samr_opnum::SAMR_CREATE_USER2_IN_DOMAIN,
+            DOMAIN_CREATE_USER,
+        ),
         Work::SamrSetInformationUser2 => on(
             Kind::User,
-            SAMR_SET_INFORMATION_USER2,
+            samr_opnum::SAMR_SET_INFORMATION_USER2,
             USER_WRITE_ACCOUNT,
         ),
         Work::SamrRidToSid => asking(
             Face::Samr,
-            SAMR_RID_TO_SID,
+            samr_opnum::SAMR_RID_TO_SID,
             Kinds::InDomain,
             0,
             Memory::Never,
         ),
-        Work::LsarOpenPolicy2 => opening(Face::Lsa, LSAR_OPEN_POLICY2),
-        Work::LsarClose => closing(Face::Lsa, LSAR_CLOSE, Kinds::Lsa),
+        Work::LsarOpenPolicy2 => opening(Face::Lsa, lsa_opnum::LSAR_OPEN_POLICY2),
+        Work::LsarClose => closing(Face::Lsa, lsa_opnum::LSAR_CLOSE, Kinds::Lsa),
     }
 }
 
