@@ -1,3 +1,4 @@
+-- The law of `connections_are_numbered`, by the lemmas that are cited.
 use Rattle.acct_machine.proofs.Connected.{are-connected}
 use Rattle.acct_machine.proofs.Passing.{entries-are-numbered}
 use Rattle.acct_machine.proofs.laws.connections_are_numbered.Goals as goal

@@ -1,3 +1,4 @@
+-- The law of `grants_come_from_openings`, by the lemmas that are cited.
 use Rattle.std.proofs.Common.{[], refl, arith}
 use Rattle.acct_machine.specs.State.{first}
 use Rattle.acct_machine.proofs.Granting.{granted-after}

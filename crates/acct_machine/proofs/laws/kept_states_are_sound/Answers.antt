@@ -1,3 +1,4 @@
+-- The law of `kept_states_are_sound`, by the lemmas that are cited.
 use Rattle.acct_machine.proofs.Sounds.{are-sound}
 use Rattle.acct_machine.proofs.laws.kept_states_are_sound.Goals as goal
 

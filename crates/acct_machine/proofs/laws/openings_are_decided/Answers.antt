@@ -1,3 +1,4 @@
+-- The law of `openings_are_decided`, by the lemmas that are cited.
 use Rattle.std.proofs.Common.{◌≡◌, ℕ, zero, suc, ◌<◌, Bool, true, false, cond, ◌==◌, List, [], ◌∷◌, length, Option}
 use Rattle.std.proofs.Common.{Some, refl, sym, ap, subst, arith}
 use Rattle.std.specs.List.{All, slice_get}

@@ -1,3 +1,4 @@
+-- The law of `replies_are_shaped`, by the lemmas that are cited.
 use Rattle.acct_machine.proofs.Answering.{answers-in-history}
 use Rattle.acct_machine.proofs.laws.replies_are_shaped.Goals as goal
 

@@ -1,3 +1,4 @@
+-- `drop_object` meets its contract: what the search leaves open.
 use Rattle.std.proofs.Common.{rules}
 use Rattle.std.proofs.lemmas.Fn.{filter_same}
 use Rattle.acct_machine.proofs.lists.drop_object.Goals as goal

@@ -1,3 +1,4 @@
+-- `find_conn` meets its contract: what the search leaves open.
 use Rattle.std.proofs.Common.{◌≡◌, sym, arith}
 use Rattle.std.proofs.lemmas.Bool.Decides.{nat_tests}
 use Rattle.acct_machine.proofs.Places.{find-at, find-none}

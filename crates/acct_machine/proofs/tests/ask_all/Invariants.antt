@@ -1,3 +1,4 @@
+-- What the loop of `ask_all` keeps.
 use Rattle.std.proofs.Common.{◌≡◌, true}
 use Rattle.acct_machine.specs.State.{is_live}
 use Rattle.acct_machine.specs.Machine.{state_of}

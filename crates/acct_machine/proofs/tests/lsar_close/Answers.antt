@@ -1,3 +1,4 @@
+-- `lsar_close` meets its contract: what the search leaves open.
 use Rattle.std.proofs.Common.{◌≡◌, refl}
 use Rattle.acct_layouts.specs.CallShapes.{CanBeSpelled}
 use Rattle.acct_layouts.specs.Table.{lsa_layout}

@@ -1,3 +1,4 @@
+-- `samr_close` meets its contract: what the search leaves open.
 use Rattle.std.proofs.Common.{◌≡◌, refl}
 use Rattle.acct_layouts.specs.CallShapes.{CanBeSpelled}
 use Rattle.acct_layouts.specs.Table.{samr_layout}

@@ -1,3 +1,4 @@
+-- The law of `operations_keep_rows`, by the lemmas that are cited.
 use Rattle.acct_calls.specs.declared.calls.Face.TheVariants.{Samr, Lsa}
 use Rattle.acct_codes.specs.Opnums.{samr_connect2, samr_connect4, samr_connect5, samr_close_handle, lsar_open_policy2}
 use Rattle.acct_codes.specs.Opnums.{lsar_close}

@@ -1,3 +1,4 @@
+-- What the loop of `find_work` keeps.
 use Rattle.std.proofs.Common.{◌≡◌, drop}
 use Rattle.std.specs.List.{find}
 use Rattle.acct_operations.specs.Table.{is_work_of}

@@ -1,3 +1,4 @@
+-- `keep` meets its contract: what the search leaves open.
 use Rattle.std.proofs.Common.{Option, sym, subst}
 use Rattle.acct_prog.specs.declared.period.Period.{Period}
 use Rattle.acct_prog.specs.Commanded.{KeepsAny}

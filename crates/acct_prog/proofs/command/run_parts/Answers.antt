@@ -1,3 +1,4 @@
+-- `run_parts` meets its contract: what the search leaves open.
 use Rattle.acct_prog.proofs.Worlds.{returned}
 use Rattle.acct_prog.proofs.command.run_parts.Goals as goal
 

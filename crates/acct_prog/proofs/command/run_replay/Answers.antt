@@ -1,3 +1,4 @@
+-- `run_replay` meets its contract: what the search leaves open.
 use Rattle.acct_prog.proofs.Worlds.{config-not-handed-out, events-not-handed-out, sink-not-handed-out, has-run}
 use Rattle.acct_prog.proofs.command.run_replay.Goals as goal
 

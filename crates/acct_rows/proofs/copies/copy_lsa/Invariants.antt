@@ -1,3 +1,4 @@
+-- What the loop of `copy_lsa` keeps.
 use Rattle.std.proofs.Common.{◌≡◌, take}
 use Rattle.acct_rows.proofs.copies.copy_lsa.Given as goal
 

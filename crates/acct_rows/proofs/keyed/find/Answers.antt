@@ -1,3 +1,4 @@
+-- `find` meets its contract: what the search leaves open.
 use Rattle.std.proofs.Common.{sym, ◌∙◌}
 use Rattle.acct_rows.proofs.Places.{at-placed, at-unplaced}
 use Rattle.acct_rows.proofs.keyed.find.Goals as goal

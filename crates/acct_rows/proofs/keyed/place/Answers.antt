@@ -1,3 +1,4 @@
+-- `place` meets its contract: what the search leaves open.
 use Rattle.std.proofs.Common.{rules}
 use Rattle.std.proofs.lemmas.Fn.{always_returns_same}
 use Rattle.acct_rows.specs.Keyed.{compare}

@@ -1,3 +1,4 @@
+-- `put` meets its contract: what the search leaves open.
 use Rattle.std.proofs.Common.{sym, ap, ◌∙◌, ◌≡◌, true, Ok, Err, rules, insert, is_ok, if◌then◌else◌}
 use Rattle.acct_rows.proofs.Places.{put-placed}
 use Rattle.acct_rows.proofs.keyed.put.Goals as goal

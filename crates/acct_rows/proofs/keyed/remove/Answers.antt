@@ -1,3 +1,4 @@
+-- `remove` meets its contract: what the search leaves open.
 use Rattle.std.proofs.Common.{sym, ◌∙◌, Ok, Err}
 use Rattle.acct_rows.proofs.Places.{without-placed}
 use Rattle.acct_rows.proofs.keyed.remove.Goals as goal

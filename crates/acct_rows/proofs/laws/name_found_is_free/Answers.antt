@@ -1,3 +1,4 @@
+-- The law of `name_found_is_free`, by the lemmas that are cited.
 use Rattle.acct_rows.proofs.Moves.{found_name_free}
 use Rattle.acct_rows.proofs.laws.name_found_is_free.Goals as goal
 

@@ -1,3 +1,4 @@
+-- The law of `own_name_is_free`, by the lemmas that are cited.
 use Rattle.acct_rows.proofs.Moves.{own_name_free}
 use Rattle.acct_rows.proofs.laws.own_name_is_free.Goals as goal
 

@@ -1,3 +1,4 @@
+-- What the loop of `aliases_among` keeps.
 use Rattle.std.proofs.Common.{◌≡◌, ◌++◌, drop, map}
 use Rattle.std.specs.List.{filter}
 use Rattle.acct_rows.specs.Rows.{has_one, each_once}

@@ -1,3 +1,4 @@
+-- What the loop of `is_among` keeps.
 use Rattle.std.proofs.Common.{◌≡◌, drop}
 use Rattle.std.specs.List.{list_any}
 use Rattle.dtyp_sid.specs.Order.{sid_eq}

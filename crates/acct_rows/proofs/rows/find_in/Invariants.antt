@@ -1,3 +1,4 @@
+-- What the loop of `find_in` keeps.
 use Rattle.std.proofs.Common.{◌≡◌, drop}
 use Rattle.std.specs.List.{find}
 use Rattle.acct_rows.specs.Rows.{has_name}

@@ -1,3 +1,4 @@
+-- What the loop of `put_all` keeps.
 use Rattle.std.proofs.Common.{◌≡◌, ◌+◌, ◌≤◌, length}
 use Rattle.std.specs.Vec.Iter.{into_iter_items}
 use Rattle.acct_rows.specs.Rows.{with_puts}

@@ -1,3 +1,4 @@
+-- What the loop of `remove_all` keeps.
 use Rattle.std.proofs.Common.{◌≡◌, drop}
 use Rattle.acct_rows.specs.Rows.{removed}
 use Rattle.acct_rows.proofs.rows.remove_all.Given as goal

@@ -1,3 +1,4 @@
+-- `push_groups` meets its contract: what the search leaves open.
 use Rattle.std.proofs.Common.{◌≡◌, List, [], ◌∷◌, ◌++◌, refl, append_assoc}
 use Rattle.acct_rows.proofs.seed.push_groups.Goals as goal
 

@@ -1,3 +1,4 @@
+-- `data_of` meets its contract: what the search leaves open.
 use Rattle.std.proofs.Common.{◌≡◌, ◌*◌, List, ℕ, length, ap, arith}
 use Rattle.hex.proofs.HexLemmas.{decode_of-ok}
 use Rattle.acct_server.proofs.events.data_of.Goals as goal

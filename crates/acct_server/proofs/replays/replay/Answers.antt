@@ -1,3 +1,4 @@
+-- `replay` meets its contract: what the search leaves open.
 use Rattle.std.proofs.Common.{refl, ◌∙◌, sym, ap, subst, List, ℕ}
 use Rattle.acct_streams.specs.Whole.{IsWhole}
 use Rattle.acct_server.specs.declared.status.Status.{Status}

@@ -1,3 +1,4 @@
+-- `run_lines` meets its contract: what the search leaves open.
 use Rattle.std.proofs.Common.{Option, List, ℕ, ◌≡◌, ◌+◌, ◌-◌, ◌^◌, length, [], sym, ap, ◌∙◌, subst, take, arith, Err}
 use Rattle.std.specs.Io.KnownBytes.{Appends}
 use Rattle.acct_server.specs.declared.events.LineError.{LineError}

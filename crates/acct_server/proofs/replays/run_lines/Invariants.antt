@@ -1,3 +1,4 @@
+-- What the loop of `run_lines` keeps.
 use Rattle.std.proofs.Common.{◌≡◌, ◌≤◌, ◌+◌, ℕ, length}
 use Rattle.acct_server.specs.Running.{AllHeard}
 use Rattle.acct_server.proofs.Going.{Going}

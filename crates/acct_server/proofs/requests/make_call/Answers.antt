@@ -1,3 +1,4 @@
+-- `make_call` meets its contract: what the search leaves open.
 use Rattle.acct_server.proofs.Requesting.{call-answered}
 use Rattle.acct_server.proofs.requests.make_call.Goals as goal
 

@@ -1,3 +1,4 @@
+-- What the loop of `gone_lines` keeps.
 use Rattle.std.proofs.Common.{◌≡◌, ◌+◌, ◌++◌, drop, map}
 use Rattle.std.specs.List.{flat_map}
 use Rattle.acct_server.specs.Replayed.{line_bytes, IsGone, served_from}

@@ -1,3 +1,4 @@
+-- The law of `additions_are_undone`, by the lemmas that are cited.
 use Rattle.samr_members.proofs.Undoing.{group-allows, group-undone, alias-undone}
 use Rattle.samr_members.proofs.laws.additions_are_undone.Goals as goal
 

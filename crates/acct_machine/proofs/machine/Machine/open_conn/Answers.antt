@@ -1,3 +1,4 @@
+-- `Machine::open_conn` meets its contract: what the search leaves open.
 use Rattle.std.proofs.Common.{rules, ℕ, ◌≡◌, ◌+◌, ◌≤◌, ◌<◌, ◌^◌, Some, None, List, [], ◌∷◌, ◌++◌, sym, ◌∙◌, ap, subst}
 use Rattle.std.proofs.Common.{arith, length}
 use Rattle.std.specs.Vec.{vec_capacity}

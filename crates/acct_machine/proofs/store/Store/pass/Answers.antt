@@ -1,3 +1,4 @@
+-- `Store::pass` meets its contract: what the search leaves open.
 use Rattle.std.proofs.Common.{rules, ◌≡◌, arith, subst, sym}
 use Rattle.std.proofs.lemmas.Grind.{common_steps}
 use Rattle.acct_rules.specs.declared.planned.Planned.{Planned}

@@ -1,3 +1,4 @@
+-- `MemoryWorldWorld::take_sink` meets its contract: what the search leaves open.
 use Rattle.acct_prog.specs.declared.part.Part.TheVariants as part
 use Rattle.acct_prog.proofs.Holding.{sink-taken, pushed}
 use Rattle.acct_prog.proofs.memory.MemoryWorldWorld.take_sink.Goals as goal

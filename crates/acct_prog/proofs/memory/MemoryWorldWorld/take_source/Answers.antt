@@ -1,3 +1,4 @@
+-- `MemoryWorldWorld::take_source` meets its contract: what the search leaves open.
 use Rattle.std.proofs.Common.{◌≡◌, List, ℕ, ◌++◌, ◌∷◌, [], sym, ap, ◌∙◌, true, false, codes}
 use Rattle.std.specs.Str.{bytes_eq}
 use Rattle.acct_prog.specs.declared.part.Part.TheVariants as part

@@ -1,3 +1,4 @@
+-- `Rows::aliases_of` meets its contract: what the search leaves open.
 use Rattle.acct_rows.proofs.Rising.{found_rise}
 use Rattle.acct_rows.proofs.rows.Rows.aliases_of.Goals as goal
 

@@ -1,3 +1,4 @@
+-- `Rows::seed` meets its contract: what the search leaves open.
 use Rattle.std.proofs.Common.{rules}
 use Rattle.acct_rows.proofs.Seeded.{has_slot, seed_aliases_ascend, seeded_is_sound}
 use Rattle.acct_rows.proofs.rows.Rows.seed.Goals as goal

@@ -1,3 +1,4 @@
+-- `MachineGate::open_conn` meets its contract: what the search leaves open.
 use Rattle.acct_server.proofs.Opening.{silent-opened}
 use Rattle.acct_server.proofs.machine_gate.MachineGate.open_conn.Goals as goal
 

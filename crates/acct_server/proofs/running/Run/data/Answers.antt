@@ -1,3 +1,4 @@
+-- `Run::data` meets its contract: what the search leaves open.
 use Rattle.std.proofs.Common.{◌+◌, length, List, sym, subst}
 use Rattle.rpc_session.specs.declared.sessions.Act.{Act}
 use Rattle.acct_server.specs.declared.connections.Peer.{Peer}

@@ -1,3 +1,4 @@
+-- What the loop of `Run::end_all` keeps.
 use Rattle.std.proofs.Common.{◌≡◌, ◌+◌, ◌++◌, drop, map, length}
 use Rattle.acct_machine.specs.declared.entry.Entry.TheVariants.{Gone}
 use Rattle.acct_server.specs.Replayed.{served_from}

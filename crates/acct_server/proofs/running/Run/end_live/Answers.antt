@@ -1,3 +1,4 @@
+-- `Run::end_live` meets its contract: what the search leaves open.
 use Rattle.std.proofs.Common.{List, sym, subst}
 use Rattle.std.specs.Prelude.{IsSome}
 use Rattle.acct_machine.specs.Step.{state_at}

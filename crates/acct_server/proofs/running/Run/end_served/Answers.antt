@@ -1,3 +1,4 @@
+-- `Run::end_served` meets its contract: what the search leaves open.
 use Rattle.std.proofs.Common.{◌≡◌, true, sym, subst}
 use Rattle.acct_machine.specs.State.{is_live}
 use Rattle.acct_machine.specs.Machine.{state_of}

@@ -1,3 +1,4 @@
+-- `Run::request` meets its contract: what the search leaves open.
 use Rattle.std.proofs.Common.{List, ℕ, ◌++◌, Some, None, length, sym, ap, ◌∙◌, subst}
 use Rattle.acct_machine.specs.declared.entry.Entry.{Entry}
 use Rattle.acct_machine.specs.Shown.{Shown}
