@@ -3,12 +3,12 @@ use Rattle.std.proofs.Common.{◌≡◌, ℕ, true, cond, All, List, [], ◌∷�
 use Rattle.std.proofs.Common.{inl, inr}
 use Rattle.std.proofs.lemmas.List.Elements.{All-nil, All-cons}
 use Rattle.std.specs.Cmp.{first_so, second_so}
-use Rattle.dtyp_sid.specs.Value.{SidValue}
 use Rattle.acct_rows.specs.Keyed.{same_key, at, is_ascending}
 use Rattle.acct_rows.specs.Laws.{EachIsGood, EachMemberIsFound, EachLsaIsGood}
 use Rattle.acct_rows.specs.Rows.{domain_key, account_key, member_key, alias_key, lsa_key, domain_at, account_at}
-use Rattle.acct_rows.specs.Rows.{member_at, alias_row_at, lsa_at, sid_key}
+use Rattle.acct_rows.specs.Rows.{member_at, alias_row_at, lsa_at}
 use Rattle.acct_rows.specs.Sound.{IsGoodDomain, IsGoodAccount, IsGoodLsa}
+use Rattle.acct_rows.proofs.Moves.{one_sid}
 use Rattle.acct_rows.proofs.Lookups.{tested, key_found}
 use Rattle.acct_rows.proofs.Tables.{same_key-is, same_key-itself, below_apart}
 
@@ -55,14 +55,11 @@ each_member_found r sound = record {
       let key : member_key m ≡ group ∷ user ∷ [] = key_found member_key _ r.members m e in (cc, cc);
 }
 
-sid-of-key : (a b : SidValue) → sid_key a ≡ sid_key b → a ≡ b
-sid-of-key a b same = cc
-
 pub each_lsa_good : EachLsaIsGood
 each_lsa_good r sound = record {
   accounts = all_found lsa_key (λ l. (lsa_at r l.sid ≡ Some l) × IsGoodLsa l) r.lsa sound.lsa_ascend (λ q l e.
       let key : lsa_key l ≡ q = key_found lsa_key q r.lsa l e in
       let there : lsa_at r l.sid ≡ Some l = subst (λ k. at lsa_key k r.lsa ≡ Some l) (sym key) e in
       (there, sound.lsa_rules l.sid l there));
-  account_sid = λ sid l e. sid-of-key l.sid sid (key_found lsa_key _ r.lsa l e);
+  account_sid = λ sid l e. one_sid l.sid sid (key_found lsa_key _ r.lsa l e);
 }

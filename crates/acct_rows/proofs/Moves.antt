@@ -166,7 +166,7 @@ lsa_sound r l sound good =
 abbrev sid_made : ℕ → List ℕ → SidValue
 sid_made authority subs = record { authority = authority; subs = subs }
 
-one_sid : (a b : SidValue) → sid_key a ≡ sid_key b → a ≡ b
+pub one_sid : (a b : SidValue) → sid_key a ≡ sid_key b → a ≡ b
 one_sid a b key =
     let authority : a.authority ≡ b.authority = cc in
     let subs : a.subs ≡ b.subs = cc in

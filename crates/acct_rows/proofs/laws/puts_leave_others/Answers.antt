@@ -1,7 +1,7 @@
 -- A put is found at its key alone.
-use Rattle.std.proofs.Common.{◌≡◌, ℕ, List, [], ◌∷◌, ap, ◌∙◌}
-use Rattle.dtyp_sid.specs.Value.{SidValue}
+use Rattle.std.proofs.Common.{◌≡◌, ℕ, List, [], ◌∷◌}
 use Rattle.acct_rows.specs.Rows.{domain_key, account_key, member_key, alias_key, lsa_key, sid_key}
+use Rattle.acct_rows.proofs.Moves.{one_sid}
 use Rattle.acct_rows.proofs.Lookups.{put_elsewhere}
 use Rattle.acct_rows.proofs.laws.puts_leave_others.Goals as goal
 
@@ -10,13 +10,6 @@ first m n ms ns e = cc
 
 rest : (m n : ℕ) (ms ns : List ℕ) → m ∷ ms ≡ n ∷ ns → ms ≡ ns
 rest m n ms ns e = cc
-
-one_sid : (s t : SidValue) → sid_key s ≡ sid_key t → s ≡ t
-one_sid s t e =
-    let authority : s.authority ≡ t.authority = first s.authority t.authority s.subs t.subs e in
-    let subs : s.subs ≡ t.subs = rest s.authority t.authority s.subs t.subs e in
-    ap (λ a. record { authority = a; subs = s.subs }) authority
-    ∙ ap (λ ns. record { authority = t.authority; subs = ns }) subs
 
 pub returns : goal.returns
 returns c = λ r. record {
