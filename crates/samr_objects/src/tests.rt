@@ -1,151 +1,206 @@
-// The domains and accounts that Windows and Samba make (MS-SAMR 3.1.4.2): looked for, listed and opened. The rows are
-// one text, which one function tells.
+// Tables of operations, told row by row. A row is a line of five parts:
+// - what is added to the first rows, those that a new database has: accounts (kind, domain, RID, name, full name,
+//   comment, bits, primary group), members of groups, SIDs of aliases, domains. With `+` the row goes on from what
+//   the row before left;
+// - the operation, the object of the handle, and the arguments. A name `256*61` has 256 units 0x61;
+// - what is wanted: the status, the outputs, and what is put, removed, opened or deleted, where there is such.
+mod creations;
 mod deletions;
+mod domains;
 mod enumerations;
 mod queries;
 mod settings;
+mod words;
 
 use crate::{
-    list_domains, look_domain, look_ids, look_names, open_alias, open_domain, open_group,
-    open_user, rid_to_sid,
+    create_alias, create_group, create_user, delete_alias, delete_group, delete_user, laws,
+    list_aliases, list_domains, list_groups, list_users, look_domain, look_ids, look_names,
+    open_alias, open_domain, open_group, open_user, query_alias, query_domain, query_group,
+    query_user, rid_to_sid, set_alias, set_domain, set_group, set_user,
 };
 use acct_base::Seq;
 use acct_calls::domain::{is_domain_name, is_domain_sid};
-use acct_calls::{Args, Name, Names, NoMemory, Outs, RidName};
-use acct_rows::{Object, Rows};
-use acct_rules::{Effect, Planned};
-use dtyp_sid::{Sid, parse_text};
+use acct_calls::{Args, Info, Name, Names, NoMemory};
+use acct_codes::Kind;
+use acct_rows::{AccountRow, AliasRow, DomainRow, MemberRow, Object, Row, Rows};
+use acct_rules::Planned;
+use dtyp_sid::parse_text;
 use std::alloc::Global;
 use std::process::Abort;
 use std::test::Fail;
+use words::{spelled, tell};
 
-mod creations;
-
-/// Each row: the operation, the object of its handle (the server, a domain, a user by RID, an alias of BUILTIN), what is
-/// asked for, the status, and the outputs or what is opened with which access. CORP costs 20 of a page, BUILTIN 26.
-const ROWS: &str = "look_domain|server|CORP|0|S-1-5-21-1-2-3
-look_domain|server|corp|0|S-1-5-21-1-2-3
-look_domain|server|Builtin|0|S-1-5-32
-look_domain|server|NT AUTHORITY|c00000df|nothing
-look_domain|server||c00000df|nothing
-list_domains|server|0 0|105|1: CORP
-list_domains|server|0 45|105|1: CORP
-list_domains|server|0 46|0|2: CORP, BUILTIN
-list_domains|server|0 65535|0|2: CORP, BUILTIN
-list_domains|server|0 4294967295|0|2: CORP, BUILTIN
-list_domains|server|1 0|0|2: BUILTIN
-list_domains|server|2 46|0|2:
-list_domains|server|3 46|0|3:
-list_domains|server|4294967295 46|0|4294967295:
-open_domain|server|S-1-5-21-1-2-3|0|opens Domain(0) 31
-open_domain|server|S-1-5-32|0|opens Domain(1) 31
-open_domain|server|S-1-5-21-1-2-4|c00000df|nothing
-look_names|0|Administrator,nobody,GUEST|107|500/1 0/8 501/1
-look_names|0|nobody|c0000073|0/8
-look_names|0||0|
-look_names|0|Domain Users,domain users|0|513/2 513/2
-look_names|1|Administrators,Administrator|107|544/4 0/8
-look_names|1|Domain Users|c0000073|0/8
-look_ids|0|512,999,500|107|Domain Admins/2 /8 Administrator/1
-look_ids|0|544|c0000073|/8
-look_ids|0||0|
-look_ids|1|546,545|0|Guests/4 Users/4
-open_user|0|500|0|opens User(500) 31
-open_user|0|512|c0000064|nothing
-open_user|1|500|c0000064|nothing
-open_user|1|544|c0000064|nothing
-open_group|0|512|0|opens Group(512) 31
-open_group|0|500|c0000066|nothing
-open_group|1|512|c0000066|nothing
-open_group|1|544|c0000066|nothing
-open_alias|1|544|0|opens Alias(1, 544) 31
-open_alias|0|544|c0000151|nothing
-open_alias|1|500|c0000151|nothing
-rid_to_sid|0|4000|0|S-1-5-21-1-2-3-4000
-rid_to_sid|500|4000|0|S-1-5-21-1-2-3-4000
-rid_to_sid|544|4000|0|S-1-5-32-4000";
-
-fn sid_of(rt: &impl Abort, text: &str) -> Sid {
-    match parse_text(text) {
-        Ok(sid) => sid,
-        Err(bad) => panic!(rt; "no SID at {}", bad.place),
-    }
-}
-
-fn seeded(rt: &impl Abort, alloc: Global) -> Result<Rows, Fail> {
-    let name = Name::from_text(alloc, "CORP")?;
-    let sid = sid_of(rt, "S-1-5-21-1-2-3");
-    assert!(rt; is_domain_name(alloc, &name)?);
-    assert!(rt; is_domain_sid(&sid));
-    Ok(Rows::seed(alloc, &name, sid)?)
+/// One of the parts of a text.
+fn part(text: &str, separator: char, place: usize) -> &str {
+    text.split(separator).nth(place).unwrap_or("")
 }
 
 fn number(text: &str) -> u32 {
     text.parse::<u32>().ok().unwrap_or(0)
 }
 
-fn object_of(text: &str) -> Object {
-    match number(text) {
-        0 if text == "server" => Object::Server,
-        500 => Object::User(500),
-        544 => Object::Alias(1, 544),
-        1 => Object::Domain(1),
-        _ => Object::Domain(0),
+fn number_at(text: &str, place: usize) -> u32 {
+    number(part(text, ',', place))
+}
+
+/// The number of a domain.
+fn domain_at(text: &str, place: usize) -> u8 {
+    u8::from(number_at(text, place) == 1)
+}
+
+/// A name: its text, or how many units it has, and the unit in hexadecimal digits.
+fn name_of(alloc: Global, text: &str) -> Result<Name, NoMemory> {
+    match text.split_once('*') {
+        Some((count, digits)) => {
+            let unit = u16::from_str_radix(digits, 16).ok().unwrap_or(0);
+            Ok(Name::from_units(vec![in alloc; unit; number(count) as usize]?))
+        }
+        None => Name::from_text(alloc, text),
     }
 }
 
-fn names_of(alloc: Global, text: &str) -> Result<Names, NoMemory> {
-    let mut names = Names::new(alloc);
-    for word in text.split(',') {
-        if !word.is_empty() {
-            names.push(Name::from_text(alloc, word)?)?;
+fn name_at(alloc: Global, text: &str, place: usize) -> Result<Name, NoMemory> {
+    name_of(alloc, part(text, ',', place))
+}
+
+fn account_of(alloc: Global, kind: Kind, fields: &str) -> Result<AccountRow, NoMemory> {
+    Ok(AccountRow {
+        domain: domain_at(fields, 0),
+        rid: number_at(fields, 1),
+        kind,
+        name: name_at(alloc, fields, 2)?,
+        full_name: name_at(alloc, fields, 3)?,
+        comment: name_at(alloc, fields, 4)?,
+        bits: number_at(fields, 5),
+        primary: number_at(fields, 6),
+    })
+}
+
+fn domain_of(alloc: Global, fields: &str) -> Result<DomainRow, Fail> {
+    Ok(DomainRow {
+        number: domain_at(fields, 0),
+        sid: parse_text(part(fields, ',', 1))?,
+        name: name_at(alloc, fields, 2)?,
+        oem: name_at(alloc, fields, 3)?,
+        next_rid: number_at(fields, 4),
+    })
+}
+
+fn row_of(alloc: Global, kind: &str, fields: &str) -> Result<Row, Fail> {
+    Ok(match kind {
+        "user" => Row::Account(account_of(alloc, Kind::User, fields)?),
+        "group" => Row::Account(account_of(alloc, Kind::Group, fields)?),
+        "alias" => Row::Account(account_of(alloc, Kind::Alias, fields)?),
+        "domain" => Row::Domain(domain_of(alloc, fields)?),
+        "member" => Row::Member(MemberRow {
+            group: number_at(fields, 0),
+            user: number_at(fields, 1),
+            attributes: number_at(fields, 2),
+        }),
+        _ => Row::Alias(AliasRow {
+            domain: domain_at(fields, 0),
+            alias: number_at(fields, 1),
+            member: parse_text(part(fields, ',', 2))?,
+        }),
+    })
+}
+
+fn seeded(rt: &impl Abort, alloc: Global) -> Result<Rows, Fail> {
+    let name = Name::from_text(alloc, "CORP")?;
+    let sid = parse_text("S-1-5-21-1-2-3")?;
+    assert!(rt; is_domain_name(alloc, &name)?);
+    assert!(rt; is_domain_sid(&sid));
+    Ok(Rows::seed(alloc, &name, sid)?)
+}
+
+/// Adds rows.
+fn add(alloc: Global, rows: &mut Rows, added: &str) -> Result<(), Fail> {
+    for row in added.split(';') {
+        if let Some((kind, fields)) = row.split_once(',') {
+            rows.reserve(1)?;
+            rows.put(row_of(alloc, kind, fields)?);
         }
+    }
+    Ok(())
+}
+
+fn object_of(text: &str) -> Object {
+    let first = number_at(text, 1);
+    match part(text, ',', 0) {
+        "domain" => Object::Domain(domain_at(text, 1)),
+        "user" => Object::User(first),
+        "group" => Object::Group(first),
+        "alias" => Object::Alias(domain_at(text, 1), number_at(text, 2)),
+        _ => Object::Server,
+    }
+}
+
+fn names_of(alloc: Global, fields: &str) -> Result<Names, NoMemory> {
+    let mut names = Names::new(alloc);
+    for text in fields.split_terminator(',') {
+        names.push(Name::from_text(alloc, text)?)?;
     }
     Ok(names)
 }
 
-fn rids_of(alloc: Global, text: &str) -> Result<Seq<u32>, NoMemory> {
+fn rids_of(alloc: Global, fields: &str) -> Result<Seq<u32>, NoMemory> {
     let mut rids = Seq::new(alloc);
-    for word in text.split(',') {
-        if !word.is_empty() {
-            rids.push(number(word))?;
-        }
+    for text in fields.split_terminator(',') {
+        rids.push(number(text))?;
     }
     Ok(rids)
 }
 
-/// A page as `CONTEXT PREFERRED` asks for it.
-fn page_of(text: &str) -> Args {
-    let (context, preferred) = text.split_once(' ').unwrap_or((text, ""));
-    Args::Page {
-        context: number(context),
-        filter: 0,
-        preferred: number(preferred),
-    }
+fn class_of(text: &str) -> u16 {
+    text.parse::<u16>().ok().unwrap_or(0)
 }
 
-fn args_of(rt: &impl Abort, alloc: Global, operation: &str, text: &str) -> Result<Args, NoMemory> {
-    Ok(match operation {
-        "look_domain" => Args::OneName(Some(Name::from_text(alloc, text)?)),
-        "list_domains" => page_of(text),
-        "open_domain" => Args::AccessSid {
-            access: 31,
-            sid: sid_of(rt, text),
+fn value_of(alloc: Global, kind: &str, text: &str) -> Result<Info, NoMemory> {
+    Ok(match kind {
+        "Number" => Info::Number(number(text)),
+        "Text" => Info::Text(name_of(alloc, text)?),
+        _ => Info::Unserved,
+    })
+}
+
+fn args_of(alloc: Global, kind: &str, fields: &str) -> Result<Args, Fail> {
+    let first = number_at(fields, 0);
+    Ok(match kind {
+        "OneName" => Args::OneName(Some(Name::from_text(alloc, fields)?)),
+        "NameList" => Args::NameList(names_of(alloc, fields)?),
+        "RidList" => Args::RidList(rids_of(alloc, fields)?),
+        "Rid" => Args::Rid(first),
+        "Class" => Args::Class(class_of(fields)),
+        "AccessRid" => Args::AccessRid {
+            access: first,
+            rid: number_at(fields, 1),
         },
-        "look_names" => Args::NameList(names_of(alloc, text)?),
-        "look_ids" => Args::RidList(rids_of(alloc, text)?),
-        "rid_to_sid" => Args::Rid(number(text)),
-        _ => Args::AccessRid {
-            access: 31,
-            rid: number(text),
+        "AccessSid" => Args::AccessSid {
+            access: first,
+            sid: parse_text(part(fields, ',', 1))?,
         },
+        "Page" => Args::Page {
+            context: first,
+            filter: number_at(fields, 1),
+            preferred: number_at(fields, 2),
+        },
+        "Make" => Args::Make {
+            name: name_at(alloc, fields, 0)?,
+            bits: number_at(fields, 1),
+            access: number_at(fields, 2),
+        },
+        "Put" => Args::Put {
+            class: class_of(part(fields, ',', 0)),
+            value: value_of(alloc, part(fields, ',', 1), part(fields, ',', 2))?,
+        },
+        _ => Args::Nothing,
     })
 }
 
 fn run(
     alloc: Global,
-    operation: &str,
     rows: &Rows,
+    operation: &str,
     object: Object,
     args: &Args,
 ) -> Result<Planned, NoMemory> {
@@ -155,119 +210,89 @@ fn run(
         "open_domain" => open_domain(alloc, rows, object, args),
         "look_names" => look_names(alloc, rows, object, args),
         "look_ids" => look_ids(alloc, rows, object, args),
+        "rid_to_sid" => rid_to_sid(alloc, rows, object, args),
         "open_group" => open_group(alloc, rows, object, args),
         "open_alias" => open_alias(alloc, rows, object, args),
         "open_user" => open_user(alloc, rows, object, args),
-        _ => rid_to_sid(alloc, rows, object, args),
+        "list_groups" => list_groups(alloc, rows, object, args),
+        "list_aliases" => list_aliases(alloc, rows, object, args),
+        "list_users" => list_users(alloc, rows, object, args),
+        "create_group" => create_group(alloc, rows, object, args),
+        "create_alias" => create_alias(alloc, rows, object, args),
+        "create_user" => create_user(alloc, rows, object, args),
+        "delete_group" => delete_group(alloc, rows, object, args),
+        "delete_alias" => delete_alias(alloc, rows, object, args),
+        "delete_user" => delete_user(alloc, rows, object, args),
+        "query_domain" => query_domain(alloc, rows, object, args),
+        "query_group" => query_group(alloc, rows, object, args),
+        "query_alias" => query_alias(alloc, rows, object, args),
+        "query_user" => query_user(alloc, rows, object, args),
+        "set_domain" => set_domain(alloc, rows, object, args),
+        "set_group" => set_group(alloc, rows, object, args),
+        "set_alias" => set_alias(alloc, rows, object, args),
+        _ => set_user(alloc, rows, object, args),
     }
 }
 
-/// A name of ASCII, and a character behind it.
-fn push_name(text: &mut String, name: &Name, behind: char) -> Result<(), NoMemory> {
-    for unit in name.units() {
-        text.push(char::from((*unit & 0x7F) as u8))?;
-    }
-    text.push(behind)?;
+/// What the operation of a row decides.
+fn decided(alloc: Global, rows: &Rows, row: &str) -> Result<Planned, Fail> {
+    let asked = part(row, '|', 3);
+    let (kind, fields) = asked.split_once(',').unwrap_or((asked, ""));
+    let args = args_of(alloc, kind, fields)?;
+    let object = object_of(part(row, '|', 2));
+    Ok(run(alloc, rows, part(row, '|', 1), object, &args)?)
+}
+
+/// Does what is planned to the rows.
+fn apply(rows: &mut Rows, planned: Planned) -> Result<(), NoMemory> {
+    rows.reserve(planned.plan.puts.as_slice().len())?;
+    rows.apply(planned.plan);
     Ok(())
 }
 
-fn page_text(alloc: Global, context: u32, entries: &[RidName]) -> Result<String, NoMemory> {
-    let mut text = format!(in alloc; "{context}:")?;
-    let mut separator = " ";
-    for entry in entries {
-        text.push_str(separator)?;
-        push_name(&mut text, &entry.name, ',')?;
-        separator = " ";
-    }
+/// Tells what a row does, and does it to the rows.
+fn told(alloc: Global, rows: &mut Rows, row: &str) -> Result<String, Fail> {
+    add(alloc, rows, part(row, '|', 0))?;
+    let planned = decided(alloc, rows, row)?;
+    let text = tell(alloc, &planned)?;
+    apply(rows, planned)?;
     Ok(text)
 }
 
-fn uses_text(alloc: Global, rids: &[u32], uses: &[u32]) -> Result<String, NoMemory> {
-    let mut text = String::new(alloc);
-    for (rid, usage) in rids.iter().zip(uses) {
-        text.push_str(&format!(in alloc; "{rid}/{usage} ")?)?;
-    }
-    Ok(text)
-}
-
-fn names_text(alloc: Global, names: &[Name], uses: &[u32]) -> Result<String, NoMemory> {
-    let mut text = String::new(alloc);
-    for (name, usage) in names.iter().zip(uses) {
-        push_name(&mut text, name, '/')?;
-        text.push_str(&format!(in alloc; "{usage} ")?)?;
-    }
-    Ok(text)
-}
-
-fn outs_text(alloc: Global, outs: &Outs) -> Result<String, NoMemory> {
-    match outs {
-        Outs::OneSid(Some(sid)) => sid.text(alloc),
-        Outs::Page {
-            context,
-            entries: Some(entries),
-        } => page_text(alloc, *context, entries.as_slice()),
-        Outs::RidUses { rids, uses } => uses_text(alloc, rids.as_slice(), uses.as_slice()),
-        Outs::NameUses { names, uses } => names_text(alloc, names.as_slice(), uses.as_slice()),
-        _ => Ok(String::from_str(alloc, "nothing")?),
-    }
-}
-
-/// What is opened, or the outputs, in words.
-fn planned_text(alloc: Global, planned: &Planned) -> Result<String, NoMemory> {
-    match planned.effect {
-        Effect::Opens(opening) => {
-            Ok(format!(in alloc; "opens {:?} {}", opening.object, opening.desired)?)
+/// Each row of a table is told as what is wanted.
+fn table_is_right(rt: &impl Abort, alloc: Global, table: &str) -> Result<(), Fail> {
+    let mut rows = seeded(rt, alloc)?;
+    for row in table.lines() {
+        if !row.starts_with('+') {
+            rows = seeded(rt, alloc)?;
         }
-        _ => outs_text(alloc, &planned.outs),
+        let told = told(alloc, &mut rows, row)?;
+        let wanted = spelled(alloc, part(row, '|', 4))?;
+        assert_eq!(rt; told.as_str(), wanted.as_str(), "{row}");
     }
-}
-
-/// A column of a row, and those behind it.
-fn column(row: &str) -> (&str, &str) {
-    row.split_once('|').unwrap_or((row, ""))
-}
-
-/// What the operation decides on the first rows.
-fn decided(
-    rt: &impl Abort,
-    alloc: Global,
-    operation: &str,
-    object: Object,
-    asked: &str,
-) -> Result<Planned, Fail> {
-    let rows = seeded(rt, alloc)?;
-    let args = args_of(rt, alloc, operation, asked)?;
-    Ok(run(alloc, operation, &rows, object, &args)?)
-}
-
-/// The status, and what is answered, in words.
-fn answer_text(alloc: Global, planned: &Planned) -> Result<String, Fail> {
-    let text = planned_text(alloc, planned)?;
-    let text = text.trim_end().trim_end_matches(',');
-    Ok(format!(in alloc; "{:x}|{}", planned.status, text)?)
-}
-
-/// The answer to a row.
-fn answered(rt: &impl Abort, alloc: Global, row: &str) -> Result<String, Fail> {
-    let (operation, rest) = column(row);
-    let (object, rest) = column(rest);
-    let (asked, _wanted) = column(rest);
-    let planned = decided(rt, alloc, operation, object_of(object), asked)?;
-    answer_text(alloc, &planned)
-}
-
-fn wanted(row: &str) -> &str {
-    column(column(column(row).1).1).1
+    Ok(())
 }
 
 #[test]
-fn operations_on_the_first_rows(rt: HostRuntime) -> Result<(), Fail> {
-    for row in ROWS.lines() {
-        assert_eq!(rt;
-            answered(&rt, rt.alloc(), row)?.as_str(),
-            wanted(row),
-            "{row}"
-        );
+fn tables_are_right(rt: HostRuntime) -> Result<(), Fail> {
+    for table in [
+        domains::FIRST_ROWS,
+        creations::CREATIONS,
+        deletions::DELETIONS,
+        enumerations::PAGES,
+        enumerations::BETWEEN_PAGES,
+        enumerations::LARGEST_PAGES,
+        queries::CLASSES,
+        settings::SETS,
+        settings::LIMITS,
+    ] {
+        table_is_right(&rt, rt.alloc(), table)?;
     }
     Ok(())
+}
+
+#[test]
+fn laws_are_called() {
+    laws::enumerations_go_on();
+    laws::classes_are_shown();
 }

@@ -1,208 +1,65 @@
-// Accounts are created one after the other, on the rows that a database begins with. The rows are one text, which one
-// function tells.
-use super::{column, number, push_name, seeded};
-use crate::{create_alias, create_group, create_user};
-use acct_calls::{Args, Name, NoMemory, Outs};
-use acct_rows::{AccountRow, DomainRow, Object, Row, Rows};
-use acct_rules::{Effect, Planned};
-use std::alloc::Global;
-use std::test::Fail;
-
-/// Each row: what is created, the number of its domain, its name (`#` and the digits of a unit that is no character),
-/// the type of a user, the status, and what is put and opened: the domain with its next RID, the account with its RID,
-/// name, bits and primary group, and the member of a group with its attributes. `next` sets a domain's next RID.
-const ROWS: &str =
-    "user|0|alice|10|0|0 next 1001, User 1000 alice 15 513, member 513 1000 7, opens User(1000)
-user|0|ALICE|10|c0000063|nothing
-group|0|Alice|0|c0000063|nothing
-alias|0|aLICE|0|c0000063|nothing
-user|0|12345678901234567890|10|0|0 next 1002, User 1001 12345678901234567890 15 513, member 513 1001 7, opens User(1001)
-user|0|123456789012345678901|10|c0000062|nothing
-user|0||10|c0000062|nothing
-user|0|#d800|10|c0000062|nothing
-user|0|a/b|10|c0000062|nothing
-user|0|. .|10|c0000062|nothing
-user|0|client$|80|0|0 next 1003, User 1002 client$ 81 513, member 513 1002 7, opens User(1002)
-user|0|server$|100|0|0 next 1004, User 1003 server$ 101 513, member 513 1003 7, opens User(1003)
-user|0|bob|11|c000000d|nothing
-user|0|bob|0|c000000d|nothing
-user|0|bob|90|c000000d|nothing
-user|0||11|c000000d|nothing
-user|1|bob|10|c00000bb|nothing
-user|1|bob|11|c00000bb|nothing
-group|1|staff|0|c00000bb|nothing
-group|1||0|c00000bb|nothing
-group|0|staff|0|0|0 next 1005, Group 1004 staff 7 0, opens Group(1004)
-user|0|Staff|10|c0000065|nothing
-group|0|domain users|0|c0000065|nothing
-group|0||0|c0000062|nothing
-alias|0|local|0|0|0 next 1006, Alias 1005 local 0 0, opens Alias(0, 1005)
-alias|0|LOCAL|0|c0000154|nothing
-user|0|Local|10|c0000154|nothing
-group|0|local|0|c0000154|nothing
-alias|1|local|0|0|1 next 1001, Alias 1000 local 0 0, opens Alias(1, 1000)
-alias|1|users|0|c0000154|nothing
-alias|1|alice|0|0|1 next 1002, Alias 1001 alice 0 0, opens Alias(1, 1001)
-alias|1|#dc00|0|c0000062|nothing
-next|0||3ffffffe|0|nothing
-user|0|carol|10|0|0 next 1073741823, User 1073741822 carol 15 513, member 513 1073741822 7, opens User(1073741822)
-user|0|dave|10|c000009a|nothing
-group|0|dave|0|c000009a|nothing
-alias|0|dave|0|c000009a|nothing
-user|0|CAROL|10|c0000063|nothing
-user|0||10|c0000062|nothing
-alias|1|dave|0|0|1 next 1003, Alias 1002 dave 0 0, opens Alias(1, 1002)
-next|1||3fffffff|0|nothing
-alias|1|erin|0|c000009a|nothing";
-
-/// The access that each creation asks for.
-const DESIRED: u32 = 0x0200_0000;
-
-fn hexadecimal(text: &str) -> u32 {
-    u32::from_str_radix(text, 16).ok().unwrap_or(0)
-}
-
-fn name_of(alloc: Global, text: &str) -> Result<Name, NoMemory> {
-    match text.strip_prefix("#") {
-        Some(digits) => {
-            let unit = (hexadecimal(digits) & 0xFFFF) as u16;
-            Ok(Name::from_units(vec![in alloc; unit]?))
-        }
-        None => Name::from_text(alloc, text),
-    }
-}
-
-fn run(
-    alloc: Global,
-    what: &str,
-    rows: &Rows,
-    domain: Object,
-    args: &Args,
-) -> Result<Planned, NoMemory> {
-    match what {
-        "user" => create_user(alloc, rows, domain, args),
-        "group" => create_group(alloc, rows, domain, args),
-        _ => create_alias(alloc, rows, domain, args),
-    }
-}
-
-fn push_account(alloc: Global, text: &mut String, account: &AccountRow) -> Result<(), NoMemory> {
-    text.push_str(&format!(in alloc; "{:?} {} ", account.kind, account.rid)?)?;
-    push_name(text, &account.name, ' ')?;
-    text.push_str(&format!(in alloc; "{:x} {}, ", account.bits, account.primary)?)?;
-    Ok(())
-}
-
-fn push_row(alloc: Global, text: &mut String, row: &Row) -> Result<(), NoMemory> {
-    match row {
-        Row::Domain(domain) => {
-            let put = format!(in alloc; "{} next {}, ", domain.number, domain.next_rid)?;
-            text.push_str(&put)?;
-        }
-        Row::Account(account) => push_account(alloc, text, account)?,
-        Row::Member(member) => {
-            let put = format!(in alloc;
-                "member {} {} {}, ",
-                member.group, member.user, member.attributes
-            )?;
-            text.push_str(&put)?;
-        }
-        _ => text.push_str("another row, ")?,
-    }
-    Ok(())
-}
-
-/// The rows that are put, and what is opened, where the outputs show its RID.
-fn made_text(alloc: Global, planned: &Planned) -> Result<String, NoMemory> {
-    let mut text = String::new(alloc);
-    for row in planned.plan.puts.as_slice() {
-        push_row(alloc, &mut text, row)?;
-    }
-    match (planned.effect, &planned.outs) {
-        (Effect::Opens(opening), Outs::Created { rid, .. })
-            if opening.object.rid() == *rid && opening.desired == DESIRED => {
-            text.push_str(&format!(in alloc; "opens {:?}", opening.object)?)?;
-        }
-        _ => text.push_str("nothing")?,
-    }
-    Ok(text)
-}
-
-fn apply(rows: &mut Rows, planned: Planned) -> Result<(), NoMemory> {
-    rows.reserve(planned.plan.puts.as_slice().len())?;
-    rows.apply(planned.plan);
-    Ok(())
-}
-
-fn with_next(alloc: Global, domain: &DomainRow, next_rid: u32) -> Result<DomainRow, NoMemory> {
-    Ok(DomainRow {
-        next_rid,
-        ..domain.copy(alloc)?
-    })
-}
-
-fn set_next(alloc: Global, rows: &mut Rows, number: u8, next_rid: u32) -> Result<(), NoMemory> {
-    let changed = match rows.domain(number) {
-        Some(domain) => with_next(alloc, domain, next_rid)?,
-        None => return Ok(()),
-    };
-    rows.reserve(1)?;
-    rows.put(Row::Domain(changed));
-    Ok(())
-}
-
-fn planned(
-    alloc: Global,
-    rows: &Rows,
-    what: &str,
-    number: u8,
-    asked: &str,
-) -> Result<Planned, NoMemory> {
-    let (name, rest) = column(asked);
-    let (bits, _wanted) = column(rest);
-    let args = Args::Make {
-        name: name_of(alloc, name)?,
-        bits: hexadecimal(bits),
-        access: DESIRED,
-    };
-    run(alloc, what, rows, Object::Domain(number), &args)
-}
-
-/// The status and what is made, in words.
-fn told(alloc: Global, planned: &Planned) -> Result<String, NoMemory> {
-    let made = made_text(alloc, planned)?;
-    Ok(format!(in alloc; "{:x}|{}", planned.status, made)?)
-}
-
-/// The answer to a row.
-fn answered(alloc: Global, rows: &mut Rows, row: &str) -> Result<String, NoMemory> {
-    let (what, rest) = column(row);
-    let (domain, asked) = column(rest);
-    let number = u8::from(number(domain) != 0);
-    if what == "next" {
-        let (next_rid, _wanted) = column(column(asked).1);
-        set_next(alloc, rows, number, hexadecimal(next_rid))?;
-        return Ok(String::from_str(alloc, "0|nothing")?);
-    }
-    let planned = planned(alloc, rows, what, number, asked)?;
-    let text = told(alloc, &planned)?;
-    apply(rows, planned)?;
-    Ok(text)
-}
-
-fn wanted(row: &str) -> &str {
-    column(column(column(column(row).1).1).1).1
-}
-
-#[test]
-fn accounts_are_created_one_after_the_other(rt: HostRuntime) -> Result<(), Fail> {
-    let mut rows = seeded(&rt, rt.alloc())?;
-    for row in ROWS.lines() {
-        assert_eq!(rt;
-            answered(rt.alloc(), &mut rows, row)?.as_str(),
-            wanted(row),
-            "{row}"
-        );
-    }
-    Ok(())
-}
+// Accounts are created one after the other, on the rows that a database begins with.
+/// A creation puts the domain with its next RID, the account and, of a user, its row as a member of Domain Users, and
+/// opens the account for MAXIMUM_ALLOWED, 33,554,432. Before the last eight, and the last one, a domain's next RID is
+/// raised.
+pub const CREATIONS: &str = "\
+|create_user|domain,0|Make,alice,16,33554432\
+    |0 Created Handle 0 0 1000 puts [ Domain 0 S-1-5-21-1-2-3 'CORP' '' 1001 Account 0 1000 User 'alice' '' '' 21 \
+    513 Member 513 1000 7 ] removes [ ] Opens User 1000 33554432
++|create_user|domain,0|Make,ALICE,16,33554432|c0000063 Nothing
++|create_group|domain,0|Make,Alice,0,33554432|c0000063 Nothing
++|create_alias|domain,0|Make,aLICE,0,33554432|c0000063 Nothing
++|create_user|domain,0|Make,12345678901234567890,16,33554432\
+    |0 Created Handle 0 0 1001 puts [ Domain 0 S-1-5-21-1-2-3 'CORP' '' 1002 Account 0 1001 User \
+    '12345678901234567890' '' '' 21 513 Member 513 1001 7 ] removes [ ] Opens User 1001 33554432
++|create_user|domain,0|Make,123456789012345678901,16,33554432|c0000062 Nothing
++|create_user|domain,0|Make,,16,33554432|c0000062 Nothing
++|create_user|domain,0|Make,1*d800,16,33554432|c0000062 Nothing
++|create_user|domain,0|Make,a/b,16,33554432|c0000062 Nothing
++|create_user|domain,0|Make,. .,16,33554432|c0000062 Nothing
++|create_user|domain,0|Make,client$,128,33554432\
+    |0 Created Handle 0 0 1002 puts [ Domain 0 S-1-5-21-1-2-3 'CORP' '' 1003 Account 0 1002 User 'client$' '' '' 129 \
+    513 Member 513 1002 7 ] removes [ ] Opens User 1002 33554432
++|create_user|domain,0|Make,server$,256,33554432\
+    |0 Created Handle 0 0 1003 puts [ Domain 0 S-1-5-21-1-2-3 'CORP' '' 1004 Account 0 1003 User 'server$' '' '' 257 \
+    513 Member 513 1003 7 ] removes [ ] Opens User 1003 33554432
++|create_user|domain,0|Make,bob,17,33554432|c000000d Nothing
++|create_user|domain,0|Make,bob,0,33554432|c000000d Nothing
++|create_user|domain,0|Make,bob,144,33554432|c000000d Nothing
++|create_user|domain,0|Make,,17,33554432|c000000d Nothing
++|create_user|domain,1|Make,bob,16,33554432|c00000bb Nothing
++|create_user|domain,1|Make,bob,17,33554432|c00000bb Nothing
++|create_group|domain,1|Make,staff,0,33554432|c00000bb Nothing
++|create_group|domain,1|Make,,0,33554432|c00000bb Nothing
++|create_group|domain,0|Make,staff,0,33554432\
+    |0 Created Handle 0 0 1004 puts [ Domain 0 S-1-5-21-1-2-3 'CORP' '' 1005 Account 0 1004 Group 'staff' '' '' 7 0 \
+    ] removes [ ] Opens Group 1004 33554432
++|create_user|domain,0|Make,Staff,16,33554432|c0000065 Nothing
++|create_group|domain,0|Make,domain users,0,33554432|c0000065 Nothing
++|create_group|domain,0|Make,,0,33554432|c0000062 Nothing
++|create_alias|domain,0|Make,local,0,33554432\
+    |0 Created Handle 0 0 1005 puts [ Domain 0 S-1-5-21-1-2-3 'CORP' '' 1006 Account 0 1005 Alias 'local' '' '' 0 0 \
+    ] removes [ ] Opens Alias 0 1005 33554432
++|create_alias|domain,0|Make,LOCAL,0,33554432|c0000154 Nothing
++|create_user|domain,0|Make,Local,16,33554432|c0000154 Nothing
++|create_group|domain,0|Make,local,0,33554432|c0000154 Nothing
++|create_alias|domain,1|Make,local,0,33554432\
+    |0 Created Handle 0 0 1000 puts [ Domain 1 S-1-5-32 'BUILTIN' '' 1001 Account 1 1000 Alias 'local' '' '' 0 0 ] \
+    removes [ ] Opens Alias 1 1000 33554432
++|create_alias|domain,1|Make,users,0,33554432|c0000154 Nothing
++|create_alias|domain,1|Make,alice,0,33554432\
+    |0 Created Handle 0 0 1001 puts [ Domain 1 S-1-5-32 'BUILTIN' '' 1002 Account 1 1001 Alias 'alice' '' '' 0 0 ] \
+    removes [ ] Opens Alias 1 1001 33554432
++|create_alias|domain,1|Make,1*dc00,0,33554432|c0000062 Nothing
++;domain,0,S-1-5-21-1-2-3,CORP,,1073741822|create_user|domain,0|Make,carol,16,33554432\
+    |0 Created Handle 0 0 1073741822 puts [ Domain 0 S-1-5-21-1-2-3 'CORP' '' 1073741823 Account 0 1073741822 User \
+    'carol' '' '' 21 513 Member 513 1073741822 7 ] removes [ ] Opens User 1073741822 33554432
++|create_user|domain,0|Make,dave,16,33554432|c000009a Nothing
++|create_group|domain,0|Make,dave,0,33554432|c000009a Nothing
++|create_alias|domain,0|Make,dave,0,33554432|c000009a Nothing
++|create_user|domain,0|Make,CAROL,16,33554432|c0000063 Nothing
++|create_user|domain,0|Make,,16,33554432|c0000062 Nothing
++|create_alias|domain,1|Make,dave,0,33554432\
+    |0 Created Handle 0 0 1002 puts [ Domain 1 S-1-5-32 'BUILTIN' '' 1003 Account 1 1002 Alias 'dave' '' '' 0 0 ] \
+    removes [ ] Opens Alias 1 1002 33554432
++;domain,1,S-1-5-32,BUILTIN,,1073741823|create_alias|domain,1|Make,erin,0,33554432|c000009a Nothing";

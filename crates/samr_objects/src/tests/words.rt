@@ -1,0 +1,84 @@
+// Values in words, as the tables spell what is wanted. A value is told by its `Debug` text without the names of fields,
+// parentheses and commas, so that no function here knows a type; the tables' words are spelled out to the same.
+use super::name_of;
+use acct_rules::Planned;
+use dtyp_sid::parse_text;
+use std::alloc::Global;
+use std::test::Fail;
+
+/// Behind the outputs of what changes nothing.
+const NO_CHANGE: &str = "puts [ ] removes [ ] Nothing ";
+
+/// Whether a word is the name of a struct that its field or its list tells already.
+fn is_dropped(word: &str) -> bool {
+    word.ends_with("Row") || matches!(word, "" | "Seq" | "RidName" | "Names" | "Opening")
+}
+
+/// Adds a word of a `Debug` text. Brackets stand alone.
+fn add_word(words: &mut String, word: &str) -> Result<(), Fail> {
+    let behind = word.trim_start_matches('[');
+    let between = behind.trim_end_matches(']');
+    if behind.len() < word.len() {
+        words.push_str("[ ")?;
+    }
+    if !is_dropped(between) {
+        words.push_str(between)?;
+        words.push(' ')?;
+    }
+    if between.len() < behind.len() {
+        words.push_str("] ")?;
+    }
+    Ok(())
+}
+
+/// Adds the words of a `Debug` text, without the names of fields.
+fn add_words(words: &mut String, text: &str) -> Result<(), Fail> {
+    for word in text.split([' ', '(', ')', '{', '}', ',']) {
+        if !word.ends_with(':') {
+            add_word(words, word)?;
+        }
+    }
+    Ok(())
+}
+
+/// What is planned, in words: the status in hexadecimal digits, the outputs, and what changes.
+pub fn tell(alloc: Global, planned: &Planned) -> Result<String, Fail> {
+    let text = format!(in alloc;
+        "{:x} {:?} puts {:?} removes {:?} {:?}",
+        planned.status, planned.outs, planned.plan.puts, planned.plan.removes, planned.effect
+    )?;
+    let mut words = String::new(alloc);
+    add_words(&mut words, text.as_str())?;
+    let told = words.as_str().trim_end_matches(NO_CHANGE);
+    Ok(String::from_str(alloc, told)?)
+}
+
+/// Adds a word of a table: a SID as its value, and any other word as it stands.
+fn spell_word(words: &mut String, alloc: Global, word: &str) -> Result<(), Fail> {
+    if word.starts_with("S-1-") {
+        let sid = format!(in alloc; "{:?}", parse_text(word)?)?;
+        return add_words(words, sid.as_str());
+    }
+    add_words(words, word)
+}
+
+/// Adds a name of a table.
+fn spell_name(words: &mut String, alloc: Global, text: &str) -> Result<(), Fail> {
+    let name = format!(in alloc; "{:?}", name_of(alloc, text)?)?;
+    add_words(words, name.as_str())
+}
+
+/// What a table spells: words, SIDs as texts, and names in quotes.
+pub fn spelled(alloc: Global, text: &str) -> Result<String, Fail> {
+    let mut words = String::new(alloc);
+    for (i, piece) in text.split('\'').enumerate() {
+        if i % 2 == 1 {
+            spell_name(&mut words, alloc, piece)?;
+        } else {
+            for word in piece.split(' ') {
+                spell_word(&mut words, alloc, word)?;
+            }
+        }
+    }
+    Ok(words)
+}
