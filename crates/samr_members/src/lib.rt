@@ -15,6 +15,3 @@ pub mod laws;
 
 pub use aliases::{add_alias_member, alias_members, alias_membership, remove_alias_member};
 pub use groups::{add_group_member, group_members, remove_group_member, user_groups};
-
-#[cfg(test)]
-mod tests;

@@ -30,6 +30,3 @@ pub use enumerations::{list_aliases, list_groups, list_users};
 pub use lookups::{look_ids, look_names};
 pub use queries::{query_alias, query_domain, query_group, query_user};
 pub use settings::{Field, set_alias, set_domain, set_field, set_group, set_user};
-
-#[cfg(test)]
-mod tests;

@@ -1,6 +1,6 @@
 // Values in words, as the tables spell what is wanted. A value is told by its `Debug` text without the names of fields,
 // parentheses and commas, so that no function here knows a type; the tables' words are spelled out to the same.
-use super::name_of;
+use super::parts::name_of;
 use acct_rules::Planned;
 use dtyp_sid::parse_text;
 use std::alloc::Global;
@@ -11,7 +11,11 @@ const NO_CHANGE: &str = "puts [ ] removes [ ] Nothing ";
 
 /// Whether a word is the name of a struct that its field or its list tells already.
 fn is_dropped(word: &str) -> bool {
-    word.ends_with("Row") || matches!(word, "" | "Seq" | "RidName" | "Names" | "Opening")
+    word.ends_with("Row")
+        || matches!(
+            word,
+            "" | "Seq" | "RidName" | "RidBits" | "Names" | "Opening"
+        )
 }
 
 /// Adds a word of a `Debug` text. Brackets stand alone.

@@ -1,0 +1,72 @@
+// The first rows, and those that are added.
+use super::parts::{domain_at, field, name_at, number_at};
+use acct_calls::domain::{is_domain_name, is_domain_sid};
+use acct_calls::{Name, NoMemory};
+use acct_codes::Kind;
+use acct_rows::{AccountRow, AliasRow, DomainRow, MemberRow, Row, Rows};
+use dtyp_sid::parse_text;
+use std::alloc::Global;
+use std::process::Abort;
+use std::test::Fail;
+
+/// The rows of a new database.
+pub fn seeded(rt: &impl Abort, alloc: Global) -> Result<Rows, Fail> {
+    let name = Name::from_text(alloc, "CORP")?;
+    let sid = parse_text("S-1-5-21-1-2-3")?;
+    assert!(rt; is_domain_name(alloc, &name)?);
+    assert!(rt; is_domain_sid(&sid));
+    Ok(Rows::seed(alloc, &name, sid)?)
+}
+
+fn account_of(alloc: Global, kind: Kind, fields: &str) -> Result<AccountRow, NoMemory> {
+    Ok(AccountRow {
+        domain: domain_at(fields, 0),
+        rid: number_at(fields, 1),
+        kind,
+        name: name_at(alloc, fields, 2)?,
+        full_name: name_at(alloc, fields, 3)?,
+        comment: name_at(alloc, fields, 4)?,
+        bits: number_at(fields, 5),
+        primary: number_at(fields, 6),
+    })
+}
+
+fn domain_of(alloc: Global, fields: &str) -> Result<DomainRow, Fail> {
+    Ok(DomainRow {
+        number: domain_at(fields, 0),
+        sid: parse_text(field(fields, 1))?,
+        name: name_at(alloc, fields, 2)?,
+        oem: name_at(alloc, fields, 3)?,
+        next_rid: number_at(fields, 4),
+    })
+}
+
+fn row_of(alloc: Global, kind: &str, fields: &str) -> Result<Row, Fail> {
+    Ok(match kind {
+        "user" => Row::Account(account_of(alloc, Kind::User, fields)?),
+        "group" => Row::Account(account_of(alloc, Kind::Group, fields)?),
+        "alias" => Row::Account(account_of(alloc, Kind::Alias, fields)?),
+        "domain" => Row::Domain(domain_of(alloc, fields)?),
+        "member" => Row::Member(MemberRow {
+            group: number_at(fields, 0),
+            user: number_at(fields, 1),
+            attributes: number_at(fields, 2),
+        }),
+        _ => Row::Alias(AliasRow {
+            domain: domain_at(fields, 0),
+            alias: number_at(fields, 1),
+            member: parse_text(field(fields, 2))?,
+        }),
+    })
+}
+
+/// Adds rows.
+pub fn add(alloc: Global, rows: &mut Rows, added: &str) -> Result<(), Fail> {
+    for row in added.split(';') {
+        if let Some((kind, fields)) = row.split_once(',') {
+            rows.reserve(1)?;
+            rows.put(row_of(alloc, kind, fields)?);
+        }
+    }
+    Ok(())
+}
