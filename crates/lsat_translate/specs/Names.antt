@@ -1,0 +1,85 @@
+-- What a name is translated to (MS-LSAT 3.1.4.5).
+use Rattle.std.specs.Prelude.{ℕ, ◌+◌, ◌==◌, Bool, ◌&&◌, ◌||◌, List, [], ◌∷◌, length, take, drop, position}
+use Rattle.std.specs.Prelude.{Option, Some, None, if◌then◌else◌}
+use Rattle.std.specs.List.{find, list_any}
+use Rattle.std.specs.Option.{option_or, option_map, option_and_then}
+use Rattle.acct_calls.specs.Folding.{is_same}
+use Rattle.acct_rows.specs.Rows.{Lists, account_domain, builtin_domain, find_name}
+use Rattle.lsat_translate.specs.Known.{all_well_known, well_known_name, home_of, same_known, named_domains, domain_name}
+use Rattle.lsat_translate.specs.Matches.{account_match}
+use Rattle.lsat_translate.specs.declared.known.Known.{Known}
+use Rattle.lsat_translate.specs.declared.known.Known.TheVariants as known
+use Rattle.lsat_translate.specs.declared.known.WellKnown.{WellKnown}
+use Rattle.lsat_translate.specs.declared.matches.Match.{Match}
+use Rattle.lsat_translate.specs.declared.matches.Match.TheVariants as matches
+
+-- ---- what has a name: names are one where they are so after simple case folding
+
+abbrev pub is_well_known_named : List ℕ → WellKnown → Bool
+is_well_known_named name w = is_same (well_known_name w) name
+
+abbrev pub well_known_named : List ℕ → Option WellKnown
+well_known_named name = find (is_well_known_named name) all_well_known
+
+abbrev pub is_domain_named : Lists → List ℕ → Known → Bool
+is_domain_named r name k = is_same (domain_name r k) name
+
+abbrev pub domain_named : Lists → List ℕ → Option Known
+domain_named r name = find (is_domain_named r name) named_domains
+
+abbrev pub account_named : Lists → ℕ → List ℕ → Option Match
+account_named r number name = option_map account_match (find_name r number name)
+
+-- ---- a name that stands alone
+
+-- the first among the well-known names, the named domains, the accounts of the account domain, and those of BUILTIN
+abbrev pub match_alone : Lists → List ℕ → Option Match
+match_alone r name =
+    option_or (option_map matches.WellKnown (well_known_named name))
+    (option_or (option_map matches.Domain (domain_named r name))
+    (option_or (account_named r account_domain name) (account_named r builtin_domain name)))
+
+-- ---- a name behind that of a domain
+
+abbrev pub is_authority_named : List ℕ → WellKnown → Bool
+is_authority_named name w = same_known (home_of w) known.NtAuthority && is_well_known_named name w
+
+-- an account or a well-known name of the domain
+abbrev pub match_in : Lists → List ℕ → Known → Option Match
+match_in r name known.Account = account_named r account_domain name
+match_in r name known.Builtin = account_named r builtin_domain name
+match_in r name known.NtAuthority = option_map matches.WellKnown (find (is_authority_named name) all_well_known)
+match_in r name known.World = None
+
+-- the domain itself, where no name stands behind it
+abbrev pub match_behind : Lists → List ℕ → Known → Option Match
+match_behind r [] k = Some (matches.Domain k)
+match_behind r (u ∷ us) k = match_in r (u ∷ us) k
+
+-- ---- a name
+
+abbrev pub backslash : ℕ
+backslash = 0x5C
+
+abbrev pub is_backslash : ℕ → Bool
+is_backslash unit = unit == backslash
+
+abbrev pub at_sign : ℕ
+at_sign = 0x40
+
+abbrev pub is_at_sign : ℕ → Bool
+is_at_sign unit = unit == at_sign
+
+-- the empty name, and a name of a user principal, are never mapped
+abbrev pub is_never_mapped : List ℕ → Bool
+is_never_mapped name = (length name == 0) || list_any is_at_sign name
+
+-- it is split at its first backslash
+abbrev pub match_split : Lists → List ℕ → Option ℕ → Option Match
+match_split r name None = match_alone r name
+match_split r name (Some place) =
+    option_and_then (match_behind r (drop (place + 1) name)) (domain_named r (take place name))
+
+abbrev pub match_of_name : Lists → List ℕ → Option Match
+match_of_name r name =
+    if is_never_mapped name then None else match_split r name (position is_backslash name)

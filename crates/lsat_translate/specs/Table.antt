@@ -1,0 +1,24 @@
+-- The operations: each one's profile, and its rule.
+use Rattle.acct_calls.specs.declared.calls.Face.TheVariants.{Lsa}
+use Rattle.acct_codes.specs.Opnums.{lsar_lookup_names, lsar_lookup_sids}
+use Rattle.acct_codes.specs.Rights.{policy_lookup_names}
+use Rattle.acct_codes.specs.declared.kind.Kind.TheVariants as kind
+use Rattle.acct_rules.specs.Operations.{Operation}
+use Rattle.acct_rules.specs.Profiles.{asking}
+use Rattle.acct_rules.specs.declared.profile.Kinds.TheVariants as kinds
+use Rattle.acct_rules.specs.declared.profile.Memory.TheVariants as memory
+use Rattle.lsat_translate.specs.Translations.{look_names, look_sids}
+
+-- ---- by a handle to the policy
+
+abbrev pub lookup_names : Operation
+lookup_names = record {
+  profile = asking Lsa lsar_lookup_names (kinds.Only kind.Policy) policy_lookup_names memory.Anywhere;
+  rule = look_names;
+}
+
+abbrev pub lookup_sids : Operation
+lookup_sids = record {
+  profile = asking Lsa lsar_lookup_sids (kinds.Only kind.Policy) policy_lookup_names memory.Anywhere;
+  rule = look_sids;
+}

@@ -1,0 +1,28 @@
+//! Laws of the operations, each the contract of a function that does nothing.
+ghost use Rattle.lsat_translate.specs.Laws.{AreRight, KeepRows, SidsTranslateBack};
+
+use acct_rows::laws::each_is_good;
+use dtyp_sid::laws::equal_sids_are_one;
+
+/// Each operation has a layout at its interface and opnum, answers refusals where a condition fails and the outputs of
+/// its layout where none does, and takes memory only where its profile says so.
+pub fn operations_are_right()
+    ensures { AreRight }
+{
+    each_is_good();
+}
+
+/// Each operation keeps the rows sound and leaves the objects: it changes nothing.
+pub fn operations_keep_rows()
+    ensures { KeepRows }
+{}
+
+/// The SID of what a name is translated to is translated to the same: to an account or a domain with the same use, in
+/// the same domain. It is so in sound rows whose account domain has no well-known SID, nor one that an account of
+/// BUILTIN may have.
+pub fn sids_translate_back()
+    ensures { SidsTranslateBack }
+{
+    each_is_good();
+    equal_sids_are_one();
+}

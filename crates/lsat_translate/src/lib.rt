@@ -1,0 +1,24 @@
+//! The translation of names into SIDs and of SIDs into names (MS-LSAT 3.1.4.8, 3.1.4.11): LsarLookupNames and
+//! LsarLookupSids.
+//!
+//! It stands on the rows of `acct_rows` and on `acct_rules`, which says what an operation is; `indexmap` collects the
+//! domains that are referred to. In specs/ a name and a SID each have one match in the rows, or none (`Names`, `Sids`);
+//! the domains that are referred to and the entries are computed from the list of the matches (`Entries`). The layer
+//! above uses that each function answers what its definition decides on the rows, the object of the handle that was
+//! brought, and the arguments, and that each operation is right and keeps the rows (`laws`).
+#![tactic(auto)]
+
+mod entries;
+mod known;
+pub mod laws;
+mod matches;
+mod names;
+mod sids;
+mod translations;
+
+pub use known::{Known, WellKnown};
+pub use matches::Match;
+pub use translations::{look_names, look_sids};
+
+#[cfg(test)]
+mod tests;
