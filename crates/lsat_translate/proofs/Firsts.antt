@@ -52,7 +52,7 @@ swapped World Builtin = refl
 swapped World NtAuthority = refl
 swapped World World = refl
 
-abbrev others : Known → Known → Bool
+abbrev pub others : Known → Known → Bool
 others k j = not (same_known k j)
 
 -- ---- one more domain
@@ -68,7 +68,7 @@ any-head j k i ks true is apart rest =
     rw out rest
 any-head j k i ks false is apart rest = ap (λ b. same_known k i || b) rest
 
-any-others : (j k : Known) (ks : List Known) → same_known k j ≡ false
+pub any-others : (j k : Known) (ks : List Known) → same_known k j ≡ false
     → list_any (same_known k) (filter (others j) ks) ≡ list_any (same_known k) ks
 any-others j k [] apart = refl
 any-others j k (i ∷ ks) apart = any-head j k i ks (same_known j i) refl apart (any-others j k ks apart)
@@ -138,7 +138,7 @@ referenced-push found (Some m) =
 
 -- ---- how many there are
 
-abbrev times : Known → List Known → ℕ
+abbrev pub times : Known → List Known → ℕ
 times k ks = length (filter (same_known k) ks)
 
 counts : (ks : List Known) → length ks ≡ times Account ks + times Builtin ks + times NtAuthority ks + times World ks
@@ -190,7 +190,7 @@ once-head k j ks true is few =
     omega (arith, here)
 once-head k j ks false is few = omega (arith, fewer k (others j) ks, few)
 
-once : (k : Known) (ks : List Known) → times k (each_first ks) ≤ 1
+pub once : (k : Known) (ks : List Known) → times k (each_first ks) ≤ 1
 once k [] = omega arith
 once k (j ∷ ks) = once-head k j (each_first ks) (same_known k j) refl (once k ks)
 

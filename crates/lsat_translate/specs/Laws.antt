@@ -1,16 +1,18 @@
--- What holds of each operation, and what the SIDs of names are translated back to.
-use Rattle.std.specs.Prelude.{◌≡◌, ◌≢◌, ℕ, List, Some, None}
+-- What holds of each operation, what the indexes of entries refer to, and what the SIDs of names are translated back to.
+use Rattle.std.specs.Prelude.{◌≡◌, ◌≢◌, ◌≤◌, ℕ, pos, List, length, filter, get_or, slice_get, Option, Some, None}
 use Rattle.acct_calls.specs.Domains.{builtin_sid}
 use Rattle.acct_rows.specs.Rows.{Lists}
 use Rattle.acct_rows.specs.Sound.{IsSoundRows}
 use Rattle.acct_rules.specs.Operations.{IsRight, KeepsRows}
 use Rattle.dtyp_sid.specs.Made.{with_last}
 use Rattle.dtyp_sid.specs.Value.{SidValue}
-use Rattle.lsat_translate.specs.Known.{well_known_sid, domain_sid}
-use Rattle.lsat_translate.specs.Matches.{known_of_number}
+use Rattle.lsat_translate.specs.Entries.{referenced, index_in}
+use Rattle.lsat_translate.specs.Known.{well_known_sid, domain_sid, same_known}
+use Rattle.lsat_translate.specs.Matches.{known_of_number, known_of}
 use Rattle.lsat_translate.specs.Names.{match_of_name}
 use Rattle.lsat_translate.specs.Sids.{well_known_of_sid, match_of_sid}
 use Rattle.lsat_translate.specs.Table.{lookup_names, lookup_sids}
+use Rattle.lsat_translate.specs.declared.known.Known.{Known}
 use Rattle.lsat_translate.specs.declared.known.Known.TheVariants as known
 use Rattle.lsat_translate.specs.declared.matches.Match.{Match}
 use Rattle.lsat_translate.specs.declared.matches.Match.TheVariants.{WellKnown, Domain, Account}
@@ -22,6 +24,18 @@ pub record AreRight : Type 0 where
 pub record KeepRows : Type 0 where
   pub look_names : KeepsRows lookup_names
   pub look_sids : KeepsRows lookup_sids
+
+-- ---- the domains that are referred to
+
+-- No domain stands twice, and the index of a match is the place of its domain.
+pub record RefersRightly (found : List (Option Match)) : Type 0 where
+  pub once : (k : Known) → length (filter (same_known k) (referenced found)) ≤ 1
+  pub indexes : (i : ℕ) (m : Match) → get_or found i None ≡ Some m → (place : ℕ)
+      × (index_in (referenced found) (Some m) ≡ pos place) × (slice_get (referenced found) place ≡ Some (known_of m))
+
+-- so it is with each list of matches
+abbrev pub EntriesReferRightly : Type 0
+EntriesReferRightly = (found : List (Option Match)) → RefersRightly found
 
 -- ---- names and SIDs
 

@@ -37,7 +37,7 @@ pub enum WellKnown {
 }
 
 /// The well-known names in order.
-pub(crate) const WELL_KNOWN: [WellKnown; 4] = [
+const WELL_KNOWN: [WellKnown; 4] = [
     WellKnown::Everyone,
     WellKnown::AnonymousLogon,
     WellKnown::AuthenticatedUsers,
@@ -45,7 +45,7 @@ pub(crate) const WELL_KNOWN: [WellKnown; 4] = [
 ];
 
 /// The domains that a name may name, in order.
-pub(crate) const NAMED: [Known; 3] = [Known::Account, Known::Builtin, Known::NtAuthority];
+const NAMED: [Known; 3] = [Known::Account, Known::Builtin, Known::NtAuthority];
 
 const AUTHORITY_NAME: &str = "NT AUTHORITY";
 
@@ -68,14 +68,14 @@ impl WellKnown {
 
     /// Its name.
     #[tactic(auto, unfolding(crate::specs::Known::well_known_name))]
-    pub fn name(self, alloc: Global) -> Result<Name, NoMemory>
+    pub(crate) fn name(self, alloc: Global) -> Result<Name, NoMemory>
         ensures { IfOk result (λ name. name ≡ well_known_name self) }
     {
         Name::from_text(alloc, self.text())
     }
 
     /// Its RID, which stands behind the SID of its domain.
-    pub fn rid(self) -> u32
+    pub(crate) fn rid(self) -> u32
         ensures { result ≡ well_known_rid self }
     {
         match self {
@@ -87,7 +87,7 @@ impl WellKnown {
     }
 
     /// The domain that it refers to.
-    pub fn home(self) -> Known
+    pub(crate) fn home(self) -> Known
         ensures { result ≡ home_of self }
     {
         match self {
@@ -111,7 +111,7 @@ impl WellKnown {
     }
 
     /// Its SID.
-    pub fn sid(self) -> Sid
+    pub(crate) fn sid(self) -> Sid
         ensures { result ≡ well_known_sid self }
     {
         one_sub(self.authority(), self.rid())
@@ -162,14 +162,14 @@ impl Known {
     ghost use Rattle.lsat_translate.specs.Known.{same_known};
 
     /// Whether it is the other domain.
-    pub fn same(self, other: Known) -> bool
+    pub(crate) fn same(self, other: Known) -> bool
         ensures { result ≡ same_known self other }
     {
         self == other
     }
 
     /// Its name.
-    pub fn name(self, alloc: Global, rows: &Rows) -> Result<Name, NoMemory>
+    pub(crate) fn name(self, alloc: Global, rows: &Rows) -> Result<Name, NoMemory>
         ensures { IfOk result (λ name. name ≡ domain_name rows.now.lists self) }
     {
         match self {
@@ -181,7 +181,7 @@ impl Known {
     }
 
     /// Its SID.
-    pub fn sid(self, rows: &Rows) -> Sid
+    pub(crate) fn sid(self, rows: &Rows) -> Sid
         ensures { result ≡ domain_sid rows.now.lists self }
     {
         match self {

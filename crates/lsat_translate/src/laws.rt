@@ -1,5 +1,5 @@
 //! Laws of the operations, each the contract of a function that does nothing.
-ghost use Rattle.lsat_translate.specs.Laws.{AreRight, KeepRows, SidsTranslateBack};
+ghost use Rattle.lsat_translate.specs.Laws.{AreRight, KeepRows, EntriesReferRightly, SidsTranslateBack};
 
 use acct_rows::laws::each_is_good;
 use dtyp_sid::laws::equal_sids_are_one;
@@ -15,6 +15,11 @@ pub fn operations_are_right()
 /// Each operation keeps the rows sound and leaves the objects: it changes nothing.
 pub fn operations_keep_rows()
     ensures { KeepRows }
+{}
+
+/// Of the domains that are referred to none stands twice, and each entry that is mapped has the index of its own.
+pub fn entries_refer_rightly()
+    ensures { EntriesReferRightly }
 {}
 
 /// The SID of what a name is translated to is translated to the same: to an account or a domain with the same use, in

@@ -75,7 +75,7 @@ fn account_name(alloc: Global, found: Option<&AccountRow>) -> Result<Name, NoMem
 
 impl Match {
     /// The domain that it refers to.
-    pub fn known(self) -> Known
+    pub(crate) fn known(self) -> Known
         ensures { result ≡ known_of self }
     {
         match self {
@@ -86,7 +86,7 @@ impl Match {
     }
 
     /// What it is used for (SID_NAME_USE, MS-SAMR 2.2.2.3).
-    pub fn usage(self) -> u32
+    pub(crate) fn usage(self) -> u32
         ensures { result ≡ use_of self }
     {
         match self {
@@ -97,7 +97,7 @@ impl Match {
     }
 
     /// Its RID; that of a domain is 0xFFFFFFFF.
-    pub fn rid(self) -> u32
+    pub(crate) fn rid(self) -> u32
         ensures { result ≡ rid_of self }
     {
         match self {
@@ -108,7 +108,7 @@ impl Match {
     }
 
     /// Its name.
-    pub fn name(self, alloc: Global, rows: &Rows) -> Result<Name, NoMemory>
+    pub(crate) fn name(self, alloc: Global, rows: &Rows) -> Result<Name, NoMemory>
         ensures { IfOk result (λ name. name ≡ name_of rows.now.lists self) }
     {
         match self {

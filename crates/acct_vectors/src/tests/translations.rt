@@ -218,23 +218,38 @@ fn trimmed(text: &str) -> &str {
     text.trim_end().trim_end_matches(',')
 }
 
+/// The domains, the entries and how many are mapped.
+fn translated_text(
+    alloc: Global,
+    places: &[Place],
+    entries: &str,
+    mapped: u32,
+) -> Result<String, NoMemory> {
+    let places = places_text(alloc, places)?;
+    let domains = trimmed(places.as_str());
+    Ok(format!(in alloc; "{domains}|{}|{mapped}", trimmed(entries))?)
+}
+
 fn outs_text(alloc: Global, outs: &Outs) -> Result<String, NoMemory> {
-    let (domains, entries, mapped) = match outs {
+    match outs {
         Outs::Sids {
             domains,
             entries,
             mapped,
-        } => (domains, sids_text(alloc, entries.as_slice())?, *mapped),
+        } => {
+            let entries = sids_text(alloc, entries.as_slice())?;
+            translated_text(alloc, domains.as_slice(), entries.as_str(), *mapped)
+        }
         Outs::Names {
             domains,
             entries,
             mapped,
-        } => (domains, names_text(alloc, entries.as_slice())?, *mapped),
-        _ => return Ok(String::from_str(alloc, "nothing")?),
-    };
-    let domains = places_text(alloc, domains.as_slice())?;
-    let domains = trimmed(domains.as_str());
-    Ok(format!(in alloc; "{domains}|{}|{mapped}", trimmed(entries.as_str()))?)
+        } => {
+            let entries = names_text(alloc, entries.as_slice())?;
+            translated_text(alloc, domains.as_slice(), entries.as_str(), *mapped)
+        }
+        _ => Ok(String::from_str(alloc, "nothing")?),
+    }
 }
 
 /// What is told of a row.

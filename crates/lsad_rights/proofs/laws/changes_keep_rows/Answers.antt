@@ -1,0 +1,17 @@
+-- What is put or removed keeps the rows sound, and what is opened is there.
+use Rattle.lsad_rights.proofs.Changing.{create_account-keeps, open_account-keeps, delete_account-keeps}
+use Rattle.lsad_rights.proofs.Changing.{add_privileges-keeps, remove_privileges-keeps, set_system_access-keeps}
+use Rattle.lsad_rights.proofs.Changing.{add_rights-keeps, remove_rights-keeps}
+use Rattle.lsad_rights.proofs.laws.changes_keep_rows.Goals as goal
+
+pub returns : goal.returns
+returns c = record {
+  create_account = create_account-keeps c.lsa_accounts_stay_sound.ensures c.puts_are_found.ensures;
+  open_account = open_account-keeps;
+  delete_account = delete_account-keeps c.removed_lsa_accounts_stay_sound.ensures;
+  add_privileges = add_privileges-keeps c.lsa_accounts_stay_sound.ensures;
+  remove_privileges = remove_privileges-keeps c.lsa_accounts_stay_sound.ensures;
+  set_system_access = set_system_access-keeps c.lsa_accounts_stay_sound.ensures;
+  add_rights = add_rights-keeps c.lsa_accounts_stay_sound.ensures;
+  remove_rights = remove_rights-keeps c.lsa_accounts_stay_sound.ensures;
+}
