@@ -19,6 +19,3 @@ mod translations;
 pub use known::{Known, WellKnown};
 pub use matches::Match;
 pub use translations::{look_names, look_sids};
-
-#[cfg(test)]
-mod tests;
