@@ -1,9 +1,10 @@
-//! Test tables of the operations on domains, accounts and members: for each row what the database has, what is asked,
-//! and what is decided, in words.
+//! Test tables of the operations on domains, accounts, members and the policy, and of translations: for each row what
+//! the database has, what is asked, and what is decided, in words.
 //!
-//! It has tests alone, which call `samr_objects` and `samr_members` as a layer above does. All operations share one
-//! way of telling what is decided, one reader of tables and one row form, so each is proved once, and the operations
-//! themselves are proved without tests.
+//! It has tests alone, which call `samr_objects`, `samr_members`, `lsad_rights` and `lsat_translate` as a layer above
+//! does. The operations on accounts and members share one way of telling what is decided, one reader of tables and one
+//! row form; those on the policy, and translations, have a row form each. So the operations themselves are proved
+//! without tests.
 #![tactic(auto)]
 
 #[cfg(test)]

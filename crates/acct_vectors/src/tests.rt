@@ -13,8 +13,10 @@ mod members;
 mod operations;
 mod parts;
 mod queries;
+mod rights;
 mod rows;
 mod settings;
+mod translations;
 mod words;
 
 use acct_calls::NoMemory;

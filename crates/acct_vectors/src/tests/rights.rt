@@ -2,16 +2,16 @@
 // one text, which one function tells.
 mod changes;
 
-use crate::{
-    account_privileges, account_rights, accounts_with_right, list_accounts, list_privileges,
-    privilege_name, privilege_value, query_policy, system_access,
-};
 use acct_base::Seq;
 use acct_calls::domain::{is_domain_name, is_domain_sid};
 use acct_calls::{Args, Info, Name, NoMemory, Outs, Privilege, RidName};
 use acct_rows::{Held, LsaRow, Object, Privileges, Row, Rows};
 use acct_rules::{Effect, Planned};
 use dtyp_sid::{Sid, parse_text};
+use lsad_rights::{
+    account_privileges, account_rights, accounts_with_right, list_accounts, list_privileges,
+    privilege_name, privilege_value, query_policy, system_access,
+};
 use std::alloc::Global;
 use std::process::Abort;
 use std::test::Fail;

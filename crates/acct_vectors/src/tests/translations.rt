@@ -1,6 +1,5 @@
 // Names and SIDs of the first rows, to which some accounts are added: what each is translated to, and the domains that
 // are referred to. The rows are one text, which one function tells.
-use crate::{look_names, look_sids};
 use acct_base::Seq;
 use acct_calls::domain::{is_domain_name, is_domain_sid};
 use acct_calls::{Args, Name, Names, NoMemory, Outs, Place, Sids, TranslatedName, TranslatedSid};
@@ -8,6 +7,7 @@ use acct_codes::Kind;
 use acct_rows::{AccountRow, Object, Row, Rows};
 use acct_rules::Planned;
 use dtyp_sid::{Sid, parse_text};
+use lsat_translate::{look_names, look_sids};
 use std::alloc::Global;
 use std::process::Abort;
 use std::test::Fail;

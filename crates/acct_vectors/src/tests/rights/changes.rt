@@ -1,14 +1,14 @@
 // Accounts of the policy that are made, opened, changed and deleted: what is refused, and what is planned; and the whole
 // life of one. The rows are texts, which one function each tells.
 use super::{column, number, object_of, rows_with, sid_of, word};
-use crate::{
-    add_privileges, add_rights, create_account, delete_account, open_account, remove_privileges,
-    remove_rights, set_system_access,
-};
 use acct_base::Seq;
 use acct_calls::{Args, Name, Names, NoMemory, Privilege, PrivilegeSet};
 use acct_rows::{LsaRow, Object, Row, RowKey, Rows};
 use acct_rules::{Effect, Opening, Planned};
+use lsad_rights::{
+    add_privileges, add_rights, create_account, delete_account, open_account, remove_privileges,
+    remove_rights, set_system_access,
+};
 use std::alloc::Global;
 use std::process::Abort;
 use std::test::Fail;
