@@ -1,9 +1,11 @@
 -- What holds of each operation of the table.
-use Rattle.std.specs.Prelude.{◌≡◌, ℕ, Some}
+use Rattle.std.specs.Prelude.{◌≡◌, ℕ, true, Some}
+use Rattle.acct_calls.specs.declared.calls.Call.{Call}
 use Rattle.acct_calls.specs.declared.calls.Face.{Face}
+use Rattle.acct_layouts.specs.CallShapes.{CanBeSpelled}
 use Rattle.acct_rules.specs.Operations.{IsRight, KeepsRows}
 use Rattle.acct_operations.specs.declared.table.Work.{Work}
-use Rattle.acct_operations.specs.Table.{operation, work_of}
+use Rattle.acct_operations.specs.Table.{operation, work_of, has_operation}
 
 -- Each operation is right, and is found by its interface and opnum; what is found by an interface and an opnum has
 -- them.
@@ -17,3 +19,7 @@ pub record AreRight : Type 0 where
 
 abbrev pub KeepRows : Type 0
 KeepRows = (work : Work) → KeepsRows (operation work)
+
+-- Each call that some served stub spells has its operation.
+abbrev pub CallsHaveOperations : Type 0
+CallsHaveOperations = (call : Call) → CanBeSpelled call → has_operation call.face call.opnum ≡ true

@@ -35,8 +35,30 @@ use Rattle.acct_operations.specs.declared.table.Work.TheVariants.{SamrQueryInfor
 use Rattle.acct_operations.specs.declared.table.Work.TheVariants.{SamrGetGroupsForUser, SamrQueryInformationUser2}
 use Rattle.acct_operations.specs.declared.table.Work.TheVariants.{SamrCreateUser2InDomain, SamrSetInformationUser2}
 use Rattle.acct_operations.specs.declared.table.Work.TheVariants.{SamrRidToSid, LsarOpenPolicy2, LsarClose}
+use Rattle.acct_operations.specs.declared.table.Work.TheVariants.{LsarEnumeratePrivileges, LsarQueryInformationPolicy}
+use Rattle.acct_operations.specs.declared.table.Work.TheVariants.{LsarCreateAccount, LsarEnumerateAccounts}
+use Rattle.acct_operations.specs.declared.table.Work.TheVariants.{LsarOpenAccount, LsarEnumeratePrivilegesAccount}
+use Rattle.acct_operations.specs.declared.table.Work.TheVariants.{LsarAddPrivilegesToAccount}
+use Rattle.acct_operations.specs.declared.table.Work.TheVariants.{LsarRemovePrivilegesFromAccount}
+use Rattle.acct_operations.specs.declared.table.Work.TheVariants.{LsarGetSystemAccessAccount}
+use Rattle.acct_operations.specs.declared.table.Work.TheVariants.{LsarSetSystemAccessAccount}
+use Rattle.acct_operations.specs.declared.table.Work.TheVariants.{LsarLookupPrivilegeValue, LsarLookupPrivilegeName}
+use Rattle.acct_operations.specs.declared.table.Work.TheVariants.{LsarDeleteObject}
+use Rattle.acct_operations.specs.declared.table.Work.TheVariants.{LsarEnumerateAccountsWithUserRight}
+use Rattle.acct_operations.specs.declared.table.Work.TheVariants.{LsarEnumerateAccountRights, LsarAddAccountRights}
+use Rattle.acct_operations.specs.declared.table.Work.TheVariants.{LsarRemoveAccountRights}
+use Rattle.acct_operations.specs.declared.table.Work.TheVariants.{LsarQueryInformationPolicy2, LsarLookupNames}
+use Rattle.acct_operations.specs.declared.table.Work.TheVariants.{LsarLookupSids}
 use Rattle.acct_operations.specs.Openings.{connect, open_policy}
 use Rattle.acct_operations.specs.Closings.{close}
+use Rattle.lsad_rights.specs.Table.{enumerate_privileges, query_information_policy, create_account_in_policy}
+use Rattle.lsad_rights.specs.Table.{enumerate_accounts, open_account_in_policy, enumerate_privileges_account}
+use Rattle.lsad_rights.specs.Table.{add_privileges_to_account, remove_privileges_from_account}
+use Rattle.lsad_rights.specs.Table.{get_system_access_account, set_system_access_account, lookup_privilege_value}
+use Rattle.lsad_rights.specs.Table.{lookup_privilege_name, delete_object, enumerate_accounts_with_user_right}
+use Rattle.lsad_rights.specs.Table.{enumerate_account_rights, add_account_rights, remove_account_rights}
+use Rattle.lsad_rights.specs.Table.{query_information_policy2}
+use Rattle.lsat_translate.specs.Table.{lookup_names, lookup_sids}
 use Rattle.samr_members.specs.Table.{get_alias_membership, add_member_to_group, remove_member_from_group}
 use Rattle.samr_members.specs.Table.{get_members_in_group, add_member_to_alias, remove_member_from_alias}
 use Rattle.samr_members.specs.Table.{get_members_in_alias, get_groups_for_user}
@@ -112,6 +134,26 @@ operation SamrSetInformationUser2 = set_information_user2
 operation SamrRidToSid = sid_of_rid_in_domain
 operation LsarOpenPolicy2 = record { profile = opening Lsa lsar_open_policy2; rule = open_policy }
 operation LsarClose = record { profile = closing Lsa lsar_close kinds.Lsa; rule = close }
+operation LsarEnumeratePrivileges = enumerate_privileges
+operation LsarQueryInformationPolicy = query_information_policy
+operation LsarCreateAccount = create_account_in_policy
+operation LsarEnumerateAccounts = enumerate_accounts
+operation LsarOpenAccount = open_account_in_policy
+operation LsarEnumeratePrivilegesAccount = enumerate_privileges_account
+operation LsarAddPrivilegesToAccount = add_privileges_to_account
+operation LsarRemovePrivilegesFromAccount = remove_privileges_from_account
+operation LsarGetSystemAccessAccount = get_system_access_account
+operation LsarSetSystemAccessAccount = set_system_access_account
+operation LsarLookupPrivilegeValue = lookup_privilege_value
+operation LsarLookupPrivilegeName = lookup_privilege_name
+operation LsarDeleteObject = delete_object
+operation LsarEnumerateAccountsWithUserRight = enumerate_accounts_with_user_right
+operation LsarEnumerateAccountRights = enumerate_account_rights
+operation LsarAddAccountRights = add_account_rights
+operation LsarRemoveAccountRights = remove_account_rights
+operation LsarQueryInformationPolicy2 = query_information_policy2
+operation LsarLookupNames = lookup_names
+operation LsarLookupSids = lookup_sids
 
 abbrev pub works : List Work
 works =
@@ -159,6 +201,26 @@ works =
     ∷ SamrRidToSid
     ∷ LsarOpenPolicy2
     ∷ LsarClose
+    ∷ LsarEnumeratePrivileges
+    ∷ LsarQueryInformationPolicy
+    ∷ LsarCreateAccount
+    ∷ LsarEnumerateAccounts
+    ∷ LsarOpenAccount
+    ∷ LsarEnumeratePrivilegesAccount
+    ∷ LsarAddPrivilegesToAccount
+    ∷ LsarRemovePrivilegesFromAccount
+    ∷ LsarGetSystemAccessAccount
+    ∷ LsarSetSystemAccessAccount
+    ∷ LsarLookupPrivilegeValue
+    ∷ LsarLookupPrivilegeName
+    ∷ LsarDeleteObject
+    ∷ LsarEnumerateAccountsWithUserRight
+    ∷ LsarEnumerateAccountRights
+    ∷ LsarAddAccountRights
+    ∷ LsarRemoveAccountRights
+    ∷ LsarQueryInformationPolicy2
+    ∷ LsarLookupNames
+    ∷ LsarLookupSids
     ∷ []
 
 abbrev pub same_face : Face → Face → Bool

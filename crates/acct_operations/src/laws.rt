@@ -1,5 +1,5 @@
 // Laws of the operations: each function does nothing, and its contract is the law.
-ghost use Rattle.acct_operations.specs.Laws.{AreRight, KeepRows};
+ghost use Rattle.acct_operations.specs.Laws.{AreRight, KeepRows, CallsHaveOperations};
 
 /// Each operation is found by its interface and opnum, has a layout there, answers refusals where a condition fails and
 /// the outputs of its layout where none does, denies access by its handle and its opening alone, and takes memory only
@@ -7,6 +7,8 @@ ghost use Rattle.acct_operations.specs.Laws.{AreRight, KeepRows};
 pub fn operations_are_right()
     ensures { AreRight }
 {
+    lsad_rights::laws::operations_are_right();
+    lsat_translate::laws::operations_are_right();
     samr_members::laws::operations_are_right();
     samr_objects::laws::operations_are_right();
 }
@@ -15,6 +17,13 @@ pub fn operations_are_right()
 pub fn operations_keep_rows()
     ensures { KeepRows }
 {
+    lsad_rights::laws::operations_keep_rows();
+    lsat_translate::laws::operations_keep_rows();
     samr_members::laws::operations_keep_rows();
     samr_objects::laws::operations_keep_rows();
 }
+
+/// Each call that some served stub spells has its operation in the table, so no call is turned away for want of one.
+pub fn calls_have_operations()
+    ensures { CallsHaveOperations }
+{}

@@ -14,7 +14,7 @@ mod laws;
 mod openings;
 mod table;
 
-pub use laws::{operations_are_right, operations_keep_rows};
+pub use laws::{calls_have_operations, operations_are_right, operations_keep_rows};
 pub use table::{Work, decide, has_operation, profile_of, work_of, works};
 
 #[cfg(test)]

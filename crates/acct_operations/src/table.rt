@@ -1,51 +1,118 @@
 // The table of operations.
-ghost use Rattle.std.specs.Prelude.{◌≡◌, true, IfOk, OnErr};
+ghost use Rattle.std.specs.Prelude.{◌≡◌, ◌+◌, true, IfOk, OnErr};
 ghost use Rattle.std.specs.List.{find};
-ghost use Rattle.acct_calls.specs.declared.calls.Face.TheVariants.{Samr};
+ghost use Rattle.acct_calls.specs.declared.calls.Face.TheVariants.{Samr, Lsa};
 ghost use Rattle.acct_rules.specs.Planned.{decision};
 ghost use Rattle.acct_rules.specs.Profiles.{asking, is_anywhere};
-ghost use Rattle.acct_codes.specs.Rights.{domain_lookup};
+ghost use Rattle.acct_codes.specs.Rights.{domain_lookup, policy_lookup_names, policy_create_account};
 ghost use Rattle.acct_codes.specs.declared.kind.Kind.TheVariants as kind;
 ghost use Rattle.acct_rules.specs.declared.profile.Kinds.TheVariants.{Only};
+ghost use Rattle.acct_rules.specs.declared.profile.Needs.TheVariants as needs;
 ghost use Rattle.acct_rules.specs.declared.profile.Memory.TheVariants.{Anywhere, BehindConditions};
 ghost use Rattle.acct_operations.specs.Table.{opening, closing, operation, works, is_work_of, work_of, has_operation};
 ghost use Rattle.samr_objects.specs.Table.{asking_user};
 
 use crate::closings::close;
-use crate::openings::{connect, open_policy};
-use acct_calls::{Args, Face};
-use acct_codes::alias_rights::{
-    ALIAS_ADD_MEMBER, ALIAS_LIST_MEMBERS, ALIAS_READ_INFORMATION, ALIAS_REMOVE_MEMBER,
-    ALIAS_WRITE_ACCOUNT,
-};
-use acct_codes::domain_rights::{
-    DOMAIN_CREATE_ALIAS, DOMAIN_CREATE_GROUP, DOMAIN_CREATE_USER, DOMAIN_GET_ALIAS_MEMBERSHIP,
-    DOMAIN_LIST_ACCOUNTS, DOMAIN_LOOKUP, DOMAIN_READ_OTHER_PARAMETERS,
-    DOMAIN_WRITE_OTHER_PARAMETERS,
-};
-use acct_codes::group_rights::{
-    GROUP_ADD_MEMBER, GROUP_LIST_MEMBERS, GROUP_READ_INFORMATION, GROUP_REMOVE_MEMBER,
-    GROUP_WRITE_ACCOUNT,
-};
+use crate::openings::connect;
+use crate::openings::open_policy;
+use acct_calls::Args;
+use acct_calls::Face;
+use acct_codes::Kind;
+use acct_codes::account_rights::ACCOUNT_ADJUST_PRIVILEGES;
+use acct_codes::account_rights::ACCOUNT_ADJUST_SYSTEM_ACCESS;
+use acct_codes::account_rights::ACCOUNT_VIEW;
+use acct_codes::alias_rights::ALIAS_ADD_MEMBER;
+use acct_codes::alias_rights::ALIAS_LIST_MEMBERS;
+use acct_codes::alias_rights::ALIAS_READ_INFORMATION;
+use acct_codes::alias_rights::ALIAS_REMOVE_MEMBER;
+use acct_codes::alias_rights::ALIAS_WRITE_ACCOUNT;
+use acct_codes::domain_rights::DOMAIN_CREATE_ALIAS;
+use acct_codes::domain_rights::DOMAIN_CREATE_GROUP;
+use acct_codes::domain_rights::DOMAIN_CREATE_USER;
+use acct_codes::domain_rights::DOMAIN_GET_ALIAS_MEMBERSHIP;
+use acct_codes::domain_rights::DOMAIN_LIST_ACCOUNTS;
+use acct_codes::domain_rights::DOMAIN_LOOKUP;
+use acct_codes::domain_rights::DOMAIN_READ_OTHER_PARAMETERS;
+use acct_codes::domain_rights::DOMAIN_WRITE_OTHER_PARAMETERS;
+use acct_codes::group_rights::GROUP_ADD_MEMBER;
+use acct_codes::group_rights::GROUP_LIST_MEMBERS;
+use acct_codes::group_rights::GROUP_READ_INFORMATION;
+use acct_codes::group_rights::GROUP_REMOVE_MEMBER;
+use acct_codes::group_rights::GROUP_WRITE_ACCOUNT;
 use acct_codes::info_class::USER_CONTROL_INFORMATION;
-use acct_codes::server_rights::{SAM_SERVER_ENUMERATE_DOMAINS, SAM_SERVER_LOOKUP_DOMAIN};
+use acct_codes::lsa_opnum;
+use acct_codes::policy_rights::POLICY_CREATE_ACCOUNT;
+use acct_codes::policy_rights::POLICY_LOOKUP_NAMES;
+use acct_codes::policy_rights::POLICY_VIEW_LOCAL_INFORMATION;
+use acct_codes::samr_opnum;
+use acct_codes::server_rights::SAM_SERVER_ENUMERATE_DOMAINS;
+use acct_codes::server_rights::SAM_SERVER_LOOKUP_DOMAIN;
 use acct_codes::standard_rights::DELETE;
-use acct_codes::user_rights::{
-    USER_LIST_GROUPS, USER_READ_ACCOUNT, USER_READ_GENERAL, USER_WRITE_ACCOUNT,
-};
-use acct_codes::{Kind, lsa_opnum, samr_opnum};
-use acct_rows::{Object, Rows};
-use acct_rules::{Brings, Kinds, Memory, Needs, NoMemory, Planned, Profile, asking};
-use samr_members::{
-    add_alias_member, add_group_member, alias_members, alias_membership, group_members,
-    remove_alias_member, remove_group_member, user_groups,
-};
-use samr_objects::{
-    create_alias, create_group, create_user, delete_alias, delete_group, delete_user, list_aliases,
-    list_domains, list_groups, list_users, look_domain, look_ids, look_names, open_alias,
-    open_domain, open_group, open_user, query_alias, query_domain, query_group, query_user,
-    rid_to_sid, set_alias, set_domain, set_group, set_user,
-};
+use acct_codes::user_rights::USER_LIST_GROUPS;
+use acct_codes::user_rights::USER_READ_ACCOUNT;
+use acct_codes::user_rights::USER_READ_GENERAL;
+use acct_codes::user_rights::USER_WRITE_ACCOUNT;
+use acct_rows::Object;
+use acct_rows::Rows;
+use acct_rules::Brings;
+use acct_rules::Kinds;
+use acct_rules::Memory;
+use acct_rules::Needs;
+use acct_rules::NoMemory;
+use acct_rules::Planned;
+use acct_rules::Profile;
+use acct_rules::asking;
+use lsad_rights::account_privileges;
+use lsad_rights::account_rights;
+use lsad_rights::accounts_with_right;
+use lsad_rights::add_privileges;
+use lsad_rights::add_rights;
+use lsad_rights::create_account;
+use lsad_rights::delete_account;
+use lsad_rights::list_accounts;
+use lsad_rights::list_privileges;
+use lsad_rights::open_account;
+use lsad_rights::privilege_name;
+use lsad_rights::privilege_value;
+use lsad_rights::query_policy;
+use lsad_rights::remove_privileges;
+use lsad_rights::remove_rights;
+use lsad_rights::set_system_access;
+use lsad_rights::system_access;
+use samr_members::add_alias_member;
+use samr_members::add_group_member;
+use samr_members::alias_members;
+use samr_members::alias_membership;
+use samr_members::group_members;
+use samr_members::remove_alias_member;
+use samr_members::remove_group_member;
+use samr_members::user_groups;
+use samr_objects::create_alias;
+use samr_objects::create_group;
+use samr_objects::create_user;
+use samr_objects::delete_alias;
+use samr_objects::delete_group;
+use samr_objects::delete_user;
+use samr_objects::list_aliases;
+use samr_objects::list_domains;
+use samr_objects::list_groups;
+use samr_objects::list_users;
+use samr_objects::look_domain;
+use samr_objects::look_ids;
+use samr_objects::look_names;
+use samr_objects::open_alias;
+use samr_objects::open_domain;
+use samr_objects::open_group;
+use samr_objects::open_user;
+use samr_objects::query_alias;
+use samr_objects::query_domain;
+use samr_objects::query_group;
+use samr_objects::query_user;
+use samr_objects::rid_to_sid;
+use samr_objects::set_alias;
+use samr_objects::set_domain;
+use samr_objects::set_group;
+use samr_objects::set_user;
 use std::alloc::Global;
 
 /// The operations.
@@ -95,6 +162,26 @@ pub enum Work {
     SamrRidToSid,
     LsarOpenPolicy2,
     LsarClose,
+    LsarEnumeratePrivileges,
+    LsarQueryInformationPolicy,
+    LsarCreateAccount,
+    LsarEnumerateAccounts,
+    LsarOpenAccount,
+    LsarEnumeratePrivilegesAccount,
+    LsarAddPrivilegesToAccount,
+    LsarRemovePrivilegesFromAccount,
+    LsarGetSystemAccessAccount,
+    LsarSetSystemAccessAccount,
+    LsarLookupPrivilegeValue,
+    LsarLookupPrivilegeName,
+    LsarDeleteObject,
+    LsarEnumerateAccountsWithUserRight,
+    LsarEnumerateAccountRights,
+    LsarAddAccountRights,
+    LsarRemoveAccountRights,
+    LsarQueryInformationPolicy2,
+    LsarLookupNames,
+    LsarLookupSids,
 }
 
 /// The operations, as the table lists them.
@@ -146,6 +233,26 @@ pub fn works() -> &'static [Work]
         Work::SamrRidToSid,
         Work::LsarOpenPolicy2,
         Work::LsarClose,
+        Work::LsarEnumeratePrivileges,
+        Work::LsarQueryInformationPolicy,
+        Work::LsarCreateAccount,
+        Work::LsarEnumerateAccounts,
+        Work::LsarOpenAccount,
+        Work::LsarEnumeratePrivilegesAccount,
+        Work::LsarAddPrivilegesToAccount,
+        Work::LsarRemovePrivilegesFromAccount,
+        Work::LsarGetSystemAccessAccount,
+        Work::LsarSetSystemAccessAccount,
+        Work::LsarLookupPrivilegeValue,
+        Work::LsarLookupPrivilegeName,
+        Work::LsarDeleteObject,
+        Work::LsarEnumerateAccountsWithUserRight,
+        Work::LsarEnumerateAccountRights,
+        Work::LsarAddAccountRights,
+        Work::LsarRemoveAccountRights,
+        Work::LsarQueryInformationPolicy2,
+        Work::LsarLookupNames,
+        Work::LsarLookupSids,
     ]
 }
 
@@ -251,6 +358,48 @@ fn showing_user(opnum: u16) -> Profile
             0,
             Memory::Anywhere,
         )
+    }
+}
+
+// An operation that takes a handle to the policy, whose grant has these bits.
+fn on_policy(opnum: u16, bits: u32) -> Profile
+    ensures { result ≡ asking Lsa opnum (Only kind.Policy) bits Anywhere }
+{
+    asking(
+        Face::Lsa,
+        opnum,
+        Kinds::Only(Kind::Policy),
+        bits,
+        Memory::Anywhere,
+    )
+}
+
+// An operation that takes a handle to an account of the policy, whose grant has these bits.
+fn on_policy_account(opnum: u16, bits: u32) -> Profile
+    ensures { result ≡ asking Lsa opnum (Only kind.Account) bits Anywhere }
+{
+    asking(
+        Face::Lsa,
+        opnum,
+        Kinds::Only(Kind::Account),
+        bits,
+        Memory::Anywhere,
+    )
+}
+
+// An operation that adds rights to an account: where the policy has none of the SID, it needs one right more.
+fn adding_rights(opnum: u16) -> Profile
+    ensures { result
+        ≡ record (asking Lsa opnum (Only kind.Policy) 0 Anywhere) {
+          needs = needs.ByAccount policy_lookup_names (policy_lookup_names + policy_create_account);
+        } }
+{
+    Profile {
+        needs: Needs::ByAccount {
+            bits: POLICY_LOOKUP_NAMES,
+            missing: POLICY_LOOKUP_NAMES | POLICY_CREATE_ACCOUNT,
+        },
+        ..on_policy(opnum, 0)
     }
 }
 
@@ -415,6 +564,77 @@ pub fn profile_of(work: Work) -> Profile
         ),
         Work::LsarOpenPolicy2 => opening(Face::Lsa, lsa_opnum::LSAR_OPEN_POLICY2),
         Work::LsarClose => closing(Face::Lsa, lsa_opnum::LSAR_CLOSE, Kinds::Lsa),
+        Work::LsarEnumeratePrivileges => on_policy(
+            lsa_opnum::LSAR_ENUMERATE_PRIVILEGES,
+            POLICY_VIEW_LOCAL_INFORMATION,
+        ),
+        Work::LsarQueryInformationPolicy => on_policy(
+            lsa_opnum::LSAR_QUERY_INFORMATION_POLICY,
+            POLICY_VIEW_LOCAL_INFORMATION,
+        ),
+        Work::LsarCreateAccount => on_policy(lsa_opnum::LSAR_CREATE_ACCOUNT, POLICY_CREATE_ACCOUNT),
+        Work::LsarEnumerateAccounts => on_policy(
+            lsa_opnum::LSAR_ENUMERATE_ACCOUNTS,
+            POLICY_VIEW_LOCAL_INFORMATION,
+        ),
+        Work::LsarOpenAccount => asking(
+            Face::Lsa,
+            lsa_opnum::LSAR_OPEN_ACCOUNT,
+            Kinds::Only(Kind::Policy),
+            POLICY_VIEW_LOCAL_INFORMATION,
+            Memory::BehindConditions,
+        ),
+        Work::LsarEnumeratePrivilegesAccount => on_policy_account(
+            lsa_opnum::LSAR_ENUMERATE_PRIVILEGES_ACCOUNT,
+            ACCOUNT_VIEW,
+        ),
+        Work::LsarAddPrivilegesToAccount => on_policy_account(
+            lsa_opnum::LSAR_ADD_PRIVILEGES_TO_ACCOUNT,
+            ACCOUNT_ADJUST_PRIVILEGES,
+        ),
+        Work::LsarRemovePrivilegesFromAccount => on_policy_account(
+            lsa_opnum::LSAR_REMOVE_PRIVILEGES_FROM_ACCOUNT,
+            ACCOUNT_ADJUST_PRIVILEGES,
+        ),
+        Work::LsarGetSystemAccessAccount => asking(
+            Face::Lsa,
+            lsa_opnum::LSAR_GET_SYSTEM_ACCESS_ACCOUNT,
+            Kinds::Only(Kind::Account),
+            ACCOUNT_VIEW,
+            Memory::Never,
+        ),
+        Work::LsarSetSystemAccessAccount => on_policy_account(
+            lsa_opnum::LSAR_SET_SYSTEM_ACCESS_ACCOUNT,
+            ACCOUNT_ADJUST_SYSTEM_ACCESS,
+        ),
+        Work::LsarLookupPrivilegeValue => on_policy(
+            lsa_opnum::LSAR_LOOKUP_PRIVILEGE_VALUE,
+            POLICY_LOOKUP_NAMES,
+        ),
+        Work::LsarLookupPrivilegeName => on_policy(
+            lsa_opnum::LSAR_LOOKUP_PRIVILEGE_NAME,
+            POLICY_LOOKUP_NAMES,
+        ),
+        Work::LsarDeleteObject => on_policy_account(lsa_opnum::LSAR_DELETE_OBJECT, DELETE),
+        Work::LsarEnumerateAccountsWithUserRight => on_policy(
+            lsa_opnum::LSAR_ENUMERATE_ACCOUNTS_WITH_USER_RIGHT,
+            POLICY_VIEW_LOCAL_INFORMATION | POLICY_LOOKUP_NAMES,
+        ),
+        Work::LsarEnumerateAccountRights => on_policy(
+            lsa_opnum::LSAR_ENUMERATE_ACCOUNT_RIGHTS,
+            POLICY_LOOKUP_NAMES,
+        ),
+        Work::LsarAddAccountRights => adding_rights(lsa_opnum::LSAR_ADD_ACCOUNT_RIGHTS),
+        Work::LsarRemoveAccountRights => on_policy(
+            lsa_opnum::LSAR_REMOVE_ACCOUNT_RIGHTS,
+            POLICY_LOOKUP_NAMES,
+        ),
+        Work::LsarQueryInformationPolicy2 => on_policy(
+            lsa_opnum::LSAR_QUERY_INFORMATION_POLICY2,
+            POLICY_VIEW_LOCAL_INFORMATION,
+        ),
+        Work::LsarLookupNames => on_policy(lsa_opnum::LSAR_LOOKUP_NAMES, POLICY_LOOKUP_NAMES),
+        Work::LsarLookupSids => on_policy(lsa_opnum::LSAR_LOOKUP_SIDS, POLICY_LOOKUP_NAMES),
     }
 }
 
@@ -475,5 +695,25 @@ pub fn decide(
         Work::SamrRidToSid => rid_to_sid(alloc, rows, object, args),
         Work::LsarOpenPolicy2 => Ok(open_policy(alloc, rows, object, args)),
         Work::LsarClose => Ok(close(alloc, rows, object, args)),
+        Work::LsarEnumeratePrivileges => list_privileges(alloc, rows, object, args),
+        Work::LsarQueryInformationPolicy => query_policy(alloc, rows, object, args),
+        Work::LsarCreateAccount => create_account(alloc, rows, object, args),
+        Work::LsarEnumerateAccounts => list_accounts(alloc, rows, object, args),
+        Work::LsarOpenAccount => open_account(alloc, rows, object, args),
+        Work::LsarEnumeratePrivilegesAccount => account_privileges(alloc, rows, object, args),
+        Work::LsarAddPrivilegesToAccount => add_privileges(alloc, rows, object, args),
+        Work::LsarRemovePrivilegesFromAccount => remove_privileges(alloc, rows, object, args),
+        Work::LsarGetSystemAccessAccount => system_access(alloc, rows, object, args),
+        Work::LsarSetSystemAccessAccount => set_system_access(alloc, rows, object, args),
+        Work::LsarLookupPrivilegeValue => privilege_value(alloc, rows, object, args),
+        Work::LsarLookupPrivilegeName => privilege_name(alloc, rows, object, args),
+        Work::LsarDeleteObject => delete_account(alloc, rows, object, args),
+        Work::LsarEnumerateAccountsWithUserRight => accounts_with_right(alloc, rows, object, args),
+        Work::LsarEnumerateAccountRights => account_rights(alloc, rows, object, args),
+        Work::LsarAddAccountRights => add_rights(alloc, rows, object, args),
+        Work::LsarRemoveAccountRights => remove_rights(alloc, rows, object, args),
+        Work::LsarQueryInformationPolicy2 => query_policy(alloc, rows, object, args),
+        Work::LsarLookupNames => lsat_translate::look_names(alloc, rows, object, args),
+        Work::LsarLookupSids => lsat_translate::look_sids(alloc, rows, object, args),
     }
 }

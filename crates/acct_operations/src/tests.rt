@@ -43,7 +43,7 @@ fn opens_the_user(alloc: Global, rows: &Rows, rid: u32) -> Result<bool, NoMemory
 
 #[test]
 fn operations_are_found_by_interface_and_opnum(rt: HostRuntime) {
-    assert_eq!(rt; works().len(), 44);
+    assert_eq!(rt; works().len(), 64);
     assert!(rt; work_of(Face::Samr, 64) == Some(Work::SamrConnect5));
     assert!(rt; work_of(Face::Lsa, 0) == Some(Work::LsarClose));
     assert!(rt; has_operation(Face::Samr, 65));
