@@ -28,7 +28,6 @@ mod store;
 
 pub use acct_calls::{Args, Call, Face, Handle, NoMemory, Outs, Reply};
 pub use acct_config::{Config, ConfigError, Limits, Listener, read_config};
-pub use acct_operations::has_operation;
 pub use acct_rows::{Object, Rows};
 pub use checks::Access;
 pub use entry::{Entry, Verdict};

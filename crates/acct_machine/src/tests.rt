@@ -434,6 +434,26 @@ Samr 58 U
 Samr 65 DGAU
 Lsa 44 SDGAUPC
 Lsa 0 PC
+Lsa 2 P
+Lsa 7 P
+Lsa 10 P
+Lsa 11 P
+Lsa 17 P
+Lsa 18 C
+Lsa 19 C
+Lsa 20 C
+Lsa 23 C
+Lsa 24 C
+Lsa 31 P
+Lsa 32 P
+Lsa 34 C
+Lsa 35 P
+Lsa 36 P
+Lsa 37 P
+Lsa 38 P
+Lsa 46 P
+Lsa 14 P
+Lsa 15 P
 ";
 
 /// The row of an operation, by the check of a handle of each kind with every bit.
