@@ -1,5 +1,5 @@
 -- Which call a request is, and which fault answers one that is none.
-use Rattle.std.specs.Prelude.{ℕ, List, Result, Err, if◌then◌else◌}
+use Rattle.std.specs.Prelude.{ℕ, List, Result}
 use Rattle.acct_calls.specs.declared.calls.Call.{Call}
 use Rattle.acct_calls.specs.declared.calls.Face.{Face}
 use Rattle.acct_calls.specs.declared.calls.Face.TheVariants.{Samr, Lsa}
@@ -8,7 +8,6 @@ use Rattle.acct_stubs.specs.Calls.{call_at}
 use Rattle.acct_stubs.specs.Wire.{Wire}
 use Rattle.acct_stubs.specs.declared.errors.WireError.{WireError}
 use Rattle.acct_stubs.specs.declared.errors.WireError.TheVariants.{NotServed, BadStub, Memory}
-use Rattle.acct_operations.specs.Table.{has_operation}
 use Rattle.lsa_wire.specs.Wires.{lsa}
 use Rattle.samr_wire.specs.Samr.{samr}
 
@@ -17,11 +16,9 @@ abbrev pub wire_of : Face → Wire
 wire_of Samr = samr
 wire_of Lsa = lsa
 
--- The call that the stub spells. An operation that the table doesn't have on this interface counts as not served, and
--- its stub isn't read.
+-- the call that the stub spells on an interface
 abbrev pub call_on : Face → ℕ → List ℕ → Result Call WireError
-call_on face opnum stub =
-    if has_operation face opnum then call_at (wire_of face) opnum stub else Err (NotServed opnum)
+call_on face opnum stub = call_at (wire_of face) opnum stub
 
 -- operation range (C706 appendix E, nca_s_op_rng_error), or bad stub data (MS-ERREF 2.2, RPC_X_BAD_STUB_DATA); the
 -- definition of a reading wants no memory

@@ -12,7 +12,8 @@ ghost use Rattle.acct_server.specs.Answering.{AnswersRequest, BeginsRequest, IsA
 
 use crate::gate::Gate;
 use acct_codes::fault::{NCA_S_OP_RNG_ERROR, RPC_X_BAD_STUB_DATA};
-use acct_machine::{Acted, Call, Face, Reply, has_operation};
+use acct_machine::{Acted, Call, Face, Reply};
+use acct_operations::calls_have_operations;
 use acct_stubs::WireError;
 use rpc_session::{fault_bytes, reply_bytes};
 use std::alloc::{AllocError, Global};
@@ -36,17 +37,14 @@ pub enum Answer {
     Full(u64),
 }
 
-/// The call of a request on an interface, or why it is none. Which opnum of which interface is served, the table of
-/// operations says. `Memory` comes only where memory is wanted.
+/// The call of a request on an interface, or why it is none. `Memory` comes only where memory is wanted.
 pub fn read_request(alloc: Global, face: Face, opnum: u16, stub: &[u8]) -> Result<Call, WireError>
     ensures value { ReadsStub result (call_on face opnum stub.now) }
     ensures call { IfOk result IsCall }
     ensures face { IfOk result (λ call. call.face ≡ face) }
     ensures opnum { IfOk result (λ call. call.opnum ≡ opnum) }
 {
-    if !has_operation(face, opnum) {
-        return Err(WireError::NotServed(opnum));
-    }
+    calls_have_operations();
     match face {
         Face::Samr => samr_wire::read_call(alloc, opnum, stub),
         Face::Lsa => lsa_wire::read_call(alloc, opnum, stub),

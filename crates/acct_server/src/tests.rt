@@ -1,4 +1,4 @@
-// Requests of operations that are built, and of others.
+// Requests of operations that are served, and of others.
 use crate::requests::read_request;
 use acct_machine::Face;
 use std::alloc::Global;
@@ -6,13 +6,14 @@ use std::process::Abort;
 use std::test::Fail;
 
 /// Each row: the interface, the opnum, the stub, and its call or why it is none. The stubs of LsarOpenPolicy2 are
-/// Samba's; the handle is the first of the first connection. The last rows are of a stub that is cut, of operations that
-/// aren't built or never served, with stubs that aren't read, and of opnums that the other interface has.
+/// Samba's; the handle is the first of the first connection. The last rows are of stubs that are cut, of operations
+/// that are never served, with stubs that aren't read, and of opnums that the other interface has.
 const REQUESTS: &str = "samr|57|0000000031000000|0 Access(49)
 samr|57|0000000001|BadStub(4)
 samr|1|000000000000000000000100000000000000000109|18446744073709551617 Nothing
 lsa|44|0000000018000000000000000000000000000000000000000000000000000002|0 Policy { rooted: false, access: 33554432 }
-lsa|44|000000001800000000000200000000000000000000000000000000000000000000000002|0 Policy { rooted: true, access: 33554432 }
+lsa|44|000000001800000000000200000000000000000000000000000000000000000000000002\
+|0 Policy { rooted: true, access: 33554432 }
 lsa|44|00000000180000000000000000000000000000000000000000000000|BadStub(28)
 lsa|0|0000000000000000000001000000000000000001|18446744073709551617 Nothing
 samr|8|00|BadStub(0)
@@ -21,7 +22,8 @@ samr|44|0000000018000000000000000000000000000000000000000000000000000002|NotServ
 samr|0|0000000000000000000001000000000000000001|NotServed(0)
 lsa|57|0000000031000000|NotServed(57)
 lsa|1|0000000000000000000001000000000000000001|NotServed(1)
-lsa|15|00|NotServed(15)";
+lsa|15|00|BadStub(0)
+lsa|6|00|NotServed(6)";
 
 /// What a request is, in words.
 fn told(alloc: Global, face: Face, opnum: u16, stub: &[u8]) -> Result<String, Fail> {
