@@ -13,7 +13,9 @@ use std::test::Fail;
 
 mod accounts;
 mod limits;
+mod names;
 mod objects;
+mod rights;
 mod several;
 mod tables;
 
@@ -33,19 +35,20 @@ fn line_in(lines: &'static str, name: &str) -> Option<&'static str> {
 
 /// The text of a line that has a name, in the tables.
 fn line_of(name: &str) -> &'static str {
-    if let Some(text) = line_in(tables::LINES, name) {
-        return text;
+    for lines in [
+        accounts::LINES,
+        limits::LINES,
+        names::LINES,
+        objects::LINES,
+        rights::LINES,
+        several::LINES,
+        tables::LINES,
+    ] {
+        if let Some(text) = line_in(lines, name) {
+            return text;
+        }
     }
-    if let Some(text) = line_in(objects::LINES, name) {
-        return text;
-    }
-    if let Some(text) = line_in(limits::LINES, name) {
-        return text;
-    }
-    if let Some(text) = line_in(accounts::LINES, name) {
-        return text;
-    }
-    line_in(several::LINES, name).unwrap_or("a line without a name")
+    "a line without a name"
 }
 
 /// The lines of these names, each with its end.
@@ -301,6 +304,16 @@ fn domains_and_accounts_are_looked_up(rt: HostRuntime) -> Result<(), Fail> {
 #[test]
 fn accounts_are_created_shown_set_and_deleted(rt: HostRuntime) -> Result<(), Fail> {
     tell_all(&rt, rt.alloc(), accounts::ACCOUNTS)
+}
+
+#[test]
+fn rights_are_granted_listed_and_removed(rt: HostRuntime) -> Result<(), Fail> {
+    tell_all(&rt, rt.alloc(), rights::RIGHTS)
+}
+
+#[test]
+fn names_and_sids_are_translated(rt: HostRuntime) -> Result<(), Fail> {
+    tell_all(&rt, rt.alloc(), names::NAMES)
 }
 
 #[test]
