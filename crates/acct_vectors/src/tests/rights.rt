@@ -2,8 +2,9 @@
 // one text, which one function tells.
 mod changes;
 
+use super::parts::number;
+use super::rows::seeded;
 use acct_base::Seq;
-use acct_calls::domain::{is_domain_name, is_domain_sid};
 use acct_calls::{Args, Info, Name, NoMemory, Outs, Privilege, RidName};
 use acct_rows::{Held, LsaRow, Object, Privileges, Row, Rows};
 use acct_rules::{Effect, Planned};
@@ -72,31 +73,20 @@ SeDenyRemoteInteractiveLogonRight, to view 1 S-1-1-0
 S-1-1-0 0|account_rights|policy|S-1-1-0|0|to view 1 S-1-1-0
 S-1-1-0 0|account_rights|policy|S-1-5-18|c0000034|nothing";
 
-fn sid_of(rt: &impl Abort, text: &str) -> Sid {
+pub fn sid_of(rt: &impl Abort, text: &str) -> Sid {
     match parse_text(text) {
         Ok(sid) => sid,
         Err(bad) => panic!(rt; "no SID at {}", bad.place),
     }
 }
 
-fn seeded(rt: &impl Abort, alloc: Global) -> Result<Rows, Fail> {
-    let name = Name::from_text(alloc, "CORP")?;
-    let sid = sid_of(rt, "S-1-5-21-1-2-3");
-    assert!(rt; is_domain_name(alloc, &name)?);
-    assert!(rt; is_domain_sid(&sid));
-    Ok(Rows::seed(alloc, &name, sid)?)
-}
-
-fn number(text: &str) -> u32 {
-    text.parse::<u32>().ok().unwrap_or(0)
-}
-
 /// A column of a row, and those behind it.
-fn column(row: &str) -> (&str, &str) {
+pub fn column(row: &str) -> (&str, &str) {
     row.split_once('|').unwrap_or((row, ""))
 }
 
-fn word(text: &str) -> (&str, &str) {
+/// The first word, and those behind it.
+pub fn word(text: &str) -> (&str, &str) {
     text.split_once(' ').unwrap_or((text, ""))
 }
 

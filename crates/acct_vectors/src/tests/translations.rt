@@ -1,12 +1,13 @@
 // Names and SIDs of the first rows, to which some accounts are added: what each is translated to, and the domains that
 // are referred to. The rows are one text, which one function tells.
+use super::parts::number;
+use super::rights::{column, sid_of, word};
+use super::rows::seeded;
 use acct_base::Seq;
-use acct_calls::domain::{is_domain_name, is_domain_sid};
 use acct_calls::{Args, Name, Names, NoMemory, Outs, Place, Sids, TranslatedName, TranslatedSid};
 use acct_codes::Kind;
 use acct_rows::{AccountRow, Object, Row, Rows};
 use acct_rules::Planned;
-use dtyp_sid::{Sid, parse_text};
 use lsat_translate::{look_names, look_sids};
 use std::alloc::Global;
 use std::process::Abort;
@@ -60,40 +61,8 @@ user 0 1000 a\\b|names 1|CORP\\a\\b,a\\b|107|CORP=S-1-5-21-1-2-3|1/1000/0, 8/0/-
 |sids 8|S-1-5-32|c000000d|nothing
 |sids 7|S-1-5-32|0|BUILTIN=S-1-5-32|3/BUILTIN/0|1";
 
-fn sid_of(rt: &impl Abort, text: &str) -> Sid {
-    match parse_text(text) {
-        Ok(sid) => sid,
-        Err(bad) => panic!(rt; "no SID at {}", bad.place),
-    }
-}
-
-fn seeded(rt: &impl Abort, alloc: Global) -> Result<Rows, Fail> {
-    let name = Name::from_text(alloc, "CORP")?;
-    let sid = sid_of(rt, "S-1-5-21-1-2-3");
-    assert!(rt; is_domain_name(alloc, &name)?);
-    assert!(rt; is_domain_sid(&sid));
-    Ok(Rows::seed(alloc, &name, sid)?)
-}
-
-fn number(text: &str) -> u32 {
-    text.parse::<u32>().ok().unwrap_or(0)
-}
-
 fn short(text: &str) -> u16 {
     text.parse::<u16>().ok().unwrap_or(0)
-}
-
-fn domain(text: &str) -> u8 {
-    text.parse::<u8>().ok().unwrap_or(0)
-}
-
-/// A column of a row, and those behind it.
-fn column(row: &str) -> (&str, &str) {
-    row.split_once('|').unwrap_or((row, ""))
-}
-
-fn word(text: &str) -> (&str, &str) {
-    text.split_once(' ').unwrap_or((text, ""))
 }
 
 fn kind_of(text: &str) -> Kind {
@@ -109,7 +78,7 @@ fn account_of(alloc: Global, words: &str) -> Result<Row, NoMemory> {
     let (number_of_domain, rest) = word(rest);
     let (rid, name) = word(rest);
     Ok(Row::Account(AccountRow {
-        domain: domain(number_of_domain),
+        domain: u8::from(number_of_domain == "1"),
         rid: number(rid),
         kind: kind_of(kind),
         name: Name::from_text(alloc, name)?,
@@ -153,30 +122,26 @@ fn sids_of(rt: &impl Abort, alloc: Global, text: &str) -> Result<Sids, NoMemory>
     Ok(sids)
 }
 
-/// What is decided at the level on the rows.
-fn run(
-    rt: &impl Abort,
-    alloc: Global,
-    rows: &Rows,
-    operation: &str,
-    asked: &str,
-) -> Result<Planned, NoMemory> {
+fn args_of(rt: &impl Abort, alloc: Global, operation: &str, asked: &str) -> Result<Args, NoMemory> {
     let (what, level) = word(operation);
     let level = short(level);
-    match what {
-        "names" => {
-            let names = names_of(alloc, asked)?;
-            look_names(
-                alloc,
-                rows,
-                Object::Policy,
-                &Args::LookNames { level, names },
-            )
-        }
-        _ => {
-            let sids = sids_of(rt, alloc, asked)?;
-            look_sids(alloc, rows, Object::Policy, &Args::LookSids { level, sids })
-        }
+    Ok(match what {
+        "names" => Args::LookNames {
+            level,
+            names: names_of(alloc, asked)?,
+        },
+        _ => Args::LookSids {
+            level,
+            sids: sids_of(rt, alloc, asked)?,
+        },
+    })
+}
+
+/// What is decided on the rows.
+fn run(alloc: Global, rows: &Rows, args: &Args) -> Result<Planned, NoMemory> {
+    match args {
+        Args::LookNames { .. } => look_names(alloc, rows, Object::Policy, args),
+        _ => look_sids(alloc, rows, Object::Policy, args),
     }
 }
 
@@ -187,29 +152,57 @@ fn push_name(text: &mut String, name: &Name) -> Result<(), NoMemory> {
     Ok(())
 }
 
+fn push_number(text: &mut String, alloc: Global, number: u32) -> Result<(), NoMemory> {
+    text.push_str(&format!(in alloc; "{number}/")?)
+}
+
+/// The index of a domain, at the end of an entry.
+fn push_index(text: &mut String, alloc: Global, index: i32) -> Result<(), NoMemory> {
+    text.push_str(&format!(in alloc; "{index}, ")?)
+}
+
+fn push_place(text: &mut String, alloc: Global, place: &Place) -> Result<(), NoMemory> {
+    push_name(text, &place.name)?;
+    text.push_str(&format!(in alloc; "={}, ", place.sid.text(alloc)?)?)
+}
+
 fn places_text(alloc: Global, places: &[Place]) -> Result<String, NoMemory> {
     let mut text = String::new(alloc);
     for place in places {
-        push_name(&mut text, &place.name)?;
-        text.push_str(&format!(in alloc; "={}, ", place.sid.text(alloc)?)?)?;
+        push_place(&mut text, alloc, place)?;
     }
     Ok(text)
+}
+
+fn push_sid(text: &mut String, alloc: Global, entry: &TranslatedSid) -> Result<(), NoMemory> {
+    push_number(text, alloc, u32::from(entry.usage))?;
+    push_number(text, alloc, entry.rid)?;
+    push_index(text, alloc, entry.index)
 }
 
 fn sids_text(alloc: Global, entries: &[TranslatedSid]) -> Result<String, NoMemory> {
     let mut text = String::new(alloc);
     for entry in entries {
-        text.push_str(&format!(in alloc; "{}/{}/{}, ", entry.usage, entry.rid, entry.index)?)?;
+        push_sid(&mut text, alloc, entry)?;
     }
     Ok(text)
+}
+
+fn push_translated(
+    text: &mut String,
+    alloc: Global,
+    entry: &TranslatedName,
+) -> Result<(), NoMemory> {
+    push_number(text, alloc, u32::from(entry.usage))?;
+    push_name(text, &entry.name)?;
+    text.push('/')?;
+    push_index(text, alloc, entry.index)
 }
 
 fn names_text(alloc: Global, entries: &[TranslatedName]) -> Result<String, NoMemory> {
     let mut text = String::new(alloc);
     for entry in entries {
-        text.push_str(&format!(in alloc; "{}/", entry.usage)?)?;
-        push_name(&mut text, &entry.name)?;
-        text.push_str(&format!(in alloc; "/{}, ", entry.index)?)?;
+        push_translated(&mut text, alloc, entry)?;
     }
     Ok(text)
 }
@@ -257,7 +250,8 @@ fn told(rt: &impl Abort, alloc: Global, row: &str) -> Result<String, Fail> {
     let (added, rest) = column(row);
     let (operation, rest) = column(rest);
     let rows = rows_with(rt, alloc, added)?;
-    let planned = run(rt, alloc, &rows, operation, column(rest).0)?;
+    let args = args_of(rt, alloc, operation, column(rest).0)?;
+    let planned = run(alloc, &rows, &args)?;
     let outs = outs_text(alloc, &planned.outs)?;
     Ok(format!(in alloc; "{:x}|{}", planned.status, outs)?)
 }
