@@ -1,5 +1,5 @@
-// Accounts of the policy that are made, opened, changed and deleted: what is refused, and what is planned; and the whole
-// life of one. The rows are texts, which one function each tells.
+// Accounts of the policy that are made, opened, changed and deleted: what is refused, and what is planned; and the
+// whole life of one. The rows are texts, which one function each tells.
 use super::super::parts::number;
 use super::{column, object_of, rows_with, sid_of, word};
 use acct_base::Seq;
