@@ -187,4 +187,10 @@ found LsarLookupNames = refl
 found LsarLookupSids = refl
 
 pub returns : goal.returns
-returns c = record { right = right c.operations_are_right-2.ensures c.operations_are_right.ensures; found = found; face = work-of-face; opnum = work-of-opnum }
+returns c = record {
+  right = right c.operations_are_right-4.ensures c.operations_are_right-3.ensures c.operations_are_right.ensures
+      c.operations_are_right-2.ensures;
+  found = found;
+  face = work-of-face;
+  opnum = work-of-opnum;
+}

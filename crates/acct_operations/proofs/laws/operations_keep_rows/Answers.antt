@@ -116,4 +116,6 @@ keeps objects members rights translations LsarLookupNames = translations.look_na
 keeps objects members rights translations LsarLookupSids = translations.look_sids
 
 pub returns : goal.returns
-returns c = keeps c.operations_keep_rows-2.ensures c.operations_keep_rows.ensures
+returns c =
+    keeps c.operations_keep_rows-4.ensures c.operations_keep_rows-3.ensures c.operations_keep_rows.ensures
+    c.operations_keep_rows-2.ensures
