@@ -1,0 +1,4 @@
+mod Halving
+mod Neighbours
+mod Ordered
+mod Placing
