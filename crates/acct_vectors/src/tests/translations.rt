@@ -304,7 +304,7 @@ fn thousand_names(rt: HostRuntime) -> Result<(), Fail> {
     let rows = seeded(&rt, rt.alloc())?;
     let names = many_names(rt.alloc(), 1000)?;
     let asked = Args::LookNames { level: 1, names };
-    let planned = look_names(rt.alloc(), &rows, Object::Policy, &asked)?;
+    let planned = run(rt.alloc(), &rows, &asked)?;
     assert_eq!(rt; counts(&planned.outs), (1, 1000, 1));
     Ok(())
 }
@@ -326,7 +326,7 @@ fn twenty_thousand_sids(rt: HostRuntime) -> Result<(), Fail> {
     let rows = seeded(&rt, rt.alloc())?;
     let sids = many_sids(&rt, rt.alloc(), 20480)?;
     let asked = Args::LookSids { level: 1, sids };
-    let planned = look_sids(rt.alloc(), &rows, Object::Policy, &asked)?;
+    let planned = run(rt.alloc(), &rows, &asked)?;
     assert_eq!(rt; counts(&planned.outs), (1, 20480, 5));
     Ok(())
 }
