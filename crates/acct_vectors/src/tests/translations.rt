@@ -145,6 +145,17 @@ fn run(alloc: Global, rows: &Rows, args: &Args) -> Result<Planned, NoMemory> {
     }
 }
 
+fn decided(
+    rt: &impl Abort,
+    alloc: Global,
+    rows: &Rows,
+    operation: &str,
+    asked: &str,
+) -> Result<Planned, NoMemory> {
+    let args = args_of(rt, alloc, operation, asked)?;
+    run(alloc, rows, &args)
+}
+
 fn push_name(text: &mut String, name: &Name) -> Result<(), NoMemory> {
     for unit in name.units() {
         text.push(char::from((*unit & 0x7F) as u8))?;
@@ -250,8 +261,7 @@ fn told(rt: &impl Abort, alloc: Global, row: &str) -> Result<String, Fail> {
     let (added, rest) = column(row);
     let (operation, rest) = column(rest);
     let rows = rows_with(rt, alloc, added)?;
-    let args = args_of(rt, alloc, operation, column(rest).0)?;
-    let planned = run(alloc, &rows, &args)?;
+    let planned = decided(rt, alloc, &rows, operation, column(rest).0)?;
     let outs = outs_text(alloc, &planned.outs)?;
     Ok(format!(in alloc; "{:x}|{}", planned.status, outs)?)
 }
@@ -285,6 +295,14 @@ fn counts(outs: &Outs) -> (usize, usize, u32) {
     }
 }
 
+/// Whether so many domains, entries and mapped ones come of what is asked.
+fn has_counts(alloc: Global, rows: &Rows, args: &Args, wanted: (usize, usize, u32)) -> bool {
+    match run(alloc, rows, args) {
+        Ok(planned) => counts(&planned.outs) == wanted,
+        Err(_) => false,
+    }
+}
+
 /// As many names, of which the first is mapped.
 fn many_names(alloc: Global, count: u32) -> Result<Names, NoMemory> {
     let mut names = Names::new(alloc);
@@ -304,8 +322,7 @@ fn thousand_names(rt: HostRuntime) -> Result<(), Fail> {
     let rows = seeded(&rt, rt.alloc())?;
     let names = many_names(rt.alloc(), 1000)?;
     let asked = Args::LookNames { level: 1, names };
-    let planned = run(rt.alloc(), &rows, &asked)?;
-    assert_eq!(rt; counts(&planned.outs), (1, 1000, 1));
+    assert!(rt; has_counts(rt.alloc(), &rows, &asked, (1, 1000, 1)));
     Ok(())
 }
 
@@ -326,7 +343,6 @@ fn twenty_thousand_sids(rt: HostRuntime) -> Result<(), Fail> {
     let rows = seeded(&rt, rt.alloc())?;
     let sids = many_sids(&rt, rt.alloc(), 20480)?;
     let asked = Args::LookSids { level: 1, sids };
-    let planned = run(rt.alloc(), &rows, &asked)?;
-    assert_eq!(rt; counts(&planned.outs), (1, 20480, 5));
+    assert!(rt; has_counts(rt.alloc(), &rows, &asked, (1, 20480, 5)));
     Ok(())
 }
