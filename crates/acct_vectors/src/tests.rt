@@ -16,7 +16,6 @@ mod queries;
 mod rights;
 mod rows;
 mod settings;
-mod translations;
 mod words;
 
 use acct_calls::NoMemory;

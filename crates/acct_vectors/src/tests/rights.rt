@@ -1,7 +1,5 @@
 // Accounts of the policy that are put into the first rows: what is refused, and what is shown or listed. The rows are
 // one text, which one function tells.
-mod changes;
-
 use super::parts::number;
 use super::rows::seeded;
 use acct_base::Seq;
