@@ -1,8 +1,10 @@
 pub mod Causes
+pub mod DescriptorControl
 pub mod Faults
 pub mod GroupAttributes
 pub mod InfoClasses
 pub mod Limits
+pub mod LookupLevels
 pub mod Mappings
 pub mod Opnums
 pub mod Privileges

@@ -1,9 +1,29 @@
 -- Well-known relative identifiers of accounts (MS-DTYP 2.4.2.4), and the bounds of those that are given out.
 use Rattle.std.specs.Prelude.{ℕ}
 
+-- the identifier authority of everyone, S-1-1
+abbrev pub security_world_authority : ℕ
+security_world_authority = 1
+
 -- the identifier authority of Windows, S-1-5
 abbrev pub security_nt_authority : ℕ
 security_nt_authority = 5
+
+-- everyone, S-1-1-0
+abbrev pub security_world_rid : ℕ
+security_world_rid = 0
+
+-- those who are logged on without a name, S-1-5-7
+abbrev pub security_anonymous_logon_rid : ℕ
+security_anonymous_logon_rid = 7
+
+-- those whose name was proved, S-1-5-11
+abbrev pub security_authenticated_user_rid : ℕ
+security_authenticated_user_rid = 11
+
+-- the system, S-1-5-18
+abbrev pub security_local_system_rid : ℕ
+security_local_system_rid = 18
 
 -- the domain BUILTIN, S-1-5-32
 abbrev pub security_builtin_domain_rid : ℕ

@@ -1,6 +1,6 @@
 //! The numbers of the account server: access rights of each kind of object, statuses, faults, a user's control bits,
-//! a group's attributes, system access, privileges, well-known RIDs, operation numbers, classes of information, the
-//! causes of a refused PDU and the limits of connections and rows.
+//! those of a descriptor, a group's attributes, system access, privileges, well-known RIDs, levels of look-ups,
+//! operation numbers, classes of information, the causes of a refused PDU and the limits of connections and rows.
 //!
 //! It stands on nothing of ours. In specs/ each number stands once, in the table of its subject, by its name in the
 //! standards; every other definition cites it there. Each constant of the code has the standard's spelling and stands
@@ -12,6 +12,7 @@
 pub mod account_rights;
 pub mod alias_rights;
 pub mod cause;
+pub mod descriptor_control;
 pub mod domain_rights;
 pub mod fault;
 pub mod group_attribute;
@@ -19,6 +20,7 @@ pub mod group_rights;
 pub mod info_class;
 mod kind;
 pub mod limit;
+pub mod lookup_level;
 pub mod lsa_opnum;
 pub mod policy_rights;
 pub mod privilege;
