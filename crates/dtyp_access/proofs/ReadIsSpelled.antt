@@ -7,6 +7,7 @@ use Rattle.std.proofs.lemmas.List.Elements.{All-take, All-drop}
 use Rattle.dtyp_sid.specs.Value.{SidValue}
 use Rattle.dtyp_sid.specs.Bytes.{sid_of_bytes, ReadBytesAreWritten as SidsAreWritten}
 use Rattle.dtyp_sid.specs.declared.errors.BytesError.{BytesError}
+use Rattle.acct_codes.specs.DescriptorControl.{se_dacl_present, se_self_relative}
 use Rattle.dtyp_access.specs.declared.ace.Ace.{Ace}
 use Rattle.dtyp_access.specs.declared.ace.AceKind.{AceKind}
 use Rattle.dtyp_access.specs.declared.ace.AceKind.TheVariants.{Allow, Deny}
@@ -186,9 +187,9 @@ acl_spelled law place bytes aces all read =
 list_spelled : SidsAreWritten → (bytes : List ℕ) (acl : Option (List Ace)) → AreBytes bytes → list_of bytes ≡ Ok acl →
     SpellList bytes acl
 unfolding list_of
-list_spelled law bytes acl all = by_tests (shares (u16_at 2 bytes) 0x0004) (u32_at 16 bytes == 0) acl refl refl
+list_spelled law bytes acl all = by_tests (shares (u16_at 2 bytes) se_dacl_present) (u32_at 16 bytes == 0) acl refl refl
   where
-    by_tests : (present none : Bool) (acl : Option (List Ace)) → shares (u16_at 2 bytes) 0x0004 ≡ present →
+    by_tests : (present none : Bool) (acl : Option (List Ace)) → shares (u16_at 2 bytes) se_dacl_present ≡ present →
         (u32_at 16 bytes == 0) ≡ none
         → (if not present || none then Ok None else
         (if is_outside (u32_at 16 bytes) bytes then Err (Offset 16) else
@@ -214,7 +215,7 @@ unfolding descriptor_of_bytes
 read_is_spelled law bytes d all read =
     let whole = not_refused (nat_lt (length bytes) 20) (Short 0) _ d read in
     let revised = not_refused (not (slice_index bytes 0 == 1)) (Revision 0) _ d whole.1 in
-    let relative = not_refused (not (shares (u16_at 2 bytes) 0x8000)) (Offset 2) _ d revised.1 in
+    let relative = not_refused (not (shares (u16_at 2 bytes) se_self_relative)) (Offset 2) _ d revised.1 in
     let by_owner = then_ok (sid_of_field 4 bytes) _ d relative.1 in
     let by_group = then_ok (group_of bytes) _ d by_owner.2 in
     let by_acl = then_ok (list_of bytes) _ d by_group.2 in
@@ -225,7 +226,7 @@ read_is_spelled law bytes d all read =
     subst (λ (d : Descriptor). SpellDescriptor bytes d) same (record {
       header = grind (arith, nat_tests);
       revision = grind (arith, nat_tests);
-      self_relative = not_false (shares (u16_at 2 bytes) 0x8000) relative.0;
+      self_relative = not_false (shares (u16_at 2 bytes) se_self_relative) relative.0;
       owner = field_spelled law 4 bytes by_owner.0 all by_owner.1;
       group = group_spelled law bytes by_group.0 all by_group.1;
       acl = list_spelled law bytes by_acl.0 all by_acl.1;

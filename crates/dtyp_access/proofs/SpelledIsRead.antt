@@ -5,6 +5,7 @@ use Rattle.std.specs.Prelude.{nat_lt, not, ◌==◌, ◌||◌, if◌then◌else�
 use Rattle.std.proofs.lemmas.Bool.Decides.{nat_tests}
 use Rattle.dtyp_sid.specs.Value.{SidValue}
 use Rattle.dtyp_sid.specs.Bytes.{sid_of_bytes, WrittenBytesAreRead as SidsAreRead}
+use Rattle.acct_codes.specs.DescriptorControl.{se_dacl_present}
 use Rattle.dtyp_access.specs.declared.ace.Ace.{Ace}
 use Rattle.dtyp_access.specs.declared.ace.AceKind.{AceKind}
 use Rattle.dtyp_access.specs.declared.ace.AceKind.TheVariants.{Allow, Deny}
@@ -90,9 +91,9 @@ list_read : SidsAreRead → (bytes : List ℕ) (acl : Option (List Ace)) → Spe
 unfolding list_of
 list_read law bytes None is =
     ⊎_elim
-    (λ (absent : shares (u16_at 2 bytes) 0x0004 ≡ false). rw absent refl)
+    (λ (absent : shares (u16_at 2 bytes) se_dacl_present ≡ false). rw absent refl)
     (λ (none : u32_at 16 bytes ≡ 0). let test : (u32_at 16 bytes == 0) ≡ true = grind (arith, nat_tests) in
-    by_offset (not (shares (u16_at 2 bytes) 0x0004)) (u32_at 16 bytes == 0) test)
+    by_offset (not (shares (u16_at 2 bytes) se_dacl_present)) (u32_at 16 bytes == 0) test)
     is
   where
     by_offset : (absent none : Bool) → none ≡ true →

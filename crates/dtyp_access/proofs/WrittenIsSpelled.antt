@@ -8,6 +8,7 @@ use Rattle.std.proofs.lemmas.List.{length-append, append-nil, drop-drop, length-
 use Rattle.std.proofs.Math.Seq.{take-append_seam, drop-append_seam}
 use Rattle.dtyp_sid.specs.Value.{SidValue, IsSid}
 use Rattle.dtyp_sid.specs.Bytes.{bytes_of, WrittenBytesHaveLengths as SidsHaveLengths}
+use Rattle.acct_codes.specs.DescriptorControl.{se_dacl_present, se_self_relative}
 use Rattle.dtyp_access.specs.declared.ace.Ace.{Ace}
 use Rattle.dtyp_access.specs.declared.descriptor.Descriptor.{Descriptor}
 use Rattle.dtyp_access.specs.Granted.{shares}
@@ -176,9 +177,9 @@ list_stands : SidsHaveLengths → (place : ℕ) (bytes rest : List ℕ) (acl : O
     → StandAt place bytes (list_bytes acl) rest → SpellList bytes acl
 unfolding list_bytes shares
 list_stands lengths place bytes rest None is behind within control points stands =
-    inl (ap (λ bits. shares bits 0x0004) control)
+    inl (ap (λ bits. shares bits se_dacl_present) control)
 list_stands lengths place bytes rest (Some aces) is behind within control points stands = record {
-  present = ap (λ bits. shares bits 0x0004) control;
+  present = ap (λ bits. shares bits se_dacl_present) control;
   inside = record { behind_header = omega arith; within = omega arith };
   spelled = subst (λ (place : ℕ). SpellAcl place bytes aces) (sym points)
       (acl_stands lengths place bytes rest aces is.0 is.1 stands);
@@ -192,7 +193,7 @@ control_fits : (acl : Option (List Ace)) → control_of acl < 2 ^ 16
 control_fits None = omega arith
 control_fits (Some aces) = omega arith
 
-control_relative : (acl : Option (List Ace)) → shares (control_of acl) 0x8000 ≡ true
+control_relative : (acl : Option (List Ace)) → shares (control_of acl) se_self_relative ≡ true
 unfolding shares
 control_relative None = refl
 control_relative (Some aces) = refl
@@ -247,7 +248,7 @@ written_is_spelled lengths d rest is =
     subst (λ (bytes : List ℕ). SpellDescriptor bytes d) same (record {
       header = omega arith;
       revision = fields.revision;
-      self_relative = ap (λ bits. shares bits 0x8000) fields.control ∙ control_relative d.acl;
+      self_relative = ap (λ bits. shares bits se_self_relative) fields.control ∙ control_relative d.acl;
       owner = sid_stands 4 20 bytes (group ++ (list ++ rest)) d.owner is.owner (omega arith)
           (omega arith) fields.owner at_owner;
       group = group_stands (20 + length owner) bytes (list ++ rest) d.group is.group (omega arith)

@@ -6,6 +6,7 @@ use Rattle.std.specs.declared.option.Option.{Option}
 use Rattle.std.specs.declared.option.Option.TheVariants.{Some, None}
 use Rattle.std.specs.declared.result.Result.{Result}
 use Rattle.std.specs.declared.result.Result.TheVariants.{Ok, Err}
+use Rattle.acct_codes.specs.DescriptorControl.{se_dacl_present, se_self_relative}
 use Rattle.dtyp_sid.specs.Value.{SidValue}
 use Rattle.dtyp_sid.specs.Bytes.{sid_of_bytes}
 use Rattle.dtyp_sid.specs.declared.errors.BytesError.{BytesError}
@@ -85,7 +86,7 @@ acl_at place bytes =
 -- the list, which is absent where the control bits or its offset say so
 unfoldable pub list_of : List ℕ → Result (Option (List Ace)) DescError
 list_of bytes =
-    if not (shares (u16_at 2 bytes) 0x0004) || u32_at 16 bytes == 0 then Ok None
+    if not (shares (u16_at 2 bytes) se_dacl_present) || u32_at 16 bytes == 0 then Ok None
     else (if is_outside (u32_at 16 bytes) bytes then Err (Offset 16)
     else then_read (acl_at (u32_at 16 bytes) bytes) (λ aces. Ok (Some aces)))
 
@@ -94,7 +95,7 @@ unfoldable pub descriptor_of_bytes : List ℕ → Result Descriptor DescError
 descriptor_of_bytes bytes =
     if nat_lt (length bytes) 20 then Err (Short 0)
     else (if not (slice_index bytes 0 == 1) then Err (Revision 0)
-    else (if not (shares (u16_at 2 bytes) 0x8000) then Err (Offset 2)
+    else (if not (shares (u16_at 2 bytes) se_self_relative) then Err (Offset 2)
     else then_read (sid_of_field 4 bytes) (λ owner.
     then_read (group_of bytes) (λ group.
     then_read (list_of bytes) (λ acl.
@@ -108,7 +109,7 @@ ReadsIfRoom (Err refusal) wanted = wanted ≡ Err refusal
 
 -- whether bytes have a list: control says so, and its offset isn't 0 and points behind the header and not past the end
 unfoldable pub has_list : List ℕ → Bool
-has_list bytes = shares (u16_at 2 bytes) 0x0004
+has_list bytes = shares (u16_at 2 bytes) se_dacl_present
     && (not (u32_at 16 bytes == 0) && not (is_outside (u32_at 16 bytes) bytes))
 
 -- memory runs out only where there is a list, whose entries take it

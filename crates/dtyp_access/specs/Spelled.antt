@@ -4,6 +4,7 @@ use Rattle.std.specs.Prelude.{drop, slice_index, All}
 use Rattle.std.specs.declared.option.Option.{Option}
 use Rattle.std.specs.declared.option.Option.TheVariants.{Some, None}
 use Rattle.std.specs.declared.result.Result.TheVariants.{Ok}
+use Rattle.acct_codes.specs.DescriptorControl.{se_dacl_present, se_self_relative}
 use Rattle.dtyp_sid.specs.Value.{SidValue, IsSid}
 use Rattle.dtyp_sid.specs.Bytes.{BeginWithSid}
 use Rattle.dtyp_access.specs.declared.ace.Ace.{Ace}
@@ -58,19 +59,19 @@ SpellGroup bytes (Some group) = PointsToSid 8 bytes group
 
 -- the list, which is absent where its control bit isn't set or its offset is 0
 pub record PointsToAcl (bytes : List ℕ) (aces : List Ace) : Type 0 where
-  pub present : shares (u16_at 2 bytes) 0x0004 ≡ true
+  pub present : shares (u16_at 2 bytes) se_dacl_present ≡ true
   pub inside : IsInside (u32_at 16 bytes) bytes
   pub spelled : SpellAcl (u32_at 16 bytes) bytes aces
 
 abbrev pub SpellList : List ℕ → Option (List Ace) → Type 0
-SpellList bytes None = (shares (u16_at 2 bytes) 0x0004 ≡ false) ⊎ (u32_at 16 bytes ≡ 0)
+SpellList bytes None = (shares (u16_at 2 bytes) se_dacl_present ≡ false) ⊎ (u32_at 16 bytes ≡ 0)
 SpellList bytes (Some aces) = PointsToAcl bytes aces
 
 -- the bytes spell the descriptor
 pub record SpellDescriptor (bytes : List ℕ) (d : Descriptor) : Type 0 where
   pub header : 20 ≤ length bytes
   pub revision : slice_index bytes 0 ≡ 1
-  pub self_relative : shares (u16_at 2 bytes) 0x8000 ≡ true
+  pub self_relative : shares (u16_at 2 bytes) se_self_relative ≡ true
   pub owner : PointsToSid 4 bytes d.owner
   pub group : SpellGroup bytes d.group
   pub acl : SpellList bytes d.acl

@@ -4,6 +4,7 @@ use Rattle.std.specs.Int.{w16, w32, to_le_bytes}
 use Rattle.std.specs.List.{flat_map}
 use Rattle.std.specs.declared.option.Option.{Option}
 use Rattle.std.specs.declared.option.Option.TheVariants.{Some, None}
+use Rattle.acct_codes.specs.DescriptorControl.{se_dacl_present, se_self_relative}
 use Rattle.dtyp_sid.specs.Value.{SidValue}
 use Rattle.dtyp_sid.specs.Bytes.{bytes_of}
 use Rattle.dtyp_access.specs.declared.ace.Ace.{Ace}
@@ -42,8 +43,8 @@ list_bytes (Some aces) = acl_bytes aces
 
 -- the control bits: self-relative, and that there is a list
 abbrev pub control_of : Option (List Ace) → ℕ
-control_of None = 0x8000
-control_of (Some aces) = 0x8004
+control_of None = se_self_relative
+control_of (Some aces) = se_self_relative + se_dacl_present
 
 -- where a part begins, and 0 where it is absent
 abbrev pub offset_of : {X : Type 0} → Option X → ℕ → ℕ

@@ -9,6 +9,7 @@ ghost use Rattle.dtyp_access.specs.Reading.{ace_at, next_ace, kind_of, or_no_sid
 use crate::laws::read_bytes_spell;
 use crate::{Ace, AceKind, Acl, DescError, Descriptor};
 use acct_base::{front_u16, front_u32, rest_of};
+use acct_codes::descriptor_control::{SE_DACL_PRESENT, SE_SELF_RELATIVE};
 use dtyp_sid::Sid;
 use std::alloc::Global;
 
@@ -27,7 +28,7 @@ pub fn read_descriptor(alloc: Global, bytes: &[u8]) -> Result<Descriptor, DescEr
     if bytes[0] != 1 {
         return Err(DescError::Revision(0));
     }
-    if u16_at(bytes, 2) & 0x8000 == 0 {
+    if u16_at(bytes, 2) & SE_SELF_RELATIVE == 0 {
         return Err(DescError::Offset(2));
     }
     let owner = sid_of_field(bytes, 4)?;
@@ -79,7 +80,7 @@ fn list_of(alloc: Global, bytes: &[u8]) -> Result<Option<Acl>, DescError>
     ensures wants { OnlyWithList result bytes.now }
 {
     let offset = u32_at(bytes, 16) as usize;
-    if u16_at(bytes, 2) & 0x0004 == 0 || offset == 0 {
+    if u16_at(bytes, 2) & SE_DACL_PRESENT == 0 || offset == 0 {
         return Ok(None);
     }
     if offset < 20 || bytes.len() < offset {

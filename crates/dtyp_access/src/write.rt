@@ -10,6 +10,7 @@ ghost use Rattle.dtyp_access.specs.Written.{ace_bytes, aces_bytes, type_of, cont
 use crate::laws::written_bytes_are_read;
 use crate::{Ace, AceKind, Acl, Descriptor};
 use acct_base::{push_u16, push_u32};
+use acct_codes::descriptor_control::{SE_DACL_PRESENT, SE_SELF_RELATIVE};
 use dtyp_sid::Sid;
 use dtyp_sid::laws::written_bytes_have_lengths;
 use std::alloc::{AllocError, Global};
@@ -83,8 +84,8 @@ fn control_of(acl: &Option<Acl>) -> u16
     ensures { result ≡ control_of acl.now }
 {
     match acl {
-        Some(_) => 0x8004,
-        None => 0x8000,
+        Some(_) => SE_SELF_RELATIVE + SE_DACL_PRESENT,
+        None => SE_SELF_RELATIVE,
     }
 }
 
