@@ -23,7 +23,7 @@ pub use asked::{
     asked_sid, class_of, desired_access, made_bits, made_name, put_number, put_text, text_or_empty,
     units_in,
 };
-pub use mapped::mapped_status;
+pub use mapped::{mapped_status, use_of_kind};
 pub use outputs::fill;
 pub use pages::{PageRoom, page_status};
 pub use planned::{

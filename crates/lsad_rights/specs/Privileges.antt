@@ -3,6 +3,14 @@ use Rattle.std.specs.Prelude.{ℕ, ◌==◌, Bool, codes, List, [], ◌∷◌, O
 use Rattle.std.specs.List.{find}
 use Rattle.acct_calls.specs.Domains.{name_of_text}
 use Rattle.acct_calls.specs.Folding.{is_same}
+use Rattle.acct_codes.specs.Privileges.{se_create_token, se_assign_primary_token, se_lock_memory}
+use Rattle.acct_codes.specs.Privileges.{se_increase_quota, se_machine_account, se_tcb, se_security}
+use Rattle.acct_codes.specs.Privileges.{se_take_ownership, se_load_driver, se_system_profile, se_systemtime}
+use Rattle.acct_codes.specs.Privileges.{se_prof_single_process, se_inc_base_priority, se_create_pagefile}
+use Rattle.acct_codes.specs.Privileges.{se_create_permanent, se_backup, se_restore, se_shutdown, se_debug}
+use Rattle.acct_codes.specs.Privileges.{se_audit, se_system_environment, se_change_notify, se_remote_shutdown}
+use Rattle.acct_codes.specs.Privileges.{se_undock, se_sync_agent, se_enable_delegation, se_manage_volume}
+use Rattle.acct_codes.specs.Privileges.{se_impersonate, se_create_global}
 use Rattle.lsad_rights.specs.declared.privileges.KnownPrivilege.{KnownPrivilege}
 use Rattle.lsad_rights.specs.declared.privileges.KnownPrivilege.TheVariants.{CreateToken, AssignPrimaryToken}
 use Rattle.lsad_rights.specs.declared.privileges.KnownPrivilege.TheVariants.{LockMemory, IncreaseQuota}
@@ -19,35 +27,35 @@ use Rattle.lsad_rights.specs.declared.privileges.KnownPrivilege.TheVariants.{Imp
 
 -- the low part of a privilege's LUID, and its name's text
 unfoldable pub privilege_row : KnownPrivilege → ℕ × List ℕ
-privilege_row CreateToken = (2, codes "SeCreateTokenPrivilege")
-privilege_row AssignPrimaryToken = (3, codes "SeAssignPrimaryTokenPrivilege")
-privilege_row LockMemory = (4, codes "SeLockMemoryPrivilege")
-privilege_row IncreaseQuota = (5, codes "SeIncreaseQuotaPrivilege")
-privilege_row MachineAccount = (6, codes "SeMachineAccountPrivilege")
-privilege_row Tcb = (7, codes "SeTcbPrivilege")
-privilege_row Security = (8, codes "SeSecurityPrivilege")
-privilege_row TakeOwnership = (9, codes "SeTakeOwnershipPrivilege")
-privilege_row LoadDriver = (10, codes "SeLoadDriverPrivilege")
-privilege_row SystemProfile = (11, codes "SeSystemProfilePrivilege")
-privilege_row Systemtime = (12, codes "SeSystemtimePrivilege")
-privilege_row ProfileSingleProcess = (13, codes "SeProfileSingleProcessPrivilege")
-privilege_row IncreaseBasePriority = (14, codes "SeIncreaseBasePriorityPrivilege")
-privilege_row CreatePagefile = (15, codes "SeCreatePagefilePrivilege")
-privilege_row CreatePermanent = (16, codes "SeCreatePermanentPrivilege")
-privilege_row Backup = (17, codes "SeBackupPrivilege")
-privilege_row Restore = (18, codes "SeRestorePrivilege")
-privilege_row Shutdown = (19, codes "SeShutdownPrivilege")
-privilege_row Debug = (20, codes "SeDebugPrivilege")
-privilege_row Audit = (21, codes "SeAuditPrivilege")
-privilege_row SystemEnvironment = (22, codes "SeSystemEnvironmentPrivilege")
-privilege_row ChangeNotify = (23, codes "SeChangeNotifyPrivilege")
-privilege_row RemoteShutdown = (24, codes "SeRemoteShutdownPrivilege")
-privilege_row Undock = (25, codes "SeUndockPrivilege")
-privilege_row SyncAgent = (26, codes "SeSyncAgentPrivilege")
-privilege_row EnableDelegation = (27, codes "SeEnableDelegationPrivilege")
-privilege_row ManageVolume = (28, codes "SeManageVolumePrivilege")
-privilege_row Impersonate = (29, codes "SeImpersonatePrivilege")
-privilege_row CreateGlobal = (30, codes "SeCreateGlobalPrivilege")
+privilege_row CreateToken = (se_create_token, codes "SeCreateTokenPrivilege")
+privilege_row AssignPrimaryToken = (se_assign_primary_token, codes "SeAssignPrimaryTokenPrivilege")
+privilege_row LockMemory = (se_lock_memory, codes "SeLockMemoryPrivilege")
+privilege_row IncreaseQuota = (se_increase_quota, codes "SeIncreaseQuotaPrivilege")
+privilege_row MachineAccount = (se_machine_account, codes "SeMachineAccountPrivilege")
+privilege_row Tcb = (se_tcb, codes "SeTcbPrivilege")
+privilege_row Security = (se_security, codes "SeSecurityPrivilege")
+privilege_row TakeOwnership = (se_take_ownership, codes "SeTakeOwnershipPrivilege")
+privilege_row LoadDriver = (se_load_driver, codes "SeLoadDriverPrivilege")
+privilege_row SystemProfile = (se_system_profile, codes "SeSystemProfilePrivilege")
+privilege_row Systemtime = (se_systemtime, codes "SeSystemtimePrivilege")
+privilege_row ProfileSingleProcess = (se_prof_single_process, codes "SeProfileSingleProcessPrivilege")
+privilege_row IncreaseBasePriority = (se_inc_base_priority, codes "SeIncreaseBasePriorityPrivilege")
+privilege_row CreatePagefile = (se_create_pagefile, codes "SeCreatePagefilePrivilege")
+privilege_row CreatePermanent = (se_create_permanent, codes "SeCreatePermanentPrivilege")
+privilege_row Backup = (se_backup, codes "SeBackupPrivilege")
+privilege_row Restore = (se_restore, codes "SeRestorePrivilege")
+privilege_row Shutdown = (se_shutdown, codes "SeShutdownPrivilege")
+privilege_row Debug = (se_debug, codes "SeDebugPrivilege")
+privilege_row Audit = (se_audit, codes "SeAuditPrivilege")
+privilege_row SystemEnvironment = (se_system_environment, codes "SeSystemEnvironmentPrivilege")
+privilege_row ChangeNotify = (se_change_notify, codes "SeChangeNotifyPrivilege")
+privilege_row RemoteShutdown = (se_remote_shutdown, codes "SeRemoteShutdownPrivilege")
+privilege_row Undock = (se_undock, codes "SeUndockPrivilege")
+privilege_row SyncAgent = (se_sync_agent, codes "SeSyncAgentPrivilege")
+privilege_row EnableDelegation = (se_enable_delegation, codes "SeEnableDelegationPrivilege")
+privilege_row ManageVolume = (se_manage_volume, codes "SeManageVolumePrivilege")
+privilege_row Impersonate = (se_impersonate, codes "SeImpersonatePrivilege")
+privilege_row CreateGlobal = (se_create_global, codes "SeCreateGlobalPrivilege")
 
 abbrev pub low_of : KnownPrivilege → ℕ
 low_of privilege = (privilege_row privilege).0

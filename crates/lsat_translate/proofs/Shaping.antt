@@ -21,10 +21,11 @@ use Rattle.acct_rows.specs.declared.row.AccountRow.{AccountRow}
 use Rattle.acct_rows.specs.declared.row.DomainRow.{DomainRow}
 use Rattle.acct_rules.specs.Mapped.{is_mapped, mapped_status}
 use Rattle.dtyp_sid.specs.Value.{SidValue, IsSid}
+use Rattle.acct_rules.specs.Mapped.{use_of_kind}
 use Rattle.lsat_translate.specs.Entries.{referenced, known_in, place_of, index_of, index_in, translated_sid, named_entry}
 use Rattle.lsat_translate.specs.Entries.{shown_name, mapped_count}
 use Rattle.lsat_translate.specs.Known.{row_sid, domain_sid, same_known}
-use Rattle.lsat_translate.specs.Matches.{account_match, known_of, use_of_kind, use_in, rid_in}
+use Rattle.lsat_translate.specs.Matches.{account_match, known_of, use_in, rid_in}
 use Rattle.lsat_translate.specs.Names.{is_never_mapped, is_backslash, account_named, domain_named, well_known_named}
 use Rattle.lsat_translate.specs.Names.{is_authority_named, match_alone, match_in, match_behind, match_split, match_of_name}
 use Rattle.lsat_translate.specs.Known.{all_well_known}

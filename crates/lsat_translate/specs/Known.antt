@@ -1,7 +1,9 @@
 -- The domains that a translation may refer to, and the well-known names (MS-LSAT 3.1.1.1, MS-DTYP 2.4.2.4).
 use Rattle.std.specs.Prelude.{ℕ, Bool, true, false, codes, List, [], ◌∷◌, Option, Some, None}
 use Rattle.acct_calls.specs.Domains.{name_of_text, builtin_name, builtin_sid, authority_name}
-use Rattle.acct_codes.specs.Rids.{security_nt_authority}
+use Rattle.acct_codes.specs.Rids.{security_world_authority, security_nt_authority, security_world_rid}
+use Rattle.acct_codes.specs.Rids.{security_anonymous_logon_rid, security_authenticated_user_rid}
+use Rattle.acct_codes.specs.Rids.{security_local_system_rid}
 use Rattle.acct_rows.specs.Rows.{Lists, account_domain, domain_at}
 use Rattle.acct_rows.specs.declared.row.DomainRow.{DomainRow}
 use Rattle.dtyp_sid.specs.Made.{authority_alone}
@@ -13,10 +15,6 @@ use Rattle.lsat_translate.specs.declared.known.WellKnown.TheVariants.{Everyone, 
 use Rattle.lsat_translate.specs.declared.known.WellKnown.TheVariants.{AuthenticatedUsers, System}
 
 -- ---- the well-known names
-
--- the identifier authority of everyone, S-1-1
-abbrev pub security_world_authority : ℕ
-security_world_authority = 1
 
 abbrev pub all_well_known : List WellKnown
 all_well_known = Everyone ∷ AnonymousLogon ∷ AuthenticatedUsers ∷ System ∷ []
@@ -32,10 +30,10 @@ well_known_name w = name_of_text (well_known_text w)
 
 -- the RID behind the SID of its domain
 abbrev pub well_known_rid : WellKnown → ℕ
-well_known_rid Everyone = 0
-well_known_rid AnonymousLogon = 7
-well_known_rid AuthenticatedUsers = 11
-well_known_rid System = 18
+well_known_rid Everyone = security_world_rid
+well_known_rid AnonymousLogon = security_anonymous_logon_rid
+well_known_rid AuthenticatedUsers = security_authenticated_user_rid
+well_known_rid System = security_local_system_rid
 
 -- the domain that it refers to: only Everyone stands in the fourth
 abbrev pub home_of : WellKnown → Known

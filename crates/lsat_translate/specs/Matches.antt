@@ -1,11 +1,9 @@
 -- What a name or a SID is translated to: what it is used for, its RID, its name, and the domain that it refers to.
 use Rattle.std.specs.Prelude.{ℕ, ◌==◌, List, [], Option, Some, None, if◌then◌else◌}
-use Rattle.acct_codes.specs.Uses.{sid_type_user, sid_type_group, sid_type_domain, sid_type_alias}
-use Rattle.acct_codes.specs.Uses.{sid_type_well_known_group, sid_type_unknown}
-use Rattle.acct_codes.specs.declared.kind.Kind.{Kind}
-use Rattle.acct_codes.specs.declared.kind.Kind.TheVariants as kind
+use Rattle.acct_codes.specs.Uses.{sid_type_domain, sid_type_well_known_group, sid_type_unknown}
 use Rattle.acct_rows.specs.Rows.{Lists, account_domain, account_at}
 use Rattle.acct_rows.specs.declared.row.AccountRow.{AccountRow}
+use Rattle.acct_rules.specs.Mapped.{use_of_kind}
 use Rattle.lsat_translate.specs.Known.{domain_name, home_of, well_known_name, well_known_rid}
 use Rattle.lsat_translate.specs.declared.known.Known.{Known}
 use Rattle.lsat_translate.specs.declared.known.Known.TheVariants as known
@@ -27,12 +25,6 @@ known_of (Domain k) = k
 known_of (Account number rid k) = known_of_number number
 
 -- ---- what it is used for (SID_NAME_USE, MS-SAMR 2.2.2.3)
-
-abbrev pub use_of_kind : Kind → ℕ
-use_of_kind kind.User = sid_type_user
-use_of_kind kind.Group = sid_type_group
-use_of_kind kind.Alias = sid_type_alias
-use_of_kind _ = sid_type_unknown
 
 abbrev pub use_of : Match → ℕ
 use_of (WellKnown w) = sid_type_well_known_group

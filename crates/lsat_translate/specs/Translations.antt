@@ -3,6 +3,7 @@ use Rattle.std.specs.Prelude.{ℕ, Bool, not, ◌&&◌, nat_le, List, [], ◌∷
 use Rattle.acct_calls.specs.declared.calls.Args.{Args}
 use Rattle.acct_calls.specs.declared.calls.Args.TheVariants as args
 use Rattle.acct_calls.specs.declared.replies.Outs.TheVariants as outs
+use Rattle.acct_codes.specs.LookupLevels.{lsap_lookup_wksta, lsap_lookup_rodc_referral_to_full_dc}
 use Rattle.acct_codes.specs.Statuses.{status_invalid_parameter}
 use Rattle.acct_rows.specs.Rows.{Lists}
 use Rattle.acct_rows.specs.declared.object.Object.{Object}
@@ -32,12 +33,6 @@ asked_sids (args.LookSids level sids) = sids
 asked_sids _ = []
 
 -- LSAP_LOOKUP_LEVEL (MS-LSAT 2.2.16): where it would be looked up; here every level looks into the rows alone
-abbrev pub lsap_lookup_wksta : ℕ
-lsap_lookup_wksta = 1
-
-abbrev pub lsap_lookup_rodc_referral_to_full_dc : ℕ
-lsap_lookup_rodc_referral_to_full_dc = 7
-
 abbrev pub is_level : ℕ → Bool
 is_level level = nat_le lsap_lookup_wksta level && nat_le level lsap_lookup_rodc_referral_to_full_dc
 

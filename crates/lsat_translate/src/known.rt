@@ -5,7 +5,10 @@ ghost use Rattle.lsat_translate.specs.Known.{well_known_sid, domain_name, domain
 
 use acct_calls::domain::{BUILTIN_NAME, builtin_sid};
 use acct_calls::{Name, NoMemory};
-use acct_codes::rid::SECURITY_NT_AUTHORITY;
+use acct_codes::rid::{
+    SECURITY_ANONYMOUS_LOGON_RID, SECURITY_AUTHENTICATED_USER_RID, SECURITY_LOCAL_SYSTEM_RID,
+    SECURITY_NT_AUTHORITY, SECURITY_WORLD_AUTHORITY, SECURITY_WORLD_RID,
+};
 use acct_rows::{ACCOUNT_DOMAIN, Rows};
 use dtyp_sid::Sid;
 use std::alloc::Global;
@@ -49,9 +52,6 @@ const NAMED: [Known; 3] = [Known::Account, Known::Builtin, Known::NtAuthority];
 
 const AUTHORITY_NAME: &str = "NT AUTHORITY";
 
-// The identifier authority of everyone, S-1-1 (MS-DTYP 2.4.2.4).
-const SECURITY_WORLD_AUTHORITY: u64 = 1;
-
 const NULL_AUTHORITY: u64 = 0;
 
 impl WellKnown {
@@ -79,10 +79,10 @@ impl WellKnown {
         ensures { result ≡ well_known_rid self }
     {
         match self {
-            WellKnown::Everyone => 0,
-            WellKnown::AnonymousLogon => 7,
-            WellKnown::AuthenticatedUsers => 11,
-            WellKnown::System => 18,
+            WellKnown::Everyone => SECURITY_WORLD_RID,
+            WellKnown::AnonymousLogon => SECURITY_ANONYMOUS_LOGON_RID,
+            WellKnown::AuthenticatedUsers => SECURITY_AUTHENTICATED_USER_RID,
+            WellKnown::System => SECURITY_LOCAL_SYSTEM_RID,
         }
     }
 

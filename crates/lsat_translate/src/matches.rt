@@ -2,17 +2,15 @@
 ghost use Rattle.std.specs.Prelude.{◌≡◌, ◌<◌, ◌^◌, IfOk};
 ghost use Rattle.std.specs.Option.{option_copied, option_map};
 ghost use Rattle.acct_rows.specs.Rows.{account_at};
-ghost use Rattle.lsat_translate.specs.Matches.{account_match, known_of_number, known_of, use_of_kind, use_of, use_in};
+ghost use Rattle.lsat_translate.specs.Matches.{account_match, known_of_number, known_of, use_of, use_in};
 ghost use Rattle.lsat_translate.specs.Matches.{rid_of, rid_in, account_name, name_of};
 
 use crate::known::{Known, WellKnown};
 use acct_calls::{Name, NoMemory};
 use acct_codes::Kind;
-use acct_codes::sid_use::{
-    SID_TYPE_ALIAS, SID_TYPE_DOMAIN, SID_TYPE_GROUP, SID_TYPE_UNKNOWN, SID_TYPE_USER,
-    SID_TYPE_WELL_KNOWN_GROUP,
-};
+use acct_codes::sid_use::{SID_TYPE_DOMAIN, SID_TYPE_UNKNOWN, SID_TYPE_WELL_KNOWN_GROUP};
 use acct_rows::{ACCOUNT_DOMAIN, AccountRow, Rows};
+use acct_rules::use_of_kind;
 use std::alloc::Global;
 
 /// What a name or a SID is translated to.
@@ -50,17 +48,6 @@ fn known_of_number(number: u8) -> Known
         Known::Account
     } else {
         Known::Builtin
-    }
-}
-
-fn use_of_kind(kind: Kind) -> u32
-    ensures { result ≡ use_of_kind kind }
-{
-    match kind {
-        Kind::User => SID_TYPE_USER,
-        Kind::Group => SID_TYPE_GROUP,
-        Kind::Alias => SID_TYPE_ALIAS,
-        _ => SID_TYPE_UNKNOWN,
     }
 }
 

@@ -11,16 +11,12 @@ use crate::names::match_of_name;
 use crate::sids::match_of_sid;
 use acct_base::Seq;
 use acct_calls::{Args, Name, Outs};
+use acct_codes::lookup_level::{LSAP_LOOKUP_RODC_REFERRAL_TO_FULL_DC, LSAP_LOOKUP_WKSTA};
 use acct_codes::status::STATUS_INVALID_PARAMETER;
 use acct_rows::{Object, Rows};
 use acct_rules::{NoMemory, Planned, answers, mapped_status, refusal};
 use dtyp_sid::Sid;
 use std::alloc::Global;
-
-// The first and the last of LSAP_LOOKUP_LEVEL (MS-LSAT 2.2.16).
-const LSAP_LOOKUP_WKSTA: u16 = 1;
-
-const LSAP_LOOKUP_RODC_REFERRAL_TO_FULL_DC: u16 = 7;
 
 fn asked_level(args: &Args) -> u16
     ensures { result ≡ asked_level args.now }

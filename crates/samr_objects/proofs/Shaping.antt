@@ -29,7 +29,8 @@ use Rattle.dtyp_sid.specs.Made.{with_last}
 use Rattle.dtyp_sid.specs.Value.{SidValue, IsSid}
 use Rattle.samr_objects.specs.Domains.{listed, sid_in, sid_of_rid}
 use Rattle.samr_objects.specs.Entries.{cost}
-use Rattle.samr_objects.specs.Found.{is_named, domain_named, use_of, use_in, rid_in, name_in}
+use Rattle.acct_rules.specs.Mapped.{use_of_kind}
+use Rattle.samr_objects.specs.Found.{is_named, domain_named, use_in, rid_in, name_in}
 
 -- ---- statuses
 
@@ -173,7 +174,7 @@ rid-long : (r : Lists) (o : Option AccountRow) → IsSoundRows r → IfThere (Is
 rid-long r None sound good = lit< tt
 rid-long r (Some a) sound good = account-long r a sound good
 
-use-of-long : (k : Kind) → IsLong (use_of k)
+use-of-long : (k : Kind) → IsLong (use_of_kind k)
 use-of-long kind.Server = lit< tt
 use-of-long kind.Domain = lit< tt
 use-of-long kind.Group = lit< tt

@@ -2,12 +2,11 @@
 use Rattle.std.specs.Prelude.{ℕ, Bool, List, [], Option, Some, None}
 use Rattle.std.specs.List.{find}
 use Rattle.acct_calls.specs.Folding.{is_same}
-use Rattle.acct_codes.specs.Uses.{sid_type_user, sid_type_group, sid_type_alias, sid_type_unknown}
-use Rattle.acct_codes.specs.declared.kind.Kind.{Kind}
-use Rattle.acct_codes.specs.declared.kind.Kind.TheVariants as kind
+use Rattle.acct_codes.specs.Uses.{sid_type_unknown}
 use Rattle.acct_rows.specs.Rows.{Lists}
 use Rattle.acct_rows.specs.declared.row.AccountRow.{AccountRow}
 use Rattle.acct_rows.specs.declared.row.DomainRow.{DomainRow}
+use Rattle.acct_rules.specs.Mapped.{use_of_kind}
 use Rattle.dtyp_sid.specs.Order.{sid_eq}
 use Rattle.dtyp_sid.specs.Value.{SidValue}
 
@@ -35,17 +34,10 @@ number_of (Some d) = d.number
 
 -- ---- accounts
 
--- what an account of the kind is used for (SID_NAME_USE, MS-SAMR 2.2.2.3): only users, groups and aliases are accounts
-abbrev pub use_of : Kind → ℕ
-use_of kind.User = sid_type_user
-use_of kind.Group = sid_type_group
-use_of kind.Alias = sid_type_alias
-use_of _ = sid_type_unknown
-
 -- what an account that was looked for is used for; one that isn't there is unknown
 abbrev pub use_in : Option AccountRow → ℕ
 use_in None = sid_type_unknown
-use_in (Some a) = use_of a.kind
+use_in (Some a) = use_of_kind a.kind
 
 -- its RID, or 0
 abbrev pub rid_in : Option AccountRow → ℕ

@@ -1,12 +1,12 @@
 // What is found in the rows.
 ghost use Rattle.std.specs.Prelude.{◌≡◌, find};
 ghost use Rattle.std.specs.Option.{option_copied};
-ghost use Rattle.samr_objects.specs.Found.{is_named, domain_named, has_sid, domain_of_sid, use_of, use_in, rid_in};
+ghost use Rattle.samr_objects.specs.Found.{is_named, domain_named, has_sid, domain_of_sid, use_in, rid_in};
 
 use acct_calls::Name;
-use acct_codes::Kind;
-use acct_codes::sid_use::{SID_TYPE_ALIAS, SID_TYPE_GROUP, SID_TYPE_UNKNOWN, SID_TYPE_USER};
+use acct_codes::sid_use::SID_TYPE_UNKNOWN;
 use acct_rows::{AccountRow, DomainRow, Rows};
+use acct_rules::use_of_kind;
 use dtyp_sid::Sid;
 
 fn is_named(domain: &DomainRow, name: &Name) -> bool
@@ -63,23 +63,12 @@ pub fn domain_of_sid(rows: &Rows, sid: Option<Sid>) -> Option<&DomainRow>
     }
 }
 
-fn use_of(kind: Kind) -> u32
-    ensures { result ≡ use_of kind }
-{
-    match kind {
-        Kind::User => SID_TYPE_USER,
-        Kind::Group => SID_TYPE_GROUP,
-        Kind::Alias => SID_TYPE_ALIAS,
-        _ => SID_TYPE_UNKNOWN,
-    }
-}
-
 /// What an account that was looked for is used for (SID_NAME_USE, MS-SAMR 2.2.2.3).
 pub fn use_in(found: Option<&AccountRow>) -> u32
     ensures { result ≡ use_in (option_copied found.entry) }
 {
     match found {
-        Some(account) => use_of(account.kind),
+        Some(account) => use_of_kind(account.kind),
         None => SID_TYPE_UNKNOWN,
     }
 }
