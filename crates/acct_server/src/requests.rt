@@ -1,6 +1,7 @@
 // Requests: which call each of them is, and its answer over a gate.
 ghost use Rattle.std.specs.Prelude.{◌≡◌, ◌≤◌, OnErr, OnOk, IfOk, Ok, Err, Result, length};
 ghost use Rattle.acct_calls.specs.declared.calls.Call.{Call};
+ghost use Rattle.acct_codes.specs.Limits.{least_fragment, most_fragment, most_stub};
 ghost use Rattle.acct_layouts.specs.ReplyShapes.{HasShape};
 ghost use Rattle.acct_machine.specs.Calls.{IsCall};
 ghost use Rattle.acct_stubs.specs.declared.errors.WireError.{WireError};
@@ -83,8 +84,8 @@ fn answer_bytes(
     opnum: u16,
     reply: &Reply,
 ) -> Result<Vec<u8>, AllocError>
-    requires low { 1432 ≤ asked.size }
-    requires high { asked.size ≤ 4280 }
+    requires low { least_fragment ≤ asked.size }
+    requires high { asked.size ≤ most_fragment }
     requires shaped { IsAnswerOf face opnum reply.now }
     ensures { IfOk result (λ bytes. bytes.items ≡ answer_bytes asked face opnum reply.now) }
 {
@@ -107,8 +108,8 @@ fn make_call<G: Gate>(
     stub_size: u32,
 ) -> Result<Answer, AllocError>
     requires serves { G.serves gate.old conn }
-    requires low { 1432 ≤ asked.size }
-    requires high { asked.size ≤ 4280 }
+    requires low { least_fragment ≤ asked.size }
+    requires high { asked.size ≤ most_fragment }
     requires spelled { IsCall call }
     ensures answers { IfOk result (AnswersRequest (G.start gate.old) conn (G.finds gate.old) (G.known gate.old)
         (G.known gate.new) asked stub_size (Ok call)) }
@@ -148,9 +149,9 @@ pub fn request<G: Gate>(
     stub: &[u8],
 ) -> Result<Answer, AllocError>
     requires serves { G.serves gate.old conn }
-    requires low { 1432 ≤ asked.size }
-    requires high { asked.size ≤ 4280 }
-    requires short { length stub.now ≤ 1048576 }
+    requires low { least_fragment ≤ asked.size }
+    requires high { asked.size ≤ most_fragment }
+    requires short { length stub.now ≤ most_stub }
     ensures answers { IfOk result (AnswersRequest (G.start gate.old) conn (G.finds gate.old) (G.known gate.old)
         (G.known gate.new) asked (length stub.now) (call_on asked.face asked.opnum stub.now)) }
     ensures begins { OnErr result (BeginsRequest (G.start gate.old) conn (G.finds gate.old) (G.known gate.old)

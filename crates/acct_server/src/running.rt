@@ -3,6 +3,7 @@ ghost use Rattle.std.specs.Prelude.{◌≡◌, ◌≢◌, ◌⊎◌, ◌+◌, �
 ghost use Rattle.std.specs.Prelude.{length, take, Some, None, Ok, Err, OnOk, OnErr, IfOk, IfSome, IsSome, slice_get};
 ghost use Rattle.std.specs.Prelude.{slice_set, map, All, option_map};
 ghost use Rattle.std.specs.List.{flat_map};
+ghost use Rattle.acct_codes.specs.Limits.{least_fragment, most_fragment, most_stub};
 ghost use Rattle.acct_config.specs.Right.{IsRight};
 ghost use Rattle.acct_machine.specs.State.{is_live};
 ghost use Rattle.acct_machine.specs.Machine.{state_of, with_entry};
@@ -255,9 +256,9 @@ impl Run {
     ) -> Result<Option<u64>, AllocError>
         requires live { is_live conn (state_of self.old.machine).conns ≡ true }
         requires there { IsSome (peer_of conn self.old.peers) }
-        requires low { 1432 ≤ asked.size }
-        requires high { asked.size ≤ 4280 }
-        requires short { length stub.now ≤ 1048576 }
+        requires low { least_fragment ≤ asked.size }
+        requires high { asked.size ≤ most_fragment }
+        requires short { length stub.now ≤ most_stub }
         ensures acts { IfOk result (Acts
             (λ verdicts. on_request self.old.machine.start verdicts self.old.machine.history conn asked
             (length stub.now) (call_on asked.face asked.opnum stub.now)) self.old.machine.history
