@@ -2,9 +2,6 @@
 ghost use Rattle.std.specs.Prelude.{IfOk};
 ghost use Rattle.acct_rows.specs.Sound.{IsSoundRows};
 
-mod accounts;
-mod removals;
-mod sound;
 mod tables;
 
 use crate::{
