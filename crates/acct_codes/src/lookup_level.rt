@@ -9,6 +9,6 @@ pub const LSAP_LOOKUP_RODC_REFERRAL_TO_FULL_DC: u16 = 7;
 
 /// The first and the last level are those of the standard (MS-LSAT 2.2.16).
 pub fn lookup_levels_are_the_standards()
-    ensures lsap_lookup_wksta { LSAP_LOOKUP_WKSTA ≡ lsap_lookup_wksta }
-    ensures lsap_lookup_rodc_referral_to_full_dc { LSAP_LOOKUP_RODC_REFERRAL_TO_FULL_DC ≡ lsap_lookup_rodc_referral_to_full_dc }
+    ensures first { LSAP_LOOKUP_WKSTA ≡ lsap_lookup_wksta }
+    ensures last { LSAP_LOOKUP_RODC_REFERRAL_TO_FULL_DC ≡ lsap_lookup_rodc_referral_to_full_dc }
 {}

@@ -647,7 +647,8 @@ pub fn decide(
     object: Object,
     args: &Args,
 ) -> Result<Planned, NoMemory>
-    ensures decided { IfOk result (λ planned. planned ≡ decision ((operation work).rule rows.now.lists object args.now)) }
+    ensures decided { IfOk result (λ planned.
+        planned ≡ decision ((operation work).rule rows.now.lists object args.now)) }
     ensures wants { OnErr result (is_anywhere (operation work).profile.memory ≡ true) }
 {
     match work {

@@ -36,7 +36,8 @@ each_good r sound = record {
   accounts = all_found account_key (λ a. (account_at r a.domain a.rid ≡ Some a) × IsGoodAccount r a) r.accounts
       sound.accounts_ascend (λ q a e.
       let key : account_key a ≡ q = key_found account_key q r.accounts a e in
-      let there : account_at r a.domain a.rid ≡ Some a = subst (λ k. at account_key k r.accounts ≡ Some a) (sym key) e in
+      let there : account_at r a.domain a.rid ≡ Some a =
+      subst (λ k. at account_key k r.accounts ≡ Some a) (sym key) e in
       (there, sound.account_rules a.domain a.rid a there));
   domain_number = λ number d e. let key : domain_key d ≡ number ∷ [] = key_found domain_key _ r.domains d e in cc;
   account_domain = λ domain rid a e.

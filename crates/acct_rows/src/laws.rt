@@ -5,7 +5,8 @@ ghost use Rattle.acct_rows.specs.Laws.{ReplacedAccountsStaySound, OwnNameIsFree,
 ghost use Rattle.acct_rows.specs.Laws.{MembersStaySound, RemovedMembersStaySound, AliasRowsStaySound};
 ghost use Rattle.acct_rows.specs.Laws.{RemovedAliasRowsStaySound, LsaAccountsStaySound, RemovedLsaAccountsStaySound};
 ghost use Rattle.acct_rows.specs.Laws.{OthersAreNoPrimary, RemovedAccountsStaySound, EachIsGood, PutsAreFound};
-ghost use Rattle.acct_rows.specs.Laws.{PutsLeaveOthers, NamingIsRemoved, EachMemberIsFound, PutsAreUndone, EachLsaIsGood};
+ghost use Rattle.acct_rows.specs.Laws.{PutsLeaveOthers, NamingIsRemoved, EachMemberIsFound, PutsAreUndone};
+ghost use Rattle.acct_rows.specs.Laws.{EachLsaIsGood};
 
 /// A row that was put is found at its key.
 pub fn puts_are_found()

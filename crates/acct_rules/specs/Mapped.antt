@@ -1,5 +1,5 @@
--- What names and SIDs that were looked for are used for (SID_NAME_USE, MS-SAMR 2.2.2.3), and how many of them are mapped
--- (MS-SAMR 3.1.5.11.2, MS-LSAT 3.1.4.5).
+-- What names and SIDs that were looked for are used for (SID_NAME_USE, MS-SAMR 2.2.2.3), and how many of them are
+-- mapped (MS-SAMR 3.1.5.11.2, MS-LSAT 3.1.4.5).
 use Rattle.std.specs.Prelude.{ℕ, Bool, not, ◌==◌, List, if◌then◌else◌}
 use Rattle.std.specs.List.{list_all, list_any}
 use Rattle.acct_codes.specs.Statuses.{status_success, status_some_not_mapped, status_none_mapped}

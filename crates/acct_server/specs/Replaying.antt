@@ -1,5 +1,5 @@
--- The contract of a replay, by the sources and the sink before and after it, and what it leaves. The functions tell of a
--- source the bytes that it has left and its count of faults, of a sink the bytes that it holds and its count.
+-- The contract of a replay, by the sources and the sink before and after it, and what it leaves. The functions tell of
+-- a source the bytes that it has left and its count of faults, of a sink the bytes that it holds and its count.
 use Rattle.std.specs.Prelude.{◌≡◌, ℕ, ◌≤◌, ◌⊎◌, List, [], Option, Some, None, IfSome, length}
 use Rattle.std.specs.Option.{option_map}
 use Rattle.acct_config.specs.declared.config.Config.{Config}

@@ -1,5 +1,6 @@
 -- Bits that are set and cleared: each other stays as it is, and known bits stay known.
-use Rattle.std.proofs.Common.{◌≡◌, ◌≢◌, ℕ, zero, suc, ◌==◌, Bool, true, false, not, ◌&&◌, ◌||◌, ◌-◌, ◌^◌, ◌<◌, ◌/◌, ◌*◌, min, max, refl, sym, ap, ◌∙◌, arith}
+use Rattle.std.proofs.Common.{◌≡◌, ◌≢◌, ℕ, zero, suc, ◌==◌, Bool, true, false, not, ◌&&◌, ◌||◌, ◌-◌, ◌^◌, ◌<◌, ◌/◌}
+use Rattle.std.proofs.Common.{◌*◌, min, max, refl, sym, ap, ◌∙◌, arith}
 use Rattle.std.specs.Prelude.{bit_and, bit_or}
 use Rattle.std.specs.Int.Bits.{or_add_and, and_self}
 use Rattle.std.specs.Int.{bit_not, bit_at, w32}

@@ -24,7 +24,8 @@ use Rattle.lsad_rights.specs.Found.{account_of_sid}
 use Rattle.lsad_rights.specs.Held.{held_at}
 use Rattle.lsad_rights.specs.Holdings.{takes_all}
 use Rattle.lsad_rights.specs.Holders.{is_wanted}
-use Rattle.lsad_rights.specs.ChangeLaws.{OthersStay, IsMade, IsGone, RightsAreAdded, RightsAreTaken, rows_after, names_right}
+use Rattle.lsad_rights.specs.ChangeLaws.{OthersStay, IsMade, IsGone, RightsAreAdded, RightsAreTaken, rows_after}
+use Rattle.lsad_rights.specs.ChangeLaws.{names_right}
 use Rattle.lsad_rights.specs.ChangeLaws.{held_by}
 use Rattle.lsad_rights.specs.Listings.{sid_of_row}
 use Rattle.lsad_rights.specs.Rights.{holds}

@@ -93,7 +93,8 @@ has-set access a b =
 has-cleared : (access : ℕ) (a b : LogonRight)
     → has_right (bit_and access (bit_not w32 (bit_of b))) a ≡ (not (bit_of b == bit_of a) && has_right access a)
 has-cleared access a b =
-    subst (λ m. has_bit (bit_and access (bit_not w32 m)) (bit_of a) ≡ (not (m == bit_of a) && has_bit access (bit_of a)))
+    subst (λ m. has_bit (bit_and access (bit_not w32 m)) (bit_of a) ≡
+    (not (m == bit_of a) && has_bit access (bit_of a)))
     (sym (bit-at-place b))
     (subst (λ n. has_bit (bit_and access (bit_not w32 (2 ^ place_of b))) n
     ≡ (not (2 ^ place_of b == n) && has_bit access n))

@@ -1,6 +1,7 @@
 -- What holds of each operation, and what they leave; how names, LUIDs and bits lead back to each other; and how an
 -- enumeration goes on.
-use Rattle.std.specs.Prelude.{◌≡◌, ℕ, ◌+◌, ◌^◌, ◌<◌, bit_and, Bool, false, nat_lt, List, [], ◌∷◌, ◌++◌, length, Option, Some, None}
+use Rattle.std.specs.Prelude.{◌≡◌, ℕ, ◌+◌, ◌^◌, ◌<◌, bit_and, Bool, false, nat_lt, List, [], ◌∷◌, ◌++◌, length}
+use Rattle.std.specs.Prelude.{Option, Some, None}
 use Rattle.std.specs.List.{list_any}
 use Rattle.acct_calls.specs.Folding.{is_same}
 use Rattle.acct_calls.specs.declared.calls.Args.{Args}

@@ -1,5 +1,5 @@
--- The operations that add rights to an account of the policy, by its SID, and take them away. A right is a privilege, or
--- a right to log on, which is a bit of the system access.
+-- The operations that add rights to an account of the policy, by its SID, and take them away. A right is a privilege,
+-- or a right to log on, which is a bit of the system access.
 use Rattle.std.specs.Prelude.{ℕ, ◌+◌, Bool, not, bit_and, bit_or, List, [], ◌∷◌, Option, Some, None, is_some}
 use Rattle.std.specs.Prelude.{if◌then◌else◌}
 use Rattle.std.specs.Int.{bit_not, w32}

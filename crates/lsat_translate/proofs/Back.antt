@@ -1,6 +1,8 @@
 -- The SID of what a name is translated to is translated to the same.
-use Rattle.std.proofs.Common.{◌≡◌, ◌≢◌, ℕ, zero, suc, ◌+◌, ◌-◌, ◌<◌, ◌≤◌, ◌==◌, nat_lt, nat_le, Bool, true, false, not, cond}
-use Rattle.std.proofs.Common.{List, [], ◌∷◌, ◌++◌, length, take, drop, get_or, Option, Some, None, refl, sym, ap, subst, ◌∙◌, arith, true≢false}
+use Rattle.std.proofs.Common.{◌≡◌, ◌≢◌, ℕ, zero, suc, ◌+◌, ◌-◌, ◌<◌, ◌≤◌, ◌==◌, nat_lt, nat_le, Bool, true, false}
+use Rattle.std.proofs.Common.{not, cond}
+use Rattle.std.proofs.Common.{List, [], ◌∷◌, ◌++◌, length, take, drop, get_or, Option, Some, None, refl, sym, ap}
+use Rattle.std.proofs.Common.{subst, ◌∙◌, arith, true≢false}
 use Rattle.std.specs.Prelude.{◌&&◌, ◌||◌, position}
 use Rattle.std.specs.Cmp.{first_so, second_so}
 use Rattle.std.specs.List.{find}
@@ -29,7 +31,8 @@ use Rattle.lsat_translate.specs.Sids.{match_of_sid}
 use Rattle.lsat_translate.specs.declared.known.Known.{Known}
 use Rattle.lsat_translate.specs.declared.known.Known.TheVariants as known
 use Rattle.lsat_translate.specs.declared.known.WellKnown.{WellKnown}
-use Rattle.lsat_translate.specs.declared.known.WellKnown.TheVariants.{Everyone, AnonymousLogon, AuthenticatedUsers, System}
+use Rattle.lsat_translate.specs.declared.known.WellKnown.TheVariants.{Everyone, AnonymousLogon, AuthenticatedUsers}
+use Rattle.lsat_translate.specs.declared.known.WellKnown.TheVariants.{System}
 use Rattle.lsat_translate.specs.declared.matches.Match.{Match}
 use Rattle.lsat_translate.specs.declared.matches.Match.TheVariants as matches
 use Rattle.lsat_translate.proofs.Shaping.{find-account}
@@ -89,7 +92,8 @@ placed : (domain : ℕ) (k : Kind) → good_place domain k ≡ true → domain �
 placed domain k place =
     either-placed domain (domain == 0) (domain == 1) (same_kind kind.Alias k) refl refl place
 
-account-found : (r : Lists) (o : Option AccountRow) → IfThere (Stands r) o → IfThere (IsFound r) (option_map account_match o)
+account-found : (r : Lists) (o : Option AccountRow) → IfThere (Stands r) o → IfThere (IsFound r)
+    (option_map account_match o)
 account-found r None stands = tt
 account-found r (Some a) stands = record {
   found = ap (option_map account_match) stands.there;
@@ -112,7 +116,8 @@ alone-found each r name sound =
     (or-found r (account_named r 0 name) (account_named r 1 name) (named-found each r 0 name sound)
     (named-found each r 1 name sound)))
 
-in-found : EachIsGood → (r : Lists) (name : List ℕ) (k : Known) → IsSoundRows r → IfThere (IsFound r) (match_in r name k)
+in-found : EachIsGood → (r : Lists) (name : List ℕ) (k : Known) → IsSoundRows r → IfThere (IsFound r)
+    (match_in r name k)
 in-found each r name known.Account sound = named-found each r 0 name sound
 in-found each r name known.Builtin sound = named-found each r 1 name sound
 in-found each r name known.NtAuthority sound = known-found r (find (is_authority_named name) all_well_known)
@@ -309,7 +314,8 @@ alias-back each one r rid k sound hides there =
     differ one domain sid (sid_eq domain sid) refl (hides.no_alias rid) in
     let other : sid_eq builtin_sid domain ≡ false =
     differ one builtin_sid domain (sid_eq builtin_sid domain) refl
-    (λ same. true-false (sym ((one domain builtin_sid).0.1 (sym same)) ∙ row-apart each r (domain_at r 0) sound refl)) in
+    (λ same.
+    true-false (sym ((one domain builtin_sid).0.1 (sym same)) ∙ row-apart each r (domain_at r 0) sound refl)) in
     ap (λ w. Answers r sid w (domain_of_sid r sid) (account_of_sid r 0 domain sid)
     (account_of_sid r 1 builtin_sid sid)) (long-unknown one sid long)
     ∙ ap (λ d. Answers r sid None d (account_of_sid r 0 domain sid) (account_of_sid r 1 builtin_sid sid))
@@ -326,10 +332,13 @@ match-back : EachIsGood → EqualSidsAreOne → (r : Lists) (m : Match) → IsSo
 match-back each one r (matches.WellKnown w) sound hides found = known-back r w
 match-back each one r (matches.Domain k) sound hides found = domain-back each one r k sound hides found
 match-back each one r (matches.Account zero rid k) sound hides found = user-back each one r rid k sound found
-match-back each one r (matches.Account (suc zero) rid k) sound hides found = alias-back each one r rid k sound hides found
-match-back each one r (matches.Account (suc (suc n)) rid k) sound hides found = absurd (omega (arith, found.number_most))
+match-back each one r (matches.Account (suc zero) rid k) sound hides found = alias-back each one r rid k sound hides
+    found
+match-back each one r (matches.Account (suc (suc n)) rid k) sound hides found = absurd
+    (omega (arith, found.number_most))
 
-pub translate-back : EachIsGood → EqualSidsAreOne → (r : Lists) (name : List ℕ) (m : Match) → IsSoundRows r → HidesNone r
+pub translate-back : EachIsGood → EqualSidsAreOne → (r : Lists) (name : List ℕ) (m : Match) → IsSoundRows r
+    → HidesNone r
     → match_of_name r name ≡ Some m → match_of_sid r (sid_of r m) ≡ Some m
 translate-back each one r name m sound hides is =
     match-back each one r m sound hides (subst (λ o. IfThere (IsFound r) o) is (name-found each r name sound))

@@ -113,7 +113,8 @@ each_first-push : (ks : List Known) (k : Known) → each_first (ks ++ k ∷ []) 
 each_first-push [] k = refl
 each_first-push (j ∷ ks) k =
     ap (λ l. j ∷ filter (others j) l) (each_first-push ks k)
-    ∙ ap (λ l. j ∷ l) (added-filter j k (each_first ks) (same_known k j) (list_any (same_known k) (each_first ks)) refl refl)
+    ∙ ap (λ l. j ∷ l) (added-filter j k (each_first ks) (same_known k j) (list_any (same_known k) (each_first ks))
+    refl refl)
     ∙ out (same_known k j || list_any (same_known k) (filter (others j) (each_first ks)))
   where
     out : (b : Bool) → j ∷ cond b (filter (others j) (each_first ks)) (filter (others j) (each_first ks) ++ k ∷ [])
@@ -183,7 +184,8 @@ gone k [] = refl
 gone k (i ∷ ks) = gone-head k i (filter (others k) ks) (same_known k i) refl (gone k ks)
 
 once-head : (k j : Known) (ks : List Known) (b : Bool) → same_known k j ≡ b → times k ks ≤ 1
-    → length (cond b (j ∷ filter (same_known k) (filter (others j) ks)) (filter (same_known k) (filter (others j) ks))) ≤ 1
+    → length (cond b (j ∷ filter (same_known k) (filter (others j) ks))
+    (filter (same_known k) (filter (others j) ks))) ≤ 1
 once-head k j ks true is few =
     let none : times k (filter (others k) ks) ≡ 0 = gone k ks in
     let here : times k (filter (others j) ks) ≡ 0 = rw (sym (same-is k j is)) none in

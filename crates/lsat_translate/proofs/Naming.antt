@@ -1,7 +1,9 @@
 -- The names that a translation shows are texts: those of domains, of well-known names and of accounts, and the texts of
 -- SIDs.
-use Rattle.std.proofs.Common.{◌≡◌, ℕ, zero, suc, ◌+◌, ◌*◌, ◌%◌, ◌/◌, ◌^◌, ◌-◌, ◌<◌, ◌≤◌, nat_le, nat_lt, Bool, true, false, cond, get_or}
-use Rattle.std.proofs.Common.{All, List, [], ◌∷◌, ◌++◌, length, Option, Some, None, codes, refl, sym, subst, arith, ap, ◌∙◌}
+use Rattle.std.proofs.Common.{◌≡◌, ℕ, zero, suc, ◌+◌, ◌*◌, ◌%◌, ◌/◌, ◌^◌, ◌-◌, ◌<◌, ◌≤◌, nat_le, nat_lt, Bool, true}
+use Rattle.std.proofs.Common.{false, cond, get_or}
+use Rattle.std.proofs.Common.{All, List, [], ◌∷◌, ◌++◌, length, Option, Some, None, codes, refl, sym, subst, arith}
+use Rattle.std.proofs.Common.{ap, ◌∙◌}
 use Rattle.std.specs.Cmp.{first_so, second_so}
 use Rattle.std.specs.Char.{digit_char}
 use Rattle.std.specs.Fmt.{decimal}
@@ -31,7 +33,8 @@ use Rattle.lsat_translate.specs.Matches.{account_name, name_of}
 use Rattle.lsat_translate.specs.declared.known.Known.{Known}
 use Rattle.lsat_translate.specs.declared.known.Known.TheVariants as known
 use Rattle.lsat_translate.specs.declared.known.WellKnown.{WellKnown}
-use Rattle.lsat_translate.specs.declared.known.WellKnown.TheVariants.{Everyone, AnonymousLogon, AuthenticatedUsers, System}
+use Rattle.lsat_translate.specs.declared.known.WellKnown.TheVariants.{Everyone, AnonymousLogon, AuthenticatedUsers}
+use Rattle.lsat_translate.specs.declared.known.WellKnown.TheVariants.{System}
 use Rattle.lsat_translate.specs.declared.matches.Match.{Match}
 use Rattle.lsat_translate.specs.declared.matches.Match.TheVariants as matches
 

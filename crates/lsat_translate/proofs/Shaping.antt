@@ -22,18 +22,21 @@ use Rattle.acct_rows.specs.declared.row.DomainRow.{DomainRow}
 use Rattle.acct_rules.specs.Mapped.{is_mapped, mapped_status}
 use Rattle.dtyp_sid.specs.Value.{SidValue, IsSid}
 use Rattle.acct_rules.specs.Mapped.{use_of_kind}
-use Rattle.lsat_translate.specs.Entries.{referenced, known_in, place_of, index_of, index_in, translated_sid, named_entry}
+use Rattle.lsat_translate.specs.Entries.{referenced, known_in, place_of, index_of, index_in, translated_sid}
+use Rattle.lsat_translate.specs.Entries.{named_entry}
 use Rattle.lsat_translate.specs.Entries.{shown_name, mapped_count}
 use Rattle.lsat_translate.specs.Known.{row_sid, domain_sid, same_known}
 use Rattle.lsat_translate.specs.Matches.{account_match, known_of, use_in, rid_in}
 use Rattle.lsat_translate.specs.Names.{is_never_mapped, is_backslash, account_named, domain_named, well_known_named}
-use Rattle.lsat_translate.specs.Names.{is_authority_named, match_alone, match_in, match_behind, match_split, match_of_name}
+use Rattle.lsat_translate.specs.Names.{is_authority_named, match_alone, match_in, match_behind, match_split}
+use Rattle.lsat_translate.specs.Names.{match_of_name}
 use Rattle.lsat_translate.specs.Known.{all_well_known}
 use Rattle.lsat_translate.specs.Sids.{match_of_sid}
 use Rattle.lsat_translate.specs.declared.known.Known.{Known}
 use Rattle.lsat_translate.specs.declared.known.Known.TheVariants as known
 use Rattle.lsat_translate.specs.declared.known.WellKnown.{WellKnown}
-use Rattle.lsat_translate.specs.declared.known.WellKnown.TheVariants.{Everyone, AnonymousLogon, AuthenticatedUsers, System}
+use Rattle.lsat_translate.specs.declared.known.WellKnown.TheVariants.{Everyone, AnonymousLogon, AuthenticatedUsers}
+use Rattle.lsat_translate.specs.declared.known.WellKnown.TheVariants.{System}
 use Rattle.lsat_translate.specs.declared.matches.Match.{Match}
 use Rattle.lsat_translate.specs.declared.matches.Match.TheVariants as matches
 use Rattle.lsat_translate.proofs.Firsts.{four-at-most}
@@ -234,7 +237,8 @@ shown-text : EachIsGood → (r : Lists) (sid : SidValue) (m : Option Match) → 
 shown-text each r sid None sound whole = sid-text sid whole
 shown-text each r sid (Some m) sound whole = match-text each r m sound
 
-pub names-shaped : EachIsGood → (r : Lists) (sids : List SidValue) → IsSoundRows r → length sids ≤ 20480 → All IsSid sids
+pub names-shaped : EachIsGood → (r : Lists) (sids : List SidValue) → IsSoundRows r → length sids ≤ 20480
+    → All IsSid sids
     → IsListed IsTranslatedName (map (named_entry r (referenced (map (match_of_sid r) sids))) sids)
 names-shaped each r sids sound few whole =
     let found = map (match_of_sid r) sids in

@@ -1,4 +1,5 @@
--- What a translation answers: the domains that it refers to, and an entry for each name or SID (MS-LSAT 2.2.14, 2.2.19).
+-- What a translation answers: the domains that it refers to, and an entry for each name or SID
+-- (MS-LSAT 2.2.14, 2.2.19).
 use Rattle.std.specs.Prelude.{ℕ, ℤ, pos, negsuc, ◌-◌, ◌^◌, min, not, List, [], ◌∷◌, ◌++◌, filter, filter_map, position}
 use Rattle.std.specs.Prelude.{count_by, Option, Some, None, is_some, if◌then◌else◌}
 use Rattle.std.specs.List.{list_any}

@@ -1,4 +1,5 @@
--- What holds of each operation, what the indexes of entries refer to, and what the SIDs of names are translated back to.
+-- What holds of each operation, what the indexes of entries refer to, and what the SIDs of names are
+-- translated back to.
 use Rattle.std.specs.Prelude.{◌≡◌, ◌≢◌, ◌≤◌, ℕ, pos, List, length, filter, get_or, slice_get, Option, Some, None}
 use Rattle.acct_calls.specs.Domains.{builtin_sid}
 use Rattle.acct_rows.specs.Rows.{Lists}
@@ -52,5 +53,6 @@ pub record HidesNone (r : Lists) : Type 0 where
 
 -- there, what a name is translated to has a SID that is translated to the same
 abbrev pub SidsTranslateBack : Type 0
-SidsTranslateBack = (r : Lists) (name : List ℕ) (m : Match) → IsSoundRows r → HidesNone r → match_of_name r name ≡ Some m
+SidsTranslateBack =
+    (r : Lists) (name : List ℕ) (m : Match) → IsSoundRows r → HidesNone r → match_of_name r name ≡ Some m
     → match_of_sid r (sid_of r m) ≡ Some m

@@ -42,7 +42,8 @@ fn account_of_sid(rows: &Rows, number: u8, domain: Sid, sid: Sid) -> Option<Matc
 }
 
 fn account_of_some(rows: &Rows, sid: Sid) -> Option<Match>
-    ensures { result ≡ option_or (account_of_sid rows.now.lists ACCOUNT_DOMAIN (domain_sid rows.now.lists Known.Account) sid)
+    ensures { result ≡ option_or
+        (account_of_sid rows.now.lists ACCOUNT_DOMAIN (domain_sid rows.now.lists Known.Account) sid)
         (account_of_sid rows.now.lists BUILTIN_DOMAIN (domain_sid rows.now.lists Known.Builtin) sid) }
 {
     match account_of_sid(rows, ACCOUNT_DOMAIN, Known::Account.sid(rows), sid) {

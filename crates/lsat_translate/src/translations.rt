@@ -3,7 +3,8 @@ ghost use Rattle.std.specs.Prelude.{◌≡◌, true, IfOk, OnErr, map};
 ghost use Rattle.acct_rules.specs.Planned.{decision, none_fails};
 ghost use Rattle.lsat_translate.specs.Names.{match_of_name};
 ghost use Rattle.lsat_translate.specs.Sids.{match_of_sid};
-ghost use Rattle.lsat_translate.specs.Translations.{asked_level, asked_names, asked_sids, is_level, look_names, look_sids};
+ghost use Rattle.lsat_translate.specs.Translations.{asked_level, asked_names, asked_sids, is_level, look_names};
+ghost use Rattle.lsat_translate.specs.Translations.{look_sids};
 
 use crate::entries::{mapped_count, places, referenced, translated_names, translated_sids, uses};
 use crate::matches::Match;

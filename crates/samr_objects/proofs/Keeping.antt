@@ -51,8 +51,8 @@ abbrev there-at : (r : Lists) (d : Option DomainRow) → Type 0
 there-at r None = Unit {0}
 there-at r (Some d) = domain_at r d.number ≡ Some d
 
-pick : (r : Lists) (b : Bool) (x : DomainRow) (rest : Option DomainRow) → domain_at r x.number ≡ Some x → there-at r rest
-    → there-at r (cond b (Some x) rest)
+pick : (r : Lists) (b : Bool) (x : DomainRow) (rest : Option DomainRow) → domain_at r x.number ≡ Some x
+    → there-at r rest → there-at r (cond b (Some x) rest)
 pick r true x rest here later = here
 pick r false x rest here later = later
 

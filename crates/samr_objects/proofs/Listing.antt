@@ -1,4 +1,5 @@
--- What is left of the accounts of a domain, and the pages of it: entries that can be spelled, few, and each opnum's own.
+-- What is left of the accounts of a domain, and the pages of it: entries that can be spelled, few, and each
+-- opnum's own.
 use Rattle.std.proofs.Common.{◌≡◌, ℕ, ◌-◌, ◌≤◌, Bool, true, false, cond, All, List, [], ◌∷◌, length}
 use Rattle.std.proofs.Common.{suc, zero, Some, slice_get, get_or, refl, ap, arith}
 use Rattle.std.specs.List.{filter}

@@ -292,7 +292,8 @@ user-row : (class : ℕ) (found : Option AccountRow) → is_of kind.User found �
     → is_some (shown_by user_classes class found) ≡ is_some (shown_arm subject.User class)
 user-row class None there = cc
 user-row class (Some a) there =
-    user-named _ _ _ _ _ _ _ (class == 1) (class == 6) (class == 7) (class == 8) (class == 13) (class == 9) (class == 16)
+    user-named _ _ _ _ _ _ _ (class == 1) (class == 6) (class == 7) (class == 8) (class == 13) (class == 9)
+    (class == 16)
 
 pub shows-its-classes : (r : Lists) (asked : Args) → ShowsItsClasses r asked
 shows-its-classes r asked = record {

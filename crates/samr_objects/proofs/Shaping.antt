@@ -72,7 +72,8 @@ find-good P p (x ∷ xs) all =
 goods : EachIsGood → (r : Lists) → IsSoundRows r → All IsGoodDomain r.domains
 goods each r sound = λ k d lt. ((each r sound).domains k d lt).1
 
-named-good : EachIsGood → (r : Lists) (name : Option (List ℕ)) → IsSoundRows r → IfThere IsGoodDomain (domain_named r name)
+named-good : EachIsGood → (r : Lists) (name : Option (List ℕ)) → IsSoundRows r → IfThere IsGoodDomain
+    (domain_named r name)
 named-good each r None sound = tt
 named-good each r (Some name) sound = find-good IsGoodDomain (is_named name) r.domains (goods each r sound)
 
@@ -162,7 +163,8 @@ page-shaped each r context preferred sound =
 
 -- ---- accounts that were looked for
 
-pub next-long : (r : Lists) (n : ℕ) (o : Option DomainRow) → IsSoundRows r → domain_at r n ≡ o → next_rid_of o ≤ 0x3FFFFFFF
+pub next-long : (r : Lists) (n : ℕ) (o : Option DomainRow) → IsSoundRows r → domain_at r n ≡ o → next_rid_of o ≤
+    0x3FFFFFFF
 next-long r n None sound at = omega arith
 next-long r n (Some d) sound at = (sound.domain_rules n d at).next_most
 

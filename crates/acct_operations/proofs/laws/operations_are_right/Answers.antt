@@ -54,10 +54,14 @@ use Rattle.acct_operations.proofs.laws.operations_are_right.Goals as goal
 
 right : Objects → Members → Rights → Translations → (work : Work) → IsRight (operation work)
 unfolding operation HasShape samr_layout lsa_layout
-right objects members rights translations SamrConnect2 = connect-right Samr samr_connect2 refl (lit< tt, lit< tt, λ r. refl)
-right objects members rights translations SamrConnect4 = connect-right Samr samr_connect4 refl (lit< tt, lit< tt, λ r. refl)
-right objects members rights translations SamrConnect5 = connect-right Samr samr_connect5 refl (lit< tt, lit< tt, λ r. refl)
-right objects members rights translations SamrCloseHandle = close-right Samr samr_close_handle kinds.Samr refl (lit< tt, lit< tt, λ r. refl)
+right objects members rights translations SamrConnect2 = connect-right Samr samr_connect2 refl
+    (lit< tt, lit< tt, λ r. refl)
+right objects members rights translations SamrConnect4 = connect-right Samr samr_connect4 refl
+    (lit< tt, lit< tt, λ r. refl)
+right objects members rights translations SamrConnect5 = connect-right Samr samr_connect5 refl
+    (lit< tt, lit< tt, λ r. refl)
+right objects members rights translations SamrCloseHandle = close-right Samr samr_close_handle kinds.Samr refl
+    (lit< tt, lit< tt, λ r. refl)
 right objects members rights translations SamrLookupDomainInSamServer = objects.look_domain
 right objects members rights translations SamrEnumerateDomainsInSamServer = objects.list_domains
 right objects members rights translations SamrOpenDomain = objects.open_domain
@@ -96,8 +100,10 @@ right objects members rights translations SamrQueryInformationUser2 = objects.qu
 right objects members rights translations SamrCreateUser2InDomain = objects.create_user2
 right objects members rights translations SamrSetInformationUser2 = objects.set_user2
 right objects members rights translations SamrRidToSid = objects.rid_to_sid
-right objects members rights translations LsarOpenPolicy2 = open_policy-right Lsa lsar_open_policy2 refl (lit< tt, lit< tt, λ r. refl)
-right objects members rights translations LsarClose = close-right Lsa lsar_close kinds.Lsa refl (lit< tt, lit< tt, λ r. refl)
+right objects members rights translations LsarOpenPolicy2 = open_policy-right Lsa lsar_open_policy2 refl
+    (lit< tt, lit< tt, λ r. refl)
+right objects members rights translations LsarClose = close-right Lsa lsar_close kinds.Lsa refl
+    (lit< tt, lit< tt, λ r. refl)
 right objects members rights translations LsarEnumeratePrivileges = rights.list_privileges
 right objects members rights translations LsarQueryInformationPolicy = rights.query_policy
 right objects members rights translations LsarCreateAccount = rights.create_account

@@ -12,7 +12,8 @@ use Rattle.lsat_translate.specs.Sids.{match_of_sid}
 use Rattle.lsat_translate.specs.Table.{lookup_names, lookup_sids}
 use Rattle.lsat_translate.specs.Translations.{asked_names, asked_sids}
 use Rattle.lsat_translate.proofs.Asking.{few-names, few-sids}
-use Rattle.lsat_translate.proofs.Shaping.{mapped-full, mapped-long, count-long, places-shaped, sids-shaped, names-shaped}
+use Rattle.lsat_translate.proofs.Shaping.{mapped-full, mapped-long, count-long, places-shaped, sids-shaped}
+use Rattle.lsat_translate.proofs.Shaping.{names-shaped}
 use Rattle.lsat_translate.proofs.laws.operations_are_right.Goals as goal
 
 -- a status that is no refusal isn't one

@@ -39,12 +39,14 @@ use Rattle.samr_objects.proofs.laws.operations_are_right.Goals as goal
 few-names : (call : Call) → call.face ≡ Samr → call.opnum ≡ samr_lookup_names_in_domain → CanBeSpelled call
     → length (asked_names call.args) ≤ 1000
 unfolding samr_layout
-few-names call face opnum spelled = (asks call.args).names (arguments call Samr samr_lookup_names_in_domain face opnum spelled).1
+few-names call face opnum spelled = (asks call.args).names
+    (arguments call Samr samr_lookup_names_in_domain face opnum spelled).1
 
 few-rids : (call : Call) → call.face ≡ Samr → call.opnum ≡ samr_lookup_ids_in_domain → CanBeSpelled call
     → length (asked_rids call.args) ≤ 1000
 unfolding samr_layout
-few-rids call face opnum spelled = (asks call.args).rids (arguments call Samr samr_lookup_ids_in_domain face opnum spelled).1
+few-rids call face opnum spelled = (asks call.args).rids
+    (arguments call Samr samr_lookup_ids_in_domain face opnum spelled).1
 
 long-context : (call : Call) → call.face ≡ Samr → call.opnum ≡ samr_enumerate_domains_in_sam_server
     → CanBeSpelled call → IsLong (asked_context call.args)

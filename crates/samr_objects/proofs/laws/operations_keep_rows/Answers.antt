@@ -47,9 +47,11 @@ returns c =
       list_users = λ r object call is none. answers-keep r _ _ is.rows;
       delete_group = delete_group-keeps c.removed_accounts_stay_sound.ensures c.each_is_good.ensures;
       delete_alias =
-          delete_alias-keeps c.removed_accounts_stay_sound.ensures c.others_are_no_primary.ensures c.each_is_good.ensures;
+          delete_alias-keeps c.removed_accounts_stay_sound.ensures c.others_are_no_primary.ensures
+          c.each_is_good.ensures;
       delete_user =
-          delete_user-keeps c.removed_accounts_stay_sound.ensures c.others_are_no_primary.ensures c.each_is_good.ensures;
+          delete_user-keeps c.removed_accounts_stay_sound.ensures c.others_are_no_primary.ensures
+          c.each_is_good.ensures;
       set_domain = set_domain-keeps c.domains_stay_sound.ensures c.each_is_good.ensures;
       set_group = set_group-keeps sets;
       set_alias = set_alias-keeps sets;
