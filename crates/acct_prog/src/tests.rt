@@ -20,7 +20,8 @@ mod several;
 mod tables;
 
 const CONFIG: &str =
-    "[domain]\nname = \"CORP\"\nsid = \"S-1-5-21-1-2-3\"\n[[listener]]\nname = \"a\"\naddress = \"tcp:127.0.0.1:4045\"\ntoken = [\"S-1-5-21-1-2-3-500\", \"S-1-1-0\", \"S-1-5-32-544\"]\n";
+    "[domain]\nname = \"CORP\"\nsid = \"S-1-5-21-1-2-3\"\n[[listener]]\nname = \"a\"\naddress = \
+    \"tcp:127.0.0.1:4045\"\ntoken = [\"S-1-5-21-1-2-3-500\", \"S-1-1-0\", \"S-1-5-32-544\"]\n";
 
 /// The text of a line that has a name.
 fn line_in(lines: &'static str, name: &str) -> Option<&'static str> {
@@ -66,7 +67,8 @@ fn lines_of(alloc: Global, names: &str) -> Result<String, Fail> {
 /// The configuration with a second listener, whose clients are users, and a descriptor of the server with two entries.
 fn restricted(alloc: Global, first: &str, second: &str) -> Result<String, Fail> {
     Ok(format!(in alloc;
-        "{CONFIG}[[listener]]\nname = \"b\"\naddress = \"unix:b\"\ntoken = [\"S-1-1-0\", \"S-1-5-32-545\"]\n[descriptor.server]\nowner = \"S-1-5-18\"\naces = [\"{first}\", \"{second}\"]\n"
+        "{CONFIG}[[listener]]\nname = \"b\"\naddress = \"unix:b\"\ntoken = [\"S-1-1-0\", \
+        \"S-1-5-32-545\"]\n[descriptor.server]\nowner = \"S-1-5-18\"\naces = [\"{first}\", \"{second}\"]\n"
     )?)
 }
 
