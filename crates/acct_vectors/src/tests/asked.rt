@@ -1,4 +1,5 @@
 // The object of a handle, and the arguments: an arm of `Args` and its fields.
+use super::brought::{self, first_sids};
 use super::parts::{domain_at, field, name_at, name_of, number, number_at, part};
 use acct_base::Seq;
 use acct_calls::{Args, Info, Name, Names, NoMemory, Rids, Sids};
@@ -8,15 +9,17 @@ use std::alloc::Global;
 use std::test::Fail;
 
 /// The object of a handle.
-pub fn object_of(text: &str) -> Object {
+pub fn object_of(text: &str) -> Result<Object, Fail> {
     let first = number_at(text, 1);
-    match part(text, ',', 0) {
+    Ok(match part(text, ',', 0) {
         "domain" => Object::Domain(domain_at(text, 1)),
         "user" => Object::User(first),
         "group" => Object::Group(first),
         "alias" => Object::Alias(domain_at(text, 1), number_at(text, 2)),
+        "policy" => Object::Policy,
+        "account" => Object::Account(parse_text(field(text, 1))?),
         _ => Object::Server,
-    }
+    })
 }
 
 fn names_of(alloc: Global, fields: &str) -> Result<Names, NoMemory> {
@@ -43,18 +46,6 @@ fn sids_of(alloc: Global, fields: &str) -> Result<Sids, Fail> {
     Ok(sids)
 }
 
-/// The SIDs of a domain with the RIDs from 1 on.
-fn first_sids(alloc: Global, domain: &str, count: u32) -> Result<Sids, Fail> {
-    let domain = parse_text(domain)?;
-    let mut sids = Seq::new(alloc);
-    for rid in 1..=count {
-        if let Some(sid) = domain.with_rid(rid) {
-            sids.push(sid)?;
-        }
-    }
-    Ok(sids)
-}
-
 fn class_of(fields: &str) -> u16 {
     field(fields, 0).parse::<u16>().ok().unwrap_or(0)
 }
@@ -74,7 +65,7 @@ fn list_of(alloc: Global, kind: &str, fields: &str) -> Result<Args, Fail> {
         "RidList" => Args::RidList(rids_of(alloc, fields)?),
         "SidList" => Args::SidList(sids_of(alloc, fields)?),
         "FirstSids" => Args::SidList(first_sids(alloc, field(fields, 0), number_at(fields, 1))?),
-        _ => Args::Nothing,
+        _ => brought::args_of(alloc, kind, fields)?,
     })
 }
 

@@ -1,4 +1,5 @@
-// The operations by their names: only this file meets their contracts.
+// The operations by their names: only this file and `policy` meet their contracts.
+use super::policy;
 use acct_calls::{Args, NoMemory};
 use acct_rows::{Object, Rows};
 use acct_rules::Planned;
@@ -29,7 +30,8 @@ fn run_on_members(
         "add_alias_member" => add_alias_member(alloc, rows, object, args),
         "remove_alias_member" => remove_alias_member(alloc, rows, object, args),
         "alias_members" => alias_members(alloc, rows, object, args),
-        _ => alias_membership(alloc, rows, object, args),
+        "alias_membership" => alias_membership(alloc, rows, object, args),
+        _ => policy::run(alloc, rows, operation, object, args),
     }
 }
 

@@ -1,9 +1,10 @@
 // The first rows, and those that are added.
-use super::parts::{domain_at, field, name_at, number_at};
+use super::parts::{domain_at, field, name_at, number, number_at};
+use acct_base::Seq;
 use acct_calls::domain::{is_domain_name, is_domain_sid};
 use acct_calls::{Name, NoMemory};
 use acct_codes::Kind;
-use acct_rows::{AccountRow, AliasRow, DomainRow, MemberRow, Row, Rows};
+use acct_rows::{AccountRow, AliasRow, DomainRow, Held, LsaRow, MemberRow, Privileges, Row, Rows};
 use dtyp_sid::parse_text;
 use std::alloc::Global;
 use std::process::Abort;
@@ -41,12 +42,36 @@ fn domain_of(alloc: Global, fields: &str) -> Result<DomainRow, Fail> {
     })
 }
 
+/// The privileges among the fields, each with its attributes.
+fn held_of(alloc: Global, fields: &str) -> Result<Privileges, NoMemory> {
+    let mut held = Seq::new(alloc);
+    for privilege in fields.split(',') {
+        if let Some((low, attributes)) = privilege.split_once('/') {
+            held.push(Held {
+                low: number(low),
+                attributes: number(attributes),
+            })?;
+        }
+    }
+    Ok(held)
+}
+
+/// An account of the policy: its SID, its system access and its privileges.
+fn lsa_of(alloc: Global, fields: &str) -> Result<LsaRow, Fail> {
+    Ok(LsaRow {
+        sid: parse_text(field(fields, 0))?,
+        access: number_at(fields, 1),
+        privileges: held_of(alloc, fields)?,
+    })
+}
+
 fn row_of(alloc: Global, kind: &str, fields: &str) -> Result<Row, Fail> {
     Ok(match kind {
         "user" => Row::Account(account_of(alloc, Kind::User, fields)?),
         "group" => Row::Account(account_of(alloc, Kind::Group, fields)?),
         "alias" => Row::Account(account_of(alloc, Kind::Alias, fields)?),
         "domain" => Row::Domain(domain_of(alloc, fields)?),
+        "lsa" => Row::Lsa(lsa_of(alloc, fields)?),
         "member" => Row::Member(MemberRow {
             group: number_at(fields, 0),
             user: number_at(fields, 1),

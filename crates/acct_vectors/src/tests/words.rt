@@ -1,9 +1,12 @@
 // Values in words, as the tables spell what is wanted. A value is told by its `Debug` text without the names of fields,
 // parentheses and commas, so that no function here knows a type; the tables' words are spelled out to the same.
 use super::parts::name_of;
+use acct_calls::{NoMemory, Outs, Places};
 use acct_rules::Planned;
 use dtyp_sid::parse_text;
 use std::alloc::Global;
+use std::cmp::min;
+use std::fmt::Debug;
 use std::test::Fail;
 
 /// Behind the outputs of what changes nothing.
@@ -14,7 +17,16 @@ fn is_dropped(word: &str) -> bool {
     word.ends_with("Row")
         || matches!(
             word,
-            "" | "Seq" | "RidName" | "RidBits" | "Names" | "Opening"
+            "" | "Seq"
+                | "RidName"
+                | "RidBits"
+                | "Names"
+                | "Opening"
+                | "Held"
+                | "Privilege"
+                | "Place"
+                | "TranslatedSid"
+                | "TranslatedName"
         )
 }
 
@@ -55,6 +67,41 @@ pub fn tell(alloc: Global, planned: &Planned) -> Result<String, Fail> {
     add_words(&mut words, text.as_str())?;
     let told = words.as_str().trim_end_matches(NO_CHANGE);
     Ok(String::from_str(alloc, told)?)
+}
+
+/// The status, the domains, how many entries there are, the first and the last one, and how many are mapped.
+fn ends_text<T: Debug>(
+    alloc: Global,
+    status: u32,
+    domains: &Places,
+    entries: &[T],
+    mapped: u32,
+) -> Result<String, NoMemory> {
+    let count = entries.len();
+    let first = &entries[..min(count, 1)];
+    let last = &entries[count - first.len()..];
+    format!(in alloc; "{status:x} {domains:?} {count} {first:?} {last:?} {mapped}")
+}
+
+/// What a large translation answers, in words: all but the entries between the first and the last one.
+pub fn tell_ends(alloc: Global, planned: &Planned) -> Result<String, Fail> {
+    let status = planned.status;
+    let text = match &planned.outs {
+        Outs::Sids {
+            domains,
+            entries,
+            mapped,
+        } => ends_text(alloc, status, domains, entries.as_slice(), *mapped)?,
+        Outs::Names {
+            domains,
+            entries,
+            mapped,
+        } => ends_text(alloc, status, domains, entries.as_slice(), *mapped)?,
+        _ => String::new(alloc),
+    };
+    let mut words = String::new(alloc);
+    add_words(&mut words, text.as_str())?;
+    Ok(words)
 }
 
 /// Adds a word of a table: a SID as its value, and any other word as it stands.
