@@ -11,6 +11,3 @@ mod words;
 pub use bytes::{front_u16, front_u32, is_same, push_u16, push_u32, rest_of};
 pub use seq::Seq;
 pub use words::{decimal, parted};
-
-#[cfg(test)]
-mod tests;

@@ -5,13 +5,15 @@ ghost use Rattle.acct_calls.specs.CodePoints.{code_points};
 
 use std::alloc::AllocError;
 
-// The first code point of some units, and the units behind it.
+/// The first code point of some UTF-16 units, and the units behind it.
 #[derive(Clone, Copy)]
 pub struct FirstPoint<'a> {
     pub point: u32,
     pub rest: &'a [u16],
 }
 
+/// The first code point of some UTF-16 units, and `None` at the end: a pair of surrogates is one code point, and any
+/// other unit, a surrogate by itself too, is a code point of its own number.
 pub fn first_point(units: &[u16]) -> Option<FirstPoint<'_>>
     ensures points { MatchOption result (units.now ≡ [])
         (λ first. code_points units.now ≡ first.point ∷ code_points first.rest.now) }

@@ -23,6 +23,7 @@ mod replies;
 mod validity;
 
 pub use calls::{Args, Call, Face};
+pub use code_points::{FirstPoint, first_point};
 pub use handle::Handle;
 pub use info::Info;
 pub use lists::{
@@ -35,6 +36,3 @@ pub use replies::{Outs, Reply};
 
 /// Want of memory, which is the only fault of the calls here.
 pub type NoMemory = std::alloc::AllocError;
-
-#[cfg(test)]
-mod tests;

@@ -35,6 +35,3 @@ pub mod user_control;
 pub mod user_rights;
 
 pub use kind::{Kind, Mapping, mapping_of, valid_bits};
-
-#[cfg(test)]
-mod tests;

@@ -28,6 +28,3 @@ pub use errors::ConfigError;
 pub use limits::Limits;
 pub use read::read_config;
 pub use text::Text;
-
-#[cfg(test)]
-mod tests;

@@ -23,6 +23,3 @@ pub use descriptor::{Descriptor, Token, make_token};
 pub use errors::DescError;
 pub use read::read_descriptor;
 pub use write::{has_few_aces, write_descriptor};
-
-#[cfg(test)]
-mod tests;

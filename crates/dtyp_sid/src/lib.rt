@@ -17,6 +17,3 @@ mod text;
 pub use errors::{BadText, BytesError, SidError};
 pub use reading::parse_text;
 pub use sid::{SID_MAX_SUB_AUTHORITIES, Sid};
-
-#[cfg(test)]
-mod tests;

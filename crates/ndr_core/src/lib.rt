@@ -16,6 +16,3 @@ pub use error::NdrError;
 pub use input::In;
 pub use laws::{one_reading, written_is_read_again};
 pub use output::Out;
-
-#[cfg(test)]
-mod tests;

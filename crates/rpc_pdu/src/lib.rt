@@ -22,6 +22,3 @@ pub use numbers::{u16_bytes, u32_bytes};
 pub use pdus::{Element, Outcome, Pdu, Side};
 pub use syntaxes::{Syntax, is_same_syntax, lsarpc, ndr, samr};
 pub use writing::{NoMemory, write_pdu};
-
-#[cfg(test)]
-mod tests;

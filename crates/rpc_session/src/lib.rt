@@ -23,6 +23,3 @@ pub use laws::{
 };
 pub use replies::{fault_bytes, reply_bytes};
 pub use sessions::{Act, Association, PartialRequest, Session, Sizes};
-
-#[cfg(test)]
-mod tests;

@@ -6,6 +6,7 @@ mod limits;
 mod lsa_calls;
 mod lsa_replies;
 mod places;
+mod readers;
 mod samr_calls;
 mod samr_replies;
 mod served;

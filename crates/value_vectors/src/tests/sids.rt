@@ -1,5 +1,5 @@
 // Texts and bytes of well-known SIDs (MS-DTYP 2.4.2.4), and of others as Samba 4.17 packs them.
-use crate::{BadText, BytesError, Sid, SidError, laws, parse_text};
+use dtyp_sid::{BadText, BytesError, Sid, SidError, laws, parse_text};
 use std::alloc::Global;
 use std::collections::HashMap;
 use std::process::Abort;

@@ -1,5 +1,5 @@
 // Foldings as Unicode's CaseFolding.txt has them (statuses C and S), and the rules for names at their limits.
-use crate::{Name, Names, NoMemory, laws};
+use acct_calls::{Name, Names, NoMemory, laws};
 use acct_codes::Kind;
 use std::alloc::Global;
 use std::test::Fail;

@@ -1,5 +1,5 @@
 // The mappings as the standards print them. The constants themselves are tied to the tables by laws.
-use crate::{Kind, mapping_of, valid_bits};
+use acct_codes::{Kind, mapping_of, valid_bits};
 
 #[test]
 fn mappings_are_those_of_the_standards(rt: HostRuntime) {

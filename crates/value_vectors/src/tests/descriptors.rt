@@ -1,12 +1,12 @@
 // Descriptors as Samba 4.17 packs them (revision 2 set on their lists), and accesses as MS-DTYP 2.5.3 decides them.
 // SIDs and entries are written as in the SDDL, but for the order of an entry's fields.
-use crate::{
-    Ace, AceKind, Acl, DescError, Descriptor, Token, has_few_aces, is_granted, laws, make_acl,
-    make_token, opening, read_descriptor, write_descriptor,
-};
 use acct_codes::Kind;
 use acct_codes::standard_rights::{
     ACCESS_SYSTEM_SECURITY, DELETE, GENERIC_ALL, READ_CONTROL, WRITE_DAC,
+};
+use dtyp_access::{
+    Ace, AceKind, Acl, DescError, Descriptor, Token, has_few_aces, is_granted, laws, make_acl,
+    make_token, opening, read_descriptor, write_descriptor,
 };
 use dtyp_sid::{Sid, parse_text};
 use std::alloc::Global;

@@ -2,7 +2,7 @@
 ghost use Rattle.std.specs.Prelude.{◌≤◌, IfOk};
 ghost use Rattle.rpc_pdu.specs.Written.{HasFewParts, size_of};
 
-use crate::{
+use rpc_pdu::{
     Pdu, ReadPdu, Side, bytes_divide_once, front_is_stable, is_same_syntax, lsarpc, ndr, read_pdu,
     samr, whole_is_exactly_a_pdu, write_pdu, written_is_read_back,
 };

@@ -1,6 +1,6 @@
 // Documents and the rule that each breaks, and what the documents that break none spell.
-use crate::{Config, ConfigError, Limits, Listener, Text, laws, read_config};
 use acct_codes::Kind;
+use acct_config::{Config, ConfigError, Limits, Listener, Text, laws, read_config};
 use dtyp_access::{Ace, AceKind, Descriptor, make_token, opening};
 use dtyp_sid::{Sid, parse_text};
 use std::alloc::Global;

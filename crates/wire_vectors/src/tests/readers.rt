@@ -1,4 +1,4 @@
-use crate::{In, NdrError, Out};
+use ndr_core::{In, NdrError, Out};
 use std::test::Fail;
 
 /// The reply's stub to SamrLookupNamesInDomain of two known names and an unknown one between: the RIDs, their uses,

@@ -1,7 +1,7 @@
 // Streams of several PDUs, cut anywhere. The PDUs are written down from C706, sections 12.6.3 and 12.6.4.
 ghost use Rattle.std.specs.Prelude.{◌≡◌, ◌≤◌, length};
 
-use crate::{
+use rpc_session::{
     Act, Bytes2Acts, acts_are_of_pdus, calls_fit, fault_bytes, replies_bring_stubs, reply_bytes,
     room_by_length, streams_are_cut_anywhere,
 };

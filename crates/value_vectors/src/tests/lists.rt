@@ -1,4 +1,4 @@
-use crate::{Seq, decimal, front_u16, front_u32, is_same, parted, push_u16, push_u32, rest_of};
+use acct_base::{Seq, decimal, front_u16, front_u32, is_same, parted, push_u16, push_u32, rest_of};
 use std::test::Fail;
 
 #[test]

@@ -1,6 +1,6 @@
 -- Each of the five is a right: GENERIC_ALL is bit 28, DELETE 16, READ_CONTROL 17, WRITE_DAC 18, the auditing list's 24.
 use Rattle.std.proofs.Common.{refl, arith}
-use Rattle.dtyp_access.proofs.tests.rights.Goals as goal
+use Rattle.value_vectors.proofs.tests.descriptors.rights.Goals as goal
 
 pub is_granted-requires : goal.is_granted-requires
 is_granted-requires c = (28, omega arith, refl)

@@ -1,0 +1,3 @@
+// PDUs and streams of them, one module for each crate that is called.
+mod pdus;
+mod streams;
