@@ -16,6 +16,3 @@ mod table;
 
 pub use laws::{calls_have_operations, operations_are_right, operations_keep_rows};
 pub use table::{Work, decide, has_operation, profile_of, work_of, works};
-
-#[cfg(test)]
-mod tests;

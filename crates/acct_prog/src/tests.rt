@@ -15,6 +15,7 @@ mod accounts;
 mod limits;
 mod names;
 mod objects;
+mod requests;
 mod rights;
 mod several;
 mod tables;

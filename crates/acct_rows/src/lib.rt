@@ -23,6 +23,3 @@ pub use row::{
     Privileges, Row, RowKey,
 };
 pub use rows::Rows;
-
-#[cfg(test)]
-mod tests;

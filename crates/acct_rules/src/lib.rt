@@ -30,6 +30,3 @@ pub use planned::{
     Effect, Opening, Planned, answers, closes, creates, opens, puts, refusal, removes,
 };
 pub use profile::{Brings, Kinds, Memory, Needs, Profile, asking, needed_bits};
-
-#[cfg(test)]
-mod tests;

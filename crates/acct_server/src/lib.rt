@@ -39,8 +39,5 @@ pub use events::{Event, LineError};
 pub use gate::Gate;
 pub use laws::cuts_change_nothing;
 pub use replays::{Replayed, replay};
-pub use requests::{Answer, Asked, request};
+pub use requests::{Answer, Asked, read_request, request};
 pub use status::Status;
-
-#[cfg(test)]
-mod tests;

@@ -4,13 +4,13 @@ ghost use Rattle.acct_rows.specs.Sound.{IsSoundRows};
 
 mod tables;
 
-use crate::{
-    AccountRow, AliasRow, DomainRow, Held, LsaRow, MemberRow, Object, Plan, Row, RowKey, Rows,
-};
 use acct_base::Seq;
 use acct_calls::domain::{is_domain_name, is_domain_sid};
 use acct_calls::{Name, NoMemory};
 use acct_codes::Kind;
+use acct_rows::{
+    AccountRow, AliasRow, DomainRow, Held, LsaRow, MemberRow, Object, Plan, Row, RowKey, Rows,
+};
 use dtyp_sid::{Sid, parse_text};
 use std::alloc::Global;
 use std::process::Abort;

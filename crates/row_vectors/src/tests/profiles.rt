@@ -1,9 +1,9 @@
 // The words of a profile by kind and by class, and what openings ask for.
-use crate::{Kinds, Needs, class_of, desired_access, needed_bits};
 use acct_calls::domain::{is_domain_name, is_domain_sid};
 use acct_calls::{Args, Name};
 use acct_codes::Kind;
 use acct_rows::Rows;
+use acct_rules::{Kinds, Needs, class_of, desired_access, needed_bits};
 use dtyp_sid::{Sid, parse_text};
 use std::alloc::Global;
 use std::process::Abort;

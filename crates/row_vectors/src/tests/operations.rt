@@ -1,8 +1,8 @@
 // What the table finds, and what operations of each kind decide on the rows that Windows and Samba make
 // (MS-SAMR 3.1.4.2).
-use crate::{Work, decide, has_operation, profile_of, work_of, works};
 use acct_calls::domain::{is_domain_name, is_domain_sid};
 use acct_calls::{Args, Face, Name, NoMemory};
+use acct_operations::{Work, decide, has_operation, profile_of, work_of, works};
 use acct_rows::{Object, Rows};
 use acct_rules::{Brings, Effect, Planned};
 use dtyp_sid::{Sid, parse_text};
