@@ -9,5 +9,4 @@ pub mod Placing
 pub mod Heard
 pub mod Transcribing
 pub mod Denying
-pub mod Requesting
 pub mod Opening

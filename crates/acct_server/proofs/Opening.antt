@@ -1,22 +1,11 @@
--- The opening of a connection over a gate, and over the machine itself.
-use Rattle.std.proofs.Common.{◌≡◌, ℕ, List, [], sym, ◌∙◌, subst}
+-- The opening of a connection over the machine as a gate.
+use Rattle.std.proofs.Common.{◌≡◌, ℕ, List, sym, subst}
 use Rattle.acct_machine.specs.declared.entry.Entry.{Entry}
 use Rattle.acct_machine.specs.declared.machine.Opened.{Opened}
-use Rattle.acct_machine.specs.declared.machine.Opened.TheVariants as opens
-use Rattle.acct_machine.specs.Machine.{Opens, OpensFresh, SameCalls}
-use Rattle.acct_machine.specs.Passing.{OthersChangeNothing}
+use Rattle.acct_machine.specs.Machine.{Opens}
 use Rattle.acct_machine.specs.Shown.{Shown}
-use Rattle.acct_server.specs.Turns.{shown, Turn, MachineOpens, HasNoCall, IfConn}
+use Rattle.acct_requests.specs.Turns.{shown, Turn, MachineOpens}
 use Rattle.acct_server.proofs.Moves.{Only}
-
--- a connection that no entry before is of has made no call
-pub silent-opened : OthersChangeNothing → (old new : Shown) (answer : Opened) → OpensFresh old answer
-    → SameCalls old new
-    → IfConn answer (HasNoCall new.start new.history)
-silent-opened others old new (opens.Conn conn) fresh same =
-    let passes = others old.start conn [] old.history fresh in
-    record { calls = same.calls conn ∙ passes.calls; replies = same.replies conn ∙ passes.replies }
-silent-opened others old new (opens.Full count) fresh same = tt
 
 -- what a turn of the machine does that finds its history
 found-here : (old new : Shown) (listener : ℕ) (answer : Opened)

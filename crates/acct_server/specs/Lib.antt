@@ -1,10 +1,5 @@
 pub mod Events
-pub mod Requests
-pub mod Transcript
 pub mod Begun
-pub mod Turns
-pub mod Turning
-pub mod Answering
 pub mod Replayed
 pub mod Running
 pub mod Configured

@@ -1,5 +1,5 @@
 -- What a replay of event lines leaves: the entries of the history, the lines that it prints, and the status.
-use Rattle.std.specs.Prelude.{ℕ, zero, suc, ◌+◌, ◌==◌, Bool, false, List, [], ◌∷◌, ◌++◌, length, codes, map}
+use Rattle.std.specs.Prelude.{ℕ, zero, suc, ◌+◌, ◌==◌, List, [], ◌∷◌, ◌++◌, length, codes, map}
 use Rattle.std.specs.Prelude.{Option, Some, None, Result, Ok, Err, slice_get, slice_set, if◌then◌else◌}
 use Rattle.std.specs.Fmt.{decimal}
 use Rattle.std.specs.List.{flat_map}
@@ -16,21 +16,20 @@ use Rattle.acct_machine.specs.Step.{state_at, acted}
 use Rattle.acct_machine.specs.Room.{conns_full, call_full}
 use Rattle.rpc_session.specs.declared.sessions.Act.{Act}
 use Rattle.rpc_session.specs.declared.sessions.Act.TheVariants as act
-use Rattle.rpc_session.specs.declared.sessions.Session.TheVariants.{Unbound}
 use Rattle.rpc_session.specs.declared.hearing.Hearing.{Hearing}
-use Rattle.rpc_session.specs.declared.hearing.Hearing.TheVariants.{Going}
-use Rattle.rpc_session.specs.Hearings.{Heard, on, is_going}
+use Rattle.rpc_session.specs.Hearings.{Heard, on}
 use Rattle.acct_stubs.specs.declared.errors.WireError.{WireError}
 use Rattle.acct_server.specs.declared.events.Event.{Event}
 use Rattle.acct_server.specs.declared.events.Event.TheVariants as event
-use Rattle.acct_server.specs.declared.connections.Peer.{Peer}
-use Rattle.acct_server.specs.declared.connections.Peer.TheVariants.{Open, Ended}
+use Rattle.acct_requests.specs.declared.connections.Peer.{Peer}
+use Rattle.acct_requests.specs.declared.connections.Peer.TheVariants.{Open, Ended}
 use Rattle.acct_server.specs.declared.status.Status.{Status}
 use Rattle.acct_server.specs.declared.status.Status.TheVariants.{Done, EventLine, HistoryFull}
 use Rattle.acct_server.specs.Events.{event_of, lines_of}
-use Rattle.acct_server.specs.Requests.{call_on}
-use Rattle.acct_server.specs.declared.requests.Asked.{Asked}
-use Rattle.acct_server.specs.Transcript.{answer_bytes, undecoded_bytes, busy_bytes, asked_by}
+use Rattle.acct_requests.specs.Peers.{nothing_heard, is_served}
+use Rattle.acct_requests.specs.Requests.{call_on}
+use Rattle.acct_requests.specs.declared.requests.Asked.{Asked}
+use Rattle.acct_requests.specs.Transcript.{answer_bytes, undecoded_bytes, busy_bytes, asked_by}
 
 -- ---- lines that are printed
 
@@ -98,10 +97,6 @@ with_peer (suc place) peer peers = slice_set peers place peer
 
 abbrev pub quiet : List Peer → Move
 quiet peers = record { effect = record { entries = []; brings = []; prints = []; full = None }; peers = peers }
-
--- a connection of which no byte has come
-abbrev pub nothing_heard : ℕ → Hearing
-nothing_heard conn = Going conn 0 Unbound []
 
 -- the place of the listener of a name
 abbrev pub listener_from : ℕ → List ℕ → List Listener → Option ℕ
@@ -216,12 +211,6 @@ on_data verdicts s conn bytes (Some Ended) = None
 on_data verdicts s conn bytes (Some (Open hearing)) = Some (on_heard verdicts s conn bytes (on hearing bytes))
 
 -- ---- the end of a connection
-
--- it was opened, and neither ended nor closed by the server
-abbrev pub is_served : Option Peer → Bool
-is_served None = false
-is_served (Some (Open hearing)) = is_going hearing
-is_served (Some Ended) = false
 
 -- the number of a connection, where it is served
 abbrev pub number_of : ℕ → Option Peer → List ℕ

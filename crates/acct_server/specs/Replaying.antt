@@ -14,7 +14,8 @@ use Rattle.acct_streams.specs.Whole.{most_bytes, IsWhole}
 use Rattle.acct_server.specs.Begun.{begun}
 use Rattle.acct_server.specs.Configured.{BreaksNone, IsConfigured}
 use Rattle.acct_server.specs.Leaves.{Leaves, Breaks, Stops, IsRunThrough, IsOfRun, ConfigCause, EventsCause, IsAsked}
-use Rattle.acct_server.specs.Connections.{IsTranscribed, found_full, received, sent}
+use Rattle.acct_requests.specs.Transcribed.{IsTranscribed}
+use Rattle.acct_server.specs.Connections.{found_full, received, sent}
 use Rattle.acct_server.specs.Replayed.{replayed}
 use Rattle.acct_server.specs.Denied.{DeniesExactlyIn}
 

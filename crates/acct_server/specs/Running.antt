@@ -5,13 +5,14 @@ use Rattle.std.specs.List.{flat_map}
 use Rattle.acct_machine.specs.declared.entry.Entry.{Entry}
 use Rattle.acct_machine.specs.Shown.{Shown}
 use Rattle.acct_machine.specs.State.{State, is_live}
-use Rattle.acct_server.specs.declared.connections.Peer.{Peer}
-use Rattle.acct_server.specs.declared.connections.Peer.TheVariants.{Open, Ended}
+use Rattle.acct_requests.specs.declared.connections.Peer.{Peer}
+use Rattle.acct_requests.specs.declared.connections.Peer.TheVariants.{Open, Ended}
 use Rattle.rpc_session.specs.declared.hearing.Hearing.{Hearing}
 use Rattle.rpc_session.specs.declared.sessions.Act.{Act}
 use Rattle.rpc_session.specs.Hearings.{on}
 use Rattle.rpc_session.specs.Acts.{acts, is_refusal, IsSoFar}
-use Rattle.acct_server.specs.Replayed.{Standing, Move, Doing, Verdicts, peer_of, with_peer, is_served, verdict_in}
+use Rattle.acct_requests.specs.Peers.{is_served}
+use Rattle.acct_server.specs.Replayed.{Standing, Move, Doing, Verdicts, peer_of, with_peer, verdict_in}
 use Rattle.acct_server.specs.Replayed.{line_bytes, ending}
 
 -- the machine, and the connections

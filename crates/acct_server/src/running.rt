@@ -13,27 +13,25 @@ ghost use Rattle.rpc_session.specs.declared.hearing.Hearing.{Hearing};
 ghost use Rattle.rpc_session.specs.Hearings.{HasRoom, on, is_going};
 ghost use Rattle.rpc_session.specs.Acts.{IsFit, is_refusal};
 ghost use Rattle.acct_server.specs.declared.events.LineError.TheVariants.{NoMemory, Refused};
-ghost use Rattle.acct_server.specs.declared.connections.Peer.TheVariants as peer;
+ghost use Rattle.acct_requests.specs.declared.connections.Peer.TheVariants as peer;
 ghost use Rattle.acct_server.specs.Begun.{begun};
-ghost use Rattle.acct_server.specs.Requests.{call_on};
+ghost use Rattle.acct_requests.specs.Requests.{call_on};
 ghost use Rattle.acct_server.specs.Events.{DataFits};
-ghost use Rattle.acct_server.specs.Transcript.{busy_bytes};
-ghost use Rattle.acct_server.specs.Replayed.{Out, IsClosed, IsGone, FoundFull, peer_of, with_peer, nothing_heard};
-ghost use Rattle.acct_server.specs.Replayed.{is_served};
+ghost use Rattle.acct_requests.specs.Transcript.{busy_bytes};
+ghost use Rattle.acct_requests.specs.Peers.{nothing_heard, is_served};
+ghost use Rattle.acct_server.specs.Replayed.{Out, IsClosed, IsGone, FoundFull, peer_of, with_peer};
 ghost use Rattle.acct_server.specs.Replayed.{number_of, served_from, ending, line_bytes, listener_from, on_open};
 ghost use Rattle.acct_server.specs.Replayed.{on_request, on_act, on_acts, on_data, on_end, on_event, on_line};
 ghost use Rattle.acct_server.specs.Running.{standing, AllHeard, Acts, Began, Hears, IsClosing, Does, Refuses, MayStop};
 ghost use Rattle.acct_server.specs.Running.{peers_behind};
 ghost use Rattle.acct_server.specs.Running.{Closes};
 
-use crate::connections::{Peer, heard, is_served, new_peer};
 use crate::events::{Event, LineError, event_of};
-use crate::gate::Gate;
 use crate::printing::{closed_line, full_line, gone_line, out_line};
-use crate::requests::{Answer, Asked, request};
 use acct_base::is_same;
 use acct_codes::fault::NCA_S_SERVER_TOO_BUSY;
 use acct_machine::{Config, Entry, Listener, Machine, Opened, Rows, seed_rows};
+use acct_requests::{Answer, Asked, Gate, Peer, heard, is_served, new_peer, request};
 use rpc_session::{
     Act, calls_fit, fault_bytes, refusals_are_last, room_by_length, streams_are_cut_anywhere,
 };

@@ -1,5 +1,5 @@
 -- `run_events` meets its contract: what the search leaves open.
-use Rattle.std.proofs.Common.{◌≡◌, List, Some, ◌∙◌, sym, ap, subst}
+use Rattle.std.proofs.Common.{◌≡◌, List, Some, ◌∙◌, ap, subst}
 use Rattle.acct_machine.specs.declared.entry.Entry.{Entry}
 use Rattle.acct_machine.specs.State.{Start}
 use Rattle.acct_machine.specs.Step.{state_at}

@@ -6,8 +6,9 @@ use Rattle.acct_machine.specs.State.{Start}
 use Rattle.acct_machine.specs.State.{is_live}
 use Rattle.acct_machine.specs.Machine.{state_of}
 use Rattle.rpc_session.specs.declared.sessions.Act.{Act}
-use Rattle.acct_server.specs.declared.connections.Peer.{Peer}
-use Rattle.acct_server.specs.Replayed.{on_act, on_acts, is_served, peer_of}
+use Rattle.acct_requests.specs.declared.connections.Peer.{Peer}
+use Rattle.acct_requests.specs.Peers.{is_served}
+use Rattle.acct_server.specs.Replayed.{on_act, on_acts, peer_of}
 use Rattle.acct_server.specs.Running.{Acts, Began, peers_behind}
 use Rattle.acct_server.proofs.Bytes.{on-err}
 use Rattle.acct_server.proofs.Moves.{acts-go-on, acts-fill, acts-stop, none-done}

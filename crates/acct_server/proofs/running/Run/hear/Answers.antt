@@ -5,9 +5,10 @@ use Rattle.rpc_session.specs.declared.sessions.Act.{Act}
 use Rattle.rpc_session.specs.declared.hearing.Hearing.{Hearing}
 use Rattle.rpc_session.specs.Hearings.{on, is_going}
 use Rattle.rpc_session.specs.Acts.{IsFit}
-use Rattle.acct_server.specs.declared.connections.Peer.{Peer}
-use Rattle.acct_server.specs.declared.connections.Peer.TheVariants as peer
-use Rattle.acct_server.specs.Replayed.{peer_of, with_peer, is_served}
+use Rattle.acct_requests.specs.declared.connections.Peer.{Peer}
+use Rattle.acct_requests.specs.declared.connections.Peer.TheVariants as peer
+use Rattle.acct_requests.specs.Peers.{is_served}
+use Rattle.acct_server.specs.Replayed.{peer_of, with_peer}
 use Rattle.acct_server.specs.Running.{Running, HasHeard, AllHeard, IsClosing}
 use Rattle.acct_server.proofs.Placing.{peer-here}
 use Rattle.acct_server.proofs.Heard.{peer-got, peer-set, piece-acts-fit, piece-closes, all-heard}

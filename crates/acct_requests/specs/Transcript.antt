@@ -10,8 +10,8 @@ use Rattle.rpc_session.specs.declared.sessions.Act.TheVariants as act
 use Rattle.rpc_session.specs.Replies.{fault_bytes, reply_bytes}
 use Rattle.acct_stubs.specs.declared.errors.WireError.{WireError}
 use Rattle.acct_stubs.specs.Replies.{spell_reply}
-use Rattle.acct_server.specs.declared.requests.Asked.{Asked}
-use Rattle.acct_server.specs.Requests.{wire_of, call_on, undecoded_status}
+use Rattle.acct_requests.specs.declared.requests.Asked.{Asked}
+use Rattle.acct_requests.specs.Requests.{wire_of, call_on, undecoded_status}
 
 -- the answer to a decoded call of an interface and an opnum, by its reply
 unfoldable pub answer_bytes : Asked → Face → ℕ → Reply → List ℕ

@@ -7,9 +7,9 @@ ghost use Rattle.acct_machine.specs.Calls.{IsCall};
 ghost use Rattle.acct_stubs.specs.declared.errors.WireError.{WireError};
 ghost use Rattle.acct_stubs.specs.Calls.{ReadsStub};
 ghost use Rattle.acct_stubs.specs.Replies.{spell_reply};
-ghost use Rattle.acct_server.specs.Requests.{wire_of, call_on, undecoded_status};
-ghost use Rattle.acct_server.specs.Transcript.{answer_bytes, undecoded_bytes};
-ghost use Rattle.acct_server.specs.Answering.{AnswersRequest, BeginsRequest, IsAnswerOf};
+ghost use Rattle.acct_requests.specs.Requests.{wire_of, call_on, undecoded_status};
+ghost use Rattle.acct_requests.specs.Transcript.{answer_bytes, undecoded_bytes};
+ghost use Rattle.acct_requests.specs.Answering.{AnswersRequest, BeginsRequest, IsAnswerOf};
 
 use crate::gate::Gate;
 use acct_codes::fault::{NCA_S_OP_RNG_ERROR, RPC_X_BAD_STUB_DATA};

@@ -13,10 +13,10 @@ use Rattle.acct_machine.specs.Step.{state_at, acted}
 use Rattle.acct_machine.specs.Room.{call_full}
 use Rattle.acct_machine.specs.Machine.{SameLive}
 use Rattle.acct_stubs.specs.declared.errors.WireError.{WireError}
-use Rattle.acct_server.specs.declared.requests.Asked.{Asked}
-use Rattle.acct_server.specs.declared.requests.Answer.{Answer}
-use Rattle.acct_server.specs.declared.requests.Answer.TheVariants as answer
-use Rattle.acct_server.specs.Transcript.{answer_bytes, undecoded_bytes}
+use Rattle.acct_requests.specs.declared.requests.Asked.{Asked}
+use Rattle.acct_requests.specs.declared.requests.Answer.{Answer}
+use Rattle.acct_requests.specs.declared.requests.Answer.TheVariants as answer
+use Rattle.acct_requests.specs.Transcript.{answer_bytes, undecoded_bytes}
 
 -- A call was entered in a history that a turn found, and that took it; the same connections are live.
 pub record Enters (start : Start) (k : ℕ) (finds : List Entry → Type 0) (left : List Entry) (call : Call)

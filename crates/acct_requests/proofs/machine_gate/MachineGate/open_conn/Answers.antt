@@ -1,6 +1,6 @@
 -- `MachineGate::open_conn` meets its contract: what the search leaves open.
-use Rattle.acct_server.proofs.Opening.{silent-opened}
-use Rattle.acct_server.proofs.machine_gate.MachineGate.open_conn.Goals as goal
+use Rattle.acct_requests.proofs.Opening.{silent-opened}
+use Rattle.acct_requests.proofs.machine_gate.MachineGate.open_conn.Goals as goal
 
 pub returns-clause-silent : goal.returns-clause-silent
 returns-clause-silent c =

@@ -1,13 +1,13 @@
 // The connections: each peer's stream and phase.
 ghost use Rattle.std.specs.Prelude.{◌≡◌, false, Some, OnOk, OnErr, IfOk};
 ghost use Rattle.rpc_session.specs.Hearings.{HasRoom, on, is_going};
-ghost use Rattle.acct_server.specs.declared.connections.Peer.TheVariants as peer;
-ghost use Rattle.acct_server.specs.Replayed.{nothing_heard, is_served};
+ghost use Rattle.acct_requests.specs.declared.connections.Peer.TheVariants as peer;
+ghost use Rattle.acct_requests.specs.Peers.{nothing_heard, is_served};
 
 use rpc_session::{Act, Bytes2Acts};
 use std::alloc::{AllocError, Global};
 
-/// How a connection of a replay stands. The first has number 1.
+/// How a connection stands with its peer.
 #[derive(Debug, Drop)]
 pub enum Peer {
     /// It was opened and not ended. The server may have closed it: then nothing more is heard.

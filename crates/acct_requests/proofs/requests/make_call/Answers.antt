@@ -1,6 +1,6 @@
 -- `make_call` meets its contract: what the search leaves open.
-use Rattle.acct_server.proofs.Requesting.{call-answered}
-use Rattle.acct_server.proofs.requests.make_call.Goals as goal
+use Rattle.acct_requests.proofs.Requesting.{call-answered}
+use Rattle.acct_requests.proofs.requests.make_call.Goals as goal
 
 pub returns-in_ok-bytes-in-Reply-clause-answers : goal.returns-in_ok-bytes-in-Reply-clause-answers
 returns-in_ok-bytes-in-Reply-clause-answers g c =

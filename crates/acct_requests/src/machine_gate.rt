@@ -7,7 +7,7 @@ use acct_machine::{Acted, Call, Machine, Opened, others_change_nothing};
 impl Gate for Machine {
     ghost use Rattle.acct_machine.specs.State.{is_live};
     ghost use Rattle.acct_machine.specs.Machine.{state_of};
-    ghost use Rattle.acct_server.specs.Turning.{passes-same};
+    ghost use Rattle.acct_requests.specs.Turning.{passes-same};
 
     ghost start = { λ m. m.start };
 

@@ -6,7 +6,7 @@ ghost use Rattle.acct_machine.specs.declared.machine.Opened.{Opened};
 ghost use Rattle.acct_machine.specs.Calls.{IsCall};
 ghost use Rattle.acct_machine.specs.Machine.{Shaped};
 ghost use Rattle.acct_machine.specs.Passing.{Passes};
-ghost use Rattle.acct_server.specs.Turns.{Turn, MachineOpens, MachineActs, MachineEnds, HasNoCall, IfConn};
+ghost use Rattle.acct_requests.specs.Turns.{Turn, MachineOpens, MachineActs, MachineEnds, HasNoCall, IfConn};
 
 use acct_machine::{Acted, Call, Opened};
 

@@ -7,10 +7,10 @@ use Rattle.acct_machine.specs.declared.entry.Entry.{Entry}
 use Rattle.acct_machine.specs.declared.machine.Acted.TheVariants as acts
 use Rattle.acct_machine.specs.Room.{calls_full, bytes_full, call_full, TakesCall}
 use Rattle.acct_machine.specs.Shown.{Shown}
-use Rattle.acct_server.specs.declared.requests.Asked.{Asked}
-use Rattle.acct_server.specs.Transcript.{answer_bytes}
-use Rattle.acct_server.specs.Turns.{shown, Turn, MachineActs}
-use Rattle.acct_server.specs.Answering.{Enters, AnswersCall, FindsFull}
+use Rattle.acct_requests.specs.declared.requests.Asked.{Asked}
+use Rattle.acct_requests.specs.Transcript.{answer_bytes}
+use Rattle.acct_requests.specs.Turns.{shown, Turn, MachineActs}
+use Rattle.acct_requests.specs.Answering.{Enters, AnswersCall, FindsFull}
 
 taken : (start : Start) (history : List Entry) (size : ℕ) → TakesCall start history size
     → call_full start history size ≡ None
