@@ -1,0 +1,20 @@
+-- `next` meets its contract: what the search leaves open.
+use Rattle.std.proofs.Common.{◌≡◌, List, length, drop, ap, arith, length-drop}
+use Rattle.std.proofs.lemmas.List.Elements.{All-drop}
+use Rattle.acct_links.specs.Links.{IsNew}
+use Rattle.acct_links.proofs.memory_doors.SteadyDoorDoor.next.Goals as goal
+
+pub invariant_of-self : goal.invariant_of-self
+invariant_of-self g c =
+    let links = c.self.inside.links.items in
+    let fits = c.self.invariant.0 in
+    rw c.pop_front.ensures.rest (
+      omega (arith, fits, length-drop 1 links),
+      c.self.invariant.1,
+      λ closed. ap (λ (xs : List g.row.L.Denot). drop 1 xs) (c.self.invariant.2 closed),
+      All-drop (λ link. IsNew (g.L.Link.told link)) 1 links c.self.invariant.3,
+    )
+
+pub returns-in-Some-clause-to_come : goal.returns-in-Some-clause-to_come
+returns-in-Some-clause-to_come g c = rw c.pop_front.ensures.rest
+    (All-drop (λ link. IsNew (g.L.Link.told link)) 1 c.self.inside.links.items c.self.invariant.3)

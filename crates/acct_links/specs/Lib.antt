@@ -1,0 +1,5 @@
+pub mod Callers
+pub mod Doors
+pub mod Links
+pub mod Memory
+pub mod MemoryDoors

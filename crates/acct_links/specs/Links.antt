@@ -1,0 +1,59 @@
+-- What a link tells, and what its reads and writes do to it.
+use Rattle.std.specs.Prelude.{◌≡◌, ℕ, ◌≤◌, ◌||◌, ◌⊎◌, Bool, false, List, [], take, Option, IfSome}
+use Rattle.std.specs.declared.result.Result.{Result}
+use Rattle.std.specs.Io.KnownBytes.{Appends, WriteAppends, ReadConsumes}
+use Rattle.acct_streams.specs.Causes.{HasCause, Rose}
+use Rattle.acct_streams.specs.Ends.{answers_end}
+
+-- The bytes that were read, those that are left and those that were written, where they are told; whether a read has
+-- answered the end; and how many reads and how many writes have failed.
+pub record Told : Type 0 where
+  pub received : Option (List ℕ)
+  pub left : Option (List ℕ)
+  pub sent : Option (List ℕ)
+  pub ended : Bool
+  pub read_faults : ℕ
+  pub write_faults : ℕ
+
+-- A read: what it gives goes from what is left to what was received, and nothing where it fails.
+pub record Reads {E : Type 0} (old new : Told) (result : Result ℕ E) (buffer : List ℕ) : Type 0 where
+  pub received : WriteAppends old.received new.received result buffer
+  pub left : ReadConsumes old.left new.left result buffer
+  pub ended : new.ended ≡ (old.ended || answers_end result buffer)
+  pub cause : HasCause old.read_faults new.read_faults result
+  pub sent : new.sent ≡ old.sent
+  pub write_faults : new.write_faults ≡ old.write_faults
+
+-- A write: what it takes is added to what was sent, and nothing where it fails.
+pub record Writes {E : Type 0} (old new : Told) (result : Result ℕ E) (bytes : List ℕ) : Type 0 where
+  pub sent : WriteAppends old.sent new.sent result bytes
+  pub cause : HasCause old.write_faults new.write_faults result
+  pub received : new.received ≡ old.received
+  pub left : new.left ≡ old.left
+  pub ended : new.ended ≡ old.ended
+  pub read_faults : new.read_faults ≡ old.read_faults
+
+-- these bytes were written, and nothing was read
+pub record Sends (old new : Told) (bytes : List ℕ) : Type 0 where
+  pub sent : Appends old.sent new.sent bytes
+  pub later : old.write_faults ≤ new.write_faults
+  pub received : new.received ≡ old.received
+  pub left : new.left ≡ old.left
+  pub ended : new.ended ≡ old.ended
+  pub read_faults : new.read_faults ≡ old.read_faults
+
+-- a front of these bytes was written, and then a write failed
+pub record SendsFront (old new : Told) (bytes : List ℕ) : Type 0 where
+  pub count : ℕ
+  pub sends : Sends old new (take count bytes)
+  pub failed : Rose old.write_faults new.write_faults
+
+-- nothing was read or written, and no read has answered the end
+pub record IsNew (told : Told) : Type 0 where
+  pub received : IfSome told.received (λ bytes. bytes ≡ [])
+  pub sent : IfSome told.sent (λ bytes. bytes ≡ [])
+  pub going : told.ended ≡ false
+
+-- one of the counts of faults rose
+abbrev pub LinkRose : Told → Told → Type 0
+LinkRose old new = Rose old.read_faults new.read_faults ⊎ Rose old.write_faults new.write_faults
