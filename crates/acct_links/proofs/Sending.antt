@@ -1,6 +1,6 @@
 -- Bytes that a link was sent one piece after another, and bytes that it gave.
-use Rattle.std.proofs.Common.{◌≡◌, ℕ, zero, suc, zero-add, arith, ◌∷◌, ◌+◌, ◌≤◌, List, ◌++◌, take, drop}
-use Rattle.std.proofs.Common.{Option, Some, None, Result, Ok, Err, refl, sym, ◌∙◌, ap, append_assoc, append-nil, []}
+use Rattle.std.proofs.Common.{◌≡◌, ℕ, zero, suc, zero-add, arith, ◌∷◌, ◌+◌, List, ◌++◌, take, drop}
+use Rattle.std.proofs.Common.{Option, Some, None, Ok, refl, sym, ◌∙◌, ap, append_assoc, append-nil, []}
 use Rattle.std.proofs.lemmas.List.{take_all, take-append-drop, drop-drop, drop_all}
 use Rattle.std.specs.Io.KnownBytes.{Appends}
 use Rattle.acct_links.specs.Links.{Told, Writes, Sends}

@@ -2,6 +2,7 @@
 use Rattle.std.specs.Prelude.{◌≡◌, ◌≢◌, ℕ, Bool, true, false, List, [], ◌∷◌, ◌++◌, Option, Some, None, option_map}
 use Rattle.std.specs.Prelude.{Result, Ok, Err}
 use Rattle.acct_keeper.specs.declared.keeper.KeepError.{KeepError}
+use Rattle.acct_links.specs.declared.asking.Asking.{Asking}
 use Rattle.acct_links.specs.declared.doors.Next.{Next}
 use Rattle.acct_links.specs.declared.doors.Next.TheVariants.{Link, Closed, Failed}
 
@@ -41,14 +42,6 @@ abbrev pub with_finished : {L : Type 0} → ℕ → L → Option (List (ℕ × L
 with_finished conn link finished = option_map (λ links. links ++ (conn, link) ∷ []) finished
 
 -- ---- what an entrance was asked
-
--- for a listener, by its place in the configuration: so many doors at its address, of which each takes so many links, or
--- any number where that is 0
-pub record Asking : Type 0 where
-  pub listener : ℕ
-  pub address : List ℕ
-  pub workers : ℕ
-  pub links : ℕ
 
 -- the askings that were answered with doors, after one more
 abbrev pub asked_after : {T : Type 0} → Option (List Asking) → Asking → Result T KeepError → Option (List Asking)

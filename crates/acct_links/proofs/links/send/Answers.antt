@@ -1,6 +1,6 @@
 -- `send` meets its contract: what the search leaves open.
 use Rattle.std.proofs.Common.{◌≡◌, take, drop, List, ℕ, arith, subst}
-use Rattle.acct_links.specs.Links.{Sends, Writes}
+use Rattle.acct_links.specs.Links.{Sends}
 use Rattle.acct_links.proofs.Sending.{Sends-then, Sends-written, take-more}
 use Rattle.acct_links.proofs.links.send.Goals as goal
 

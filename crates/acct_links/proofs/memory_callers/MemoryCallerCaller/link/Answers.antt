@@ -1,5 +1,4 @@
 -- `link` meets its contract: what the search leaves open.
-use Rattle.std.proofs.Common.{All, List, drop, subst, sym}
 use Rattle.std.proofs.lemmas.List.Elements.{All-drop}
 use Rattle.acct_links.specs.Links.{IsNew}
 use Rattle.acct_links.proofs.memory_callers.MemoryCallerCaller.link.Goals as goal

@@ -1,5 +1,5 @@
 -- `next` meets its contract: what the search leaves open.
-use Rattle.std.proofs.Common.{◌≡◌, List, length, drop, ap, arith, length-drop}
+use Rattle.std.proofs.Common.{List, drop, ap, arith, length-drop}
 use Rattle.std.proofs.lemmas.List.Elements.{All-drop}
 use Rattle.acct_links.specs.Links.{IsNew}
 use Rattle.acct_links.proofs.memory_doors.SteadyDoorDoor.next.Goals as goal
