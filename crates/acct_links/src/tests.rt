@@ -1,4 +1,8 @@
 // Parts in memory, call by call.
+ghost use Rattle.std.specs.Prelude.{All, IfOk};
+ghost use Rattle.acct_links.specs.Links.{IsNew};
+ghost use Rattle.acct_links.specs.Memory.{told_by_steady};
+
 use crate::{
     Caller, Door, DoorPlan, Entrance, Failed, Link, MemoryCaller, MemoryEntrance, MemoryLink, Next,
     SteadyCaller, SteadyLink, TakeError, send,
@@ -67,11 +71,13 @@ fn a_caller_gives_its_links_in_order(rt: HostRuntime) -> Result<(), Fail> {
     Ok(())
 }
 
-fn plan(alloc: Global, count: usize, failing: &[u64]) -> Result<DoorPlan<SteadyLink>, Fail> {
+// A door with two links.
+fn plan(alloc: Global, failing: &[u64]) -> Result<DoorPlan<SteadyLink>, Fail>
+    ensures { IfOk result (λ plan. All (λ link. IsNew (told_by_steady link)) plan.links) }
+{
     let mut links = Vec::new(alloc);
-    for _i in 0..count {
-        links.push(SteadyLink::new(b"x".to_vec(alloc)?, 1))?;
-    }
+    links.push(SteadyLink::new(b"x".to_vec(alloc)?, 1))?;
+    links.push(SteadyLink::new(b"y".to_vec(alloc)?, 1))?;
     Ok(DoorPlan {
         links: Seq::from_vec(links),
         failing: Seq::from_vec(failing.to_vec(alloc)?),
@@ -98,8 +104,8 @@ fn opened<D: Door>(alloc: Global, door: &mut D) -> Result<Vec<u8>, Fail> {
 fn an_entrance_gives_the_doors_of_its_plans(rt: HostRuntime) -> Result<(), Fail> {
     let alloc = rt.alloc();
     let mut plans = Vec::new(alloc);
-    plans.push(plan(alloc, 2, &[2, 4])?)?;
-    plans.push(plan(alloc, 1, &[])?)?;
+    plans.push(plan(alloc, &[2, 4])?)?;
+    plans.push(plan(alloc, &[])?)?;
     let mut entrance = MemoryEntrance::new(alloc, plans, [1].to_vec(alloc)?);
     assert!(rt; entrance.doors(0, "unix:s", 3, 1).is_err());
     let mut doors = entrance.doors(1, "tcp:h:1", 3, 1)?;
@@ -110,7 +116,7 @@ fn an_entrance_gives_the_doors_of_its_plans(rt: HostRuntime) -> Result<(), Fail>
         told.push(b' ')?;
     }
     // A closed door never fails.
-    assert_eq!(rt; told.as_slice(), b"lflcc lcccc ccccc ".as_slice());
+    assert_eq!(rt; told.as_slice(), b"lflcc llccc ccccc ".as_slice());
     assert_eq!(rt; entrance.askings().len(), 1);
     Ok(())
 }
