@@ -5,6 +5,7 @@ use Rattle.acct_calls.specs.declared.calls.Call.{Call}
 use Rattle.acct_calls.specs.declared.replies.Reply.{Reply}
 use Rattle.acct_machine.specs.declared.entry.Entry.{Entry}
 use Rattle.acct_machine.specs.declared.machine.Acted.TheVariants as acts
+use Rattle.acct_machine.specs.Machine.{OneMoreCall}
 use Rattle.acct_machine.specs.Room.{calls_full, bytes_full, call_full, TakesCall}
 use Rattle.acct_machine.specs.Shown.{Shown}
 use Rattle.acct_requests.specs.declared.requests.Asked.{Asked}
@@ -28,6 +29,8 @@ call-entered start k finds left size call reply turn =
       verdict = enters.verdict;
       entered = ap (λ (m : Shown). m.history) enters.entered;
       live = turn.does_it.live;
+      more = subst (λ (r : Reply). OneMoreCall (shown start turn.found) (shown start left) k call size r) enters.reply
+          turn.does_it.calls;
     }
 
 -- and its reply was put into bytes

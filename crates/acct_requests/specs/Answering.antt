@@ -11,14 +11,16 @@ use Rattle.acct_machine.specs.declared.entry.Entry.TheVariants.{Called}
 use Rattle.acct_machine.specs.declared.entry.Verdict.{Verdict}
 use Rattle.acct_machine.specs.Step.{state_at, acted}
 use Rattle.acct_machine.specs.Room.{call_full}
-use Rattle.acct_machine.specs.Machine.{SameLive}
+use Rattle.acct_machine.specs.Machine.{SameLive, OneMoreCall}
 use Rattle.acct_stubs.specs.declared.errors.WireError.{WireError}
 use Rattle.acct_requests.specs.declared.requests.Asked.{Asked}
 use Rattle.acct_requests.specs.declared.requests.Answer.{Answer}
 use Rattle.acct_requests.specs.declared.requests.Answer.TheVariants as answer
 use Rattle.acct_requests.specs.Transcript.{answer_bytes, undecoded_bytes}
+use Rattle.acct_requests.specs.Turns.{shown}
 
--- A call was entered in a history that a turn found, and that took it; the same connections are live.
+-- A call was entered in a history that a turn found, and that took it; the same connections are live, and the
+-- connection has this call and its reply more.
 pub record Enters (start : Start) (k : ℕ) (finds : List Entry → Type 0) (left : List Entry) (call : Call)
     (size : ℕ) : Type 0 where
   pub found : List Entry
@@ -27,6 +29,8 @@ pub record Enters (start : Start) (k : ℕ) (finds : List Entry → Type 0) (lef
   pub verdict : Verdict
   pub entered : left ≡ found ++ Called k call verdict size ∷ []
   pub live : SameLive (state_at start found) (state_at start left)
+  pub more : OneMoreCall (shown start found) (shown start left) k call size
+      (acted (state_at start found) k call verdict).1
 
 -- A decoded call was entered, and its answer has the reply of the state before it.
 pub record AnswersCall (start : Start) (k : ℕ) (finds : List Entry → Type 0) (left : List Entry) (asked : Asked)

@@ -6,7 +6,7 @@ ghost use Rattle.acct_machine.specs.declared.machine.Opened.{Opened};
 ghost use Rattle.acct_machine.specs.Calls.{IsCall};
 ghost use Rattle.acct_machine.specs.Machine.{Shaped};
 ghost use Rattle.acct_machine.specs.Passing.{Passes};
-ghost use Rattle.acct_requests.specs.Turns.{Turn, MachineOpens, MachineActs, MachineEnds, HasNoCall, IfConn};
+ghost use Rattle.acct_requests.specs.Turns.{Turn, MachineOpens, MachineActs, MachineEnds, HasNoCall, IfConn, IsFrontOf};
 
 use acct_machine::{Acted, Call, Opened};
 
@@ -61,6 +61,9 @@ pub trait Gate {
         ensures turn { Turn (finds self.old) (MachineEnds (start self.old) conn) (known self.new) }
         ensures moves { moves self.old conn self.new }
         ensures start { start self.new ≡ start self.old };
+
+    /// What is known is a front of each history that a turn finds.
+    ghost fronts: { (g : Self) (found : List Entry) → finds g found → IsFrontOf (known g) found };
 
     /// Whatever is said of a connection that it serves is in a history that a turn finds as it is in what is known.
     ghost passes: { (g : Self) (k : ℕ) (found : List Entry) → serves g k → finds g found

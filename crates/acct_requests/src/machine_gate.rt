@@ -7,7 +7,7 @@ use acct_machine::{Acted, Call, Machine, Opened, others_change_nothing};
 impl Gate for Machine {
     ghost use Rattle.acct_machine.specs.State.{is_live};
     ghost use Rattle.acct_machine.specs.Machine.{state_of};
-    ghost use Rattle.acct_requests.specs.Turning.{passes-same};
+    ghost use Rattle.acct_requests.specs.Turning.{fronts-same, passes-same};
 
     ghost start = { λ m. m.start };
 
@@ -35,6 +35,8 @@ impl Gate for Machine {
     fn gone(&mut self, conn: u32) {
         self.gone(conn)
     }
+
+    ghost fronts = { λ g found same. fronts-same g.history found same };
 
     ghost passes = { λ g k found serves same. passes-same g.start k g.history found same };
 
