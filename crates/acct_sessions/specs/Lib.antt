@@ -1,0 +1,4 @@
+pub mod Refusals
+pub mod Talking
+pub mod Sessions
+pub mod SoFar
