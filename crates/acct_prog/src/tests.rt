@@ -15,7 +15,6 @@ mod accounts;
 mod limits;
 mod names;
 mod objects;
-mod requests;
 mod rights;
 mod several;
 mod tables;

@@ -1,6 +1,6 @@
 // Requests of operations that are served, and of others.
 use acct_machine::Face;
-use acct_server::read_request;
+use acct_requests::read_request;
 use std::alloc::Global;
 use std::process::Abort;
 use std::test::Fail;
