@@ -1,6 +1,10 @@
 pub mod Keyed
 pub mod Laws
 pub mod Objects
+pub mod PairRules
+pub mod PairsOf
 pub mod Rows
 pub mod Seed
 pub mod Sound
+pub mod Spelled
+pub mod Stored
