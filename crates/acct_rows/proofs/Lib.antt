@@ -1,11 +1,15 @@
 pub mod Tables
 pub mod Places
 pub mod Halving
+pub mod SpelledRows
+pub mod Taken
 pub mod Together
 pub mod Lookups
+pub mod Many
 pub mod Passing
 pub mod Seeded
 pub mod Once
+pub mod ReadRows
 pub mod Removals
 pub mod Keeping
 pub mod Kept

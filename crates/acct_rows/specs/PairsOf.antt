@@ -1,11 +1,16 @@
 -- The pairs of the rows, and the laws between rows and pairs
-use Rattle.std.specs.Prelude.{◌≡◌, ℕ, Bool, true, List, ◌⊎◌, Some, ◌↔◌}
+use Rattle.std.specs.Prelude.{◌≡◌, ℕ, Bool, true, List, ◌∷◌, ◌++◌, map, All, ◌⊎◌, Some, ◌↔◌}
 use Rattle.acct_keeper.specs.declared.pairs.Pair.{Pair}
 use Rattle.acct_keeper.specs.Pairs.{is_ascending}
 use Rattle.acct_rows.specs.Rows.{Lists, domain_at, account_at, member_at, alias_row_at, lsa_at}
 use Rattle.acct_rows.specs.Sound.{IsSoundRows}
-use Rattle.acct_rows.specs.Spelled.{pair_of, format_pair}
+use Rattle.acct_rows.specs.Spelled.{pair_of, format_pair, FitsDomain, FitsAccount, FitsMember, FitsAlias, FitsLsa}
 use Rattle.acct_rows.specs.PairRules.{pair_at, AreUnbroken}
+use Rattle.acct_rows.specs.declared.row.DomainRow.{DomainRow}
+use Rattle.acct_rows.specs.declared.row.AccountRow.{AccountRow}
+use Rattle.acct_rows.specs.declared.row.MemberRow.{MemberRow}
+use Rattle.acct_rows.specs.declared.row.AliasRow.{AliasRow}
+use Rattle.acct_rows.specs.declared.row.LsaRow.{LsaRow}
 use Rattle.acct_rows.specs.declared.row.Row.{Row}
 use Rattle.acct_rows.specs.declared.row.Row.TheVariants as rows
 
@@ -29,6 +34,35 @@ HoldPairs lists pairs = (pair : Pair) → (pair_at pair.key pairs ≡ Some pair)
 pub record ArePairsOf (lists : Lists) (pairs : List Pair) : Type 0 where
   pub ascending : is_ascending pairs ≡ true
   pub held : HoldPairs lists pairs
+
+-- every row has a spelling
+pub record AllFit (lists : Lists) : Type 0 where
+  pub domains : All FitsDomain lists.domains
+  pub accounts : All FitsAccount lists.accounts
+  pub members : All FitsMember lists.members
+  pub aliases : All FitsAlias lists.aliases
+  pub lsa : All FitsLsa lists.lsa
+
+-- the pairs of the rows of each list, in their order
+abbrev pub domain_pairs : List DomainRow → List Pair
+domain_pairs xs = map (λ d. pair_of (rows.Domain d)) xs
+
+abbrev pub account_pairs : List AccountRow → List Pair
+account_pairs xs = map (λ a. pair_of (rows.Account a)) xs
+
+abbrev pub member_pairs : List MemberRow → List Pair
+member_pairs xs = map (λ m. pair_of (rows.Member m)) xs
+
+abbrev pub alias_pairs : List AliasRow → List Pair
+alias_pairs xs = map (λ a. pair_of (rows.Alias a)) xs
+
+abbrev pub lsa_pairs : List LsaRow → List Pair
+lsa_pairs xs = map (λ l. pair_of (rows.Lsa l)) xs
+
+-- the pairs of all rows, list by list, behind the format's
+abbrev pub all_pairs : Lists → List Pair
+all_pairs lists = format_pair ∷ (domain_pairs lists.domains ++ (account_pairs lists.accounts
+    ++ (member_pairs lists.members ++ (alias_pairs lists.aliases ++ lsa_pairs lists.lsa))))
 
 -- the pairs of sound rows break no rule
 abbrev pub SoundRowsBreakNone : Type 0

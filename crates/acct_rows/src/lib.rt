@@ -11,6 +11,7 @@ mod keys;
 pub mod laws;
 mod membership;
 mod object;
+mod pairs;
 mod plan;
 mod row;
 mod rows;

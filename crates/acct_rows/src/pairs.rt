@@ -1,0 +1,6 @@
+// Rows as pairs of bytes, and pairs as rows.
+mod fields;
+pub mod laws;
+mod reading;
+mod storing;
+mod writing;
