@@ -1,9 +1,11 @@
 pub mod Tables
 pub mod Places
+pub mod Fitting
 pub mod Halving
 pub mod SpelledRows
 pub mod Taken
 pub mod Together
+pub mod Listed
 pub mod Lookups
 pub mod Many
 pub mod Passing
@@ -13,6 +15,7 @@ pub mod ReadRows
 pub mod Removals
 pub mod Keeping
 pub mod Kept
+pub mod Members
 pub mod Moves
 pub mod Purges
 pub mod Rising

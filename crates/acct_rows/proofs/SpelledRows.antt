@@ -55,17 +55,26 @@ same_number n = grind (arith, nat_tests)
 account_value_again : (a : AccountRow) → FitsAccount a → account_of a.domain a.rid (account_value a) ≡ Some (rows.Account a)
 unfolding account_of account_value
 account_value_again a fits =
+    let tail = number_bytes a.bits ++ number_bytes a.primary ++ text_bytes a.name ++ text_bytes a.full_name
+    ++ text_bytes a.comment in
+    let rest : Kind → List ℕ → Option Row = λ kind bytes. number_at bytes >>= λ bits.
+    number_at bits.1 >>= λ primary. text_at primary.1 >>= λ name. text_at name.1 >>= λ full_name.
+    text_at full_name.1 >>= λ comment. only_if (is_end comment.1) (rows.Account (record {
+    domain = a.domain; rid = a.rid; kind = kind; name = name.0; full_name = full_name.0; comment = comment.0;
+    bits = bits.0; primary = primary.0 })) in
+    let first = ap (λ (o : Option (ℕ × List ℕ)). o >>= λ byte. kind_of_byte byte.0 >>= λ kind. rest kind byte.1)
+    (byte_again (kind_byte a.kind) tail) in
+    let second = ap (λ (o : Option Kind). o >>= λ kind. rest kind tail) (kind_again a.kind fits.kind) in
+    let third : rest a.kind tail ≡ Some (rows.Account a) =
     rw (
-      byte_again (kind_byte a.kind) (number_bytes a.bits ++ number_bytes a.primary ++ text_bytes a.name
-          ++ text_bytes a.full_name ++ text_bytes a.comment),
-      kind_again a.kind fits.kind,
       number_again a.bits (number_bytes a.primary ++ text_bytes a.name ++ text_bytes a.full_name
           ++ text_bytes a.comment) fits.bits,
       number_again a.primary (text_bytes a.name ++ text_bytes a.full_name ++ text_bytes a.comment) fits.primary,
       text_again a.name (text_bytes a.full_name ++ text_bytes a.comment) fits.name,
       text_again a.full_name (text_bytes a.comment) fits.full_name,
       text_last a.comment fits.comment,
-    ) refl
+    ) refl in
+    first ∙ second ∙ third
 
 member_value_again : (m : MemberRow) → FitsMember m
     → member_of m.group m.user (number_bytes m.attributes) ≡ Some (rows.Member m)

@@ -2,7 +2,7 @@
 use Rattle.std.proofs.Common.{◌≡◌, ℕ, zero, suc, ◌+◌, ◌*◌, ◌^◌, ◌<◌, ◌≤◌, Bool, true, false, cond, ltb, eqb, List, [], ◌∷◌, ◌++◌}
 use Rattle.std.proofs.Common.{length, get_or, take, drop, All, Option, Some, None, Result, Ok, Err, refl, sym, ap, subst, ◌∙◌}
 use Rattle.std.proofs.Common.{append_assoc, arith, inl, inr}
-use Rattle.std.specs.Prelude.{slice_index}
+use Rattle.std.specs.Prelude.{slice_index, nat_le}
 use Rattle.std.specs.Result.{result_ok}
 use Rattle.std.specs.Int.{w16, w32, to_le_bytes, to_be_bytes, from_le_bytes, from_be_bytes}
 use Rattle.std.specs.List.{flat_map, AllByRecursion}
@@ -145,7 +145,7 @@ byte_takes = made 1 (λ front. slice_index front 0) single (λ byte. byte < 256)
 
 pub byte_again : (byte : ℕ) (rest : List ℕ) → byte_at (byte ∷ rest) ≡ Some (byte, rest)
 unfolding byte_at
-byte_again byte rest = ap (λ o. o >>= λ front. Some (slice_index front.0 0, front.1)) (front_again 1 (byte ∷ []) rest refl)
+byte_again byte rest = ap (λ (o : Option (List ℕ × List ℕ)). o >>= λ front. Some (slice_index front.0 0, front.1)) (front_again 1 (byte ∷ []) rest refl)
 
 pub unit_takes : Takes unit_at (to_le_bytes w16) (λ n. n < 2 ^ 16)
 unfolding unit_at
@@ -267,8 +267,8 @@ held_again held rest fits =
 pub domain_number_takes : Takes domain_number_at single (λ n. n ≤ 1)
 unfolding domain_number_at
 domain_number_takes bytes n rest fits e =
-    let a = bind_some (byte_at bytes) (λ number. only_if _ number) (n, rest) e in
-    let g = passed _ a.0 (n, rest) a.2 in
+    let a = bind_some (byte_at bytes) (λ number. only_if (nat_le number.0 1) number) (n, rest) e in
+    let g = passed (nat_le a.0.0 1) a.0 (n, rest) a.2 in
     let t = byte_takes bytes a.0.0 a.0.1 fits a.1 in
     let few : a.0.0 ≤ 1 = grind (arith, nat_tests, g.0) in
     subst (λ (p : ℕ × List ℕ). Taken single (λ k. k ≤ 1) bytes p.0 p.1) g.1
@@ -305,4 +305,6 @@ module _ (back : WrittenBytesAreRead) (sizes : WrittenBytesHaveLengths) (only : 
   sid_again sid rest fits =
       let behind : drop (8 + 4 * length sid.subs) (bytes_of sid ++ rest) ≡ rest =
       ap (λ (n : ℕ). drop n (bytes_of sid ++ rest)) (sym (sizes sid)) ∙ drop-append_seam (bytes_of sid) rest in
-      rw (back sid rest fits, behind) refl
+      ap (λ (r : Result SidValue BytesError). result_ok r >>= λ s. Some (s, drop (8 + 4 * length s.subs) (bytes_of sid ++ rest)))
+      (back sid rest fits)
+      ∙ ap (λ (r : List ℕ). Some (sid, r)) behind

@@ -10,6 +10,7 @@ use crate::row::{AccountRow, AliasRow, DomainRow, LsaRow, MemberRow};
 use crate::rows::Rows;
 use acct_calls::NoMemory;
 use acct_keeper::Pair;
+use dtyp_sid::laws::{read_bytes_are_written, written_bytes_are_read, written_bytes_have_lengths};
 use std::alloc::Global;
 
 fn push_domains(alloc: Global, pairs: &mut Vec<Pair>, rows: &[DomainRow]) -> Result<(), NoMemory>
@@ -81,6 +82,9 @@ impl Rows {
         requires { IsSoundRows self.now.lists }
         ensures { IfOk result (λ pairs. ArePairsOf self.now.lists pairs.items) }
     {
+        written_bytes_are_read();
+        written_bytes_have_lengths();
+        read_bytes_are_written();
         let mut pairs = all_pairs(alloc, self)?;
         pairs.sort_by(|left, right| left.key.as_slice().cmp(right.key.as_slice()))?;
         Ok(pairs)
