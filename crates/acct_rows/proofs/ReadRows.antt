@@ -4,6 +4,7 @@ use Rattle.std.proofs.Common.{length, Option, Some, None, refl, sym, ap, subst, 
 use Rattle.std.specs.List.{flat_map, AllByRecursion}
 use Rattle.std.specs.Cmp.{first_so, second_so}
 use Rattle.std.proofs.lemmas.Bool.{eqb-true}
+use Rattle.std.proofs.Common.{append_assoc}
 use Rattle.std.proofs.lemmas.List.{append-nil}
 use Rattle.std.proofs.lemmas.List.Elements.{All-from_recursion}
 use Rattle.acct_codes.specs.declared.kind.Kind.{Kind}
@@ -45,6 +46,14 @@ KeyRead letter bytes key = FitsKey key × (letter ∷ bytes ≡ stored_key key)
 -- nothing stands behind the last field
 last : (front bytes rest : List ℕ) → bytes ≡ front ++ rest → rest ≡ [] → bytes ≡ front
 last front bytes rest parts none = parts ∙ ap (λ (r : List ℕ). front ++ r) none ∙ append-nil front
+
+-- fields one behind the other, however they are grouped
+pub four_fields : (a b c d : List ℕ) → a ++ (b ++ (c ++ d)) ≡ ((a ++ b) ++ c) ++ d
+four_fields a b c d = sym (append_assoc (a ++ b) c d ∙ append_assoc a b (c ++ d))
+
+pub five_fields : (a b c d e : List ℕ) → a ++ (b ++ (c ++ (d ++ e))) ≡ (((a ++ b) ++ c) ++ d) ++ e
+five_fields a b c d e =
+    sym (append_assoc ((a ++ b) ++ c) d e ∙ append_assoc (a ++ b) c (d ++ e) ∙ append_assoc a b (c ++ (d ++ e)))
 
 chosen : {A : Type 0} (test : Bool) (x y z : A) → cond test x y ≡ z
     → ((test ≡ true) × (x ≡ z)) ⊎ ((test ≡ false) × (y ≡ z))
@@ -177,7 +186,8 @@ account_read domain rid value row key fits e =
     let e1 = td.parts ∙ ap (λ (r : List ℕ). text_bytes d.0.0 ++ r) e2 in
     let e0 = tc.parts ∙ ap (λ (r : List ℕ). number_bytes c.0.0 ++ r) e1 in
     let eb = tb.parts ∙ ap (λ (r : List ℕ). number_bytes b.0.0 ++ r) e0 in
-    let is = ta.parts ∙ ap (λ (n : ℕ). n ∷ a.0.1) kind.0 ∙ ap (λ (r : List ℕ). kind_byte k.0 ∷ r) eb in
+    let is = ta.parts ∙ ap (λ (n : ℕ). n ∷ a.0.1) kind.0 ∙ ap (λ (r : List ℕ). kind_byte k.0 ∷ r)
+    (eb ∙ five_fields (number_bytes b.0.0) (number_bytes c.0.0) (text_bytes d.0.0) (text_bytes f.0.0) (text_bytes h.0.0)) in
     subst (λ r. IsSpelled (record { key = stored_key (keys.Account domain rid); value = value }) r) g.1 (record {
       fits = record {
         domain = key.0;
@@ -290,7 +300,8 @@ module _ (back : WrittenBytesAreRead) (sizes : WrittenBytesHaveLengths) (only : 
       let e2 = td.parts ∙ ap (λ (r : List ℕ). text_bytes d.0.0 ++ r) e3 in
       let e1 = tc.parts ∙ ap (λ (r : List ℕ). bytes_of c.0.0 ++ r) e2 in
       let e0 = tb.parts ∙ ap (λ (n : ℕ). n ∷ b.0.1) size ∙ ap (λ (r : List ℕ). length (bytes_of c.0.0) ∷ r) e1 in
-      let is = ta.parts ∙ ap (λ (r : List ℕ). number_bytes a.0.0 ++ r) e0 in
+      let is = ta.parts ∙ ap (λ (r : List ℕ). number_bytes a.0.0 ++ r) e0
+      ∙ four_fields (number_bytes a.0.0) (length (bytes_of c.0.0) ∷ bytes_of c.0.0) (text_bytes d.0.0) (text_bytes f.0.0) in
       subst (λ r. IsSpelled (record { key = stored_key (keys.Domain number); value = value }) r) g.1 (record {
         fits = record { number = key; sid = tc.fits; name = td.fits; oem = tf.fits; next_rid = ta.fits };
         spelled = ap (λ (v : List ℕ). record { key = stored_key (keys.Domain number); value = v }) is;

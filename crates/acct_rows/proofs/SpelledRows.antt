@@ -28,7 +28,7 @@ use Rattle.acct_rows.specs.declared.row.RowKey.{RowKey}
 use Rattle.acct_rows.specs.declared.row.RowKey.TheVariants as keys
 use Rattle.acct_rows.proofs.Taken.{byte_again, number_again, rid_again, text_again, held_again, many_again}
 use Rattle.acct_rows.proofs.Taken.{domain_number_again, sid_again}
-use Rattle.acct_rows.proofs.ReadRows.{FitsKey}
+use Rattle.acct_rows.proofs.ReadRows.{FitsKey, four_fields, five_fields}
 
 -- a last field is read where nothing stands behind it
 rid_last : (n : ℕ) → n < 2 ^ 32 → rid_at (rid_bytes n) ≡ Some (n, [])
@@ -55,8 +55,10 @@ same_number n = grind (arith, nat_tests)
 account_value_again : (a : AccountRow) → FitsAccount a → account_of a.domain a.rid (account_value a) ≡ Some (rows.Account a)
 unfolding account_of account_value
 account_value_again a fits =
-    let tail = number_bytes a.bits ++ number_bytes a.primary ++ text_bytes a.name ++ text_bytes a.full_name
-    ++ text_bytes a.comment in
+    let tail = number_bytes a.bits ++ (number_bytes a.primary ++ (text_bytes a.name ++ (text_bytes a.full_name
+    ++ text_bytes a.comment))) in
+    let grouped = ap (λ (r : List ℕ). account_of a.domain a.rid (kind_byte a.kind ∷ r)) (sym (five_fields
+    (number_bytes a.bits) (number_bytes a.primary) (text_bytes a.name) (text_bytes a.full_name) (text_bytes a.comment))) in
     let rest : Kind → List ℕ → Option Row = λ kind bytes. number_at bytes >>= λ bits.
     number_at bits.1 >>= λ primary. text_at primary.1 >>= λ name. text_at name.1 >>= λ full_name.
     text_at full_name.1 >>= λ comment. only_if (is_end comment.1) (rows.Account (record {
@@ -67,14 +69,14 @@ account_value_again a fits =
     let second = ap (λ (o : Option Kind). o >>= λ kind. rest kind tail) (kind_again a.kind fits.kind) in
     let third : rest a.kind tail ≡ Some (rows.Account a) =
     rw (
-      number_again a.bits (number_bytes a.primary ++ text_bytes a.name ++ text_bytes a.full_name
-          ++ text_bytes a.comment) fits.bits,
-      number_again a.primary (text_bytes a.name ++ text_bytes a.full_name ++ text_bytes a.comment) fits.primary,
+      number_again a.bits (number_bytes a.primary ++ (text_bytes a.name ++ (text_bytes a.full_name
+          ++ text_bytes a.comment))) fits.bits,
+      number_again a.primary (text_bytes a.name ++ (text_bytes a.full_name ++ text_bytes a.comment)) fits.primary,
       text_again a.name (text_bytes a.full_name ++ text_bytes a.comment) fits.name,
       text_again a.full_name (text_bytes a.comment) fits.full_name,
       text_last a.comment fits.comment,
     ) refl in
-    first ∙ second ∙ third
+    grouped ∙ first ∙ second ∙ third
 
 member_value_again : (m : MemberRow) → FitsMember m
     → member_of m.group m.user (number_bytes m.attributes) ≡ Some (rows.Member m)
@@ -107,10 +109,12 @@ module _ (back : WrittenBytesAreRead) (sizes : WrittenBytesHaveLengths) (only : 
   domain_value_again d fits =
       let size : (length (bytes_of d.sid) == 8 + 4 * length d.sid.subs) ≡ true =
       ap (λ (n : ℕ). n == 8 + 4 * length d.sid.subs) (sizes d.sid) ∙ same_number (8 + 4 * length d.sid.subs) in
-      rw (
-        number_again d.next_rid (length (bytes_of d.sid) ∷ bytes_of d.sid ++ text_bytes d.name ++ text_bytes d.oem)
+      let grouped = ap (λ (v : List ℕ). domain_of d.number v) (sym (four_fields (number_bytes d.next_rid)
+      (length (bytes_of d.sid) ∷ bytes_of d.sid) (text_bytes d.name) (text_bytes d.oem))) in
+      grouped ∙ rw (
+        number_again d.next_rid (length (bytes_of d.sid) ∷ (bytes_of d.sid ++ (text_bytes d.name ++ text_bytes d.oem)))
             fits.next_rid,
-        byte_again (length (bytes_of d.sid)) (bytes_of d.sid ++ text_bytes d.name ++ text_bytes d.oem),
+        byte_again (length (bytes_of d.sid)) (bytes_of d.sid ++ (text_bytes d.name ++ text_bytes d.oem)),
         sid_again back sizes only d.sid (text_bytes d.name ++ text_bytes d.oem) fits.sid,
         text_again d.name (text_bytes d.oem) fits.name,
         text_last d.oem fits.oem,

@@ -2,7 +2,9 @@
 use Rattle.std.specs.Prelude.{◌≡◌, ℕ, Bool, true, List, ◌∷◌, ◌++◌, map, All, ◌⊎◌, Some, ◌↔◌}
 use Rattle.acct_keeper.specs.declared.pairs.Pair.{Pair}
 use Rattle.acct_keeper.specs.Pairs.{is_ascending}
-use Rattle.acct_rows.specs.Rows.{Lists, domain_at, account_at, member_at, alias_row_at, lsa_at}
+use Rattle.acct_rows.specs.Keyed.{is_ascending as is_rising}
+use Rattle.acct_rows.specs.Rows.{Lists, domain_key, account_key, member_key, alias_key, lsa_key}
+use Rattle.acct_rows.specs.Rows.{domain_at, account_at, member_at, alias_row_at, lsa_at}
 use Rattle.acct_rows.specs.Sound.{IsSoundRows}
 use Rattle.acct_rows.specs.Spelled.{pair_of, format_pair, FitsDomain, FitsAccount, FitsMember, FitsAlias, FitsLsa}
 use Rattle.acct_rows.specs.PairRules.{pair_at, AreUnbroken}
@@ -64,9 +66,20 @@ abbrev pub all_pairs : Lists → List Pair
 all_pairs lists = format_pair ∷ (domain_pairs lists.domains ++ (account_pairs lists.accounts
     ++ (member_pairs lists.members ++ (alias_pairs lists.aliases ++ lsa_pairs lists.lsa))))
 
--- the pairs of sound rows break no rule
-abbrev pub SoundRowsBreakNone : Type 0
-SoundRowsBreakNone = (lists : Lists) (pairs : List Pair) → IsSoundRows lists → HoldPairs lists pairs → AreUnbroken pairs
+-- rows by strictly ascending key, as tables hold them
+pub record AreTables (lists : Lists) : Type 0 where
+  pub domains : is_rising domain_key lists.domains ≡ true
+  pub accounts : is_rising account_key lists.accounts ≡ true
+  pub members : is_rising member_key lists.members ≡ true
+  pub aliases : is_rising alias_key lists.aliases ≡ true
+  pub lsa : is_rising lsa_key lists.lsa ≡ true
+
+-- the pairs of sound rows break no rule, and rows whose pairs break none are sound
+pub record SoundIsUnbroken : Type 0 where
+  pub sound_breaks_none : (lists : Lists) (pairs : List Pair) → IsSoundRows lists → ArePairsOf lists pairs
+      → AreUnbroken pairs
+  pub unbroken_is_sound : (lists : Lists) (pairs : List Pair) → AreTables lists → AllFit lists → ArePairsOf lists pairs
+      → AreUnbroken pairs → IsSoundRows lists
 
 -- rows with the same pairs are the same rows, and they have the same pairs
 pub record PairsAreOfOne : Type 0 where

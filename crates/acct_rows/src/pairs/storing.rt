@@ -76,17 +76,24 @@ fn all_pairs(alloc: Global, rows: &Rows) -> Result<Vec<Pair>, NoMemory>
     Ok(pairs)
 }
 
+fn sorted_pairs(alloc: Global, rows: &Rows) -> Result<Vec<Pair>, NoMemory>
+    requires { IsSoundRows rows.now.lists }
+    ensures { IfOk result (λ pairs. ArePairsOf rows.now.lists pairs.items) }
+{
+    written_bytes_are_read();
+    written_bytes_have_lengths();
+    read_bytes_are_written();
+    let mut pairs = all_pairs(alloc, rows)?;
+    pairs.sort_by(|left, right| left.key.as_slice().cmp(right.key.as_slice()))?;
+    Ok(pairs)
+}
+
 impl Rows {
     /// The pairs of sound rows by ascending key. It takes time as sorting them does.
     pub fn to_pairs(&self, alloc: Global) -> Result<Vec<Pair>, NoMemory>
         requires { IsSoundRows self.now.lists }
         ensures { IfOk result (λ pairs. ArePairsOf self.now.lists pairs.items) }
     {
-        written_bytes_are_read();
-        written_bytes_have_lengths();
-        read_bytes_are_written();
-        let mut pairs = all_pairs(alloc, self)?;
-        pairs.sort_by(|left, right| left.key.as_slice().cmp(right.key.as_slice()))?;
-        Ok(pairs)
+        sorted_pairs(alloc, self)
     }
 }
