@@ -10,8 +10,11 @@ use Rattle.std.proofs.lemmas.List.Elements.{recursion_from_All}
 use Rattle.acct_codes.specs.declared.kind.Kind.{Kind}
 use Rattle.acct_codes.specs.declared.kind.Kind.TheVariants.{Server, Domain, Group, Alias, User, Policy, Account}
 use Rattle.dtyp_sid.specs.Value.{SidValue, IsSid}
-use Rattle.acct_calls.specs.CodePoints.{AreUnits}
-use Rattle.acct_calls.specs.Domains.{builtin_name, is_domain_name}
+use Rattle.acct_calls.specs.CodePoints.{AreUnits, units_of}
+use Rattle.std.specs.Str.{chars}
+use Rattle.acct_calls.specs.Domains.{builtin_name, authority_name, is_domain_name}
+use Rattle.acct_calls.specs.Folding.{is_same}
+use Rattle.acct_codes.specs.Limits.{most_domain_name}
 use Rattle.acct_calls.specs.Validity.{is_valid_name, has_length, all_may_stand, is_dots_and_spaces, most_units}
 use Rattle.acct_codes.specs.SystemAccess.{known_system_access}
 use Rattle.acct_rows.specs.Rows.{Lists, account_key, domain_at, account_at, member_at, alias_row_at, same_kind, is_of}
@@ -31,12 +34,20 @@ use Rattle.acct_rows.proofs.Keeping.{each_good, each_member_found, each_lsa_good
 -- a name that a domain may have is short
 domain_name_short : (name : List ℕ) → is_domain_name name ≡ true → length name < 2 ^ 16
 unfolding is_domain_name
-domain_name_short name e = let few = first_so _ _ (first_so _ _ (first_so _ _ e)) in grind (arith, nat_tests)
+domain_name_short name e =
+    let few : nat_le (length name) most_domain_name ≡ true =
+    first_so _ (is_valid_name Group name) (first_so _ (not (is_same name builtin_name))
+    (first_so _ (not (is_same name authority_name)) e)) in
+    grind (arith, nat_tests)
 
 zero_or_one : (n : ℕ) → n ≤ 1 → (n ≡ 0) ⊎ (n ≡ 1)
 zero_or_one zero le = inl refl
 zero_or_one (suc zero) le = inr refl
 zero_or_one (suc (suc n)) le = absurd (omega arith)
+
+builtin_short : nat_le (length builtin_name) most_domain_name ≡ true
+unfolding chars units_of
+builtin_short = refl
 
 pub domain_fits : (d : DomainRow) → IsGoodDomain d → FitsDomain d
 domain_fits d good = record {
@@ -45,7 +56,8 @@ domain_fits d good = record {
   name = record {
     count = elim (zero_or_one d.number good.number_most) [
       | inl is ↦ domain_name_short d.name (good.account_name is)
-      | inr is ↦ subst (λ (name : List ℕ). length name < 2 ^ 16) (sym (good.builtin_named is)) (omega arith)
+      | inr is ↦ subst (λ (name : List ℕ). length name < 2 ^ 16) (sym (good.builtin_named is))
+          (let few = builtin_short in grind (arith, nat_tests))
     ];
     units_fit = good.name_units;
   };
@@ -65,7 +77,8 @@ few_units Account = omega arith
 valid_name_short : (kind : Kind) (name : List ℕ) → is_valid_name kind name ≡ true → length name < 2 ^ 16
 unfolding is_valid_name
 valid_name_short kind name e =
-    let most = second_so _ _ (first_so _ _ e) in
+    let most : nat_le (length name) (most_units kind) ≡ true =
+    second_so (nat_le 1 (length name)) _ (first_so _ (all_may_stand name && not (is_dots_and_spaces name)) e) in
     let few : length name ≤ most_units kind = grind (arith, nat_tests) in
     let all = few_units kind in
     omega arith
@@ -77,7 +90,7 @@ place_is domain kind e =
       | inr t ↦
           let e : (false || ((domain == 1) && same_kind Alias kind)) ≡ true =
           ap (λ b. b || ((domain == 1) && same_kind Alias kind)) (sym t) ∙ e in
-          let one = first_so _ _ e in
+          let one : (domain == 1) ≡ true = first_so _ (same_kind Alias kind) e in
           let is : domain ≡ 1 = grind (arith, nat_tests) in
           omega arith
     ]
@@ -163,9 +176,9 @@ few_lows : (low : ℕ) (xs : List Held) → low ≤ 30 → are_above low xs ≡ 
     → length xs + low ≤ 30
 few_lows low [] le e all = omega arith
 few_lows low (x ∷ xs) le e all =
-    let above = first_so _ _ e in
+    let above : nat_lt low x.low ≡ true = first_so _ (are_above x.low xs) e in
     let lt : low < x.low = grind (arith, nat_tests) in
-    let rest = few_lows x.low xs all.0 (second_so _ _ e) all.1 in
+    let rest = few_lows x.low xs all.0 (second_so (nat_lt low x.low) _ e) all.1 in
     omega arith
 
 ascend_above : (xs : List Held) → are_above 0 xs ≡ true → ascend xs ≡ true

@@ -132,11 +132,16 @@ module _ (back : WrittenBytesAreRead) (sizes : WrittenBytesHaveLengths) (only : 
   one_member x y e = cc
 
   one_alias : (x y : AliasRow) → key_of (rows.Alias x) ≡ key_of (rows.Alias y) → alias_key x ≡ alias_key y
-  one_alias x y e = let (d : x.domain ≡ y.domain) = cc in let (a : x.alias ≡ y.alias) = cc in
-      let (m : x.member ≡ y.member) = cc in rw (d, a, m) refl
+  one_alias x y e =
+      let d : x.domain ≡ y.domain = cc in
+      let a : x.alias ≡ y.alias = cc in
+      let m : x.member ≡ y.member = cc in
+      rw (d, a, m) refl
 
   one_lsa : (x y : LsaRow) → key_of (rows.Lsa x) ≡ key_of (rows.Lsa y) → lsa_key x ≡ lsa_key y
-  one_lsa x y e = ap sid_key (let (s : x.sid ≡ y.sid) = cc in s)
+  one_lsa x y e =
+      let s : x.sid ≡ y.sid = cc in
+      ap sid_key s
 
   once : (lists : Lists) → IsSoundRows lists → (k : List ℕ) → count k (all_pairs lists) ≤ 1
   once lists sound k =
@@ -208,22 +213,22 @@ module _ (back : WrittenBytesAreRead) (sizes : WrittenBytesHaveLengths) (only : 
   row_listed : (lists : Lists) (row : Row) → IsRowOf lists row → In (pair_of row) (all_pairs lists)
   row_listed lists (rows.Domain d) e =
       inr (in_left _ (domain_pairs lists.domains) _ (in_map (λ x. pair_of (rows.Domain x)) d lists.domains
-      (at_in domain_key _ d lists.domains e)))
+      (at_in domain_key (d.number ∷ []) d lists.domains e)))
   row_listed lists (rows.Account a) e =
       inr (in_right _ (domain_pairs lists.domains) _ (in_left _ (account_pairs lists.accounts) _
-      (in_map (λ x. pair_of (rows.Account x)) a lists.accounts (at_in account_key _ a lists.accounts e))))
+      (in_map (λ x. pair_of (rows.Account x)) a lists.accounts (at_in account_key (a.domain ∷ a.rid ∷ []) a lists.accounts e))))
   row_listed lists (rows.Member m) e =
       inr (in_right _ (domain_pairs lists.domains) _ (in_right _ (account_pairs lists.accounts) _
       (in_left _ (member_pairs lists.members) _
-      (in_map (λ x. pair_of (rows.Member x)) m lists.members (at_in member_key _ m lists.members e)))))
+      (in_map (λ x. pair_of (rows.Member x)) m lists.members (at_in member_key (m.group ∷ m.user ∷ []) m lists.members e)))))
   row_listed lists (rows.Alias a) e =
       inr (in_right _ (domain_pairs lists.domains) _ (in_right _ (account_pairs lists.accounts) _
       (in_right _ (member_pairs lists.members) _ (in_left _ (alias_pairs lists.aliases) _
-      (in_map (λ x. pair_of (rows.Alias x)) a lists.aliases (at_in alias_key _ a lists.aliases e))))))
+      (in_map (λ x. pair_of (rows.Alias x)) a lists.aliases (at_in alias_key (a.domain ∷ a.alias ∷ sid_key a.member) a lists.aliases e))))))
   row_listed lists (rows.Lsa l) e =
       inr (in_right _ (domain_pairs lists.domains) _ (in_right _ (account_pairs lists.accounts) _
       (in_right _ (member_pairs lists.members) _ (in_right _ (alias_pairs lists.aliases) (lsa_pairs lists.lsa)
-      (in_map (λ x. pair_of (rows.Lsa x)) l lists.lsa (at_in lsa_key _ l lists.lsa e))))))
+      (in_map (λ x. pair_of (rows.Lsa x)) l lists.lsa (at_in lsa_key (sid_key l.sid) l lists.lsa e))))))
 
   listing : (lists : Lists) (p : Pair) → IsPairOf lists p → In p (all_pairs lists)
   listing lists p (inl e) = inl e

@@ -48,7 +48,7 @@ in_either a (x ∷ xs) ys (inl e) = inl (inl e)
 in_either a (x ∷ xs) ys (inr e) = elim (in_either a xs ys e) [ inl l ↦ inl (inr l) | inr r ↦ inr r ]
 
 contains_in : {A : Type 0} (a : A) (xs : List A) → Contains xs a → In a xs
-contains_in a xs c = found xs c.0 c.1 c.2
+contains_in {A = A} a xs c = found xs c.0 c.1 c.2
   where
     found : (xs : List A) (k : ℕ) → k < length xs → slice_index_or xs k a ≡ a → In a xs
     found [] k lt e = absurd (omega arith)
@@ -104,7 +104,7 @@ count k [] = 0
 count k (p ∷ ps) = one_if (same_key k p.key) + count k ps
 
 pub count-append : (k : List ℕ) (ps qs : List Pair) → count k (ps ++ qs) ≡ count k ps + count k qs
-count-append k [] qs = refl
+count-append k [] qs = omega arith
 count-append k (p ∷ ps) qs = let rest = count-append k ps qs in omega arith
 
 pub count-permutation : (k : List ℕ) (ps qs : List Pair) → IsPermutation ps qs → count k qs ≡ count k ps
@@ -137,6 +137,9 @@ below k (p ∷ ps) none up =
       let is : is_lt (compare p.key k) ≡ true = ap is_lt turned in
       cc (is, u))
 
+one_more : (k : ℕ) → suc k + 1 ≡ suc (k + 1)
+one_more k = omega arith
+
 pub sorted_ascends : (ps : List Pair) → IsSortedBy precedes ps → ((k : List ℕ) → count k ps ≤ 1)
     → kept.is_ascending ps ≡ true
 sorted_ascends [] up few = refl
@@ -145,7 +148,8 @@ sorted_ascends (p ∷ ps) up few =
     let none : count p.key ps ≡ 0 = (let all = few p.key in omega arith) in
     let first = below p.key ps none (λ j d lt.
     sorted_far precedes (ranks_by nat_list_cmp_total pair_key) (p ∷ ps) up 0 (suc j) d (omega arith) (omega arith)) in
-    let rest = sorted_ascends ps (λ k d le lt. up (suc k) d (omega arith) (omega arith))
+    let rest = sorted_ascends ps (λ k d le lt. subst (λ j. precedes (get_or (p ∷ ps) j d) (get_or ps k d) ≡ false)
+    (one_more k) (up (suc k) d (omega arith) (omega arith)))
     (λ k. let all = few k in omega arith) in
     rw (first, rest) refl
 

@@ -228,16 +228,28 @@ fn read_alias(domain: u8, alias: u32, member: Sid, fields: Fields<'_>) -> Result
     whole(Row::Alias(row), &fields)
 }
 
+// Whether privileges stand by strictly ascending low part, all above a number.
+fn are_above(low: u32, privileges: &[Held]) -> bool
+    ensures { result ≡ are_above low privileges.now }
+{
+    let mut low = low;
+    for held in privileges {
+        if held.low <= low {
+            return false;
+        }
+        low = held.low;
+    }
+    true
+}
+
 /// Whether privileges stand by strictly ascending low part.
 fn ascend(privileges: &[Held]) -> bool
     ensures { result ≡ ascend privileges.now }
 {
-    for i in 1..privileges.len() {
-        if privileges[i].low <= privileges[i - 1].low {
-            return false;
-        }
+    match privileges.split_first() {
+        Some((first, others)) => are_above(first.low, others),
+        None => true,
     }
-    true
 }
 
 #[tactic(auto, unfolding(crate::specs::Stored::lsa_of))]
