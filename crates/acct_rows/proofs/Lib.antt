@@ -1,5 +1,7 @@
 pub mod Tables
+pub mod Translated
 pub mod Places
+pub mod Changed
 pub mod Fitting
 pub mod Halving
 pub mod SpelledRows
@@ -13,6 +15,7 @@ pub mod Seeded
 pub mod Once
 pub mod ReadRows
 pub mod Removals
+pub mod RowsAt
 pub mod Keeping
 pub mod Kept
 pub mod Members

@@ -1,3 +1,4 @@
+pub mod Changes
 pub mod Keyed
 pub mod Laws
 pub mod Objects

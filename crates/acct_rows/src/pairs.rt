@@ -1,4 +1,5 @@
 // Rows as pairs of bytes, and pairs as rows.
+mod changes;
 mod fields;
 pub mod laws;
 mod reading;
