@@ -1,3 +1,4 @@
+pub mod Shuffled
 pub mod Tables
 pub mod Translated
 pub mod Places
@@ -8,6 +9,7 @@ pub mod SpelledRows
 pub mod Taken
 pub mod Together
 pub mod Listed
+pub mod Loaded
 pub mod Lookups
 pub mod Many
 pub mod Passing
@@ -16,6 +18,7 @@ pub mod Once
 pub mod ReadRows
 pub mod Removals
 pub mod RowsAt
+pub mod Judged
 pub mod Keeping
 pub mod Kept
 pub mod Members
@@ -23,4 +26,5 @@ pub mod Moves
 pub mod Purges
 pub mod Rising
 pub mod Without
+pub mod Unbroken
 pub mod Undoing

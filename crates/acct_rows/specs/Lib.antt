@@ -1,6 +1,7 @@
 pub mod Changes
 pub mod Keyed
 pub mod Laws
+pub mod Loading
 pub mod Objects
 pub mod PairRules
 pub mod PairsOf

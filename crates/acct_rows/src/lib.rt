@@ -11,13 +11,14 @@ mod keys;
 pub mod laws;
 mod membership;
 mod object;
-mod pairs;
+pub mod pairs;
 mod plan;
 mod row;
 mod rows;
 mod seed;
 
 pub use object::Object;
+pub use pairs::PairsError;
 pub use plan::Plan;
 pub use row::{
     ACCOUNT_DOMAIN, AccountRow, AliasRow, BUILTIN_DOMAIN, DomainRow, Held, LsaRow, MemberRow,

@@ -2,6 +2,11 @@
 mod changes;
 mod fields;
 pub mod laws;
+mod loading;
 mod reading;
+mod rules;
+mod store;
 mod storing;
 mod writing;
+
+pub use loading::PairsError;
