@@ -1,3 +1,4 @@
+pub mod Again
 pub mod Shuffled
 pub mod Tables
 pub mod Translated

@@ -8,13 +8,15 @@ use Rattle.std.proofs.lemmas.List.Sorted.{IsPermutation-sym}
 use Rattle.acct_codes.specs.declared.kind.Kind.{Kind}
 use Rattle.acct_codes.specs.declared.kind.Kind.TheVariants.{Group, Alias, User}
 use Rattle.acct_keeper.specs.declared.pairs.Pair.{Pair}
-use Rattle.acct_rows.specs.Keyed.{same_key, at, is_ascending}
-use Rattle.acct_rows.specs.Loading.{keys_differ, BadPairs}
+use Rattle.acct_keeper.specs.Pairs as kept
+use Rattle.std.specs.Ordering.{is_lt, is_eq}
+use Rattle.acct_rows.specs.Keyed.{compare, same_key, at, is_ascending}
+use Rattle.acct_rows.specs.Loading.{BadPairs}
 use Rattle.acct_rows.specs.PairRules.{pair_key, pair_at, is_there, domain_in, account_in, is_missing, is_past, is_past_next}
 use Rattle.acct_rows.specs.PairRules.{is_earlier, has_taken_name, lacks_group_or_user, lacks_primary, lacks_alias}
 use Rattle.acct_rows.specs.PairRules.{breaks_alone, breaks_among, breaks_rule, is_format, is_broken_pair, is_broken_at}
 use Rattle.acct_rows.specs.PairRules.{is_broken, AreUnbroken, IsSmallestBroken, is_other, as_domain, as_account}
-use Rattle.acct_rows.specs.PairsOf.{IsPairOf, HoldPairs}
+use Rattle.acct_rows.specs.PairsOf.{IsPairOf, HoldPairs, keys_differ, AscendingKeysDiffer}
 use Rattle.acct_rows.specs.Rows.{Lists, same_kind}
 use Rattle.acct_rows.specs.Spelled.{stored_key}
 use Rattle.acct_rows.specs.Stored.{◌>>=◌, row_of}
@@ -23,7 +25,7 @@ use Rattle.acct_rows.specs.declared.pairs.loading.PairsError.TheVariants.{BadPai
 use Rattle.acct_rows.specs.declared.row.Row.{Row}
 use Rattle.acct_rows.specs.declared.row.Row.TheVariants as rows
 use Rattle.acct_rows.specs.declared.row.RowKey.TheVariants as keys
-use Rattle.acct_rows.proofs.Tables.{same_key-is, same_key-itself}
+use Rattle.acct_rows.proofs.Tables.{same_key-is, same_key-itself, less}
 use Rattle.acct_rows.proofs.Lookups.{tested, there_or_not, key_found}
 use Rattle.acct_rows.proofs.Members.{In, at_in, in_at, in_permutation, count, count-permutation, one_if, precedes}
 use Rattle.acct_rows.proofs.Members.{sorted_ascends, ascending-kept}
@@ -74,6 +76,20 @@ shuffled_ascend ps qs differ perm up =
     let once : (k : List ℕ) → count k qs ≤ 1 =
     λ k. (let same = count-permutation k ps qs perm in let all = stands_once ps differ k in omega arith) in
     ascending-kept qs ∙ sorted_ascends qs up once
+
+-- pairs that ascend have no key twice
+below_differ : (k : List ℕ) (ps : List Pair) → kept.below_all k ps ≡ true → list_any (λ q. same_key k q.key) ps ≡ false
+below_differ k [] e = refl
+below_differ k (p ∷ ps) e =
+    let parts = both_parts (is_lt (compare k p.key)) (kept.below_all k ps) e in
+    let apart : same_key k p.key ≡ false = ap is_eq (less (compare k p.key) parts.0) in
+    ap (λ b. b || list_any (λ q. same_key k q.key) ps) apart ∙ below_differ k ps parts.1
+
+pub ascending_differ : AscendingKeysDiffer
+ascending_differ [] e = refl
+ascending_differ (p ∷ ps) e =
+    let parts = both_parts (kept.below_all p.key ps) (kept.is_ascending ps) e in
+    ap (λ b. not b && keys_differ ps) (below_differ p.key ps parts.0) ∙ ascending_differ ps parts.1
 
 in_counts : (p : Pair) (ps : List Pair) → In p ps → 1 ≤ count p.key ps
 in_counts p [] i = absurd i

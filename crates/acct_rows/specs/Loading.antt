@@ -1,10 +1,9 @@
 -- Which pairs are loaded, and as which rows
-use Rattle.std.specs.Prelude.{◌≡◌, ℕ, Bool, true, ◌&&◌, not, List, [], ◌∷◌, Option, Some, None, is_some, option_map, find}
+use Rattle.std.specs.Prelude.{◌≡◌, ℕ, not, List, [], ◌∷◌, Option, Some, None, is_some, option_map, find}
 use Rattle.std.specs.Prelude.{if◌then◌else◌}
-use Rattle.std.specs.List.{list_any}
 use Rattle.std.specs.Ordering.{is_lt}
 use Rattle.acct_keeper.specs.declared.pairs.Pair.{Pair}
-use Rattle.acct_keeper.specs.Pairs.{compare, same_key}
+use Rattle.acct_keeper.specs.Pairs.{compare}
 use Rattle.acct_rows.specs.PairRules.{pair_at, is_broken_pair, needed, IsSmallestBroken}
 use Rattle.acct_rows.specs.Rows.{Lists}
 use Rattle.acct_rows.specs.Spelled.{IsSpelled}
@@ -12,11 +11,6 @@ use Rattle.acct_rows.specs.Stored.{row_of}
 use Rattle.acct_rows.specs.declared.pairs.loading.PairsError.{PairsError}
 use Rattle.acct_rows.specs.declared.pairs.loading.PairsError.TheVariants.{BadPair, Memory}
 use Rattle.acct_rows.specs.declared.row.Row.{Row}
-
--- no key stands twice
-abbrev pub keys_differ : List Pair → Bool
-keys_differ [] = true
-keys_differ (p ∷ ps) = not (list_any (λ q. same_key p.key q.key) ps) && keys_differ ps
 
 -- why pairs are no rows: the smallest broken key, or want of memory, which has no cause in the pairs
 abbrev pub BadPairs : List Pair → PairsError → Type 0

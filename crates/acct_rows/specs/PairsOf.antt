@@ -1,7 +1,8 @@
 -- The pairs of the rows, and the laws between rows and pairs
-use Rattle.std.specs.Prelude.{◌≡◌, ℕ, Bool, true, List, ◌∷◌, ◌++◌, map, All, ◌⊎◌, Some, ◌↔◌}
+use Rattle.std.specs.Prelude.{◌≡◌, ℕ, Bool, true, ◌&&◌, not, List, [], ◌∷◌, ◌++◌, map, All, ◌⊎◌, Some, ◌↔◌}
+use Rattle.std.specs.List.{list_any}
 use Rattle.acct_keeper.specs.declared.pairs.Pair.{Pair}
-use Rattle.acct_keeper.specs.Pairs.{is_ascending}
+use Rattle.acct_keeper.specs.Pairs.{same_key, is_ascending}
 use Rattle.acct_rows.specs.Keyed.{is_ascending as is_rising}
 use Rattle.acct_rows.specs.Rows.{Lists, domain_key, account_key, member_key, alias_key, lsa_key}
 use Rattle.acct_rows.specs.Rows.{domain_at, account_at, member_at, alias_row_at, lsa_at}
@@ -36,6 +37,11 @@ HoldPairs lists pairs = (pair : Pair) → (pair_at pair.key pairs ≡ Some pair)
 pub record ArePairsOf (lists : Lists) (pairs : List Pair) : Type 0 where
   pub ascending : is_ascending pairs ≡ true
   pub held : HoldPairs lists pairs
+
+-- no key stands twice
+abbrev pub keys_differ : List Pair → Bool
+keys_differ [] = true
+keys_differ (p ∷ ps) = not (list_any (λ q. same_key p.key q.key) ps) && keys_differ ps
 
 -- every row has a spelling
 pub record AllFit (lists : Lists) : Type 0 where
@@ -81,9 +87,11 @@ pub record SoundIsUnbroken : Type 0 where
   pub unbroken_is_sound : (lists : Lists) (pairs : List Pair) → AreTables lists → AllFit lists → ArePairsOf lists pairs
       → AreUnbroken pairs → IsSoundRows lists
 
--- rows with the same pairs are the same rows, and they have the same pairs
-pub record PairsAreOfOne : Type 0 where
-  pub one_rows : (lists others : Lists) (pairs : List Pair) → IsSoundRows lists → IsSoundRows others
-      → HoldPairs lists pairs → HoldPairs others pairs → lists ≡ others
-  pub one_pairs : (lists : Lists) (pairs others : List Pair) → IsSoundRows lists → ArePairsOf lists pairs
-      → ArePairsOf lists others → pairs ≡ others
+-- sound rows with the same pairs are the same rows
+abbrev pub PairsAreOfOne : Type 0
+PairsAreOfOne = (lists others : Lists) (pairs : List Pair) → IsSoundRows lists → IsSoundRows others
+    → HoldPairs lists pairs → HoldPairs others pairs → lists ≡ others
+
+-- pairs that ascend hold no key twice
+abbrev pub AscendingKeysDiffer : Type 0
+AscendingKeysDiffer = (pairs : List Pair) → is_ascending pairs ≡ true → keys_differ pairs ≡ true

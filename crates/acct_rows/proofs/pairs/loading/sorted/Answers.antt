@@ -2,7 +2,7 @@
 use Rattle.std.proofs.Common.{◌≡◌, true, subst, sym, rules}
 use Rattle.std.specs.Cmp.Lexicographic.{nat_list_cmp_total}
 use Rattle.std.proofs.lemmas.List.Sorted.{ranks_by, answers_always}
-use Rattle.acct_rows.specs.Loading.{keys_differ}
+use Rattle.acct_rows.specs.PairsOf.{keys_differ}
 use Rattle.acct_rows.specs.PairRules.{pair_key}
 use Rattle.acct_rows.proofs.Shuffled.{shuffled_ascend}
 use Rattle.acct_rows.proofs.pairs.loading.sorted.Goals as goal
