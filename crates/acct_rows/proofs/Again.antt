@@ -1,11 +1,10 @@
 -- Sound rows with the same pairs are the same rows.
-use Rattle.std.proofs.Common.{◌≡◌, List, Some, refl, sym, ap, subst, ◌∙◌, inl, inr}
+use Rattle.std.proofs.Common.{◌≡◌, List, refl, sym, ap, subst, ◌∙◌, inl, inr}
 use Rattle.dtyp_sid.specs.Bytes.{WrittenBytesAreRead, WrittenBytesHaveLengths, ReadBytesAreWritten}
 use Rattle.acct_keeper.specs.declared.pairs.Pair.{Pair}
 use Rattle.acct_rows.specs.PairRules.{pair_key}
 use Rattle.acct_rows.specs.PairsOf.{IsRowOf, HoldPairs, PairsAreOfOne}
 use Rattle.acct_rows.specs.Rows.{Lists}
-use Rattle.acct_rows.specs.Sound.{IsSoundRows}
 use Rattle.acct_rows.specs.Spelled.{key_of, pair_of, Fits}
 use Rattle.acct_rows.specs.Stored.{row_of}
 use Rattle.acct_rows.specs.declared.row.Row.{Row}

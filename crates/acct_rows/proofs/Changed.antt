@@ -1,8 +1,7 @@
 -- The changes of a plan take the pairs of the rows to those of the rows after it.
-use Rattle.std.proofs.Common.{◌≡◌, ◌≢◌, ◌↔◌, ℕ, ◌==◌, Bool, true, false, ◌&&◌, ◌||◌, cond, List, [], ◌∷◌, ◌++◌}
+use Rattle.std.proofs.Common.{◌≡◌, ◌≢◌, ◌↔◌, ℕ, Bool, true, false, ◌&&◌, ◌||◌, cond, List, [], ◌∷◌, ◌++◌}
 use Rattle.std.proofs.Common.{Option, Some, None, refl, sym, ap, subst, ◌∙◌, inl, inr, ◌⊎◌}
 use Rattle.std.specs.Prelude.{is_some, option_map, not}
-use Rattle.std.specs.List.{list_any}
 use Rattle.std.specs.Str.{bytes_eq}
 use Rattle.std.proofs.lemmas.Slice.Eq.{bytes_eq-Decides}
 use Rattle.std.specs.declared.cmp.Ordering.{Ordering}
@@ -14,9 +13,9 @@ use Rattle.acct_keeper.specs.declared.pairs.Change.{Change}
 use Rattle.acct_keeper.specs.Pairs as kept
 use Rattle.acct_rows.specs.Changes.{Follow, row_at, stored_at, same_row_key, is_put, has_value, where_so, removal, removals}
 use Rattle.acct_rows.specs.Changes.{row_written, last_written, rows_written, changes_of, LastFit}
-use Rattle.acct_rows.specs.Keyed.{compare, same_key, by_order, at, put, without, is_ascending}
+use Rattle.acct_rows.specs.Keyed.{compare, same_key, by_order, put, is_ascending}
 use Rattle.acct_rows.specs.PairRules.{pair_key, pair_at}
-use Rattle.acct_rows.specs.PairsOf.{AllFit, IsRowOf, IsPairOf, HoldPairs, ArePairsOf}
+use Rattle.acct_rows.specs.PairsOf.{IsRowOf, IsPairOf, HoldPairs}
 use Rattle.acct_rows.specs.Rows.{Lists, put_row, removed, with_puts, after}
 use Rattle.acct_rows.specs.Sound.{IsSoundRows}
 use Rattle.acct_rows.specs.Spelled.{stored_key, stored_value, key_of, pair_of, format_key, format_pair, Fits}

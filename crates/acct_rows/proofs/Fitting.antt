@@ -1,7 +1,7 @@
 -- Sound rows have spellings.
-use Rattle.std.proofs.Common.{◌≡◌, ℕ, zero, suc, ◌+◌, ◌-◌, ◌^◌, ◌<◌, ◌≤◌, ◌==◌, nat_lt, Bool, true, false, ◌&&◌, ◌||◌, cond}
-use Rattle.std.proofs.Common.{List, [], ◌∷◌, length, All, Option, Some, None, refl, sym, ap, subst, ◌∙◌, arith, inl, inr, ◌⊎◌}
-use Rattle.std.specs.Prelude.{is_some, bit_and, nat_le, not}
+use Rattle.std.proofs.Common.{◌≡◌, ℕ, zero, suc, ◌+◌, ◌^◌, ◌<◌, ◌≤◌, ◌==◌, nat_lt, true, false, ◌&&◌, ◌||◌}
+use Rattle.std.proofs.Common.{List, [], ◌∷◌, length, All, Some, refl, sym, ap, subst, ◌∙◌, arith, inl, inr, ◌⊎◌}
+use Rattle.std.specs.Prelude.{nat_le, not}
 use Rattle.std.specs.List.{AllByRecursion}
 use Rattle.std.specs.Cmp.{first_so, second_so}
 use Rattle.std.proofs.lemmas.Bool.Decides.{nat_tests}
@@ -9,18 +9,17 @@ use Rattle.std.proofs.lemmas.Nat.{and_le_r}
 use Rattle.std.proofs.lemmas.List.Elements.{recursion_from_All}
 use Rattle.acct_codes.specs.declared.kind.Kind.{Kind}
 use Rattle.acct_codes.specs.declared.kind.Kind.TheVariants.{Server, Domain, Group, Alias, User, Policy, Account}
-use Rattle.dtyp_sid.specs.Value.{SidValue, IsSid}
-use Rattle.acct_calls.specs.CodePoints.{AreUnits, units_of}
+use Rattle.acct_calls.specs.CodePoints.{units_of}
 use Rattle.std.specs.Str.{chars}
 use Rattle.acct_calls.specs.Domains.{builtin_name, authority_name, is_domain_name}
 use Rattle.acct_calls.specs.Folding.{is_same}
 use Rattle.acct_codes.specs.Limits.{most_domain_name}
-use Rattle.acct_calls.specs.Validity.{is_valid_name, has_length, all_may_stand, is_dots_and_spaces, most_units}
+use Rattle.acct_calls.specs.Validity.{is_valid_name, all_may_stand, is_dots_and_spaces, most_units}
 use Rattle.acct_codes.specs.SystemAccess.{known_system_access}
 use Rattle.acct_rows.specs.Rows.{Lists, account_key, domain_at, account_at, member_at, alias_row_at, same_kind, is_of}
-use Rattle.acct_rows.specs.Sound.{IsGoodDomain, IsGoodAccount, IsGoodRow, IsGoodLsa, IsKnown, IsSoundRows, good_place}
+use Rattle.acct_rows.specs.Sound.{IsGoodDomain, IsGoodAccount, IsGoodLsa, IsSoundRows, good_place}
 use Rattle.acct_rows.specs.Sound.{good_primary, next_rid_of, are_above}
-use Rattle.acct_rows.specs.Spelled.{FitsText, FitsDomain, FitsAccount, FitsMember, FitsAlias, FitsHeld, FitsLsa, ascend}
+use Rattle.acct_rows.specs.Spelled.{FitsDomain, FitsAccount, FitsMember, FitsAlias, FitsLsa, ascend}
 use Rattle.acct_rows.specs.PairsOf.{AllFit}
 use Rattle.acct_rows.specs.declared.row.DomainRow.{DomainRow}
 use Rattle.acct_rows.specs.declared.row.AccountRow.{AccountRow}

@@ -1,9 +1,9 @@
 -- Sound rows are those whose pairs break no rule.
-use Rattle.std.proofs.Common.{◌≡◌, ◌≢◌, ℕ, zero, suc, ◌^◌, ◌<◌, ◌≤◌, ◌==◌, nat_lt, Bool, true, false, ◌&&◌, ◌||◌, cond}
-use Rattle.std.proofs.Common.{List, [], ◌∷◌, ◌++◌, length, All, Option, Some, None, refl, sym, ap, subst, ◌∙◌, arith}
+use Rattle.std.proofs.Common.{◌≡◌, ℕ, zero, suc, ◌<◌, ◌≤◌, ◌==◌, nat_lt, Bool, true, false, ◌&&◌, ◌||◌}
+use Rattle.std.proofs.Common.{List, [], ◌∷◌, length, All, refl, ap, ◌∙◌, arith}
 use Rattle.std.proofs.Common.{inl, inr, ◌⊎◌, get_or}
-use Rattle.std.specs.Prelude.{is_some, option_map, not, nat_le, bit_and}
-use Rattle.std.specs.List.{list_any, list_all}
+use Rattle.std.specs.Prelude.{not, nat_le, bit_and}
+use Rattle.std.specs.List.{list_all}
 use Rattle.std.specs.Str.{bytes_eq}
 use Rattle.std.specs.Cmp.{first_so, second_so}
 use Rattle.std.proofs.lemmas.Bool.Decides.{nat_tests}
@@ -19,9 +19,9 @@ use Rattle.acct_calls.specs.Domains.{builtin_name, builtin_sid, is_domain_name, 
 use Rattle.acct_calls.specs.Validity.{is_valid_name}
 use Rattle.acct_rows.specs.Rows.{same_kind}
 use Rattle.acct_rows.specs.Sound.{IsGoodDomain, IsGoodRow, IsGoodLsa, good_bits, good_primary, good_place, control_is_good}
-use Rattle.acct_rows.specs.Sound.{is_account_kind, are_above, IsKnown}
+use Rattle.acct_rows.specs.Sound.{is_account_kind, are_above}
 use Rattle.acct_rows.specs.Spelled.{FitsDomain, FitsAccount, FitsLsa, ascend}
-use Rattle.acct_rows.specs.PairRules.{has_bad_text, has_bad_control, has_needless_number, has_unknown_right, has_bad_next}
+use Rattle.acct_rows.specs.PairRules.{has_bad_text, has_bad_control, has_needless_number, has_bad_next}
 use Rattle.acct_rows.specs.PairRules.{is_misplaced, is_bad_account_domain, is_bad_builtin, breaks_alone, is_known_low}
 use Rattle.acct_rows.specs.declared.row.DomainRow.{DomainRow}
 use Rattle.acct_rows.specs.declared.row.AccountRow.{AccountRow}

@@ -1,24 +1,23 @@
 -- The pairs of all rows have different keys, and once sorted they are the pairs of the rows.
-use Rattle.std.proofs.Common.{◌≡◌, ◌≢◌, ℕ, zero, suc, ◌+◌, ◌<◌, ◌≤◌, Bool, true, false, ◌&&◌, cond, List, [], ◌∷◌, ◌++◌}
-use Rattle.std.proofs.Common.{length, get_or, map, All, Option, Some, None, refl, sym, ap, subst, ◌∙◌, arith, inl, inr, ◌⊎◌}
+use Rattle.std.proofs.Common.{◌≡◌, ℕ, ◌+◌, ◌≤◌, Bool, true, false, List, [], ◌∷◌, ◌++◌}
+use Rattle.std.proofs.Common.{map, Option, Some, None, refl, sym, ap, subst, ◌∙◌, arith, inl, inr}
 use Rattle.std.specs.List.{AllByRecursion}
 use Rattle.std.specs.List.Sorted.{IsPermutation, IsSortedBy}
 use Rattle.std.specs.Cmp.{tied_itself, first_so, second_so}
 use Rattle.std.specs.Cmp.Lexicographic.{nat_list_cmp_total}
-use Rattle.std.specs.declared.cmp.Ordering.TheVariants.{Less, Equal, Greater}
+use Rattle.std.specs.declared.cmp.Ordering.TheVariants.{Less, Equal}
 use Rattle.std.proofs.lemmas.List.Elements.{recursion_from_All}
 use Rattle.std.proofs.lemmas.List.Sorted.{IsPermutation-sym}
-use Rattle.dtyp_sid.specs.Value.{SidValue}
 use Rattle.dtyp_sid.specs.Bytes.{WrittenBytesAreRead, WrittenBytesHaveLengths, ReadBytesAreWritten}
 use Rattle.acct_keeper.specs.declared.pairs.Pair.{Pair}
-use Rattle.acct_rows.specs.Keyed.{compare, same_key, at, below_all, is_ascending}
+use Rattle.acct_rows.specs.Keyed.{compare, same_key, below_all, is_ascending}
 use Rattle.acct_rows.specs.Rows.{Lists, domain_key, account_key, member_key, alias_key, lsa_key, sid_key}
 use Rattle.acct_rows.specs.Sound.{IsSoundRows}
-use Rattle.acct_rows.specs.Spelled.{stored_key, key_of, pair_of, format_key, format_pair, Fits, FitsDomain, FitsAccount}
+use Rattle.acct_rows.specs.Spelled.{stored_key, key_of, pair_of, format_key, Fits, FitsDomain, FitsAccount}
 use Rattle.acct_rows.specs.Spelled.{FitsMember, FitsAlias, FitsLsa}
 use Rattle.acct_rows.specs.Stored.{row_key, lettered, byte_at}
 use Rattle.acct_rows.specs.PairRules.{pair_key}
-use Rattle.acct_rows.specs.PairsOf.{AllFit, IsRowOf, IsPairOf, HoldPairs, ArePairsOf, domain_pairs, account_pairs}
+use Rattle.acct_rows.specs.PairsOf.{IsRowOf, IsPairOf, ArePairsOf, domain_pairs, account_pairs}
 use Rattle.acct_rows.specs.PairsOf.{member_pairs, alias_pairs, lsa_pairs, all_pairs}
 use Rattle.acct_rows.specs.declared.row.DomainRow.{DomainRow}
 use Rattle.acct_rows.specs.declared.row.AccountRow.{AccountRow}
@@ -29,10 +28,9 @@ use Rattle.acct_rows.specs.declared.row.Row.{Row}
 use Rattle.acct_rows.specs.declared.row.Row.TheVariants as rows
 use Rattle.acct_rows.specs.declared.row.RowKey.{RowKey}
 use Rattle.acct_rows.specs.declared.row.RowKey.TheVariants as keys
-use Rattle.acct_rows.proofs.Tables.{same_key-is, same_key-itself, less}
+use Rattle.acct_rows.proofs.Tables.{same_key-is, less}
 use Rattle.acct_rows.proofs.Lookups.{tested, same_Some}
 use Rattle.acct_rows.proofs.Fitting.{all_fit}
-use Rattle.acct_rows.proofs.ReadRows.{FitsKey}
 use Rattle.acct_rows.proofs.SpelledRows.{key_again, fits_key}
 use Rattle.acct_rows.proofs.Members.{In, in_map, map_in, in_left, in_right, in_either, in_permutation, at_in, in_at, one_if}
 use Rattle.acct_rows.proofs.Members.{count, count-append, count-permutation, precedes, sorted_ascends, ascending-kept}

@@ -1,7 +1,7 @@
 -- The smallest broken key, and the rows that are loaded of pairs of which none is broken.
-use Rattle.std.proofs.Common.{◌≡◌, ◌≢◌, ℕ, zero, suc, ◌+◌, ◌<◌, ◌≤◌, Bool, true, false, ◌&&◌, ◌||◌, cond, List, [], ◌∷◌}
+use Rattle.std.proofs.Common.{◌≡◌, ◌≢◌, ℕ, zero, suc, ◌<◌, Bool, true, false, ◌&&◌, ◌||◌, cond, List, [], ◌∷◌}
 use Rattle.std.proofs.Common.{length, get_or, map, All, Option, Some, None, refl, sym, ap, subst, ◌∙◌, arith, inl, inr, ◌⊎◌}
-use Rattle.std.proofs.Common.{Result, Ok, Err}
+use Rattle.std.proofs.Common.{Ok}
 use Rattle.std.specs.Prelude.{is_some, option_map, not}
 use Rattle.std.specs.List.{list_any, find, AllByRecursion}
 use Rattle.std.specs.Str.{bytes_eq}
@@ -16,13 +16,13 @@ use Rattle.dtyp_sid.specs.Bytes.{WrittenBytesAreRead, WrittenBytesHaveLengths, R
 use Rattle.dtyp_sid.specs.Order.{EqualSidsAreOne}
 use Rattle.acct_keeper.specs.declared.pairs.Pair.{Pair}
 use Rattle.acct_rows.specs.Changes.{row_at, is_put, same_row_key}
-use Rattle.acct_rows.specs.Keyed.{compare, same_key, at, place, below_all, is_ascending}
+use Rattle.acct_rows.specs.Keyed.{compare, same_key, place, below_all, is_ascending}
 use Rattle.acct_rows.specs.Loading.{IsReadWell, no_lists, somes, smaller, first_missing, smallest_broken}
 use Rattle.acct_rows.specs.PairRules.{pair_key, pair_at, is_format, breaks_rule, is_broken_pair, needed, is_broken_at}
 use Rattle.acct_rows.specs.PairRules.{is_broken, AreUnbroken, IsSmallestBroken}
-use Rattle.acct_rows.specs.PairsOf.{AreTables, IsRowOf, IsPairOf, HoldPairs}
+use Rattle.acct_rows.specs.PairsOf.{AreTables, IsRowOf, HoldPairs}
 use Rattle.acct_rows.specs.Rows.{Lists, domain_key, account_key, member_key, alias_key, lsa_key, put_row, with_puts}
-use Rattle.acct_rows.specs.Spelled.{rid_bytes, stored_key, stored_value, key_of, pair_of, format_key, format_value}
+use Rattle.acct_rows.specs.Spelled.{rid_bytes, stored_key, key_of, pair_of, format_key, format_value}
 use Rattle.acct_rows.specs.Spelled.{format_pair, Fits, IsSpelled}
 use Rattle.acct_rows.specs.Stored.{row_of}
 use Rattle.acct_rows.specs.declared.row.Row.{Row}
@@ -33,10 +33,8 @@ use Rattle.acct_rows.proofs.Tables.{same_key-is, same_key-itself, is_ascending-p
 use Rattle.acct_rows.proofs.Lookups.{tested, same_Some, there_or_not, key_found}
 use Rattle.acct_rows.proofs.Places.{at-placed}
 use Rattle.acct_rows.proofs.Members.{In, at_in, in_at, below_in, map_in}
-use Rattle.acct_rows.proofs.Judged.{either_false, not_false}
-use Rattle.acct_rows.proofs.ReadRows.{FitsKey}
-use Rattle.acct_rows.proofs.SpelledRows.{fits_key, spelled_rows_are_read}
-use Rattle.acct_rows.proofs.Translated.{is_row_at, at_is_row, one_key, not_format}
+use Rattle.acct_rows.proofs.SpelledRows.{fits_key}
+use Rattle.acct_rows.proofs.Translated.{is_row_at, at_is_row, not_format}
 use Rattle.acct_rows.proofs.RowsAt.{same_itself, same_or_not, last_found, row_put_here, row_put_apart}
 
 -- ---- what is found at a place

@@ -1,7 +1,7 @@
 -- The row that is read of a pair is the one that the pair spells.
 use Rattle.std.proofs.Common.{◌≡◌, ℕ, ◌+◌, ◌*◌, ◌^◌, ◌<◌, ◌≤◌, ◌==◌, Bool, true, false, ◌&&◌, cond, List, [], ◌∷◌, ◌++◌}
-use Rattle.std.proofs.Common.{length, Option, Some, None, refl, sym, ap, subst, ◌∙◌, arith, inl, inr, ◌⊎◌}
-use Rattle.std.specs.List.{flat_map, AllByRecursion}
+use Rattle.std.proofs.Common.{length, Some, None, refl, sym, ap, subst, ◌∙◌, arith, inl, inr, ◌⊎◌}
+use Rattle.std.specs.List.{flat_map}
 use Rattle.std.specs.Cmp.{first_so, second_so}
 use Rattle.std.proofs.lemmas.Bool.{eqb-true}
 use Rattle.std.proofs.Common.{append_assoc}
@@ -11,19 +11,13 @@ use Rattle.acct_codes.specs.declared.kind.Kind.{Kind}
 use Rattle.acct_codes.specs.declared.kind.Kind.TheVariants.{Group, Alias, User}
 use Rattle.dtyp_sid.specs.Value.{SidValue, IsSid}
 use Rattle.dtyp_sid.specs.Bytes.{bytes_of, WrittenBytesAreRead, WrittenBytesHaveLengths, ReadBytesAreWritten}
-use Rattle.acct_keeper.specs.declared.pairs.Pair.{Pair}
 use Rattle.acct_rows.specs.Sound.{is_account_kind}
-use Rattle.acct_rows.specs.Spelled.{text_bytes, rid_bytes, number_bytes, held_bytes, kind_byte, stored_key, key_of}
-use Rattle.acct_rows.specs.Spelled.{stored_value, domain_value, account_value, lsa_value, ascend, Fits, FitsHeld, IsSpelled}
+use Rattle.acct_rows.specs.Spelled.{text_bytes, rid_bytes, number_bytes, held_bytes, kind_byte, stored_key}
+use Rattle.acct_rows.specs.Spelled.{domain_value, account_value, lsa_value, ascend, FitsHeld, IsSpelled}
 use Rattle.acct_rows.specs.Stored.{◌>>=◌, only_if, is_end, byte_at, number_at, rid_at, text_at, sid_at, whole_sid, many}
 use Rattle.acct_rows.specs.Stored.{domain_number_at, held_at, kind_of_byte, domain_key_of, account_key_of, member_key_of}
 use Rattle.acct_rows.specs.Stored.{alias_key_of, lsa_key_of, lettered, row_key, domain_of, account_of, member_of}
-use Rattle.acct_rows.specs.Stored.{alias_of, lsa_of, valued, row_of, AreBytes, ReadRowsAreSpelled}
-use Rattle.acct_rows.specs.declared.row.DomainRow.{DomainRow}
-use Rattle.acct_rows.specs.declared.row.AccountRow.{AccountRow}
-use Rattle.acct_rows.specs.declared.row.MemberRow.{MemberRow}
-use Rattle.acct_rows.specs.declared.row.AliasRow.{AliasRow}
-use Rattle.acct_rows.specs.declared.row.LsaRow.{LsaRow}
+use Rattle.acct_rows.specs.Stored.{alias_of, lsa_of, valued, row_of, ReadRowsAreSpelled}
 use Rattle.acct_rows.specs.declared.row.Held.{Held}
 use Rattle.acct_rows.specs.declared.row.Row.{Row}
 use Rattle.acct_rows.specs.declared.row.Row.TheVariants as rows

@@ -1,34 +1,32 @@
 -- What a plan leaves at each key, and rows that are alike at every key.
-use Rattle.std.proofs.Common.{◌≡◌, ◌≢◌, ℕ, ◌==◌, Bool, true, false, ◌&&◌, ◌||◌, cond, List, [], ◌∷◌, ◌++◌}
+use Rattle.std.proofs.Common.{◌≡◌, ◌≢◌, ℕ, ◌==◌, Bool, true, false, ◌&&◌, ◌||◌, cond, List, [], ◌∷◌}
 use Rattle.std.proofs.Common.{Option, Some, None, refl, sym, ap, subst, ◌∙◌, arith, inl, inr, ◌⊎◌}
-use Rattle.std.specs.Prelude.{is_some, option_map, not}
+use Rattle.std.specs.Prelude.{option_map, not}
 use Rattle.std.specs.List.{list_any, AllByRecursion}
-use Rattle.std.specs.Cmp.{first_so, second_so, tied_itself}
+use Rattle.std.specs.Cmp.{first_so, second_so}
 use Rattle.std.specs.Cmp.Lexicographic.{nat_list_cmp_total}
-use Rattle.std.specs.Ordering.{is_lt, is_eq, ordering_reverse}
-use Rattle.std.specs.declared.cmp.Ordering.TheVariants.{Less, Equal, Greater}
+use Rattle.std.specs.Ordering.{ordering_reverse}
+use Rattle.std.specs.declared.cmp.Ordering.TheVariants.{Less, Greater}
 use Rattle.std.proofs.lemmas.Bool.Decides.{nat_tests}
 use Rattle.std.proofs.lemmas.List.Elements.{recursion_from_All}
 use Rattle.dtyp_sid.specs.Value.{SidValue}
 use Rattle.dtyp_sid.specs.Order.{sid_eq, EqualSidsAreOne}
 use Rattle.acct_rows.specs.Changes.{row_at, same_row_key, is_put}
-use Rattle.acct_rows.specs.Keyed.{compare, same_key, at, put, without, below_all, is_ascending}
+use Rattle.acct_rows.specs.Keyed.{compare, same_key, at, without, below_all, is_ascending}
 use Rattle.acct_rows.specs.PairsOf.{AllFit, AreTables, IsRowOf}
 use Rattle.acct_rows.specs.Rows.{Lists, domain_key, account_key, member_key, alias_key, lsa_key, sid_key, domain_at}
-use Rattle.acct_rows.specs.Rows.{account_at, member_at, alias_row_at, lsa_at, put_row, remove_row, removed, with_puts}
+use Rattle.acct_rows.specs.Rows.{account_at, lsa_at, put_row, remove_row, removed, with_puts}
 use Rattle.acct_rows.specs.Sound.{IsSoundRows}
 use Rattle.acct_rows.specs.Spelled.{key_of, Fits, FitsDomain, FitsAccount, FitsMember, FitsAlias, FitsLsa}
 use Rattle.acct_rows.specs.declared.row.DomainRow.{DomainRow}
 use Rattle.acct_rows.specs.declared.row.AccountRow.{AccountRow}
-use Rattle.acct_rows.specs.declared.row.MemberRow.{MemberRow}
-use Rattle.acct_rows.specs.declared.row.AliasRow.{AliasRow}
 use Rattle.acct_rows.specs.declared.row.LsaRow.{LsaRow}
 use Rattle.acct_rows.specs.declared.row.Row.{Row}
 use Rattle.acct_rows.specs.declared.row.Row.TheVariants as rows
 use Rattle.acct_rows.specs.declared.row.RowKey.{RowKey}
 use Rattle.acct_rows.specs.declared.row.RowKey.TheVariants as keys
-use Rattle.acct_rows.proofs.Tables.{same_key-is, same_key-itself, at-without, below_apart, less}
-use Rattle.acct_rows.proofs.Lookups.{tested, same_Some, key_found, put_here, put_elsewhere, there_or_not}
+use Rattle.acct_rows.proofs.Tables.{same_key-is, same_key-itself, at-without, below_apart}
+use Rattle.acct_rows.proofs.Lookups.{tested, key_found, put_here, put_elsewhere, there_or_not}
 use Rattle.acct_rows.proofs.Members.{In, at_in, in_at, below_in}
 use Rattle.acct_rows.proofs.Moves.{one_sid}
 

@@ -1,6 +1,6 @@
 -- Pairs in another order, of which no key stands twice, are looked up alike and break the same rules.
-use Rattle.std.proofs.Common.{◌≡◌, ◌≢◌, ℕ, suc, ◌+◌, ◌<◌, ◌≤◌, Bool, true, false, ◌&&◌, ◌||◌, cond, List, [], ◌∷◌}
-use Rattle.std.proofs.Common.{Option, Some, None, refl, sym, ap, subst, ◌∙◌, arith, inl, inr, ◌⊎◌}
+use Rattle.std.proofs.Common.{◌≡◌, ℕ, ◌≤◌, Bool, true, false, ◌&&◌, ◌||◌, cond, List, [], ◌∷◌}
+use Rattle.std.proofs.Common.{Option, Some, None, refl, sym, ap, ◌∙◌, arith, inl, inr}
 use Rattle.std.specs.Prelude.{is_some, not}
 use Rattle.std.specs.List.{list_any}
 use Rattle.std.specs.List.Sorted.{IsPermutation, IsSortedBy}
@@ -10,13 +10,13 @@ use Rattle.acct_codes.specs.declared.kind.Kind.TheVariants.{Group, Alias, User}
 use Rattle.acct_keeper.specs.declared.pairs.Pair.{Pair}
 use Rattle.acct_keeper.specs.Pairs as kept
 use Rattle.std.specs.Ordering.{is_lt, is_eq}
-use Rattle.acct_rows.specs.Keyed.{compare, same_key, at, is_ascending}
+use Rattle.acct_rows.specs.Keyed.{compare, same_key, is_ascending}
 use Rattle.acct_rows.specs.Loading.{BadPairs}
-use Rattle.acct_rows.specs.PairRules.{pair_key, pair_at, is_there, domain_in, account_in, is_missing, is_past, is_past_next}
-use Rattle.acct_rows.specs.PairRules.{is_earlier, has_taken_name, lacks_group_or_user, lacks_primary, lacks_alias}
-use Rattle.acct_rows.specs.PairRules.{breaks_alone, breaks_among, breaks_rule, is_format, is_broken_pair, is_broken_at}
+use Rattle.acct_rows.specs.PairRules.{pair_key, pair_at, is_there, domain_in, is_missing, is_past}
+use Rattle.acct_rows.specs.PairRules.{is_earlier, has_taken_name, lacks_primary}
+use Rattle.acct_rows.specs.PairRules.{breaks_alone, breaks_among, breaks_rule, is_format, is_broken_at}
 use Rattle.acct_rows.specs.PairRules.{is_broken, AreUnbroken, IsSmallestBroken, is_other, as_domain, as_account}
-use Rattle.acct_rows.specs.PairsOf.{IsPairOf, HoldPairs, keys_differ, AscendingKeysDiffer}
+use Rattle.acct_rows.specs.PairsOf.{HoldPairs, keys_differ, AscendingKeysDiffer}
 use Rattle.acct_rows.specs.Rows.{Lists, same_kind}
 use Rattle.acct_rows.specs.Spelled.{stored_key}
 use Rattle.acct_rows.specs.Stored.{◌>>=◌, row_of}

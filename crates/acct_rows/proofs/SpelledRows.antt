@@ -1,8 +1,7 @@
 -- The row that a pair spells is read of it.
-use Rattle.std.proofs.Common.{◌≡◌, ℕ, zero, suc, ◌+◌, ◌*◌, ◌^◌, ◌<◌, ◌≤◌, ◌==◌, Bool, true, false, ◌&&◌, cond, List, [], ◌∷◌}
-use Rattle.std.proofs.Common.{◌++◌, length, Option, Some, None, refl, sym, ap, subst, ◌∙◌, arith}
+use Rattle.std.proofs.Common.{◌≡◌, ℕ, ◌+◌, ◌*◌, ◌^◌, ◌<◌, ◌==◌, true, List, [], ◌∷◌}
+use Rattle.std.proofs.Common.{◌++◌, length, Option, Some, refl, sym, ap, ◌∙◌, arith}
 use Rattle.std.specs.List.{flat_map}
-use Rattle.std.specs.Cmp.{tied_itself}
 use Rattle.std.proofs.lemmas.Bool.Decides.{nat_tests}
 use Rattle.std.proofs.lemmas.List.{append-nil}
 use Rattle.acct_codes.specs.declared.kind.Kind.{Kind}
@@ -10,11 +9,11 @@ use Rattle.acct_codes.specs.declared.kind.Kind.TheVariants.{Server, Domain, Grou
 use Rattle.dtyp_sid.specs.Value.{SidValue, IsSid}
 use Rattle.dtyp_sid.specs.Bytes.{bytes_of, WrittenBytesAreRead, WrittenBytesHaveLengths, ReadBytesAreWritten}
 use Rattle.acct_rows.specs.Sound.{is_account_kind}
-use Rattle.acct_rows.specs.Spelled.{text_bytes, rid_bytes, number_bytes, held_bytes, kind_byte, stored_key, key_of, pair_of}
-use Rattle.acct_rows.specs.Spelled.{stored_value, domain_value, account_value, lsa_value, ascend, Fits, FitsText, FitsHeld}
-use Rattle.acct_rows.specs.Spelled.{FitsDomain, FitsAccount, FitsMember, FitsAlias, FitsLsa}
-use Rattle.acct_rows.specs.Stored.{◌>>=◌, only_if, is_end, byte_at, number_at, rid_at, text_at, sid_at, whole_sid, many}
-use Rattle.acct_rows.specs.Stored.{domain_number_at, held_at, kind_of_byte, domain_key_of, account_key_of, member_key_of}
+use Rattle.acct_rows.specs.Spelled.{text_bytes, rid_bytes, number_bytes, held_bytes, kind_byte, stored_key, key_of}
+use Rattle.acct_rows.specs.Spelled.{stored_value, domain_value, account_value, lsa_value, Fits, FitsText, FitsHeld}
+use Rattle.acct_rows.specs.Spelled.{FitsDomain, FitsAccount, FitsMember, FitsLsa}
+use Rattle.acct_rows.specs.Stored.{◌>>=◌, only_if, is_end, number_at, rid_at, text_at, sid_at, whole_sid, many}
+use Rattle.acct_rows.specs.Stored.{held_at, kind_of_byte, domain_key_of, account_key_of, member_key_of}
 use Rattle.acct_rows.specs.Stored.{alias_key_of, lsa_key_of, lettered, row_key, domain_of, account_of, member_of}
 use Rattle.acct_rows.specs.Stored.{alias_of, lsa_of, valued, row_of, SpelledRowsAreRead}
 use Rattle.acct_rows.specs.declared.row.DomainRow.{DomainRow}

@@ -1,5 +1,5 @@
 -- What a reader of fields takes is what is written of the value, and what is written is read again.
-use Rattle.std.proofs.Common.{◌≡◌, ℕ, zero, suc, ◌+◌, ◌*◌, ◌^◌, ◌<◌, ◌≤◌, Bool, true, false, cond, ltb, eqb, List, [], ◌∷◌, ◌++◌}
+use Rattle.std.proofs.Common.{◌≡◌, ℕ, zero, suc, ◌+◌, ◌*◌, ◌^◌, ◌<◌, ◌≤◌, Bool, true, false, cond, ltb, List, [], ◌∷◌, ◌++◌}
 use Rattle.std.proofs.Common.{length, get_or, take, drop, All, Option, Some, None, Result, Ok, Err, refl, sym, ap, subst, ◌∙◌}
 use Rattle.std.proofs.Common.{append_assoc, arith, inl, inr}
 use Rattle.std.specs.Prelude.{slice_index, nat_le}
@@ -20,7 +20,7 @@ use Rattle.dtyp_sid.specs.Value.{SidValue, IsSid}
 use Rattle.dtyp_sid.specs.Bytes.{bytes_of, sid_of_bytes, WrittenBytesAreRead, WrittenBytesHaveLengths, ReadBytesAreWritten}
 use Rattle.acct_rows.specs.Spelled.{text_bytes, rid_bytes, number_bytes, held_bytes, FitsText, FitsHeld}
 use Rattle.acct_rows.specs.Stored.{Reader, ◌>>=◌, only_if, is_end, front_at, many, byte_at, unit_at, number_at, rid_at}
-use Rattle.acct_rows.specs.Stored.{text_at, sid_at, whole_sid, domain_number_at, held_at}
+use Rattle.acct_rows.specs.Stored.{text_at, sid_at, domain_number_at, held_at}
 use Rattle.acct_rows.specs.declared.row.Held.{Held}
 use Rattle.acct_rows.proofs.Many.{many-none, many-one}
 

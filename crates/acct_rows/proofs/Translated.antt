@@ -1,19 +1,19 @@
 -- Rows whose pairs are held are looked up alike among the pairs.
-use Rattle.std.proofs.Common.{◌≡◌, ◌≢◌, ℕ, ◌^◌, ◌<◌, ◌≤◌, Bool, true, false, ◌&&◌, ◌||◌, cond, List, [], ◌∷◌, ◌++◌}
-use Rattle.std.proofs.Common.{Option, Some, None, refl, sym, ap, subst, ◌∙◌, arith, inl, inr, ◌⊎◌}
+use Rattle.std.proofs.Common.{◌≡◌, ◌≢◌, ℕ, ◌^◌, ◌<◌, ◌≤◌, ◌||◌, List, [], ◌∷◌}
+use Rattle.std.proofs.Common.{Option, Some, None, refl, sym, ap, subst, ◌∙◌, inl, inr}
 use Rattle.std.specs.Prelude.{is_some, option_map, not}
 use Rattle.acct_codes.specs.declared.kind.Kind.{Kind}
-use Rattle.dtyp_sid.specs.Value.{SidValue, IsSid}
+use Rattle.dtyp_sid.specs.Value.{SidValue}
 use Rattle.dtyp_sid.specs.Bytes.{WrittenBytesAreRead, WrittenBytesHaveLengths, ReadBytesAreWritten}
 use Rattle.acct_keeper.specs.declared.pairs.Pair.{Pair}
-use Rattle.acct_rows.specs.Keyed.{at, is_ascending}
+use Rattle.acct_rows.specs.Keyed.{at}
 use Rattle.acct_rows.specs.Rows.{Lists, domain_at, account_at, member_at, alias_row_at, lsa_at, domain_key, account_key}
-use Rattle.acct_rows.specs.Rows.{member_key, alias_key, lsa_key, sid_key, same_kind, is_of}
+use Rattle.acct_rows.specs.Rows.{member_key, alias_key, lsa_key, sid_key, is_of}
 use Rattle.acct_rows.specs.Spelled.{stored_key, key_of, pair_of, format_key, format_pair, Fits}
 use Rattle.acct_rows.specs.Stored.{◌>>=◌, row_key, row_of, byte_at, lettered}
 use Rattle.acct_rows.specs.PairRules.{pair_key, pair_at, is_there, row_in, as_domain, as_account, domain_in, account_in}
 use Rattle.acct_rows.specs.PairRules.{is_other, is_missing}
-use Rattle.acct_rows.specs.PairsOf.{IsRowOf, IsPairOf, HoldPairs}
+use Rattle.acct_rows.specs.PairsOf.{IsRowOf, HoldPairs}
 use Rattle.acct_rows.specs.Changes.{row_at}
 use Rattle.acct_rows.specs.declared.row.DomainRow.{DomainRow}
 use Rattle.acct_rows.specs.declared.row.AccountRow.{AccountRow}
@@ -24,7 +24,7 @@ use Rattle.acct_rows.specs.declared.row.Row.{Row}
 use Rattle.acct_rows.specs.declared.row.Row.TheVariants as rows
 use Rattle.acct_rows.specs.declared.row.RowKey.{RowKey}
 use Rattle.acct_rows.specs.declared.row.RowKey.TheVariants as keys
-use Rattle.acct_rows.proofs.Lookups.{tested, same_Some, key_found, there_or_not}
+use Rattle.acct_rows.proofs.Lookups.{same_Some, key_found, there_or_not}
 use Rattle.acct_rows.proofs.Moves.{one_sid}
 use Rattle.acct_rows.proofs.ReadRows.{FitsKey}
 use Rattle.acct_rows.proofs.SpelledRows.{key_again, fits_key, spelled_rows_are_read}

@@ -1,11 +1,9 @@
 -- The pairs of sound rows break no rule, and rows whose pairs break none are sound.
-use Rattle.std.proofs.Common.{◌≡◌, ◌≢◌, ℕ, zero, suc, ◌^◌, ◌<◌, ◌≤◌, ◌==◌, nat_lt, Bool, true, false, ◌&&◌, ◌||◌, cond}
+use Rattle.std.proofs.Common.{◌≡◌, ◌≢◌, ℕ, zero, suc, ◌^◌, ◌<◌, ◌≤◌, ◌==◌, nat_lt, Bool, true, false, ◌&&◌, ◌||◌}
 use Rattle.std.proofs.Common.{List, [], ◌∷◌, Option, Some, None, refl, sym, ap, subst, ◌∙◌, arith, inl, inr, ◌⊎◌}
-use Rattle.std.specs.Prelude.{is_some, option_map, not, nat_le}
-use Rattle.std.specs.List.{list_any, AllByRecursion}
-use Rattle.std.proofs.lemmas.List.Elements.{recursion_from_All}
+use Rattle.std.specs.Prelude.{is_some, option_map, not}
+use Rattle.std.specs.List.{list_any}
 use Rattle.std.specs.Str.{bytes_eq}
-use Rattle.std.specs.Cmp.{first_so, second_so}
 use Rattle.std.proofs.lemmas.Bool.Decides.{nat_tests}
 use Rattle.std.proofs.lemmas.Slice.Eq.{bytes_eq-Decides}
 use Rattle.acct_codes.specs.declared.kind.Kind.{Kind}
@@ -17,36 +15,33 @@ use Rattle.dtyp_sid.specs.Bytes.{WrittenBytesAreRead, WrittenBytesHaveLengths, R
 use Rattle.acct_calls.specs.Folding.{is_same, IsEquivalence}
 use Rattle.acct_keeper.specs.declared.pairs.Pair.{Pair}
 use Rattle.acct_rows.specs.Keyed.{same_key, is_ascending}
-use Rattle.acct_rows.specs.Rows.{Lists, domain_at, account_at, member_at, alias_row_at, lsa_at, domain_key, account_key}
+use Rattle.acct_rows.specs.Rows.{Lists, domain_at, account_at, member_at, alias_row_at, domain_key, account_key}
 use Rattle.acct_rows.specs.Rows.{member_key, alias_key, lsa_key, same_kind, is_of}
-use Rattle.acct_rows.specs.Sound.{IsGoodDomain, IsGoodAccount, IsGoodLsa, IsSoundRows, next_rid_of}
+use Rattle.acct_rows.specs.Sound.{IsGoodDomain, IsGoodAccount, IsSoundRows, next_rid_of}
 use Rattle.acct_rows.specs.Spelled.{rid_bytes, stored_key, key_of, pair_of, format_key, format_value, format_pair, Fits}
-use Rattle.acct_rows.specs.Spelled.{FitsDomain, FitsAccount, FitsMember, FitsAlias, FitsLsa}
-use Rattle.acct_rows.specs.Stored.{◌>>=◌, row_of}
-use Rattle.acct_rows.specs.PairRules.{pair_key, pair_at, is_there, row_in, domain_in, is_missing, is_past, is_past_next}
-use Rattle.acct_rows.specs.PairRules.{is_earlier, has_taken_name, lacks_group_or_user, lacks_primary, lacks_alias}
+use Rattle.acct_rows.specs.Stored.{row_of}
+use Rattle.acct_rows.specs.PairRules.{pair_key, pair_at, is_there, is_missing, is_past, is_past_next}
+use Rattle.acct_rows.specs.PairRules.{is_earlier, has_taken_name, lacks_group_or_user, lacks_primary}
 use Rattle.acct_rows.specs.PairRules.{breaks_alone, breaks_among, breaks_rule, is_format, is_broken_pair, needed}
 use Rattle.acct_rows.specs.PairRules.{is_broken_at, is_broken, AreUnbroken}
-use Rattle.acct_rows.specs.PairsOf.{AllFit, IsRowOf, IsPairOf, HoldPairs}
+use Rattle.acct_rows.specs.PairsOf.{IsRowOf, IsPairOf, HoldPairs}
 use Rattle.acct_rows.specs.declared.row.DomainRow.{DomainRow}
 use Rattle.acct_rows.specs.declared.row.AccountRow.{AccountRow}
 use Rattle.acct_rows.specs.declared.row.MemberRow.{MemberRow}
 use Rattle.acct_rows.specs.declared.row.AliasRow.{AliasRow}
-use Rattle.acct_rows.specs.declared.row.LsaRow.{LsaRow}
 use Rattle.acct_rows.specs.declared.row.Row.{Row}
 use Rattle.acct_rows.specs.declared.row.Row.TheVariants as rows
 use Rattle.acct_rows.specs.declared.row.RowKey.{RowKey}
 use Rattle.acct_rows.specs.declared.row.RowKey.TheVariants as keys
 use Rattle.acct_rows.proofs.Tables.{same_key-is}
 use Rattle.acct_rows.proofs.Lookups.{tested, there_or_not, key_found}
-use Rattle.acct_rows.proofs.Members.{In, at_in, in_at, ascending-kept}
+use Rattle.acct_rows.proofs.Members.{In, at_in, in_at}
 use Rattle.acct_rows.proofs.ReadRows.{FitsKey}
 use Rattle.acct_rows.proofs.SpelledRows.{fits_key, spelled_rows_are_read}
 use Rattle.acct_rows.specs.Changes.{row_at}
-use Rattle.acct_rows.proofs.RowsAt.{row_fits}
 use Rattle.acct_rows.proofs.Translated.{domain_found, account_found, member_found, alias_found, lsa_found, format_none}
-use Rattle.acct_rows.proofs.Translated.{one_key, not_format, row_there, pair_is, there_is, domain_is}
-use Rattle.acct_rows.proofs.Translated.{account_is, missing_is}
+use Rattle.acct_rows.proofs.Translated.{not_format, row_there, there_is, domain_is}
+use Rattle.acct_rows.proofs.Translated.{missing_is}
 use Rattle.acct_rows.proofs.Judged.{either_false, both_false, not_false, not_true, domain_good, account_good, lsa_good}
 use Rattle.acct_rows.proofs.Judged.{good_domain, good_account, good_lsa, IsUsersGroup, users_kind}
 

@@ -1,5 +1,5 @@
 -- The pairs of the rows, and the laws between rows and pairs
-use Rattle.std.specs.Prelude.{◌≡◌, ℕ, Bool, true, ◌&&◌, not, List, [], ◌∷◌, ◌++◌, map, All, ◌⊎◌, Some, ◌↔◌}
+use Rattle.std.specs.Prelude.{◌≡◌, Bool, true, ◌&&◌, not, List, [], ◌∷◌, ◌++◌, map, All, ◌⊎◌, Some, ◌↔◌}
 use Rattle.std.specs.List.{list_any}
 use Rattle.acct_keeper.specs.declared.pairs.Pair.{Pair}
 use Rattle.acct_keeper.specs.Pairs.{same_key, is_ascending}

@@ -1,6 +1,5 @@
 -- `stored_at` meets its contract: what is found has a spelling.
-use Rattle.std.proofs.Common.{◌≡◌, Some, rules}
-use Rattle.acct_rows.specs.Rows.{domain_at, account_at, lsa_at}
+use Rattle.std.proofs.Common.{rules}
 use Rattle.acct_rows.proofs.RowsAt.{domain_found_fits, account_found_fits, lsa_found_fits}
 use Rattle.acct_rows.proofs.pairs.changes.stored_at.Goals as goal
 

@@ -1,7 +1,5 @@
 -- `sound_is_unbroken` meets its contract.
-use Rattle.std.proofs.Common.{◌≡◌, true, sym, ◌∙◌}
-use Rattle.acct_rows.specs.PairRules.{pair_key}
-use Rattle.acct_rows.specs.Keyed.{is_ascending}
+use Rattle.std.proofs.Common.{◌∙◌}
 use Rattle.acct_rows.proofs.Fitting.{all_fit}
 use Rattle.acct_rows.proofs.Members.{ascending-kept}
 use Rattle.acct_rows.proofs.RowsAt.{row_fits}

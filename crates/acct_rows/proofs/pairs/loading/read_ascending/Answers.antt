@@ -1,7 +1,6 @@
 -- `read_ascending` meets its contract: the smallest broken key, or the rows of pairs of which none is broken.
-use Rattle.std.proofs.Common.{◌≡◌, Some, None, sym, subst, ap, ◌∙◌, rules}
+use Rattle.std.proofs.Common.{◌≡◌, None, sym, subst, ap, ◌∙◌, rules}
 use Rattle.acct_rows.specs.Loading.{no_lists, somes, smallest_broken}
-use Rattle.acct_rows.specs.PairRules.{AreUnbroken}
 use Rattle.acct_rows.specs.PairsOf.{HoldPairs}
 use Rattle.acct_rows.specs.Rows.{Lists, with_puts}
 use Rattle.acct_rows.specs.Sound.{IsSoundRows}

@@ -1,5 +1,5 @@
 -- `read_one` meets its contract: what is read of a pair is what it spells.
-use Rattle.std.proofs.Common.{◌≡◌, ℕ, ◌<◌, ◌^◌, All, List, subst}
+use Rattle.std.proofs.Common.{ℕ, ◌<◌, ◌^◌, All, List, subst}
 use Rattle.acct_rows.proofs.pairs.loading.read_one.Goals as goal
 
 pub returns-in-Ok-clause-spelled : goal.returns-in-Ok-clause-spelled

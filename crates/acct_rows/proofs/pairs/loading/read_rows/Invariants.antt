@@ -1,5 +1,5 @@
 -- What the loop of `read_rows` keeps.
-use Rattle.std.proofs.Common.{◌≡◌, ℕ, ◌<◌, take, map, get_or, All}
+use Rattle.std.proofs.Common.{◌≡◌, ℕ, ◌<◌, take, map, get_or}
 use Rattle.acct_keeper.specs.declared.pairs.Pair.{Pair}
 use Rattle.acct_rows.specs.Loading.{IsReadWell}
 use Rattle.acct_rows.specs.Stored.{row_of}

@@ -1,6 +1,5 @@
 -- `sorted_pairs` meets its contract: the rows have spellings, and the sorted pairs are those of the rows.
-use Rattle.std.proofs.Common.{ap, rules}
-use Rattle.std.specs.Ordering.{is_lt}
+use Rattle.std.proofs.Common.{rules}
 use Rattle.std.specs.Cmp.Lexicographic.{nat_list_cmp_total}
 use Rattle.std.proofs.lemmas.List.Sorted.{ranks_by, answers_always}
 use Rattle.acct_rows.specs.PairRules.{pair_key}

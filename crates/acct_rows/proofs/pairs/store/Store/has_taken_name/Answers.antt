@@ -1,5 +1,5 @@
 -- `Store::has_taken_name` meets its contract: the rows are those that the pairs spell.
-use Rattle.std.proofs.Common.{◌≡◌, ap, ◌∙◌}
+use Rattle.std.proofs.Common.{ap, ◌∙◌}
 use Rattle.std.specs.List.{list_any}
 use Rattle.acct_rows.specs.PairRules.{is_earlier}
 use Rattle.acct_rows.specs.Stored.{row_of}
