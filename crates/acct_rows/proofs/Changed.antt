@@ -475,7 +475,7 @@ module _ (back : WrittenBytesAreRead) (sizes : WrittenBytesHaveLengths) (only : 
           | inr r ↦ subst (λ q. pair_at q.key new ≡ Some q) (sym r.2)
               (pairs_at (key_of r.0) (fits_key back sizes only r.0 (fits r.0 r.1))
               ∙ ap (option_map (λ x. stored x)) (is_row_at others r.0 r.1))
-        ])
+        ]),
       )
         where
           format_stays : pair_at format_key new ≡ Some format_pair
@@ -634,9 +634,9 @@ module _ (back : WrittenBytesAreRead) (sizes : WrittenBytesHaveLengths) (only : 
   pub none_or_stay : (changes_of lists plan ≡ []) ↔ (after plan lists ≡ lists)
   none_or_stay = (
     (λ none. stay back sizes only equal_sids lists (after plan lists) (row_fits lists (all_fit lists before))
-    (row_fits (after plan lists) (all_fit (after plan lists) then)) plan refl none before then),
+        (row_fits (after plan lists) (all_fit (after plan lists) then)) plan refl none before then),
     (λ same. none_written back sizes only equal_sids lists (after plan lists) (row_fits lists (all_fit lists before))
-    (row_fits (after plan lists) (all_fit (after plan lists) then)) plan refl same)
+        (row_fits (after plan lists) (all_fit (after plan lists) then)) plan refl same),
   )
 
   pub puts_fit : LastFit plan.puts

@@ -116,9 +116,10 @@ module _ (lists : Lists) (sound : IsSoundRows lists) where
         | inl there ↦
             let a = there.0 in
             let good = sound.account_rules domain rid a there.1 in
-            let is = second_is a domain rid (key_found account_key (domain ∷ rid ∷ []) lists.accounts a there.1) in
-            (subst (λ (n : ℕ). n ≤ 1) is.0 (place_is a.domain a.kind good.itself.place),
-            subst (λ (n : ℕ). n < 2 ^ 32) is.1 (below_fits a.domain a.rid good.below))
+            let is = second_is a domain rid (key_found account_key (domain ∷ rid ∷ []) lists.accounts a there.1) in (
+              subst (λ (n : ℕ). n ≤ 1) is.0 (place_is a.domain a.kind good.itself.place),
+              subst (λ (n : ℕ). n < 2 ^ 32) is.1 (below_fits a.domain a.rid good.below),
+            )
         | inr none ↦ absurd (let e : false ≡ true = ap (is_of kind) (sym none) ∙ e in cc)
       ]
 

@@ -244,8 +244,8 @@ module _ (back : WrittenBytesAreRead) (sizes : WrittenBytesHaveLengths) (only : 
         ascending = ascends;
         held = λ p. (
           (λ e. listed lists sound p (subst (λ xs. In p xs) is
-          (in_permutation p qs ps (IsPermutation-sym ps qs perm) (at_in pair_key p.key p qs e)))),
+              (in_permutation p qs ps (IsPermutation-sym ps qs perm) (at_in pair_key p.key p qs e)))),
           (λ e. in_at pair_key p qs keyed
-          (in_permutation p ps qs perm (subst (λ xs. In p xs) (sym is) (listing lists p e))))
+              (in_permutation p ps qs perm (subst (λ xs. In p xs) (sym is) (listing lists p e)))),
         );
       }

@@ -194,8 +194,12 @@ module _ (pairs : List Pair) (up : is_ascending pair_key pairs ≡ true) where
   cause : (k : List ℕ) → is_broken pairs k ≡ true → IsCause k
   cause k e =
       elim (there_or_not (pair_at k pairs)) [
-        | inl found ↦ inl (found.0, at_in pair_key k found.0 pairs found.1, key_found pair_key k pairs found.0 found.1,
-            sym (ap (is_broken_at pairs k) found.1) ∙ e)
+        | inl found ↦ inl (
+          found.0,
+          at_in pair_key k found.0 pairs found.1,
+          key_found pair_key k pairs found.0 found.1,
+          sym (ap (is_broken_at pairs k) found.1) ∙ e,
+        )
         | inr none ↦ inr (any_in k needed (sym (ap (is_broken_at pairs k) none) ∙ e), ap (λ o. not (is_some o)) none)
       ]
 
@@ -538,12 +542,15 @@ module _ (back : WrittenBytesAreRead) (sizes : WrittenBytesHaveLengths) (only : 
   pub loaded_held : HoldPairs lists pairs
   loaded_held p = (
     (λ e.
-    let within : In p pairs = at_in pair_key p.key p pairs e in
-    elim (kinds p within) [
-      | inl is ↦ inl is
-      | inr r ↦ inr (r.0,
-          row_loaded r.0 (in_somes (map row_of pairs) r.0 (in_mapped row_of p (Some r.0) pairs within (sym r.1))), r.2)
-    ]),
+        let within : In p pairs = at_in pair_key p.key p pairs e in
+        elim (kinds p within) [
+          | inl is ↦ inl is
+          | inr r ↦ inr (
+            r.0,
+            row_loaded r.0 (in_somes (map row_of pairs) r.0 (in_mapped row_of p (Some r.0) pairs within (sym r.1))),
+            r.2,
+          )
+        ]),
     (λ e. elim e [
       | inl is ↦ subst (λ q. pair_at q.key pairs ≡ Some q) (sym is) format_there
       | inr r ↦ elim (puts_cases equal_sids read no_lists (key_of r.0) r.0 (is_row_at lists r.0 r.1)) [
@@ -553,5 +560,5 @@ module _ (back : WrittenBytesAreRead) (sizes : WrittenBytesHaveLengths) (only : 
             let is : q.0 ≡ p = (spelled q.0 q.1 r.0 q.2).spelled ∙ sym r.2 in
             subst (λ x. pair_at x.key pairs ≡ Some x) is (in_at pair_key q.0 pairs up q.1)
       ]
-    ])
+    ]),
   )

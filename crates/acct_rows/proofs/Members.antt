@@ -133,9 +133,9 @@ below k (p ∷ ps) none up =
     over Less e t u = refl
     over Equal e t u = absurd cc
     over Greater e t u = absurd (
-      let turned : compare p.key k ≡ Less = nat_list_cmp_total.antisymm p.key k ∙ ap ordering_reverse e in
-      let is : is_lt (compare p.key k) ≡ true = ap is_lt turned in
-      cc (is, u))
+        let turned : compare p.key k ≡ Less = nat_list_cmp_total.antisymm p.key k ∙ ap ordering_reverse e in
+        let is : is_lt (compare p.key k) ≡ true = ap is_lt turned in
+        cc (is, u))
 
 one_more : (k : ℕ) → suc k + 1 ≡ suc (k + 1)
 one_more k = omega arith

@@ -74,9 +74,11 @@ account_key_read bytes key fits e =
     let g = passed (is_end b.0.1) (keys.Account a.0.0 b.0.0) key b.2 in
     let t = domain_number_takes bytes a.0.0 a.0.1 fits a.1 in
     let u = rid_takes a.0.1 b.0.0 b.0.1 t.rest_bytes b.1 in
-    subst (λ k. KeyRead 0x61 bytes k) g.1
-    ((t.fits, u.fits), ap (λ (r : List ℕ). 0x61 ∷ r) (t.parts ∙ ap (λ (r : List ℕ). a.0.0 ∷ r)
-    (last (rid_bytes b.0.0) a.0.1 b.0.1 u.parts (at_end b.0.1 g.0))))
+    subst (λ k. KeyRead 0x61 bytes k) g.1 (
+      (t.fits, u.fits),
+      ap (λ (r : List ℕ). 0x61 ∷ r) (t.parts ∙ ap (λ (r : List ℕ). a.0.0 ∷ r)
+          (last (rid_bytes b.0.0) a.0.1 b.0.1 u.parts (at_end b.0.1 g.0))),
+    )
 
 member_key_read : (bytes : List ℕ) (key : RowKey) → IsBytes bytes → member_key_of bytes ≡ Some key
     → KeyRead 0x6D bytes key
@@ -88,9 +90,11 @@ member_key_read bytes key fits e =
     let g = passed (is_end b.0.1) (keys.Member a.0.0 b.0.0) key b.2 in
     let t = rid_takes bytes a.0.0 a.0.1 fits a.1 in
     let u = rid_takes a.0.1 b.0.0 b.0.1 t.rest_bytes b.1 in
-    subst (λ k. KeyRead 0x6D bytes k) g.1
-    ((t.fits, u.fits), ap (λ (r : List ℕ). 0x6D ∷ r) (t.parts ∙ ap (λ (r : List ℕ). rid_bytes a.0.0 ++ r)
-    (last (rid_bytes b.0.0) a.0.1 b.0.1 u.parts (at_end b.0.1 g.0))))
+    subst (λ k. KeyRead 0x6D bytes k) g.1 (
+      (t.fits, u.fits),
+      ap (λ (r : List ℕ). 0x6D ∷ r) (t.parts ∙ ap (λ (r : List ℕ). rid_bytes a.0.0 ++ r)
+          (last (rid_bytes b.0.0) a.0.1 b.0.1 u.parts (at_end b.0.1 g.0))),
+    )
 
 -- a field and what is read behind it
 member_read : (group user : ℕ) (value : List ℕ) (row : Row) → FitsKey (keys.Member group user) → IsBytes value
@@ -143,8 +147,16 @@ account_read : (domain rid : ℕ) (value : List ℕ) (row : Row) → FitsKey (ke
 unfolding account_of account_value
 account_read domain rid value row key fits e =
     let make : Kind → ℕ → ℕ → List ℕ → List ℕ → List ℕ → Row = λ kind bits primary name full_name comment.
-    rows.Account (record { domain = domain; rid = rid; kind = kind; name = name; full_name = full_name;
-    comment = comment; bits = bits; primary = primary }) in
+    rows.Account (record {
+      domain = domain;
+      rid = rid;
+      kind = kind;
+      name = name;
+      full_name = full_name;
+      comment = comment;
+      bits = bits;
+      primary = primary;
+    }) in
     let a = bind_some (byte_at value) (λ byte. kind_of_byte byte.0 >>= λ kind. number_at byte.1 >>= λ bits.
     number_at bits.1 >>= λ primary. text_at primary.1 >>= λ name. text_at name.1 >>= λ full_name.
     text_at full_name.1 >>= λ comment. only_if (is_end comment.1)
@@ -219,9 +231,11 @@ module _ (back : WrittenBytesAreRead) (sizes : WrittenBytesHaveLengths) (only : 
       let t = domain_number_takes bytes a.0.0 a.0.1 fits a.1 in
       let u = rid_takes a.0.1 b.0.0 b.0.1 t.rest_bytes b.1 in
       let v = whole_sid_read b.0.1 c.0 u.rest_bytes c.1 in
-      subst (λ k. KeyRead 0x6C bytes k) (some_is (keys.Alias a.0.0 b.0.0 c.0) key c.2)
-      ((t.fits, u.fits, v.0), ap (λ (r : List ℕ). 0x6C ∷ r) (t.parts ∙ ap (λ (r : List ℕ). a.0.0 ∷ r)
-      (u.parts ∙ ap (λ (r : List ℕ). rid_bytes b.0.0 ++ r) v.1)))
+      subst (λ k. KeyRead 0x6C bytes k) (some_is (keys.Alias a.0.0 b.0.0 c.0) key c.2) (
+        (t.fits, u.fits, v.0),
+        ap (λ (r : List ℕ). 0x6C ∷ r) (t.parts ∙ ap (λ (r : List ℕ). a.0.0 ∷ r)
+            (u.parts ∙ ap (λ (r : List ℕ). rid_bytes b.0.0 ++ r) v.1)),
+      )
 
   lsa_key_read : (bytes : List ℕ) (key : RowKey) → IsBytes bytes → lsa_key_of bytes ≡ Some key → KeyRead 0x73 bytes key
   unfolding lsa_key_of

@@ -108,9 +108,12 @@ module _ (equal_sids : EqualSidsAreOne) where
   same_or_not j k =
       elim (tested (same_row_key j k)) [
         | inl t ↦ inl (same_is j k t)
-        | inr t ↦ inr (t, λ e. (
-            let is : same_row_key j k ≡ true = ap (same_row_key j) (sym e) ∙ same_itself j in
-            cc (is, t)))
+        | inr t ↦ inr (
+          t,
+          λ e. (
+              let is : same_row_key j k ≡ true = ap (same_row_key j) (sym e) ∙ same_itself j in
+              cc (is, t)),
+        )
       ]
 
 -- ---- what is found after a put and a removal

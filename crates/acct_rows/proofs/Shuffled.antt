@@ -228,5 +228,5 @@ module _ (ps qs : List Pair) (differ : keys_differ ps ≡ true) (perm : IsPermut
   pub hold_alike : (lists : Lists) → HoldPairs lists qs → HoldPairs lists ps
   hold_alike lists held p = (
     (λ e. (held p).0 (sym (found_alike p.key) ∙ e)),
-    (λ e. found_alike p.key ∙ (held p).1 e)
+    (λ e. found_alike p.key ∙ (held p).1 e),
   )

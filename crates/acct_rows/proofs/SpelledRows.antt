@@ -61,8 +61,15 @@ account_value_again a fits =
     let rest : Kind → List ℕ → Option Row = λ kind bytes. number_at bytes >>= λ bits.
     number_at bits.1 >>= λ primary. text_at primary.1 >>= λ name. text_at name.1 >>= λ full_name.
     text_at full_name.1 >>= λ comment. only_if (is_end comment.1) (rows.Account (record {
-    domain = a.domain; rid = a.rid; kind = kind; name = name.0; full_name = full_name.0; comment = comment.0;
-    bits = bits.0; primary = primary.0 })) in
+      domain = a.domain;
+      rid = a.rid;
+      kind = kind;
+      name = name.0;
+      full_name = full_name.0;
+      comment = comment.0;
+      bits = bits.0;
+      primary = primary.0;
+    })) in
     let first = ap (λ (o : Option (ℕ × List ℕ)). o >>= λ byte. kind_of_byte byte.0 >>= λ kind. rest kind byte.1)
     (byte_again (kind_byte a.kind) tail) in
     let second = ap (λ (o : Option Kind). o >>= λ kind. rest kind tail) (kind_again a.kind fits.kind) in
@@ -129,15 +136,24 @@ module _ (back : WrittenBytesAreRead) (sizes : WrittenBytesHaveLengths) (only : 
   unfolding row_key lettered domain_key_of account_key_of member_key_of alias_key_of lsa_key_of
   key_again (keys.Domain number) fits = rw (byte_again 0x64 (number ∷ []), domain_number_again number [] fits) refl
   key_again (keys.Account domain rid) fits =
-      rw (byte_again 0x61 (domain ∷ rid_bytes rid), domain_number_again domain (rid_bytes rid) fits.0,
-      rid_last rid fits.1) refl
+      rw (
+        byte_again 0x61 (domain ∷ rid_bytes rid),
+        domain_number_again domain (rid_bytes rid) fits.0,
+        rid_last rid fits.1,
+      ) refl
   key_again (keys.Member group user) fits =
-      rw (byte_again 0x6D (rid_bytes group ++ rid_bytes user), rid_again group (rid_bytes user) fits.0,
-      rid_last user fits.1) refl
+      rw (
+        byte_again 0x6D (rid_bytes group ++ rid_bytes user),
+        rid_again group (rid_bytes user) fits.0,
+        rid_last user fits.1,
+      ) refl
   key_again (keys.Alias domain alias member) fits =
-      rw (byte_again 0x6C (domain ∷ rid_bytes alias ++ bytes_of member),
-      domain_number_again domain (rid_bytes alias ++ bytes_of member) fits.0,
-      rid_again alias (bytes_of member) fits.1, whole_sid_again member fits.2) refl
+      rw (
+        byte_again 0x6C (domain ∷ rid_bytes alias ++ bytes_of member),
+        domain_number_again domain (rid_bytes alias ++ bytes_of member) fits.0,
+        rid_again alias (bytes_of member) fits.1,
+        whole_sid_again member fits.2,
+      ) refl
   key_again (keys.Lsa sid) fits = rw (byte_again 0x73 (bytes_of sid), whole_sid_again sid fits) refl
 
   pub fits_key : (row : Row) → Fits row → FitsKey (key_of row)

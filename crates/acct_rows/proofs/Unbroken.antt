@@ -227,9 +227,10 @@ module _ (back : WrittenBytesAreRead) (sizes : WrittenBytesHaveLengths) (only : 
         let lacks = either_false (lacks_group_or_user pairs row) false (row_unbroken row found.0).1 in
         let parts = either_false (is_missing Group pairs 0 m.group) (is_missing User pairs 0 m.user) lacks.0 in
         let g : m.group ≡ group = (let k = found.1 in cc) in
-        let u : m.user ≡ user = (let k = found.1 in cc) in
-        (subst (λ n. is_of Group (account_at lists 0 n) ≡ true) g (missing_false Group 0 m.group (omega arith) fits.group parts.0),
-        subst (λ n. is_of User (account_at lists 0 n) ≡ true) u (missing_false User 0 m.user (omega arith) fits.user parts.1))
+        let u : m.user ≡ user = (let k = found.1 in cc) in (
+          subst (λ n. is_of Group (account_at lists 0 n) ≡ true) g (missing_false Group 0 m.group (omega arith) fits.group parts.0),
+          subst (λ n. is_of User (account_at lists 0 n) ≡ true) u (missing_false User 0 m.user (omega arith) fits.user parts.1),
+        )
 
     alias_whole : (domain alias : ℕ) (sid : SidValue) (a : AliasRow) → alias_row_at lists domain alias sid ≡ Some a
         → is_of Alias (account_at lists domain alias) ≡ true

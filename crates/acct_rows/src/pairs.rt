@@ -1,4 +1,4 @@
-// Rows as pairs of bytes, and pairs as rows.
+//! Rows as pairs of bytes, and pairs as rows.
 mod changes;
 mod fields;
 pub mod laws;
@@ -9,4 +9,4 @@ mod store;
 mod storing;
 mod writing;
 
-pub use loading::PairsError;
+pub use loading::{PairsError, keys_differ};

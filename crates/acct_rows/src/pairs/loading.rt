@@ -1,5 +1,7 @@
 // Pairs as rows.
 ghost use Rattle.std.specs.Prelude.{◌≡◌, ◌^◌, ◌<◌, true, All, find, map, option_map, IfOk, IfErr, OnOk};
+ghost use Rattle.acct_keeper.specs.Pairs.{same_key};
+ghost use Rattle.std.specs.List.{list_any};
 ghost use Rattle.std.specs.List.Sorted.{IsPermutation};
 ghost use Rattle.std.specs.Option.{option_copied};
 ghost use Rattle.acct_rows.specs.declared.pairs.loading.PairsError.TheVariants.{Memory};
@@ -229,6 +231,32 @@ fn read_ascending(alloc: Global, pairs: &[Pair]) -> Result<Rows, PairsError>
     }
     let rows = load(alloc, stored)?;
     Ok(rows)
+}
+
+// Whether one of the pairs has the key.
+fn has_key(pairs: &[Pair], key: &[u8]) -> bool
+    ensures { result ≡ list_any (λ q. same_key key.now q.key) pairs.now }
+{
+    for pair in pairs {
+        if key.cmp(pair.key.as_slice()).is_eq() {
+            return true;
+        }
+    }
+    false
+}
+
+/// Whether no key stands twice. It takes time as the square of how many pairs there are: pairs that ascend need no test.
+pub fn keys_differ(pairs: &[Pair]) -> bool
+    ensures { result ≡ keys_differ pairs.now }
+{
+    let mut left = pairs;
+    while let Some((pair, others)) = left.split_first() {
+        if has_key(others, pair.key.as_slice()) {
+            return false;
+        }
+        left = others;
+    }
+    true
 }
 
 // Equal pairs, by ascending key.

@@ -175,12 +175,7 @@ fn kind_of_byte(byte: u8) -> Result<Kind, Unread>
 }
 
 #[tactic(auto, unfolding(crate::specs::Stored::account_of))]
-fn read_account(
-    alloc: Global,
-    domain: u8,
-    rid: u32,
-    mut fields: Fields<'_>,
-) -> Result<Row, Unread>
+fn read_account(alloc: Global, domain: u8, rid: u32, mut fields: Fields<'_>) -> Result<Row, Unread>
     ensures { ReadsWhole result (account_of domain rid fields.entry) }
 {
     let byte = fields.byte()?;

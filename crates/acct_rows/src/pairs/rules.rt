@@ -34,8 +34,9 @@ fn has_bad_text(row: &Row) -> bool
     }
 }
 
-const USER_TYPES: u32 =
-    USER_NORMAL_ACCOUNT | USER_WORKSTATION_TRUST_ACCOUNT | USER_SERVER_TRUST_ACCOUNT;
+const USER_TYPES: u32 = USER_NORMAL_ACCOUNT
+    | USER_WORKSTATION_TRUST_ACCOUNT
+    | USER_SERVER_TRUST_ACCOUNT;
 
 const KNOWN_CONTROL: u32 = USER_ACCOUNT_DISABLED | USER_PASSWORD_NOT_REQUIRED | USER_TYPES;
 
@@ -73,9 +74,7 @@ fn has_needless_number(row: &Row) -> bool
 fn are_known(privileges: &[Held]) -> bool
     ensures { result ≡ list_all is_known_low privileges.now }
 {
-    privileges
-        .iter()
-        .all(|held| SE_CREATE_TOKEN <= held.low && held.low <= SE_CREATE_GLOBAL)
+    privileges.iter().all(|held| SE_CREATE_TOKEN <= held.low && held.low <= SE_CREATE_GLOBAL)
 }
 
 fn has_unknown_right(row: &Row) -> bool
@@ -117,8 +116,10 @@ fn is_bad_account_domain(alloc: Global, row: &Row) -> Result<bool, NoMemory>
     ensures { IfOk result (λ broken. broken ≡ is_bad_account_domain row.now) }
 {
     match row {
-        Row::Domain(domain) => Ok(domain.number == ACCOUNT_DOMAIN
-            && !(is_domain_name(alloc, &domain.name)? && is_domain_sid(&domain.sid))),
+        Row::Domain(domain) => Ok(
+            domain.number == ACCOUNT_DOMAIN
+                && !(is_domain_name(alloc, &domain.name)? && is_domain_sid(&domain.sid)),
+        ),
         _ => Ok(false),
     }
 }
@@ -128,8 +129,10 @@ fn is_bad_builtin(alloc: Global, row: &Row) -> Result<bool, NoMemory>
 {
     let name = Name::from_text(alloc, BUILTIN_NAME)?;
     match row {
-        Row::Domain(domain) => Ok(domain.number == BUILTIN_DOMAIN
-            && !(domain.name == name && domain.sid == builtin_sid())),
+        Row::Domain(domain) => Ok(
+            domain.number == BUILTIN_DOMAIN
+                && !(domain.name == name && domain.sid == builtin_sid()),
+        ),
         _ => Ok(false),
     }
 }
@@ -138,12 +141,14 @@ fn is_bad_builtin(alloc: Global, row: &Row) -> Result<bool, NoMemory>
 pub fn breaks_alone(alloc: Global, row: &Row) -> Result<bool, NoMemory>
     ensures { IfOk result (λ broken. broken ≡ breaks_alone row.now) }
 {
-    Ok(has_bad_text(row)
-        || has_bad_control(row)
-        || has_needless_number(row)
-        || has_unknown_right(row)
-        || has_bad_next(row)
-        || is_misplaced(row)
-        || is_bad_account_domain(alloc, row)?
-        || is_bad_builtin(alloc, row)?)
+    Ok(
+        has_bad_text(row)
+            || has_bad_control(row)
+            || has_needless_number(row)
+            || has_unknown_right(row)
+            || has_bad_next(row)
+            || is_misplaced(row)
+            || is_bad_account_domain(alloc, row)?
+            || is_bad_builtin(alloc, row)?,
+    )
 }

@@ -167,11 +167,15 @@ impl<'a> Store<'a> {
         ensures { IfOk result (λ broken. broken ≡ breaks_among self.now row.now) }
     {
         match row {
-            Row::Account(account) => Ok(self.is_past_next(alloc, account)?
-                || self.has_taken_name(account)
-                || self.lacks_primary(alloc, account)?),
-            Row::Member(member) => Ok(self.is_missing(alloc, Kind::Group, ACCOUNT_DOMAIN, member.group)?
-                || self.is_missing(alloc, Kind::User, ACCOUNT_DOMAIN, member.user)?),
+            Row::Account(account) => Ok(
+                self.is_past_next(alloc, account)?
+                    || self.has_taken_name(account)
+                    || self.lacks_primary(alloc, account)?,
+            ),
+            Row::Member(member) => Ok(
+                self.is_missing(alloc, Kind::Group, ACCOUNT_DOMAIN, member.group)?
+                    || self.is_missing(alloc, Kind::User, ACCOUNT_DOMAIN, member.user)?,
+            ),
             Row::Alias(alias) => self.is_missing(alloc, Kind::Alias, alias.domain, alias.alias),
             _ => Ok(false),
         }
