@@ -1,6 +1,12 @@
+pub mod Changes
 pub mod Keyed
 pub mod Laws
+pub mod Loading
 pub mod Objects
+pub mod PairRules
+pub mod PairsOf
 pub mod Rows
 pub mod Seed
 pub mod Sound
+pub mod Spelled
+pub mod Stored

@@ -5,6 +5,7 @@ ghost use Rattle.acct_rows.specs.Sound.{IsSoundRows};
 ghost use Rattle.acct_rows.specs.Seed.{seed_lists};
 ghost use Rattle.std.specs.Option.{option_copied};
 ghost use Rattle.acct_rows.specs.Keyed.{is_ascending};
+ghost use Rattle.acct_rows.specs.Loading.{no_lists};
 ghost use Rattle.acct_rows.specs.Rows.{members_of, aliases_of, HasRoom, domain_key, account_key, member_key, alias_key};
 ghost use Rattle.acct_rows.specs.Rows.{lsa_key, domain_at};
 ghost use Rattle.acct_rows.specs.Rows.{alias_row_at};
@@ -76,6 +77,20 @@ fn find_in<'a>(accounts: &'a [AccountRow], domain: u8, name: &Name) -> Option<&'
 }
 
 impl Rows {
+    /// No rows, which take no memory.
+    pub(crate) fn empty(alloc: Global) -> Rows
+        ensures { result ≡ record { lists = no_lists; spare = 0 } }
+    {
+        Rows {
+            domains: Table::new(alloc),
+            accounts: Table::new(alloc),
+            members: Table::new(alloc),
+            aliases: Table::new(alloc),
+            lsa: Table::new(alloc),
+            spare: 0,
+        }
+    }
+
     /// The rows that a database without rows begins with, for an account domain of that name and SID.
     pub fn seed(alloc: Global, name: &Name, sid: Sid) -> Result<Rows, NoMemory>
         requires name { is_domain_name name.now ≡ true }

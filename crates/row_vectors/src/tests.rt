@@ -1,4 +1,5 @@
-// Rows, profiles and the table of operations, one module for each crate that is called.
+// Rows, their pairs, profiles and the table of operations.
 mod operations;
+mod pairs;
 mod profiles;
 mod rows;

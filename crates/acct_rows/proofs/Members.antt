@@ -1,0 +1,162 @@
+-- Which values stand in a list, by key, and pairs that are sorted.
+use Rattle.std.proofs.Common.{◌≡◌, ℕ, zero, suc, ◌+◌, ◌<◌, ◌≤◌, Bool, true, false, ◌&&◌, cond, List, [], ◌∷◌, ◌++◌}
+use Rattle.std.proofs.Common.{length, get_or, map, Some, refl, sym, ap, subst, ◌∙◌, arith, inl, inr, ◌⊎◌}
+use Rattle.std.specs.Prelude.{slice_index_or}
+use Rattle.std.specs.List.{Contains}
+use Rattle.std.specs.List.Sorted.{IsPermutation, IsSortedBy}
+use Rattle.std.specs.Cmp.{tied_itself, first_so, second_so}
+use Rattle.std.specs.Cmp.Lexicographic.{nat_list_cmp_total}
+use Rattle.std.specs.declared.cmp.Ordering.{Ordering}
+use Rattle.std.specs.declared.cmp.Ordering.TheVariants.{Less, Equal, Greater}
+use Rattle.std.specs.Ordering.{is_eq, is_lt, ordering_reverse}
+use Rattle.std.proofs.lemmas.List.Sorted.{Contains-permutation, sum_by-IsPermutation, ranks_by, sorted_far}
+use Rattle.std.proofs.lemmas.List.Recursion.{is_sum_by}
+use Rattle.acct_keeper.specs.declared.pairs.Pair.{Pair}
+use Rattle.acct_keeper.specs.Pairs as kept
+use Rattle.acct_rows.specs.Keyed.{compare, same_key, at, below_all, is_ascending}
+use Rattle.acct_rows.specs.PairRules.{pair_key}
+use Rattle.acct_rows.proofs.Tables.{same_key-is, same_key-itself, less}
+use Rattle.acct_rows.proofs.Lookups.{tested, same_Some}
+
+-- a value stands in a list
+abbrev pub In : {A : Type 0} → A → List A → Type 0
+In a [] = ⊥
+In a (x ∷ xs) = (a ≡ x) ⊎ In a xs
+
+pub in_map : {A B : Type 0} (f : A → B) (a : A) (xs : List A) → In a xs → In (f a) (map f xs)
+in_map f a [] e = e
+in_map f a (x ∷ xs) (inl e) = inl (ap f e)
+in_map f a (x ∷ xs) (inr e) = inr (in_map f a xs e)
+
+pub map_in : {A B : Type 0} (f : A → B) (b : B) (xs : List A) → In b (map f xs) → (a : A) × In a xs × (b ≡ f a)
+map_in f b [] e = absurd e
+map_in f b (x ∷ xs) (inl e) = (x, inl refl, e)
+map_in f b (x ∷ xs) (inr e) = let rest = map_in f b xs e in (rest.0, inr rest.1, rest.2)
+
+pub in_left : {A : Type 0} (a : A) (xs ys : List A) → In a xs → In a (xs ++ ys)
+in_left a [] ys e = absurd e
+in_left a (x ∷ xs) ys (inl e) = inl e
+in_left a (x ∷ xs) ys (inr e) = inr (in_left a xs ys e)
+
+pub in_right : {A : Type 0} (a : A) (xs ys : List A) → In a ys → In a (xs ++ ys)
+in_right a [] ys e = e
+in_right a (x ∷ xs) ys e = inr (in_right a xs ys e)
+
+pub in_either : {A : Type 0} (a : A) (xs ys : List A) → In a (xs ++ ys) → In a xs ⊎ In a ys
+in_either a [] ys e = inr e
+in_either a (x ∷ xs) ys (inl e) = inl (inl e)
+in_either a (x ∷ xs) ys (inr e) = elim (in_either a xs ys e) [ inl l ↦ inl (inr l) | inr r ↦ inr r ]
+
+contains_in : {A : Type 0} (a : A) (xs : List A) → Contains xs a → In a xs
+contains_in {A = A} a xs c = found xs c.0 c.1 c.2
+  where
+    found : (xs : List A) (k : ℕ) → k < length xs → slice_index_or xs k a ≡ a → In a xs
+    found [] k lt e = absurd (omega arith)
+    found (x ∷ xs) zero lt e = inl (sym e)
+    found (x ∷ xs) (suc k) lt e = inr (found xs k (omega arith) e)
+
+in_contains : {A : Type 0} (a : A) (xs : List A) → In a xs → Contains xs a
+in_contains a [] e = absurd e
+in_contains a (x ∷ xs) (inl e) = (0, omega arith, sym e)
+in_contains a (x ∷ xs) (inr e) =
+    let rest = in_contains a xs e in
+    (suc rest.0, (let lt = rest.1 in omega arith), rest.2)
+
+pub in_permutation : {A : Type 0} (a : A) (xs ys : List A) → IsPermutation xs ys → In a xs → In a ys
+in_permutation a xs ys p e = contains_in a ys (Contains-permutation xs ys a p (in_contains a xs e))
+
+module _ {A : Type 0} (key : A → List ℕ) where
+  -- what is found at a key stands in the list, and what stands in one that ascends is found at its key
+  pub at_in : (k : List ℕ) (a : A) (xs : List A) → at key k xs ≡ Some a → In a xs
+  at_in k a [] e = absurd cc
+  at_in k a (x ∷ xs) e =
+      elim (tested (same_key k (key x))) [
+        | inl t ↦ inl (sym (same_Some (ap (λ b. cond b (Some x) (at key k xs)) (sym t) ∙ e)))
+        | inr t ↦ inr (at_in k a xs (ap (λ b. cond b (Some x) (at key k xs)) (sym t) ∙ e))
+      ]
+
+  pub below_in : (k : List ℕ) (a : A) (xs : List A) → below_all key k xs ≡ true → In a xs → compare k (key a) ≡ Less
+  below_in k a [] below e = absurd e
+  below_in k a (x ∷ xs) below (inl e) = less _ (ap (λ y. is_lt (compare k (key y))) e ∙ first_so _ _ below)
+  below_in k a (x ∷ xs) below (inr e) = below_in k a xs (second_so _ _ below) e
+
+  pub in_at : (a : A) (xs : List A) → is_ascending key xs ≡ true → In a xs → at key (key a) xs ≡ Some a
+  in_at a [] up e = absurd e
+  in_at a (x ∷ xs) up (inl e) =
+      ap (λ b. cond b (Some x) (at key (key a) xs)) (ap (λ y. same_key (key a) (key y)) (sym e) ∙ same_key-itself (key a))
+      ∙ ap (λ y. Some y) (sym e)
+  in_at a (x ∷ xs) up (inr e) =
+      elim (tested (same_key (key a) (key x))) [
+        | inl t ↦ absurd (
+            let lt : compare (key x) (key a) ≡ Less = below_in (key x) a xs (first_so _ _ up) e in
+            let same : compare (key x) (key a) ≡ Equal =
+            ap (λ k. compare (key x) k) (same_key-is _ _ t) ∙ tied_itself nat_list_cmp_total (key x) in
+            cc (lt, same))
+        | inr t ↦ ap (λ b. cond b (Some x) (at key (key a) xs)) t ∙ in_at a xs (second_so _ _ up) e
+      ]
+
+-- how many pairs have a key
+abbrev pub one_if : Bool → ℕ
+one_if test = cond test 1 0
+
+abbrev pub count : List ℕ → List Pair → ℕ
+count k [] = 0
+count k (p ∷ ps) = one_if (same_key k p.key) + count k ps
+
+pub count-append : (k : List ℕ) (ps qs : List Pair) → count k (ps ++ qs) ≡ count k ps + count k qs
+count-append k [] qs = omega arith
+count-append k (p ∷ ps) qs = let rest = count-append k ps qs in omega arith
+
+pub count-permutation : (k : List ℕ) (ps qs : List Pair) → IsPermutation ps qs → count k qs ≡ count k ps
+count-permutation k ps qs p =
+    let f : Pair → ℕ = λ pair. one_if (same_key k pair.key) in
+    is_sum_by (count k) f refl (λ _ _. refl) qs ∙ sum_by-IsPermutation f ps qs p
+    ∙ sym (is_sum_by (count k) f refl (λ _ _. refl) ps)
+
+abbrev pub precedes : Pair → Pair → Bool
+precedes p q = is_lt (compare p.key q.key)
+
+-- sorted pairs of which no two have one key ascend
+below : (k : List ℕ) (ps : List Pair) → count k ps ≡ 0
+    → ((j : ℕ) (d : Pair) → j < length ps → is_lt (compare (get_or ps j d).key k) ≡ false) → kept.below_all k ps ≡ true
+below k [] none up = refl
+below k (p ∷ ps) none up =
+    elim (tested (same_key k p.key)) [
+      | inl t ↦ absurd (let one : one_if (same_key k p.key) ≡ 1 = ap one_if t in omega arith)
+      | inr t ↦
+          let rest = below k ps (omega arith) (λ j d lt. up (suc j) d (omega arith)) in
+          let first : is_lt (compare k p.key) ≡ true = over (compare k p.key) refl t (up 0 p (omega arith)) in
+          rw (first, rest) refl
+    ]
+  where
+    over : (r : Ordering) → compare k p.key ≡ r → is_eq r ≡ false → is_lt (compare p.key k) ≡ false → is_lt r ≡ true
+    over Less e t u = refl
+    over Equal e t u = absurd cc
+    over Greater e t u = absurd (
+        let turned : compare p.key k ≡ Less = nat_list_cmp_total.antisymm p.key k ∙ ap ordering_reverse e in
+        let is : is_lt (compare p.key k) ≡ true = ap is_lt turned in
+        cc (is, u))
+
+one_more : (k : ℕ) → suc k + 1 ≡ suc (k + 1)
+one_more k = omega arith
+
+pub sorted_ascends : (ps : List Pair) → IsSortedBy precedes ps → ((k : List ℕ) → count k ps ≤ 1)
+    → kept.is_ascending ps ≡ true
+sorted_ascends [] up few = refl
+sorted_ascends (p ∷ ps) up few =
+    let itself : one_if (same_key p.key p.key) ≡ 1 = ap one_if (same_key-itself p.key) in
+    let none : count p.key ps ≡ 0 = (let all = few p.key in omega arith) in
+    let first = below p.key ps none (λ j d lt.
+    sorted_far precedes (ranks_by nat_list_cmp_total pair_key) (p ∷ ps) up 0 (suc j) d (omega arith) (omega arith)) in
+    let rest = sorted_ascends ps (λ k d le lt. subst (λ j. precedes (get_or (p ∷ ps) j d) (get_or ps k d) ≡ false)
+    (one_more k) (up (suc k) d (omega arith) (omega arith)))
+    (λ k. let all = few k in omega arith) in
+    rw (first, rest) refl
+
+below-kept : (k : List ℕ) (ps : List Pair) → below_all pair_key k ps ≡ kept.below_all k ps
+below-kept k [] = refl
+below-kept k (p ∷ ps) = ap (λ b. is_lt (compare k p.key) && b) (below-kept k ps)
+
+pub ascending-kept : (ps : List Pair) → is_ascending pair_key ps ≡ kept.is_ascending ps
+ascending-kept [] = refl
+ascending-kept (p ∷ ps) = rw (below-kept p.key ps, ascending-kept ps) refl

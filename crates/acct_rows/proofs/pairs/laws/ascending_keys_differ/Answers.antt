@@ -1,0 +1,6 @@
+-- `ascending_keys_differ` meets its contract.
+use Rattle.acct_rows.proofs.Shuffled.{ascending_differ}
+use Rattle.acct_rows.proofs.pairs.laws.ascending_keys_differ.Goals as goal
+
+pub returns : goal.returns
+returns c = ascending_differ

@@ -1,0 +1,6 @@
+-- What the loop of `copies` keeps.
+use Rattle.std.proofs.Common.{◌≡◌, take}
+use Rattle.acct_rows.proofs.pairs.loading.copies.Given as goal
+
+abbrev pub invariant-loop-pair : goal.invariant-loop-pair
+invariant-loop-pair l = l.copies.items ≡ take l.pair-index l.pairs

@@ -1,0 +1,8 @@
+-- What the loop of `first_broken` keeps.
+use Rattle.std.proofs.Common.{◌≡◌, drop}
+use Rattle.std.specs.List.{find}
+use Rattle.acct_rows.specs.PairRules.{is_broken_pair}
+use Rattle.acct_rows.proofs.pairs.loading.first_broken.Given as goal
+
+abbrev pub invariant-loop-i : goal.invariant-loop-i
+invariant-loop-i l = find (is_broken_pair l.pairs) (drop l.i l.pairs) ≡ find (is_broken_pair l.pairs) l.pairs

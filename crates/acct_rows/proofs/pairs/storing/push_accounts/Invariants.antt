@@ -1,0 +1,7 @@
+-- What the loop of `push_accounts` keeps.
+use Rattle.std.proofs.Common.{◌≡◌, ◌++◌, take}
+use Rattle.acct_rows.specs.PairsOf.{account_pairs}
+use Rattle.acct_rows.proofs.pairs.storing.push_accounts.Given as goal
+
+abbrev pub invariant-loop-row : goal.invariant-loop-row
+invariant-loop-row l = l.pairs.items ≡ l.fn.pairs.items ++ account_pairs (take l.row-index l.rows)

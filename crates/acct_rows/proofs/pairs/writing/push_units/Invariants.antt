@@ -1,0 +1,8 @@
+-- What the loop of `push_units` keeps.
+use Rattle.std.proofs.Common.{◌≡◌, ◌++◌, take}
+use Rattle.std.specs.Int.{w16, to_le_bytes}
+use Rattle.std.specs.List.{flat_map}
+use Rattle.acct_rows.proofs.pairs.writing.push_units.Given as goal
+
+abbrev pub invariant-loop-unit : goal.invariant-loop-unit
+invariant-loop-unit l = l.out.items ≡ l.fn.out.items ++ flat_map (to_le_bytes w16) (take l.unit-index l.units)

@@ -1,0 +1,155 @@
+-- How rows are stored: each as one pair, with its key and its value in bytes. Numbers stand with the lowest byte first,
+-- but for those in keys, which stand with the highest first, so that keys ascend as they do.
+use Rattle.std.specs.Prelude.{◌≡◌, ℕ, ◌^◌, ◌<◌, ◌≤◌, Bool, true, List, [], ◌∷◌, ◌++◌, length, All}
+use Rattle.std.specs.Int.{w16, w32, to_le_bytes, to_be_bytes}
+use Rattle.std.specs.List.{flat_map}
+use Rattle.acct_codes.specs.declared.kind.Kind.{Kind}
+use Rattle.acct_codes.specs.declared.kind.Kind.TheVariants.{Group, Alias, User}
+use Rattle.dtyp_sid.specs.Bytes.{bytes_of}
+use Rattle.dtyp_sid.specs.Value.{IsSid}
+use Rattle.acct_calls.specs.CodePoints.{AreUnits}
+use Rattle.acct_keeper.specs.declared.pairs.Pair.{Pair}
+use Rattle.acct_rows.specs.Sound.{is_account_kind, are_above}
+use Rattle.acct_rows.specs.declared.row.DomainRow.{DomainRow}
+use Rattle.acct_rows.specs.declared.row.AccountRow.{AccountRow}
+use Rattle.acct_rows.specs.declared.row.MemberRow.{MemberRow}
+use Rattle.acct_rows.specs.declared.row.AliasRow.{AliasRow}
+use Rattle.acct_rows.specs.declared.row.LsaRow.{LsaRow}
+use Rattle.acct_rows.specs.declared.row.Held.{Held}
+use Rattle.acct_rows.specs.declared.row.Row.{Row}
+use Rattle.acct_rows.specs.declared.row.Row.TheVariants as rows
+use Rattle.acct_rows.specs.declared.row.RowKey.{RowKey}
+use Rattle.acct_rows.specs.declared.row.RowKey.TheVariants as keys
+
+-- a text: the count of its units, and the units
+unfoldable pub text_bytes : List ℕ → List ℕ
+text_bytes units = to_le_bytes w16 (length units) ++ flat_map (to_le_bytes w16) units
+
+-- a RID in a key
+unfoldable pub rid_bytes : ℕ → List ℕ
+rid_bytes rid = to_be_bytes w32 rid
+
+-- a number in a value
+unfoldable pub number_bytes : ℕ → List ℕ
+number_bytes number = to_le_bytes w32 number
+
+-- the kind of an account
+abbrev pub kind_byte : Kind → ℕ
+kind_byte User = 1
+kind_byte Group = 2
+kind_byte Alias = 4
+kind_byte _ = 0
+
+-- a privilege by the low part of its LUID, with its attributes
+unfoldable pub held_bytes : Held → List ℕ
+held_bytes held = held.low ∷ number_bytes held.attributes
+
+-- the first byte of a key is a letter: d, a, m, l or s
+abbrev pub stored_key : RowKey → List ℕ
+stored_key (keys.Domain number) = 0x64 ∷ number ∷ []
+stored_key (keys.Account domain rid) = 0x61 ∷ domain ∷ rid_bytes rid
+stored_key (keys.Member group user) = 0x6D ∷ rid_bytes group ++ rid_bytes user
+stored_key (keys.Alias domain alias member) = 0x6C ∷ domain ∷ rid_bytes alias ++ bytes_of member
+stored_key (keys.Lsa sid) = 0x73 ∷ bytes_of sid
+
+unfoldable pub domain_value : DomainRow → List ℕ
+domain_value d = number_bytes d.next_rid
+    ++ length (bytes_of d.sid) ∷ bytes_of d.sid
+    ++ text_bytes d.name ++ text_bytes d.oem
+
+unfoldable pub account_value : AccountRow → List ℕ
+account_value a = kind_byte a.kind ∷ number_bytes a.bits ++ number_bytes a.primary
+    ++ text_bytes a.name ++ text_bytes a.full_name ++ text_bytes a.comment
+
+unfoldable pub lsa_value : LsaRow → List ℕ
+lsa_value l = number_bytes l.access ++ length l.privileges ∷ flat_map held_bytes l.privileges
+
+abbrev pub stored_value : Row → List ℕ
+stored_value (rows.Domain d) = domain_value d
+stored_value (rows.Account a) = account_value a
+stored_value (rows.Member m) = number_bytes m.attributes
+stored_value (rows.Alias a) = []
+stored_value (rows.Lsa l) = lsa_value l
+
+abbrev pub key_of : Row → RowKey
+key_of (rows.Domain d) = keys.Domain d.number
+key_of (rows.Account a) = keys.Account a.domain a.rid
+key_of (rows.Member m) = keys.Member m.group m.user
+key_of (rows.Alias a) = keys.Alias a.domain a.alias a.member
+key_of (rows.Lsa l) = keys.Lsa l.sid
+
+-- the pair that a row is stored as
+abbrev pub pair_of : Row → Pair
+pair_of row = record { key = stored_key (key_of row); value = stored_value row }
+
+-- the pair that says which format the others have: the letter f, and format 1
+abbrev pub format_key : List ℕ
+format_key = 0x66 ∷ []
+
+abbrev pub format_value : List ℕ
+format_value = 1 ∷ []
+
+abbrev pub format_pair : Pair
+format_pair = record { key = format_key; value = format_value }
+
+-- a text that has a spelling
+pub record FitsText (units : List ℕ) : Type 0 where
+  pub count : length units < 2 ^ 16
+  pub units_fit : AreUnits units
+
+-- the domains are 0 and 1
+pub record FitsDomain (d : DomainRow) : Type 0 where
+  pub number : d.number ≤ 1
+  pub sid : IsSid d.sid
+  pub name : FitsText d.name
+  pub oem : FitsText d.oem
+  pub next_rid : d.next_rid < 2 ^ 32
+
+pub record FitsAccount (a : AccountRow) : Type 0 where
+  pub domain : a.domain ≤ 1
+  pub rid : a.rid < 2 ^ 32
+  pub kind : is_account_kind a.kind ≡ true
+  pub bits : a.bits < 2 ^ 32
+  pub primary : a.primary < 2 ^ 32
+  pub name : FitsText a.name
+  pub full_name : FitsText a.full_name
+  pub comment : FitsText a.comment
+
+pub record FitsMember (m : MemberRow) : Type 0 where
+  pub group : m.group < 2 ^ 32
+  pub user : m.user < 2 ^ 32
+  pub attributes : m.attributes < 2 ^ 32
+
+pub record FitsAlias (a : AliasRow) : Type 0 where
+  pub domain : a.domain ≤ 1
+  pub alias : a.alias < 2 ^ 32
+  pub member : IsSid a.member
+
+pub record FitsHeld (held : Held) : Type 0 where
+  pub low : held.low < 2 ^ 8
+  pub attributes : held.attributes < 2 ^ 32
+
+-- privileges stand by strictly ascending low part
+abbrev pub ascend : List Held → Bool
+ascend [] = true
+ascend (held ∷ rest) = are_above held.low rest
+
+pub record FitsLsa (l : LsaRow) : Type 0 where
+  pub sid : IsSid l.sid
+  pub access : l.access < 2 ^ 32
+  pub count : length l.privileges < 2 ^ 8
+  pub privileges : All FitsHeld l.privileges
+  pub privileges_ascend : ascend l.privileges ≡ true
+
+-- a row that has a spelling: each of its numbers is as wide as its bytes
+abbrev pub Fits : Row → Type 0
+Fits (rows.Domain d) = FitsDomain d
+Fits (rows.Account a) = FitsAccount a
+Fits (rows.Member m) = FitsMember m
+Fits (rows.Alias a) = FitsAlias a
+Fits (rows.Lsa l) = FitsLsa l
+
+-- the pair spells the row exactly
+pub record IsSpelled (pair : Pair) (row : Row) : Type 0 where
+  pub fits : Fits row
+  pub spelled : pair ≡ pair_of row

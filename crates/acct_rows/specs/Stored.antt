@@ -1,0 +1,241 @@
+-- What a pair says: the row that it spells exactly, read from left to right. A field is a value and the bytes after it.
+use Rattle.std.specs.Prelude.{◌≡◌, ℕ, zero, suc, ◌+◌, ◌*◌, ◌^◌, ◌==◌, Bool, ◌&&◌, List, [], ◌∷◌, length, drop, take}
+use Rattle.std.specs.Prelude.{Option, Some, None, Result, Ok, Err, nat_lt, nat_le, slice_index, if◌then◌else◌, All, ◌<◌}
+use Rattle.std.specs.Result.{result_ok}
+use Rattle.std.specs.Int.{w16, w32, from_le_bytes, from_be_bytes}
+use Rattle.acct_codes.specs.declared.kind.Kind.{Kind}
+use Rattle.acct_codes.specs.declared.kind.Kind.TheVariants.{Group, Alias, User}
+use Rattle.dtyp_sid.specs.Bytes.{sid_of_bytes}
+use Rattle.dtyp_sid.specs.Value.{SidValue}
+use Rattle.acct_keeper.specs.declared.pairs.Pair.{Pair}
+use Rattle.acct_rows.specs.Spelled.{ascend, Fits, IsSpelled, pair_of}
+use Rattle.acct_rows.specs.declared.pairs.fields.Unread.{Unread}
+use Rattle.acct_rows.specs.declared.pairs.fields.Unread.TheVariants.{Memory, Misspelled}
+use Rattle.acct_rows.specs.declared.row.Held.{Held}
+use Rattle.acct_rows.specs.declared.row.Row.{Row}
+use Rattle.acct_rows.specs.declared.row.Row.TheVariants as rows
+use Rattle.acct_rows.specs.declared.row.RowKey.{RowKey}
+use Rattle.acct_rows.specs.declared.row.RowKey.TheVariants as keys
+
+-- a reader gives a value and the bytes after it, or nothing
+abbrev pub Reader : Type 0 → Type 0
+Reader A = List ℕ → Option (A × List ℕ)
+
+infixl 10 ◌>>=◌
+abbrev pub ◌>>=◌ : {A B : Type 0} → Option A → (A → Option B) → Option B
+(Some x) >>= f = f x
+None >>= f = None
+
+abbrev pub only_if : {A : Type 0} → Bool → A → Option A
+only_if test x = if test then Some x else None
+
+-- no byte is left over
+abbrev pub is_end : List ℕ → Bool
+is_end bytes = length bytes == 0
+
+-- so many bytes
+abbrev pub front_at : ℕ → Reader (List ℕ)
+front_at n bytes = if nat_lt (length bytes) n then None else Some (take n bytes, drop n bytes)
+
+-- so many of what one reader reads
+unfoldable pub many : {A : Type 0} → Reader A → ℕ → Reader (List A)
+many one zero bytes = Some ([], bytes)
+many one (suc n) bytes = do
+  first ← one bytes
+  others ← many one n first.1
+  Some (first.0 ∷ others.0, others.1)
+
+unfoldable pub byte_at : Reader ℕ
+byte_at bytes = do
+  front ← front_at 1 bytes
+  Some (slice_index front.0 0, front.1)
+
+-- numbers of 16 and of 32 bits with the lowest byte first, and a RID with the highest first
+unfoldable pub unit_at : Reader ℕ
+unit_at bytes = do
+  front ← front_at 2 bytes
+  Some (from_le_bytes w16 front.0, front.1)
+
+unfoldable pub number_at : Reader ℕ
+number_at bytes = do
+  front ← front_at 4 bytes
+  Some (from_le_bytes w32 front.0, front.1)
+
+unfoldable pub rid_at : Reader ℕ
+rid_at bytes = do
+  front ← front_at 4 bytes
+  Some (from_be_bytes w32 front.0, front.1)
+
+unfoldable pub text_at : Reader (List ℕ)
+text_at bytes = do
+  count ← unit_at bytes
+  many unit_at count.0 count.1
+
+unfoldable pub sid_at : Reader SidValue
+sid_at bytes = do
+  sid ← result_ok (sid_of_bytes bytes)
+  Some (sid, drop (8 + 4 * length sid.subs) bytes)
+
+-- a SID that is all of the bytes
+unfoldable pub whole_sid : List ℕ → Option SidValue
+whole_sid bytes = do
+  sid ← sid_at bytes
+  only_if (is_end sid.1) sid.0
+
+-- a domain's number, which is 0 or 1
+unfoldable pub domain_number_at : Reader ℕ
+domain_number_at bytes = do
+  number ← byte_at bytes
+  only_if (nat_le number.0 1) number
+
+abbrev pub kind_of_byte : ℕ → Option Kind
+kind_of_byte byte =
+    if byte == 1 then Some User
+    else (if byte == 2 then Some Group else (if byte == 4 then Some Alias else None))
+
+unfoldable pub held_at : Reader Held
+held_at bytes = do
+  low ← byte_at bytes
+  attributes ← number_at low.1
+  Some (record { low = low.0; attributes = attributes.0 }, attributes.1)
+
+-- the keys, by the letter that they begin with
+unfoldable pub domain_key_of : List ℕ → Option RowKey
+domain_key_of bytes = do
+  number ← domain_number_at bytes
+  only_if (is_end number.1) (keys.Domain number.0)
+
+unfoldable pub account_key_of : List ℕ → Option RowKey
+account_key_of bytes = do
+  domain ← domain_number_at bytes
+  rid ← rid_at domain.1
+  only_if (is_end rid.1) (keys.Account domain.0 rid.0)
+
+unfoldable pub member_key_of : List ℕ → Option RowKey
+member_key_of bytes = do
+  group ← rid_at bytes
+  user ← rid_at group.1
+  only_if (is_end user.1) (keys.Member group.0 user.0)
+
+unfoldable pub alias_key_of : List ℕ → Option RowKey
+alias_key_of bytes = do
+  domain ← domain_number_at bytes
+  alias ← rid_at domain.1
+  member ← whole_sid alias.1
+  Some (keys.Alias domain.0 alias.0 member)
+
+unfoldable pub lsa_key_of : List ℕ → Option RowKey
+lsa_key_of bytes = do
+  sid ← whole_sid bytes
+  Some (keys.Lsa sid)
+
+unfoldable pub lettered : ℕ → List ℕ → Option RowKey
+lettered letter bytes =
+    if letter == 0x61 then account_key_of bytes
+    else (if letter == 0x64 then domain_key_of bytes
+    else (if letter == 0x6C then alias_key_of bytes
+    else (if letter == 0x6D then member_key_of bytes
+    else (if letter == 0x73 then lsa_key_of bytes else None))))
+
+unfoldable pub row_key : List ℕ → Option RowKey
+row_key key = do
+  letter ← byte_at key
+  lettered letter.0 letter.1
+
+-- the rows, by their keys and values
+unfoldable pub domain_of : ℕ → List ℕ → Option Row
+domain_of number value = do
+  next_rid ← number_at value
+  size ← byte_at next_rid.1
+  sid ← sid_at size.1
+  name ← text_at sid.1
+  oem ← text_at name.1
+  only_if ((size.0 == 8 + 4 * length sid.0.subs) && is_end oem.1) (rows.Domain (record {
+    number = number;
+    sid = sid.0;
+    name = name.0;
+    oem = oem.0;
+    next_rid = next_rid.0;
+  }))
+
+unfoldable pub account_of : ℕ → ℕ → List ℕ → Option Row
+account_of domain rid value = do
+  byte ← byte_at value
+  kind ← kind_of_byte byte.0
+  bits ← number_at byte.1
+  primary ← number_at bits.1
+  name ← text_at primary.1
+  full_name ← text_at name.1
+  comment ← text_at full_name.1
+  only_if (is_end comment.1) (rows.Account (record {
+    domain = domain;
+    rid = rid;
+    kind = kind;
+    name = name.0;
+    full_name = full_name.0;
+    comment = comment.0;
+    bits = bits.0;
+    primary = primary.0;
+  }))
+
+unfoldable pub member_of : ℕ → ℕ → List ℕ → Option Row
+member_of group user value = do
+  attributes ← number_at value
+  only_if (is_end attributes.1) (rows.Member (record { group = group; user = user; attributes = attributes.0 }))
+
+unfoldable pub alias_of : ℕ → ℕ → SidValue → List ℕ → Option Row
+alias_of domain alias member value =
+    only_if (is_end value) (rows.Alias (record { domain = domain; alias = alias; member = member }))
+
+unfoldable pub lsa_of : SidValue → List ℕ → Option Row
+lsa_of sid value = do
+  access ← number_at value
+  count ← byte_at access.1
+  privileges ← many held_at count.0 count.1
+  only_if (is_end privileges.1 && ascend privileges.0)
+      (rows.Lsa (record { sid = sid; access = access.0; privileges = privileges.0 }))
+
+unfoldable pub valued : RowKey → List ℕ → Option Row
+valued (keys.Domain number) value = domain_of number value
+valued (keys.Account domain rid) value = account_of domain rid value
+valued (keys.Member group user) value = member_of group user value
+valued (keys.Alias domain alias member) value = alias_of domain alias member value
+valued (keys.Lsa sid) value = lsa_of sid value
+
+-- the row that a pair spells exactly
+unfoldable pub row_of : Pair → Option Row
+row_of pair = do
+  key ← row_key pair.key
+  valued key pair.value
+
+-- Nothing was read: the bytes spell nothing, or memory ran out.
+abbrev pub ReadsNothing : {Y : Type 0} → Unread → Option Y → Type 0
+ReadsNothing Memory read = Unit {0}
+ReadsNothing Misspelled read = read ≡ None
+
+-- What code reads, as it is seen, is the value that stands in front, and the bytes after it are left.
+abbrev pub ReadsBy : {X A : Type 0} → (X → A) → Result X Unread → List ℕ → Option (A × List ℕ) → Type 0
+ReadsBy view (Ok x) after read = read ≡ Some (view x, after)
+ReadsBy view (Err e) after read = ReadsNothing e read
+
+-- The same of a value that is seen as it is.
+abbrev pub Reads : {A : Type 0} → Result A Unread → List ℕ → Option (A × List ℕ) → Type 0
+Reads result after read = ReadsBy (λ x. x) result after read
+
+-- The same of a whole list of bytes, of which nothing is left to tell.
+abbrev pub ReadsWhole : {A : Type 0} → Result A Unread → Option A → Type 0
+ReadsWhole (Ok x) read = read ≡ Some x
+ReadsWhole (Err e) read = ReadsNothing e read
+
+-- keys and values are bytes
+pub record AreBytes (pair : Pair) : Type 0 where
+  pub key : All (λ byte. byte < 2 ^ 8) pair.key
+  pub value : All (λ byte. byte < 2 ^ 8) pair.value
+
+-- what is read of a pair is what it spells
+abbrev pub ReadRowsAreSpelled : Type 0
+ReadRowsAreSpelled = (pair : Pair) (row : Row) → AreBytes pair → row_of pair ≡ Some row → IsSpelled pair row
+
+-- what a pair spells is read of it, so that no pair spells two rows
+abbrev pub SpelledRowsAreRead : Type 0
+SpelledRowsAreRead = (row : Row) → Fits row → row_of (pair_of row) ≡ Some row

@@ -1,0 +1,12 @@
+//! Rows as pairs of bytes, and pairs as rows.
+mod changes;
+mod fields;
+pub mod laws;
+mod loading;
+mod reading;
+mod rules;
+mod store;
+mod storing;
+mod writing;
+
+pub use loading::{PairsError, keys_differ};

@@ -1,0 +1,312 @@
+// Pairs as rows.
+ghost use Rattle.std.specs.Prelude.{◌≡◌, ◌^◌, ◌<◌, true, All, find, map, option_map, IfOk, IfErr, OnOk};
+ghost use Rattle.acct_keeper.specs.Pairs.{same_key};
+ghost use Rattle.std.specs.List.{list_any};
+ghost use Rattle.std.specs.List.Sorted.{IsPermutation};
+ghost use Rattle.std.specs.Option.{option_copied};
+ghost use Rattle.acct_rows.specs.declared.pairs.loading.PairsError.TheVariants.{Memory};
+ghost use Rattle.acct_rows.specs.Keyed.{is_ascending};
+ghost use Rattle.acct_rows.specs.Loading.{BadPairs, IsReadWell, no_lists, somes, smaller, first_missing};
+ghost use Rattle.acct_rows.specs.Loading.{smallest_broken};
+ghost use Rattle.acct_rows.specs.PairRules.{pair_key, is_format, is_broken_pair, AreUnbroken};
+ghost use Rattle.acct_rows.specs.PairsOf.{HoldPairs, keys_differ};
+ghost use Rattle.acct_rows.specs.Rows.{with_puts};
+ghost use Rattle.acct_rows.specs.Sound.{IsSoundRows};
+ghost use Rattle.acct_rows.specs.Stored.{row_of};
+
+use super::fields::Unread;
+use super::laws::read_rows_are_spelled;
+use super::reading::read_row;
+use super::rules::breaks_alone;
+use super::store::Store;
+use super::writing::{format_pair, key_bytes};
+use crate::row::{ACCOUNT_DOMAIN, BUILTIN_DOMAIN, Row, RowKey};
+use crate::rows::Rows;
+use acct_base::{Seq, is_same};
+use acct_calls::NoMemory;
+use acct_calls::laws::same_is_equivalence;
+use acct_codes::rid::DOMAIN_GROUP_RID_USERS;
+use acct_keeper::{Pair, is_ascending};
+use dtyp_sid::laws::{
+    equal_sids_are_one, read_bytes_are_written, written_bytes_are_read, written_bytes_have_lengths,
+};
+use std::alloc::{AllocError, Global};
+use thiserror::Error;
+
+/// Why pairs are no rows.
+#[derive(Debug, Drop, Error)]
+pub enum PairsError {
+    /// The smallest of the keys that break a rule, in the order of bytes.
+    #[error("a stored pair breaks a rule")]
+    BadPair(Seq<u8>),
+    /// Memory was wanted.
+    #[error("there is no memory for the rows")]
+    Memory,
+}
+
+impl From<AllocError> for PairsError {
+    ghost from_gives = { λ _ e. e ≡ Memory };
+
+    fn from(_e: AllocError) -> PairsError {
+        PairsError::Memory
+    }
+}
+
+// A law: what a slice of bytes holds are bytes.
+fn are_bytes(bytes: &[u8])
+    ensures { All (λ byte. byte < 2 ^ 8) bytes.now }
+{
+    let _count = bytes.len();
+}
+
+fn read_one(alloc: Global, pair: &Pair) -> Result<Option<Row>, NoMemory>
+    ensures row { IfOk result (λ row. row ≡ row_of pair.now) }
+    ensures spelled { IsReadWell pair.now }
+{
+    read_rows_are_spelled();
+    are_bytes(pair.key.as_slice());
+    are_bytes(pair.value.as_slice());
+    match read_row(alloc, pair) {
+        Ok(row) => Ok(Some(row)),
+        Err(Unread::Misspelled) => Ok(None),
+        Err(Unread::Memory) => Err(AllocError),
+    }
+}
+
+// The row that each pair spells, where it spells one.
+fn read_rows(alloc: Global, pairs: &[Pair]) -> Result<Vec<Option<Row>>, NoMemory>
+    ensures rows { IfOk result (λ rows. rows.items ≡ map row_of pairs.now) }
+    ensures spelled { OnOk result (All IsReadWell pairs.now) }
+{
+    let mut rows = Vec::new(alloc);
+    for pair in pairs {
+        let row = read_one(alloc, pair)?;
+        rows.push(row)?;
+    }
+    Ok(rows)
+}
+
+fn is_format(pair: &Pair) -> bool
+    ensures { result ≡ is_format pair.now }
+{
+    is_same(pair.key.as_slice(), b"f") && is_same(pair.value.as_slice(), &[1])
+}
+
+fn is_broken(
+    alloc: Global,
+    store: &Store<'_>,
+    pair: &Pair,
+    row: &Option<Row>,
+) -> Result<bool, NoMemory>
+    requires { row.now ≡ row_of pair.now }
+    ensures { IfOk result (λ broken. broken ≡ is_broken_pair store.now pair.now) }
+{
+    if is_format(pair) {
+        return Ok(false);
+    }
+    match row {
+        None => Ok(true),
+        Some(row) => Ok(breaks_alone(alloc, row)? || store.breaks_among(alloc, row)?),
+    }
+}
+
+// The first pair that breaks a rule.
+fn first_broken<'a>(
+    alloc: Global,
+    pairs: &'a [Pair],
+    rows: &[Option<Row>],
+) -> Result<Option<&'a Pair>, NoMemory>
+    requires rows { rows.now ≡ map row_of pairs.now }
+    requires ascending { is_ascending pair_key pairs.now ≡ true }
+    ensures { IfOk result (λ found. option_copied found ≡ find (is_broken_pair pairs.now) pairs.now) }
+{
+    let store = Store::new(pairs, rows);
+    for i in 0..pairs.len() {
+        if is_broken(alloc, &store, &pairs[i], &rows[i])? {
+            return Ok(Some(&pairs[i]));
+        }
+    }
+    Ok(None)
+}
+
+// The first needed key that has no pair.
+fn first_missing(alloc: Global, store: &Store<'_>) -> Result<Option<Seq<u8>>, NoMemory>
+    ensures { IfOk result (λ key. key ≡ first_missing store.now) }
+{
+    let users = RowKey::Account {
+        domain: ACCOUNT_DOMAIN,
+        rid: DOMAIN_GROUP_RID_USERS,
+    };
+    let users = key_bytes(alloc, &users)?;
+    if !store.has(users.as_slice()) {
+        return Ok(Some(users));
+    }
+    let account = key_bytes(alloc, &RowKey::Domain(ACCOUNT_DOMAIN))?;
+    if !store.has(account.as_slice()) {
+        return Ok(Some(account));
+    }
+    let builtin = key_bytes(alloc, &RowKey::Domain(BUILTIN_DOMAIN))?;
+    if !store.has(builtin.as_slice()) {
+        return Ok(Some(builtin));
+    }
+    let format = format_pair(alloc)?.key;
+    if !store.has(format.as_slice()) {
+        return Ok(Some(format));
+    }
+    Ok(None)
+}
+
+fn key_of(alloc: Global, pair: Option<&Pair>) -> Result<Option<Seq<u8>>, NoMemory>
+    ensures { IfOk result (λ key. key ≡ option_map (λ p. p.key) (option_copied pair.entry)) }
+{
+    match pair {
+        Some(pair) => Ok(Some(Seq::copy_of(alloc, pair.key.as_slice())?)),
+        None => Ok(None),
+    }
+}
+
+// The smaller of two keys that may be there.
+fn smaller(first: Option<Seq<u8>>, second: Option<Seq<u8>>) -> Option<Seq<u8>>
+    ensures { result ≡ smaller first second }
+{
+    match (first, second) {
+        (None, second) => second,
+        (Some(first), None) => Some(first),
+        (Some(first), Some(second)) => {
+            if second.as_slice().cmp(first.as_slice()).is_lt() {
+                Some(second)
+            } else {
+                Some(first)
+            }
+        }
+    }
+}
+
+#[tactic(auto, unfolding(crate::specs::Loading::smallest_broken))]
+fn smallest_broken(
+    alloc: Global,
+    pairs: &[Pair],
+    rows: &[Option<Row>],
+) -> Result<Option<Seq<u8>>, NoMemory>
+    requires rows { rows.now ≡ map row_of pairs.now }
+    requires ascending { is_ascending pair_key pairs.now ≡ true }
+    ensures { IfOk result (λ key. key ≡ smallest_broken pairs.now) }
+{
+    let broken = first_broken(alloc, pairs, rows)?;
+    let broken = key_of(alloc, broken)?;
+    let missing = first_missing(alloc, &Store::new(pairs, rows))?;
+    Ok(smaller(broken, missing))
+}
+
+// The rows that are there, each put in its place.
+fn load(alloc: Global, stored: Vec<Option<Row>>) -> Result<Rows, NoMemory>
+    ensures { IfOk result (λ rows. rows.lists ≡ with_puts (somes stored.items) no_lists) }
+{
+    let mut rows = Rows::empty(alloc);
+    rows.reserve(stored.len())?;
+    for row in stored {
+        if let Some(row) = row {
+            rows.put(row);
+        }
+    }
+    Ok(rows)
+}
+
+// The rows of pairs by ascending key.
+fn read_ascending(alloc: Global, pairs: &[Pair]) -> Result<Rows, PairsError>
+    requires { is_ascending pair_key pairs.now ≡ true }
+    ensures sound { IfOk result (λ rows. IsSoundRows rows.lists) }
+    ensures pairs { IfOk result (λ rows. HoldPairs rows.lists pairs.now) }
+    ensures unbroken { OnOk result (AreUnbroken pairs.now) }
+    ensures broken { IfErr result (BadPairs pairs.now) }
+{
+    written_bytes_are_read();
+    written_bytes_have_lengths();
+    read_bytes_are_written();
+    equal_sids_are_one();
+    same_is_equivalence();
+    let stored = read_rows(alloc, pairs)?;
+    if let Some(key) = smallest_broken(alloc, pairs, &stored)? {
+        return Err(PairsError::BadPair(key));
+    }
+    let rows = load(alloc, stored)?;
+    Ok(rows)
+}
+
+// Whether one of the pairs has the key.
+fn has_key(pairs: &[Pair], key: &[u8]) -> bool
+    ensures { result ≡ list_any (λ q. same_key key.now q.key) pairs.now }
+{
+    for pair in pairs {
+        if key.cmp(pair.key.as_slice()).is_eq() {
+            return true;
+        }
+    }
+    false
+}
+
+/// Whether no key stands twice. It takes time as the square of how many pairs there are: pairs that ascend need no test.
+pub fn keys_differ(pairs: &[Pair]) -> bool
+    ensures { result ≡ keys_differ pairs.now }
+{
+    let mut left = pairs;
+    while let Some((pair, others)) = left.split_first() {
+        if has_key(others, pair.key.as_slice()) {
+            return false;
+        }
+        left = others;
+    }
+    true
+}
+
+// Equal pairs, by ascending key.
+fn sorted(alloc: Global, pairs: &[Pair]) -> Result<Vec<Pair>, NoMemory>
+    requires { keys_differ pairs.now ≡ true }
+    ensures same { IfOk result (λ sorted. IsPermutation pairs.now sorted.items) }
+    ensures ascending { IfOk result (λ sorted. is_ascending pair_key sorted.items ≡ true) }
+{
+    let mut copies = copies(alloc, pairs)?;
+    copies.sort_by(|left, right| left.key.as_slice().cmp(right.key.as_slice()))?;
+    Ok(copies)
+}
+
+fn copies(alloc: Global, pairs: &[Pair]) -> Result<Vec<Pair>, NoMemory>
+    ensures { IfOk result (λ copies. copies.items ≡ pairs.now) }
+{
+    let mut copies = Vec::with_capacity(alloc, pairs.len())?;
+    for pair in pairs {
+        copies.push(pair.copy(alloc)?)?;
+    }
+    Ok(copies)
+}
+
+fn read_pairs(alloc: Global, pairs: &[Pair]) -> Result<Rows, PairsError>
+    requires { keys_differ pairs.now ≡ true }
+    ensures sound { IfOk result (λ rows. IsSoundRows rows.lists) }
+    ensures pairs { IfOk result (λ rows. HoldPairs rows.lists pairs.now) }
+    ensures unbroken { OnOk result (AreUnbroken pairs.now) }
+    ensures broken { IfErr result (BadPairs pairs.now) }
+{
+    if is_ascending(pairs) {
+        return read_ascending(alloc, pairs);
+    }
+    let ascending = sorted(alloc, pairs)?;
+    match read_ascending(alloc, &ascending) {
+        Ok(rows) => Ok(rows),
+        Err(error) => Err(error),
+    }
+}
+
+impl Rows {
+    /// The rows of pairs of which no key stands twice, in any order, where they break no rule. Else the smallest key
+    /// that is broken. Pairs by ascending key, as a keeper loads them, aren't sorted again.
+    pub fn from_pairs(alloc: Global, pairs: &[Pair]) -> Result<Rows, PairsError>
+        requires { keys_differ pairs.now ≡ true }
+        ensures sound { IfOk result (λ rows. IsSoundRows rows.lists) }
+        ensures pairs { IfOk result (λ rows. HoldPairs rows.lists pairs.now) }
+        ensures unbroken { OnOk result (AreUnbroken pairs.now) }
+        ensures broken { IfErr result (BadPairs pairs.now) }
+    {
+        read_pairs(alloc, pairs)
+    }
+}

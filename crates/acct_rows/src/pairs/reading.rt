@@ -1,0 +1,266 @@
+// The rows that pairs spell.
+ghost use Rattle.std.specs.Prelude.{◌≡◌, List};
+ghost use Rattle.acct_rows.specs.Spelled.{ascend};
+ghost use Rattle.acct_rows.specs.Sound.{are_above};
+ghost use Rattle.acct_rows.specs.Stored.{Reads, ReadsWhole, only_if, is_end, domain_number_at, whole_sid, kind_of_byte, lettered, row_key};
+ghost use Rattle.acct_rows.specs.Stored.{domain_key_of, account_key_of, member_key_of, alias_key_of, lsa_key_of};
+ghost use Rattle.acct_rows.specs.Stored.{domain_of, account_of, member_of, alias_of, lsa_of, valued, row_of};
+
+use super::fields::{Fields, Unread};
+use crate::row::{AccountRow, AliasRow, DomainRow, Held, LsaRow, MemberRow, Row, RowKey};
+use acct_codes::Kind;
+use acct_keeper::Pair;
+use dtyp_sid::Sid;
+use std::alloc::Global;
+
+/// The row that the pair spells exactly.
+#[tactic(auto, unfolding(crate::specs::Stored::row_of))]
+pub fn read_row(alloc: Global, pair: &Pair) -> Result<Row, Unread>
+    ensures { ReadsWhole result (row_of pair.now) }
+{
+    let key = row_key(pair.key.as_slice())?;
+    read_value(alloc, &key, pair.value.as_slice())
+}
+
+#[tactic(auto, unfolding(crate::specs::Stored::row_key))]
+fn row_key(key: &[u8]) -> Result<RowKey, Unread>
+    ensures { ReadsWhole result (row_key key.now) }
+{
+    let mut fields = Fields::new(key);
+    let letter = fields.byte()?;
+    lettered(letter, fields)
+}
+
+#[tactic(auto, unfolding(crate::specs::Stored::lettered))]
+fn lettered(letter: u8, fields: Fields<'_>) -> Result<RowKey, Unread>
+    ensures { ReadsWhole result (lettered letter fields.entry) }
+{
+    match letter {
+        b'a' => account_key(fields),
+        b'd' => domain_key(fields),
+        b'l' => alias_key(fields),
+        b'm' => member_key(fields),
+        b's' => lsa_key(fields),
+        _ => Err(Unread::Misspelled),
+    }
+}
+
+#[tactic(auto, unfolding(crate::specs::Stored::domain_number_at))]
+fn domain_number(fields: &mut Fields<'_>) -> Result<u8, Unread>
+    ensures { Reads result fields.new (domain_number_at fields.old) }
+{
+    let number = fields.byte()?;
+    if number > 1 {
+        return Err(Unread::Misspelled);
+    }
+    Ok(number)
+}
+
+// The value, where no byte is left behind it.
+fn whole<T: Drop>(value: T, fields: &Fields<'_>) -> Result<T, Unread>
+    ensures { ReadsWhole result (only_if (is_end fields.now) value) }
+{
+    if fields.is_end() {
+        Ok(value)
+    } else {
+        Err(Unread::Misspelled)
+    }
+}
+
+#[tactic(auto, unfolding(crate::specs::Stored::whole_sid))]
+fn whole_sid(mut fields: Fields<'_>) -> Result<Sid, Unread>
+    ensures { ReadsWhole result (whole_sid fields.entry) }
+{
+    let sid = fields.sid()?;
+    whole(sid, &fields)
+}
+
+#[tactic(auto, unfolding(crate::specs::Stored::domain_key_of))]
+fn domain_key(mut fields: Fields<'_>) -> Result<RowKey, Unread>
+    ensures { ReadsWhole result (domain_key_of fields.entry) }
+{
+    let number = domain_number(&mut fields)?;
+    whole(RowKey::Domain(number), &fields)
+}
+
+#[tactic(auto, unfolding(crate::specs::Stored::account_key_of))]
+fn account_key(mut fields: Fields<'_>) -> Result<RowKey, Unread>
+    ensures { ReadsWhole result (account_key_of fields.entry) }
+{
+    let domain = domain_number(&mut fields)?;
+    let rid = fields.rid()?;
+    whole(RowKey::Account { domain, rid }, &fields)
+}
+
+#[tactic(auto, unfolding(crate::specs::Stored::member_key_of))]
+fn member_key(mut fields: Fields<'_>) -> Result<RowKey, Unread>
+    ensures { ReadsWhole result (member_key_of fields.entry) }
+{
+    let group = fields.rid()?;
+    let user = fields.rid()?;
+    whole(RowKey::Member { group, user }, &fields)
+}
+
+#[tactic(auto, unfolding(crate::specs::Stored::alias_key_of))]
+fn alias_key(mut fields: Fields<'_>) -> Result<RowKey, Unread>
+    ensures { ReadsWhole result (alias_key_of fields.entry) }
+{
+    let domain = domain_number(&mut fields)?;
+    let alias = fields.rid()?;
+    let member = whole_sid(fields)?;
+    Ok(RowKey::Alias {
+        domain,
+        alias,
+        member,
+    })
+}
+
+#[tactic(auto, unfolding(crate::specs::Stored::lsa_key_of))]
+fn lsa_key(fields: Fields<'_>) -> Result<RowKey, Unread>
+    ensures { ReadsWhole result (lsa_key_of fields.entry) }
+{
+    let sid = whole_sid(fields)?;
+    Ok(RowKey::Lsa(sid))
+}
+
+#[tactic(auto, unfolding(crate::specs::Stored::valued))]
+fn read_value(alloc: Global, key: &RowKey, value: &[u8]) -> Result<Row, Unread>
+    ensures { ReadsWhole result (valued key.now value.now) }
+{
+    let fields = Fields::new(value);
+    match *key {
+        RowKey::Domain(number) => read_domain(alloc, number, fields),
+        RowKey::Account { domain, rid } => read_account(alloc, domain, rid, fields),
+        RowKey::Member { group, user } => read_member(group, user, fields),
+        RowKey::Alias {
+            domain,
+            alias,
+            member,
+        } => read_alias(domain, alias, member, fields),
+        RowKey::Lsa(sid) => read_lsa(alloc, sid, fields),
+    }
+}
+
+#[tactic(auto, unfolding(crate::specs::Stored::domain_of))]
+fn read_domain(alloc: Global, number: u8, mut fields: Fields<'_>) -> Result<Row, Unread>
+    ensures { ReadsWhole result (domain_of number fields.entry) }
+{
+    let next_rid = fields.number()?;
+    let size = fields.byte()?;
+    let sid = fields.sid()?;
+    let name = fields.text(alloc)?;
+    let oem = fields.text(alloc)?;
+    if usize::from(size) != 8 + 4 * sid.subs().len() {
+        return Err(Unread::Misspelled);
+    }
+    let row = DomainRow {
+        number,
+        sid,
+        name,
+        oem,
+        next_rid,
+    };
+    whole(Row::Domain(row), &fields)
+}
+
+fn kind_of_byte(byte: u8) -> Result<Kind, Unread>
+    ensures { ReadsWhole result (kind_of_byte byte) }
+{
+    match byte {
+        1 => Ok(Kind::User),
+        2 => Ok(Kind::Group),
+        4 => Ok(Kind::Alias),
+        _ => Err(Unread::Misspelled),
+    }
+}
+
+#[tactic(auto, unfolding(crate::specs::Stored::account_of))]
+fn read_account(alloc: Global, domain: u8, rid: u32, mut fields: Fields<'_>) -> Result<Row, Unread>
+    ensures { ReadsWhole result (account_of domain rid fields.entry) }
+{
+    let byte = fields.byte()?;
+    let kind = kind_of_byte(byte)?;
+    let bits = fields.number()?;
+    let primary = fields.number()?;
+    let name = fields.text(alloc)?;
+    let full_name = fields.text(alloc)?;
+    let comment = fields.text(alloc)?;
+    let row = AccountRow {
+        domain,
+        rid,
+        kind,
+        name,
+        full_name,
+        comment,
+        bits,
+        primary,
+    };
+    whole(Row::Account(row), &fields)
+}
+
+#[tactic(auto, unfolding(crate::specs::Stored::member_of))]
+fn read_member(group: u32, user: u32, mut fields: Fields<'_>) -> Result<Row, Unread>
+    ensures { ReadsWhole result (member_of group user fields.entry) }
+{
+    let attributes = fields.number()?;
+    let row = MemberRow {
+        group,
+        user,
+        attributes,
+    };
+    whole(Row::Member(row), &fields)
+}
+
+#[tactic(auto, unfolding(crate::specs::Stored::alias_of))]
+fn read_alias(domain: u8, alias: u32, member: Sid, fields: Fields<'_>) -> Result<Row, Unread>
+    ensures { ReadsWhole result (alias_of domain alias member fields.entry) }
+{
+    let row = AliasRow {
+        domain,
+        alias,
+        member,
+    };
+    whole(Row::Alias(row), &fields)
+}
+
+// Whether privileges stand by strictly ascending low part, all above a number.
+fn are_above(low: u32, privileges: &[Held]) -> bool
+    ensures { result ≡ are_above low privileges.now }
+{
+    let mut low = low;
+    for held in privileges {
+        if held.low <= low {
+            return false;
+        }
+        low = held.low;
+    }
+    true
+}
+
+/// Whether privileges stand by strictly ascending low part.
+fn ascend(privileges: &[Held]) -> bool
+    ensures { result ≡ ascend privileges.now }
+{
+    match privileges.split_first() {
+        Some((first, others)) => are_above(first.low, others),
+        None => true,
+    }
+}
+
+#[tactic(auto, unfolding(crate::specs::Stored::lsa_of))]
+fn read_lsa(alloc: Global, sid: Sid, mut fields: Fields<'_>) -> Result<Row, Unread>
+    ensures { ReadsWhole result (lsa_of sid fields.entry) }
+{
+    let access = fields.number()?;
+    let count = fields.byte()?;
+    let privileges = fields.privileges(alloc, count)?;
+    if !ascend(privileges.as_slice()) {
+        return Err(Unread::Misspelled);
+    }
+    let row = LsaRow {
+        sid,
+        access,
+        privileges,
+    };
+    whole(Row::Lsa(row), &fields)
+}

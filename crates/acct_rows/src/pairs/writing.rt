@@ -1,0 +1,259 @@
+// The bytes that rows are stored as.
+ghost use Rattle.std.specs.Prelude.{◌≡◌, ◌^◌, ◌<◌, ◌++◌, length, All, IfOk, OnOk};
+ghost use Rattle.std.specs.Int.{w16, to_le_bytes};
+ghost use Rattle.std.specs.List.{flat_map};
+ghost use Rattle.dtyp_sid.specs.Bytes.{bytes_of};
+ghost use Rattle.acct_rows.specs.Spelled.{text_bytes, rid_bytes, number_bytes, kind_byte, held_bytes, stored_key};
+ghost use Rattle.acct_rows.specs.Spelled.{domain_value, account_value, lsa_value, pair_of, format_pair};
+ghost use Rattle.acct_rows.specs.Spelled.{FitsDomain, FitsAccount, FitsLsa, FitsHeld};
+ghost use Rattle.acct_rows.specs.declared.row.Row.TheVariants as rows;
+
+use crate::row::{AccountRow, AliasRow, DomainRow, Held, LsaRow, MemberRow, RowKey};
+use acct_base::{Seq, push_u16, push_u32};
+use acct_calls::Name;
+use acct_codes::Kind;
+use acct_keeper::Pair;
+use dtyp_sid::Sid;
+use dtyp_sid::laws::written_bytes_have_lengths;
+use std::alloc::{AllocError, Global};
+
+fn push_units(out: &mut Vec<u8>, units: &[u16]) -> Result<(), AllocError>
+    ensures { OnOk result (out.new.items ≡ out.old.items ++ flat_map (to_le_bytes w16) units.now) }
+{
+    for unit in units {
+        push_u16(out, *unit)?;
+    }
+    Ok(())
+}
+
+#[tactic(auto, unfolding(crate::specs::Spelled::text_bytes))]
+fn push_text(out: &mut Vec<u8>, text: &Name) -> Result<(), AllocError>
+    requires { length text.now < 2 ^ 16 }
+    ensures { OnOk result (out.new.items ≡ out.old.items ++ text_bytes text.now) }
+{
+    let units = text.units();
+    push_u16(out, units.len() as u16)?;
+    push_units(out, units)
+}
+
+#[tactic(auto, unfolding(crate::specs::Spelled::rid_bytes))]
+fn push_rid(out: &mut Vec<u8>, rid: u32) -> Result<(), AllocError>
+    ensures { OnOk result (out.new.items ≡ out.old.items ++ rid_bytes rid) }
+{
+    out.extend_from_slice(&rid.to_be_bytes())
+}
+
+#[tactic(auto, unfolding(crate::specs::Spelled::number_bytes))]
+fn push_number(out: &mut Vec<u8>, number: u32) -> Result<(), AllocError>
+    ensures { OnOk result (out.new.items ≡ out.old.items ++ number_bytes number) }
+{
+    push_u32(out, number)
+}
+
+fn push_sid(out: &mut Vec<u8>, sid: &Sid) -> Result<(), AllocError>
+    ensures { OnOk result (out.new.items ≡ out.old.items ++ bytes_of sid.now) }
+{
+    written_bytes_have_lengths();
+    let mut bytes = [0; 68];
+    let size = sid.to_bytes(&mut bytes);
+    out.extend_from_slice(&bytes[..size])
+}
+
+/// The key of a row in its pair.
+pub fn key_bytes(alloc: Global, key: &RowKey) -> Result<Seq<u8>, AllocError>
+    ensures { IfOk result (λ bytes. bytes ≡ stored_key key.now) }
+{
+    let mut out = Vec::new(alloc);
+    match *key {
+        RowKey::Domain(number) => {
+            out.push(b'd')?;
+            out.push(number)?;
+        }
+        RowKey::Account { domain, rid } => {
+            out.push(b'a')?;
+            out.push(domain)?;
+            push_rid(&mut out, rid)?;
+        }
+        RowKey::Member { group, user } => {
+            out.push(b'm')?;
+            push_rid(&mut out, group)?;
+            push_rid(&mut out, user)?;
+        }
+        RowKey::Alias {
+            domain,
+            alias,
+            member,
+        } => {
+            out.push(b'l')?;
+            out.push(domain)?;
+            push_rid(&mut out, alias)?;
+            push_sid(&mut out, &member)?;
+        }
+        RowKey::Lsa(sid) => {
+            out.push(b's')?;
+            push_sid(&mut out, &sid)?;
+        }
+    }
+    Ok(Seq::from_vec(out))
+}
+
+#[tactic(auto, unfolding(crate::specs::Spelled::domain_value))]
+fn domain_value(alloc: Global, domain: &DomainRow) -> Result<Seq<u8>, AllocError>
+    requires name { length domain.now.name < 2 ^ 16 }
+    requires oem { length domain.now.oem < 2 ^ 16 }
+    ensures { IfOk result (λ bytes. bytes ≡ domain_value domain.now) }
+{
+    written_bytes_have_lengths();
+    let mut out = Vec::new(alloc);
+    push_number(&mut out, domain.next_rid)?;
+    out.push((8 + 4 * domain.sid.subs().len()) as u8)?;
+    push_sid(&mut out, &domain.sid)?;
+    push_text(&mut out, &domain.name)?;
+    push_text(&mut out, &domain.oem)?;
+    Ok(Seq::from_vec(out))
+}
+
+fn kind_byte(kind: Kind) -> u8
+    ensures { result ≡ kind_byte kind }
+{
+    match kind {
+        Kind::User => 1,
+        Kind::Group => 2,
+        Kind::Alias => 4,
+        _ => 0,
+    }
+}
+
+#[tactic(auto, unfolding(crate::specs::Spelled::account_value))]
+fn account_value(alloc: Global, account: &AccountRow) -> Result<Seq<u8>, AllocError>
+    requires name { length account.now.name < 2 ^ 16 }
+    requires full_name { length account.now.full_name < 2 ^ 16 }
+    requires comment { length account.now.comment < 2 ^ 16 }
+    ensures { IfOk result (λ bytes. bytes ≡ account_value account.now) }
+{
+    let mut out = Vec::new(alloc);
+    out.push(kind_byte(account.kind))?;
+    push_number(&mut out, account.bits)?;
+    push_number(&mut out, account.primary)?;
+    push_text(&mut out, &account.name)?;
+    push_text(&mut out, &account.full_name)?;
+    push_text(&mut out, &account.comment)?;
+    Ok(Seq::from_vec(out))
+}
+
+fn member_value(alloc: Global, member: &MemberRow) -> Result<Seq<u8>, AllocError>
+    ensures { IfOk result (λ bytes. bytes ≡ number_bytes member.now.attributes) }
+{
+    let mut out = Vec::new(alloc);
+    push_number(&mut out, member.attributes)?;
+    Ok(Seq::from_vec(out))
+}
+
+#[tactic(auto, unfolding(crate::specs::Spelled::held_bytes))]
+fn push_held(out: &mut Vec<u8>, held: Held) -> Result<(), AllocError>
+    requires { held.low < 2 ^ 8 }
+    ensures { OnOk result (out.new.items ≡ out.old.items ++ held_bytes held) }
+{
+    out.push(held.low as u8)?;
+    push_number(out, held.attributes)
+}
+
+fn push_privileges(out: &mut Vec<u8>, privileges: &[Held]) -> Result<(), AllocError>
+    requires { All FitsHeld privileges.now }
+    ensures { OnOk result (out.new.items ≡ out.old.items ++ flat_map held_bytes privileges.now) }
+{
+    for held in privileges {
+        push_held(out, *held)?;
+    }
+    Ok(())
+}
+
+#[tactic(auto, unfolding(crate::specs::Spelled::lsa_value))]
+fn lsa_value(alloc: Global, account: &LsaRow) -> Result<Seq<u8>, AllocError>
+    requires count { length account.now.privileges < 2 ^ 8 }
+    requires privileges { All FitsHeld account.now.privileges }
+    ensures { IfOk result (λ bytes. bytes ≡ lsa_value account.now) }
+{
+    let privileges = account.privileges.as_slice();
+    let mut out = Vec::new(alloc);
+    push_number(&mut out, account.access)?;
+    out.push(privileges.len() as u8)?;
+    push_privileges(&mut out, privileges)?;
+    Ok(Seq::from_vec(out))
+}
+
+/// The pair that says which format the others have.
+pub fn format_pair(alloc: Global) -> Result<Pair, AllocError>
+    ensures { IfOk result (λ pair. pair ≡ format_pair) }
+{
+    Ok(Pair {
+        key: Seq::copy_of(alloc, b"f")?,
+        value: Seq::copy_of(alloc, &[1])?,
+    })
+}
+
+/// The pair that a domain is stored as.
+pub fn domain_pair(alloc: Global, domain: &DomainRow) -> Result<Pair, AllocError>
+    requires { FitsDomain domain.now }
+    ensures { IfOk result (λ pair. pair ≡ pair_of (rows.Domain domain.now)) }
+{
+    Ok(Pair {
+        key: key_bytes(alloc, &RowKey::Domain(domain.number))?,
+        value: domain_value(alloc, domain)?,
+    })
+}
+
+/// The pair that an account is stored as.
+pub fn account_pair(alloc: Global, account: &AccountRow) -> Result<Pair, AllocError>
+    requires { FitsAccount account.now }
+    ensures { IfOk result (λ pair. pair ≡ pair_of (rows.Account account.now)) }
+{
+    let key = RowKey::Account {
+        domain: account.domain,
+        rid: account.rid,
+    };
+    Ok(Pair {
+        key: key_bytes(alloc, &key)?,
+        value: account_value(alloc, account)?,
+    })
+}
+
+/// The pair that a member row is stored as.
+pub fn member_pair(alloc: Global, member: &MemberRow) -> Result<Pair, AllocError>
+    ensures { IfOk result (λ pair. pair ≡ pair_of (rows.Member member.now)) }
+{
+    let key = RowKey::Member {
+        group: member.group,
+        user: member.user,
+    };
+    Ok(Pair {
+        key: key_bytes(alloc, &key)?,
+        value: member_value(alloc, member)?,
+    })
+}
+
+/// The pair that an alias row is stored as.
+pub fn alias_pair(alloc: Global, row: &AliasRow) -> Result<Pair, AllocError>
+    ensures { IfOk result (λ pair. pair ≡ pair_of (rows.Alias row.now)) }
+{
+    let key = RowKey::Alias {
+        domain: row.domain,
+        alias: row.alias,
+        member: row.member,
+    };
+    Ok(Pair {
+        key: key_bytes(alloc, &key)?,
+        value: Seq::new(alloc),
+    })
+}
+
+/// The pair that an account of the policy is stored as.
+pub fn lsa_pair(alloc: Global, account: &LsaRow) -> Result<Pair, AllocError>
+    requires { FitsLsa account.now }
+    ensures { IfOk result (λ pair. pair ≡ pair_of (rows.Lsa account.now)) }
+{
+    Ok(Pair {
+        key: key_bytes(alloc, &RowKey::Lsa(account.sid))?,
+        value: lsa_value(alloc, account)?,
+    })
+}
