@@ -5,7 +5,10 @@ pub mod Translated
 pub mod Places
 pub mod Changed
 pub mod Fitting
+pub mod FoldOrder
 pub mod Halving
+pub mod Holding
+pub mod Indexed
 pub mod SpelledRows
 pub mod Taken
 pub mod Together
@@ -24,8 +27,10 @@ pub mod Keeping
 pub mod Kept
 pub mod Members
 pub mod Moves
+pub mod Named
 pub mod Purges
 pub mod Rising
+pub mod Runs
 pub mod Without
 pub mod Unbroken
 pub mod Undoing

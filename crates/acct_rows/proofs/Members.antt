@@ -47,7 +47,7 @@ in_either a [] ys e = inr e
 in_either a (x ∷ xs) ys (inl e) = inl (inl e)
 in_either a (x ∷ xs) ys (inr e) = elim (in_either a xs ys e) [ inl l ↦ inl (inr l) | inr r ↦ inr r ]
 
-contains_in : {A : Type 0} (a : A) (xs : List A) → Contains xs a → In a xs
+pub contains_in : {A : Type 0} (a : A) (xs : List A) → Contains xs a → In a xs
 contains_in {A = A} a xs c = found xs c.0 c.1 c.2
   where
     found : (xs : List A) (k : ℕ) → k < length xs → slice_index_or xs k a ≡ a → In a xs
@@ -55,7 +55,7 @@ contains_in {A = A} a xs c = found xs c.0 c.1 c.2
     found (x ∷ xs) zero lt e = inl (sym e)
     found (x ∷ xs) (suc k) lt e = inr (found xs k (omega arith) e)
 
-in_contains : {A : Type 0} (a : A) (xs : List A) → In a xs → Contains xs a
+pub in_contains : {A : Type 0} (a : A) (xs : List A) → In a xs → Contains xs a
 in_contains a [] e = absurd e
 in_contains a (x ∷ xs) (inl e) = (0, omega arith, sym e)
 in_contains a (x ∷ xs) (inr e) =

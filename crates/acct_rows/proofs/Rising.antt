@@ -17,7 +17,7 @@ use Rattle.acct_rows.specs.declared.row.AliasRow.{AliasRow}
 use Rattle.acct_rows.proofs.Tables.{less, below_less, is_ascending-filter}
 use Rattle.acct_rows.proofs.Lookups.{tested}
 
-abbrev number_key : ℕ → List ℕ
+abbrev pub number_key : ℕ → List ℕ
 number_key n = n ∷ []
 
 -- numbers from one on that don't fall
@@ -28,7 +28,7 @@ DontFall before (n ∷ ns) = (before ≤ n) × DontFall n ns
 both : (a b : Bool) → a ≡ true → b ≡ true → (a && b) ≡ true
 both a b p q = rw (p, q) refl
 
-number_less : (m n : ℕ) → m < n → compare (m ∷ []) (n ∷ []) ≡ Less
+pub number_less : (m n : ℕ) → m < n → compare (m ∷ []) (n ∷ []) ≡ Less
 number_less m n lt = ap (λ r. ordering_then r Equal) (sym (nat_cmp_is m n Less lt))
 
 once_rises : (before : ℕ) (ns : List ℕ) → DontFall before ns
@@ -107,7 +107,7 @@ rows_rise domain (x ∷ xs) all h =
     let rest = once_rises x.alias (map (λ y. y.alias) xs) (dont_fall domain x xs all h) in
     both _ _ rest.0 rest.1
 
-aliases_rise : (domain : ℕ) (sids : List SidValue) (xs : List AliasRow) → is_ascending alias_key xs ≡ true
+pub aliases_rise : (domain : ℕ) (sids : List SidValue) (xs : List AliasRow) → is_ascending alias_key xs ≡ true
     → is_ascending number_key (each_once (map (λ x. x.alias) (filter (has_one domain sids) xs))) ≡ true
 aliases_rise domain sids xs h =
     rows_rise domain (filter (has_one domain sids) xs) (in_domain domain sids xs)

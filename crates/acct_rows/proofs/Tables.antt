@@ -32,11 +32,11 @@ same_key-itself k = ap is_eq (tied_itself total k)
 pub apart : (j k : List ℕ) → j ≡ k → compare j k ≢ Greater
 apart j k e p = subst (λ (i : List ℕ). compare i k ≡ Greater → ⊥) (sym e) (λ g. cc (tied_itself total k, g)) p
 
-shadowed : {A : Type 0} (b : Bool) (x y z : A) → cond b x z ≡ cond b x (cond b y z)
+pub shadowed : {A : Type 0} (b : Bool) (x y z : A) → cond b x z ≡ cond b x (cond b y z)
 shadowed true x y z = refl
 shadowed false x y z = refl
 
-swapped : {A : Type 0} (a b : Bool) (x y z : A) → (a ≡ true → b ≢ true) → cond a x (cond b y z) ≡ cond b y (cond a x z)
+pub swapped : {A : Type 0} (a b : Bool) (x y z : A) → (a ≡ true → b ≢ true) → cond a x (cond b y z) ≡ cond b y (cond a x z)
 swapped true true x y z apart = absurd (apart refl refl)
 swapped true false x y z apart = refl
 swapped false b x y z apart = refl

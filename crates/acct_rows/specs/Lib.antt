@@ -1,4 +1,5 @@
 pub mod Changes
+pub mod Indexes
 pub mod Keyed
 pub mod Laws
 pub mod Loading

@@ -50,7 +50,7 @@ impl<T: Keyed> Model for Table<T> {
 }
 
 // Where the key stands in rows that ascend, or where it would go.
-fn place<T: Keyed>(rows: &[T], key: &T::Key) -> Result<usize, usize>
+pub fn place<T: Keyed>(rows: &[T], key: &T::Key) -> Result<usize, usize>
     requires { is_ascending T.key_of rows.now ≡ true }
     ensures found { result ≡ place T.key_of (T.path key.now) rows.now }
     ensures within { MatchResult result (λ i. i < length rows.now) (λ i. i ≤ length rows.now) }
@@ -58,7 +58,7 @@ fn place<T: Keyed>(rows: &[T], key: &T::Key) -> Result<usize, usize>
     rows.binary_search_by(|row| T::order(row, key))
 }
 
-fn find<'a, T: Keyed>(rows: &'a [T], key: &T::Key) -> Option<&'a T>
+pub fn find<'a, T: Keyed>(rows: &'a [T], key: &T::Key) -> Option<&'a T>
     requires { is_ascending T.key_of rows.now ≡ true }
     ensures { option_copied result ≡ at T.key_of (T.path key.now) rows.now }
 {

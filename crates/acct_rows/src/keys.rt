@@ -1,8 +1,10 @@
 // The keys of the tables.
 ghost use Rattle.std.specs.Prelude.{[], ◌∷◌};
 ghost use Rattle.acct_rows.specs.Rows.{domain_key, account_key, member_key, alias_key, lsa_key, sid_key};
+ghost use Rattle.acct_rows.specs.Indexes.{held, membership_key};
 
 use crate::keyed::Keyed;
+use crate::membership::Membership;
 use crate::row::{AccountRow, AliasRow, DomainRow, LsaRow, MemberRow};
 use dtyp_sid::Sid;
 use std::cmp::Ordering;
@@ -87,5 +89,24 @@ impl Keyed for LsaRow {
 
     fn order(row: &Self, key: &Sid) -> Ordering {
         row.sid.cmp(key)
+    }
+}
+
+impl Keyed for Membership {
+    type Key = (Sid, u8, u32);
+
+    ghost key_of = { membership_key };
+
+    ghost path = { λ key. held key.0 key.1 key.2 };
+
+    fn key(&self) -> (Sid, u8, u32) {
+        (self.member, self.domain, self.alias)
+    }
+
+    fn order(row: &Self, key: &(Sid, u8, u32)) -> Ordering {
+        row.member
+            .cmp(&key.0)
+            .then(row.domain.cmp(&key.1))
+            .then(row.alias.cmp(&key.2))
     }
 }

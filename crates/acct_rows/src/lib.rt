@@ -8,11 +8,15 @@
 //! read again; else the smallest broken key is told.
 #![tactic(auto)]
 
+mod accounts;
+mod aliases;
 mod copies;
+mod folding;
 mod keyed;
 mod keys;
 pub mod laws;
 mod membership;
+mod names;
 mod object;
 pub mod pairs;
 mod plan;

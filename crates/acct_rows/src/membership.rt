@@ -1,10 +1,11 @@
 // The members of groups, and the aliases that have some SIDs as members.
-ghost use Rattle.std.specs.Prelude.{◌≡◌, true, IfOk, map};
-ghost use Rattle.std.specs.List.{filter, list_any};
-ghost use Rattle.dtyp_sid.specs.Order.{sid_eq};
+ghost use Rattle.std.specs.Prelude.{◌≡◌, ◌↔◌, ℕ, true, [], ◌∷◌, ◌++◌, IfOk, OnOk, Contains, map};
+ghost use Rattle.std.specs.List.{filter};
 ghost use Rattle.acct_rows.specs.Keyed.{is_ascending};
-ghost use Rattle.acct_rows.specs.Rows.{member_key, is_in_group, has_one, each_once};
+ghost use Rattle.acct_rows.specs.Rows.{member_key, is_in_group};
+ghost use Rattle.acct_rows.specs.Indexes.{membership_key, membership_of, memberships_of, is_for, alias_of, held_by};
 
+use crate::keyed::{Table, place};
 use crate::row::{AliasRow, MemberRow};
 use acct_base::Seq;
 use acct_calls::{NoMemory, Rids};
@@ -21,40 +22,80 @@ pub fn members_among(rows: &[MemberRow], group: u32) -> &[MemberRow]
     &rows[first..last]
 }
 
-fn is_among(sids: &[Sid], sid: &Sid) -> bool
-    ensures { result ≡ list_any (sid_eq sid.now) sids.now }
+/// A SID's membership in an alias of a domain.
+#[derive(Clone, Copy)]
+pub struct Membership {
+    pub member: Sid,
+    pub domain: u8,
+    pub alias: u32,
+}
+
+pub fn membership_of(row: &AliasRow) -> Membership
+    ensures { result ≡ membership_of row.now }
 {
-    for other in sids {
-        if sid == other {
-            return true;
-        }
+    Membership {
+        member: row.member,
+        domain: row.domain,
+        alias: row.alias,
     }
-    false
 }
 
-fn has_one(row: &AliasRow, domain: u8, sids: &[Sid]) -> bool
-    ensures { result ≡ has_one domain sids.now row.now }
+/// The memberships of alias rows.
+pub fn memberships_of(alloc: Global, rows: &[AliasRow]) -> Result<Table<Membership>, NoMemory>
+    ensures { IfOk result (λ table. table.0 ≡ memberships_of rows.now) }
 {
-    row.domain == domain && is_among(sids, &row.member)
+    let mut table = Table::new(alloc);
+    table.reserve(rows.len())?;
+    for i in (0..rows.len()).rev() {
+        table.put(membership_of(&rows[i]));
+    }
+    Ok(table)
 }
 
-// The rows stand by ascending alias, so the last one given tells whether the alias was given before.
+fn is_for(row: &Membership, domain: u8, sid: &Sid) -> bool
+    ensures { result ≡ is_for domain sid.now row.now }
+{
+    row.domain == domain && row.member == *sid
+}
+
+// The memberships of a SID in a domain stand together: halving finds the first of them.
+fn push_aliases(
+    rids: &mut Vec<u32>,
+    rows: &[Membership],
+    domain: u8,
+    sid: &Sid,
+) -> Result<(), NoMemory>
+    requires { is_ascending membership_key rows.now ≡ true }
+    ensures { OnOk result (rids.new.items
+        ≡ rids.old.items ++ map alias_of (filter (is_for domain sid.now) rows.now)) }
+{
+    let (Ok(first) | Err(first)) = place(rows, &(*sid, domain, 0));
+    for row in &rows[first..] {
+        if !is_for(row, domain, sid) {
+            return Ok(());
+        }
+        rids.push(row.alias)?;
+    }
+    Ok(())
+}
+
+/// The RIDs of the aliases of a domain that have one of the SIDs as a member, ascending, each once.
 pub fn aliases_among(
     alloc: Global,
-    rows: &[AliasRow],
+    rows: &[Membership],
     domain: u8,
     sids: &[Sid],
 ) -> Result<Rids, NoMemory>
-    ensures { IfOk result (λ rids.
-        rids ≡ each_once (map (λ row. row.alias) (filter (has_one domain sids.now) rows.now))) }
+    requires { is_ascending membership_key rows.now ≡ true }
+    ensures rising { IfOk result (λ rids. is_ascending (λ rid. rid ∷ []) rids ≡ true) }
+    ensures members { IfOk result (λ rids. (rid : ℕ)
+        → Contains rids rid ↔ Contains (held_by domain rows.now sids.now) rid) }
 {
-    let mut rids = Seq::new(alloc);
-    let mut last = None;
-    for row in rows {
-        if has_one(row, domain, sids) && last != Some(row.alias) {
-            rids.push(row.alias)?;
-            last = Some(row.alias);
-        }
+    let mut rids = Vec::new(alloc);
+    for sid in sids {
+        push_aliases(&mut rids, rows, domain, sid)?;
     }
-    Ok(rids)
+    rids.sort_unstable();
+    rids.dedup();
+    Ok(Seq::from_vec(rids))
 }

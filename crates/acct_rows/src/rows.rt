@@ -1,5 +1,5 @@
 // The rows.
-ghost use Rattle.std.specs.Prelude.{◌≡◌, ◌+◌, ◌<◌, ◌≤◌, true, [], ◌∷◌, IfOk, OnOk, OnErr, length, find};
+ghost use Rattle.std.specs.Prelude.{◌≡◌, ◌+◌, ◌<◌, ◌≤◌, true, [], ◌∷◌, IfOk, OnOk, OnErr, length};
 ghost use Rattle.acct_calls.specs.Domains.{is_domain_name, is_domain_sid};
 ghost use Rattle.acct_rows.specs.Sound.{IsSoundRows};
 ghost use Rattle.acct_rows.specs.Seed.{seed_lists};
@@ -9,12 +9,14 @@ ghost use Rattle.acct_rows.specs.Loading.{no_lists};
 ghost use Rattle.acct_rows.specs.Rows.{members_of, aliases_of, HasRoom, domain_key, account_key, member_key, alias_key};
 ghost use Rattle.acct_rows.specs.Rows.{lsa_key, domain_at};
 ghost use Rattle.acct_rows.specs.Rows.{alias_row_at};
-ghost use Rattle.acct_rows.specs.Rows.{account_at, member_at, lsa_at, has_name, find_name, put_row, remove_row};
+ghost use Rattle.acct_rows.specs.Rows.{account_at, member_at, lsa_at, find_name, put_row, remove_row};
 ghost use Rattle.acct_rows.specs.Rows.{removed, with_puts, after};
 
-use crate::copies::{copy_accounts, copy_domains, copy_lsa};
+use crate::accounts::Accounts;
+use crate::aliases::Aliases;
+use crate::copies::{copy_domains, copy_lsa};
 use crate::keyed::Table;
-use crate::membership::{aliases_among, members_among};
+use crate::membership::members_among;
 use crate::plan::Plan;
 use crate::row::{AccountRow, AliasRow, DomainRow, LsaRow, MemberRow, Row, RowKey};
 use crate::seed::{seed_accounts, seed_aliases, seed_domains, seed_members};
@@ -28,9 +30,9 @@ use std::marker::Model;
 #[derive(Drop)]
 pub struct Rows {
     domains: Table<DomainRow>,
-    accounts: Table<AccountRow>,
+    accounts: Accounts,
     members: Table<MemberRow>,
-    aliases: Table<AliasRow>,
+    aliases: Aliases,
     lsa: Table<LsaRow>,
     spare: usize,
 }
@@ -59,23 +61,6 @@ impl Model for Rows {
         × (rows.spare ≤ rows.lsa.1) };
 }
 
-fn has_name(account: &AccountRow, domain: u8, name: &Name) -> bool
-    ensures { result ≡ has_name domain name.now account.now }
-{
-    account.domain == domain && account.name.same(name)
-}
-
-fn find_in<'a>(accounts: &'a [AccountRow], domain: u8, name: &Name) -> Option<&'a AccountRow>
-    ensures { option_copied result ≡ find (has_name domain name.now) accounts.now }
-{
-    for account in accounts {
-        if has_name(account, domain, name) {
-            return Some(account);
-        }
-    }
-    None
-}
-
 impl Rows {
     /// No rows, which take no memory.
     pub(crate) fn empty(alloc: Global) -> Rows
@@ -83,9 +68,9 @@ impl Rows {
     {
         Rows {
             domains: Table::new(alloc),
-            accounts: Table::new(alloc),
+            accounts: Accounts::new(alloc),
             members: Table::new(alloc),
-            aliases: Table::new(alloc),
+            aliases: Aliases::new(alloc),
             lsa: Table::new(alloc),
             spare: 0,
         }
@@ -102,9 +87,9 @@ impl Rows {
         sid.keeps_limits();
         Ok(Rows {
             domains: Table::from_rows(seed_domains(alloc, name, sid)?),
-            accounts: Table::from_rows(seed_accounts(alloc)?),
+            accounts: Accounts::from_rows(alloc, seed_accounts(alloc)?)?,
             members: Table::from_rows(seed_members(alloc)?),
-            aliases: Table::from_rows(seed_aliases(alloc, sid)?),
+            aliases: Aliases::from_rows(alloc, seed_aliases(alloc, sid)?)?,
             lsa: Table::new(alloc),
             spare: 0,
         })
@@ -116,9 +101,9 @@ impl Rows {
     {
         Ok(Rows {
             domains: Table::from_rows(copy_domains(alloc, self.domains.rows())?),
-            accounts: Table::from_rows(copy_accounts(alloc, self.accounts.rows())?),
+            accounts: self.accounts.copy(alloc)?,
             members: Table::from_rows(self.members.rows().to_vec(alloc)?),
-            aliases: Table::from_rows(self.aliases.rows().to_vec(alloc)?),
+            aliases: self.aliases.copy(alloc)?,
             lsa: Table::from_rows(copy_lsa(alloc, self.lsa.rows())?),
             spare: 0,
         })
@@ -195,7 +180,7 @@ impl Rows {
     pub fn find_name(&self, domain: u8, name: &Name) -> Option<&AccountRow>
         ensures { option_copied result ≡ find_name self.now.lists domain name.now }
     {
-        find_in(self.accounts.rows(), domain, name)
+        self.accounts.find_name(domain, name)
     }
 
     /// A user's row as a member of a group.
@@ -224,7 +209,7 @@ impl Rows {
         ensures rids { IfOk result (λ rids. rids ≡ aliases_of self.now.lists domain sids.now) }
         ensures rising { IfOk result (λ rids. is_ascending (λ rid. rid ∷ []) rids ≡ true) }
     {
-        aliases_among(alloc, self.aliases.rows(), domain, sids.as_slice())
+        self.aliases.aliases_of(alloc, domain, sids.as_slice())
     }
 
     /// The account of the policy with that SID.

@@ -1,11 +1,7 @@
 -- What the loop of `aliases_among` keeps.
-use Rattle.std.proofs.Common.{◌≡◌, ◌++◌, drop, map}
-use Rattle.std.specs.List.{filter}
-use Rattle.acct_rows.specs.Rows.{has_one, each_once}
-use Rattle.acct_rows.proofs.Once.{once_after}
+use Rattle.std.proofs.Common.{◌≡◌, take}
+use Rattle.acct_rows.specs.Indexes.{held_by}
 use Rattle.acct_rows.proofs.membership.aliases_among.Given as goal
 
-abbrev pub invariant-loop-row : goal.invariant-loop-row
-invariant-loop-row l =
-    l.rids ++ once_after l.last (map (λ row. row.alias) (filter (has_one l.domain l.sids) (drop l.row-index l.rows)))
-    ≡ each_once (map (λ row. row.alias) (filter (has_one l.domain l.sids) l.rows))
+abbrev pub invariant-loop-sid : goal.invariant-loop-sid
+invariant-loop-sid l = l.rids.items ≡ held_by l.domain l.rows (take l.sid-index l.sids)

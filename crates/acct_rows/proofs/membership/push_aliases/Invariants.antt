@@ -1,0 +1,11 @@
+-- What the loop of `push_aliases` keeps.
+use Rattle.std.proofs.Common.{◌≡◌, ◌++◌, drop, map}
+use Rattle.std.specs.List.{filter}
+use Rattle.acct_rows.specs.Indexes.{is_for, alias_of}
+use Rattle.acct_rows.proofs.Runs.{leading}
+use Rattle.acct_rows.proofs.membership.push_aliases.Given as goal
+
+abbrev pub invariant-loop-row : goal.invariant-loop-row
+invariant-loop-row l =
+    l.rids.items ++ map alias_of (leading (is_for l.domain l.sid) (drop l.row-index l.row-items))
+    ≡ l.fn.rids.items ++ map alias_of (filter (is_for l.fn.domain l.fn.sid) l.fn.rows)

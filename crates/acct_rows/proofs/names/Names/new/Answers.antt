@@ -1,0 +1,7 @@
+-- `Names::new` meets its contract: what the search leaves open.
+use Rattle.std.proofs.Common.{ap, ◌∙◌}
+use Rattle.acct_rows.proofs.Named.{no_names}
+use Rattle.acct_rows.proofs.names.Names.new.Goals as goal
+
+pub returns : goal.returns
+returns c = ap (λ keys. (keys, 0)) (c.new.ensures.items ∙ no_names)

@@ -1,9 +1,0 @@
--- What the loop of `find_in` keeps.
-use Rattle.std.proofs.Common.{◌≡◌, drop}
-use Rattle.std.specs.List.{find}
-use Rattle.acct_rows.specs.Rows.{has_name}
-use Rattle.acct_rows.proofs.rows.find_in.Given as goal
-
-abbrev pub invariant-loop-account : goal.invariant-loop-account
-invariant-loop-account l =
-    find (has_name l.domain l.name) (drop l.account-index l.accounts) ≡ find (has_name l.domain l.name) l.accounts

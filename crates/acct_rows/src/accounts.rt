@@ -1,0 +1,131 @@
+// The accounts, by key and by name.
+ghost use Rattle.std.specs.Prelude.{◌≡◌, ◌+◌, ◌^◌, ◌<◌, ◌≤◌, true, [], ◌∷◌, IfOk, OnOk, length, vec_len, find};
+ghost use Rattle.std.specs.Option.{option_copied};
+ghost use Rattle.acct_rows.specs.Keyed.{at, put, without, is_ascending};
+ghost use Rattle.acct_rows.specs.Rows.{account_key, has_name};
+
+use crate::copies::copy_accounts;
+use crate::keyed::Table;
+use crate::names::Names;
+use crate::row::AccountRow;
+use acct_calls::{Name, NoMemory};
+use std::alloc::Global;
+use std::marker::Model;
+
+/// Accounts by ascending key, with their names, and with room for more. A contract sees the list of the accounts, and
+/// for how many more there is room.
+#[derive(Drop)]
+pub struct Accounts {
+    rows: Table<AccountRow>,
+    names: Names,
+    spare: usize,
+}
+
+impl Model for Accounts {
+    ghost use Rattle.std.specs.Prelude.{◌≡◌, ◌≤◌, ℕ, List};
+    ghost use Rattle.acct_rows.specs.Indexes.{names_of};
+    ghost use Rattle.acct_rows.specs.declared.row.AccountRow.{AccountRow};
+
+    ghost Value = { List AccountRow × ℕ };
+
+    ghost view = { λ accounts. (accounts.rows.0, accounts.spare) };
+
+    ghost invariant = { λ accounts. (accounts.names.0 ≡ names_of accounts.rows.0)
+        × (accounts.spare ≤ accounts.rows.1)
+        × (accounts.spare ≤ accounts.names.1) };
+}
+
+impl Accounts {
+    /// No account, which takes no memory.
+    pub fn new(alloc: Global) -> Accounts
+        ensures { result ≡ ([], 0) }
+    {
+        Accounts {
+            rows: Table::new(alloc),
+            names: Names::new(alloc),
+            spare: 0,
+        }
+    }
+
+    /// The accounts that stand by ascending key.
+    pub fn from_rows(alloc: Global, rows: Vec<AccountRow>) -> Result<Accounts, NoMemory>
+        requires ascending { is_ascending account_key rows.items ≡ true }
+        requires few { vec_len rows < 2 ^ 32 }
+        ensures { IfOk result (λ accounts. accounts ≡ (rows.items, 0)) }
+    {
+        let names = Names::of(alloc, &rows)?;
+        Ok(Accounts {
+            rows: Table::from_rows(rows),
+            names,
+            spare: 0,
+        })
+    }
+
+    /// The same accounts of its own.
+    pub fn copy(&self, alloc: Global) -> Result<Accounts, NoMemory>
+        ensures { IfOk result (λ copy. copy ≡ (self.now.0, 0)) }
+    {
+        Ok(Accounts {
+            rows: Table::from_rows(copy_accounts(alloc, self.rows.rows())?),
+            names: self.names.copy(alloc)?,
+            spare: 0,
+        })
+    }
+
+    /// All accounts by ascending key.
+    pub fn rows(&self) -> &[AccountRow]
+        ensures all { result.now ≡ self.now.0 }
+        ensures ascending { is_ascending account_key result.now ≡ true }
+        ensures few { length result.now + self.now.1 < 2 ^ 32 }
+    {
+        self.rows.rows()
+    }
+
+    /// The account with that key.
+    pub fn find(&self, key: &(u8, u32)) -> Option<&AccountRow>
+        ensures { option_copied result ≡ at account_key (key.now.0 ∷ key.now.1 ∷ []) self.now.0 }
+    {
+        self.rows.find(key)
+    }
+
+    /// The account of a domain with that name.
+    pub fn find_name(&self, domain: u8, name: &Name) -> Option<&AccountRow>
+        ensures { option_copied result ≡ find (has_name domain name.now) self.now.0 }
+    {
+        self.names.find(self.rows.rows(), domain, name)
+    }
+
+    /// Makes room for more accounts.
+    pub fn reserve(&mut self, more: usize) -> Result<(), NoMemory>
+        ensures rows { self.new.0 ≡ self.old.0 }
+        ensures ok { OnOk result (more ≤ self.new.1) }
+        ensures kept { self.old.1 ≤ self.new.1 }
+    {
+        if self.spare < more {
+            self.names.reserve(more)?;
+            self.rows.reserve(more)?;
+            self.spare = more;
+        }
+        Ok(())
+    }
+
+    /// Puts an account in its place. An account with its key goes.
+    pub fn put(&mut self, row: AccountRow)
+        requires { 0 < self.old.1 }
+        ensures rows { self.new.0 ≡ put account_key row self.old.0 }
+        ensures spare { self.new.1 + 1 ≡ self.old.1 }
+    {
+        self.names.put(self.rows.rows(), &row);
+        self.rows.put(row);
+        self.spare -= 1;
+    }
+
+    /// Removes the account with that key, if there is one.
+    pub fn remove(&mut self, key: &(u8, u32))
+        ensures rows { self.new.0 ≡ without account_key (key.now.0 ∷ key.now.1 ∷ []) self.old.0 }
+        ensures spare { self.new.1 ≡ self.old.1 }
+    {
+        self.names.remove(self.rows.rows(), key);
+        self.rows.remove(key);
+    }
+}
