@@ -1,15 +1,13 @@
 -- The reply to each call of a legal history is an answer of its operation.
-use Rattle.std.proofs.Common.{◌≡◌, inl, inr, ℕ, ◌+◌, ◌^◌, ◌≤◌, ◌<◌, Bool, true, false, cond, Option, Some, None}
-use Rattle.std.proofs.Common.{bit_and}
-use Rattle.std.proofs.Common.{List, length, refl, sym, ◌∙◌, ap, subst, arith}
-use Rattle.std.specs.Prelude.{◌&&◌, ◌⊎◌, nat_lt, not, ◌==◌}
+use Rattle.std.proofs.Common.{◌≡◌, inl, inr, ℕ, ◌^◌, ◌≤◌, ◌<◌, Bool, true, false, cond, Option, Some, None}
+use Rattle.std.proofs.Common.{List, length, refl, sym, subst, arith}
+use Rattle.std.specs.Prelude.{◌&&◌, nat_lt, not, ◌==◌}
 use Rattle.std.proofs.lemmas.Bool.Decides.{nat_tests}
 use Rattle.acct_codes.specs.Statuses.{status_access_denied}
 use Rattle.dtyp_access.specs.Laws.{GrantsAreValid}
 use Rattle.acct_config.specs.declared.config.Config.{Config}
 use Rattle.acct_calls.specs.declared.calls.Call.{Call}
 use Rattle.acct_calls.specs.declared.calls.Face.{Face}
-use Rattle.acct_calls.specs.declared.handle.Handle.{Handle}
 use Rattle.acct_calls.specs.declared.replies.Outs.{Outs}
 use Rattle.acct_calls.specs.declared.replies.Outs.TheVariants as outs
 use Rattle.acct_calls.specs.declared.replies.Reply.TheVariants.{Done}
@@ -22,7 +20,6 @@ use Rattle.acct_layouts.specs.Table.{layout_of}
 use Rattle.acct_rows.specs.declared.object.Object.{Object}
 use Rattle.acct_rows.specs.Objects.{kind_of}
 use Rattle.acct_rows.specs.Rows.{HasRoom}
-use Rattle.acct_rows.specs.Sound.{IsSoundRows}
 use Rattle.acct_rules.specs.declared.planned.Opening.{Opening}
 use Rattle.acct_rules.specs.declared.planned.Effect.{Effect}
 use Rattle.acct_rules.specs.declared.planned.Effect.TheVariants as effects
@@ -34,7 +31,7 @@ use Rattle.acct_operations.specs.Laws.{AreRight}
 use Rattle.acct_machine.specs.declared.checks.Access.{Access}
 use Rattle.acct_machine.specs.declared.checks.Access.TheVariants.{Passed, Unknown, WrongKind, Denied}
 use Rattle.acct_machine.specs.declared.entry.Verdict.{Verdict}
-use Rattle.acct_machine.specs.declared.entry.Verdict.TheVariants.{Ran, NoMemory}
+use Rattle.acct_machine.specs.declared.entry.Verdict.TheVariants.{Ran, StoreFault, NoMemory}
 use Rattle.acct_machine.specs.declared.entry.Entry.{Entry}
 use Rattle.acct_machine.specs.State.{State, Start, last_serial}
 use Rattle.acct_machine.specs.Opening.{grant_of}
@@ -42,11 +39,11 @@ use Rattle.acct_machine.specs.Calls.{operation_of}
 use Rattle.acct_machine.specs.Access.{access, held_by, object_of}
 use Rattle.acct_machine.specs.Outcome.{refused, refusal_outs, filled_by, done, opened_to, by_grant, by_effect}
 use Rattle.acct_machine.specs.Outcome.{concluded, next_handle, ruled_of, planned_of}
-use Rattle.acct_machine.specs.Step.{by_access, by_verdict, by_operation, acted, state_at}
-use Rattle.acct_machine.specs.Legal.{HasPassed, May, Legal}
+use Rattle.acct_machine.specs.Step.{by_access, by_operation, state_at}
+use Rattle.acct_machine.specs.Legal.{HasPassed}
 use Rattle.acct_machine.specs.Sound.{IsSound, KeepsSound}
 use Rattle.acct_machine.specs.Shapes.{IsAnswer, RepliesAreShaped}
-use Rattle.acct_machine.proofs.Deciding.{of-work, both, Fails, Passes, Decision, decides}
+use Rattle.acct_machine.proofs.Deciding.{of-work, both, Decision, decides}
 use Rattle.acct_machine.proofs.Handles.{is-asked}
 use Rattle.acct_machine.proofs.Passing.{live-within}
 use Rattle.acct_machine.proofs.Serials.{serial-at}
@@ -178,6 +175,8 @@ operation-answers : AreRight → (config : Config) (s : State) (conn : ℕ) (cal
 operation-answers right config s conn call verdict sound few spelled known None is = tt
 operation-answers right config s conn call Ran sound few spelled known (Some o) is =
     access-answers right config o s conn call sound few spelled known is (access o s conn call) refl
+operation-answers right config s conn call (StoreFault n) sound few spelled known (Some o) is =
+    known.refusals _ (omega arith)
 operation-answers right config s conn call NoMemory sound few spelled known (Some o) is = known.refusals _ (omega arith)
 
 -- ---- what is known along a legal history

@@ -9,7 +9,7 @@ use Rattle.acct_rules.specs.Operations.{Operation}
 use Rattle.acct_machine.specs.declared.checks.Access.{Access}
 use Rattle.acct_machine.specs.declared.checks.Access.TheVariants.{Passed, Unknown, WrongKind, Denied}
 use Rattle.acct_machine.specs.declared.entry.Verdict.{Verdict}
-use Rattle.acct_machine.specs.declared.entry.Verdict.TheVariants.{Ran, NoMemory}
+use Rattle.acct_machine.specs.declared.entry.Verdict.TheVariants.{Ran, StoreFault, NoMemory}
 use Rattle.acct_machine.specs.State.{State}
 use Rattle.acct_machine.specs.Opening.{grant_of}
 use Rattle.acct_machine.specs.Calls.{operation_of}
@@ -72,6 +72,7 @@ by-operation : (P : State → Type 0) (s : State) (conn : ℕ) (call : Call) (ve
     → (o : Option Operation) → operation_of call ≡ o → P (by_operation o s conn call verdict).0
 by-operation P s conn call verdict each None is = each.same
 by-operation P s conn call Ran each (Some o) is = by-access P s conn call each o is (access o s conn call) refl
+by-operation P s conn call (StoreFault n) each (Some o) is = each.same
 by-operation P s conn call NoMemory each (Some o) is = each.same
 
 pub acted-cases : (P : State → Type 0) (s : State) (conn : ℕ) (call : Call) (verdict : Verdict)

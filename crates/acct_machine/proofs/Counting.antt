@@ -1,8 +1,8 @@
 -- What a legal history has stays within the limits, and so does the number of its entries.
-use Rattle.std.proofs.Common.{◌≡◌, ℕ, suc, ◌+◌, ◌*◌, ◌≤◌, ◌<◌, Bool, true, false, cond, Option, Some, None, List, []}
+use Rattle.std.proofs.Common.{◌≡◌, ℕ, ◌+◌, ◌*◌, ◌≤◌, ◌<◌, Bool, true, false, cond, Some, None, List, []}
 use Rattle.std.proofs.Common.{◌∷◌}
 use Rattle.std.proofs.Common.{◌++◌, length, refl, sym, ◌∙◌, ap, subst, append_assoc, arith}
-use Rattle.std.specs.Prelude.{◌&&◌, nat_le, nat_lt}
+use Rattle.std.specs.Prelude.{nat_le, nat_lt}
 use Rattle.std.proofs.lemmas.Bool.Decides.{nat_tests}
 use Rattle.std.proofs.lemmas.List.{append-nil}
 use Rattle.acct_config.specs.declared.config.Config.{Config}
@@ -10,9 +10,9 @@ use Rattle.acct_config.specs.Right.{IsRight}
 use Rattle.acct_machine.specs.declared.entry.Entry.{Entry}
 use Rattle.acct_machine.specs.declared.entry.Entry.TheVariants.{Opened, Called, Gone}
 use Rattle.acct_machine.specs.State.{State, Start, first, is_live}
-use Rattle.acct_machine.specs.Step.{new_conn, acted, step, state_after, state_at}
+use Rattle.acct_machine.specs.Step.{new_conn, step, state_after, state_at}
 use Rattle.acct_machine.specs.Room.{opened_count, call_count, stub_bytes, conns_full, calls_full, bytes_full}
-use Rattle.acct_machine.specs.Room.{TakesCall, IsWithin, most_entries}
+use Rattle.acct_machine.specs.Room.{IsWithin}
 use Rattle.acct_machine.specs.Legal.{May, LegalAfter, Legal, LimitsAreKept}
 use Rattle.acct_machine.specs.Shown.{live_count}
 use Rattle.acct_machine.proofs.Conns.{count-push, count-ended-live, length-push, length-ended}

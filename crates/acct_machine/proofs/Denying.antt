@@ -1,12 +1,11 @@
 -- Where a call is answered STATUS_ACCESS_DENIED.
-use Rattle.std.proofs.Common.{◌≡◌, inl, inr, ℕ, Bool, true, false, not, Option, Some, None, is_none, refl, sym, ◌∙◌, ap}
+use Rattle.std.proofs.Common.{◌≡◌, inl, inr, ℕ, true, false, Option, Some, None, is_none, refl, sym, ◌∙◌, ap}
 use Rattle.std.proofs.Common.{subst, arith}
-use Rattle.std.specs.Prelude.{◌&&◌, ◌⊎◌}
+use Rattle.std.specs.Prelude.{◌⊎◌}
 use Rattle.acct_calls.specs.declared.calls.Call.{Call}
 use Rattle.acct_codes.specs.Statuses.{status_access_denied}
 use Rattle.acct_layouts.specs.Refusals.{is_refusal}
 use Rattle.acct_rows.specs.declared.object.Object.{Object}
-use Rattle.acct_rules.specs.declared.planned.Opening.{Opening}
 use Rattle.acct_rules.specs.declared.planned.Effect.{Effect}
 use Rattle.acct_rules.specs.declared.planned.Effect.TheVariants as effects
 use Rattle.acct_rules.specs.declared.planned.Planned.{Planned}
@@ -20,7 +19,7 @@ use Rattle.acct_machine.specs.Access.{access, held_by, object_of}
 use Rattle.acct_machine.specs.Outcome.{refused, done, opened_to, by_grant, by_effect, concluded, ruled_of, planned_of}
 use Rattle.acct_machine.specs.Step.{by_access}
 use Rattle.acct_machine.specs.Denial.{HasStatus, IsOpeningDenied, IsDenied}
-use Rattle.acct_machine.proofs.Deciding.{both, Fails, Passes, Decision, decides}
+use Rattle.acct_machine.proofs.Deciding.{Decision, decides}
 
 -- no condition answers with the status, and no plan does
 condition-other : (status : ℕ) → is_condition_status status ≡ true → status ≡ status_access_denied → ⊥

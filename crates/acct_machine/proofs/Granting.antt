@@ -1,11 +1,10 @@
 -- Every handle was granted by a call of the history.
 use Rattle.std.proofs.Common.{◌≡◌, ℕ, ◌+◌, not, ◌==◌, List, [], ◌∷◌, ◌++◌, get_or, refl, sym, ◌∙◌, ap, subst}
-use Rattle.std.proofs.Common.{append_assoc, Some}
+use Rattle.std.proofs.Common.{append_assoc}
 use Rattle.std.specs.List.{All}
 use Rattle.std.proofs.lemmas.List.{append-nil}
 use Rattle.std.proofs.lemmas.List.Elements.{All-push, All-filter}
 use Rattle.acct_calls.specs.declared.calls.Call.{Call}
-use Rattle.acct_rows.specs.declared.object.Object.{Object}
 use Rattle.acct_rules.specs.declared.planned.Effect.{Effect}
 use Rattle.acct_rules.specs.declared.planned.Effect.TheVariants as effects
 use Rattle.acct_rows.specs.Objects.{same_object}

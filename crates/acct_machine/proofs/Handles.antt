@@ -1,6 +1,6 @@
 -- The handle that a call brings: where it passed, it stands for an object that is there, of a kind that its operation
 -- takes.
-use Rattle.std.proofs.Common.{◌≡◌, inl, inr, ℕ, suc, ◌+◌, ◌<◌, Bool, true, false, cond, List, [], ◌∷◌, Option, Some}
+use Rattle.std.proofs.Common.{◌≡◌, inl, inr, ℕ, suc, Bool, true, false, cond, List, [], ◌∷◌, Option, Some}
 use Rattle.std.proofs.Common.{None, option_map, refl, subst, sym, arith}
 use Rattle.std.specs.List.{All, find}
 use Rattle.acct_calls.specs.declared.calls.Call.{Call}
@@ -26,7 +26,7 @@ use Rattle.acct_machine.specs.Access.{object_of, held_by, has_bits, access_by, a
 use Rattle.acct_machine.specs.Outcome.{ruled_of, planned_of}
 use Rattle.acct_machine.specs.Legal.{HasPassed}
 use Rattle.acct_machine.specs.Sound.{IsHeldSoundly, IsSound}
-use Rattle.acct_machine.proofs.Deciding.{of-work, Fails, Passes, Decision, decides}
+use Rattle.acct_machine.proofs.Deciding.{of-work, Decision, decides}
 
 found-by : (P : Held → Type 0) (here : Bool) (h held : Held) (rest : Option Held) → P h → (rest ≡ Some held → P held)
     → cond here (Some h) rest ≡ Some held → P held

@@ -13,9 +13,9 @@ use Rattle.acct_machine.specs.State.{State, Start, first, is_live}
 use Rattle.acct_machine.specs.Step.{new_conn, acted, step, state_at}
 use Rattle.acct_machine.specs.Calls.{IsCall}
 use Rattle.acct_machine.specs.Room.{opened_count, call_count, stub_bytes, conns_full, TakesCall}
-use Rattle.acct_machine.specs.Legal.{MayHave, May, Legal, calls_of, replies}
+use Rattle.acct_machine.specs.Legal.{MayHave, Rises, May, Legal, calls_of, replies}
 use Rattle.acct_machine.specs.Sound.{AreConnected, KeepsConnected}
-use Rattle.acct_machine.specs.Shown.{Shown, IsKept, begins, live_count}
+use Rattle.acct_machine.specs.Shown.{Past, IsKept, begins, live_count}
 use Rattle.acct_machine.specs.Machine.{state_of, with_entry, SameLive, OneMoreLive, OneLessLive, SameCalls, OneMoreCall}
 use Rattle.acct_machine.proofs.Conns.{live-ended-same, live-ended-other, length-ended, live-push, length-push}
 use Rattle.acct_machine.proofs.Conns.{live-above, live-new, count-ended-live}
@@ -110,20 +110,21 @@ may-opened start history s conn listener is count small fits taken =
 pub may-called : (start : Start) (history : List Entry) (s : State) (conn : ℕ) (call : Call) (verdict : Verdict)
     (bytes : ℕ)
     → state_at start history ≡ s → is_live conn s.conns ≡ true → IsCall call → bytes < 2 ^ 32
-    → MayHave s conn call verdict → TakesCall start history bytes
+    → MayHave s conn call verdict → TakesCall start history bytes → Rises start history verdict
     → May start history (Called conn call verdict bytes)
-may-called start history s conn call verdict bytes is live spelled small may taken = (
+may-called start history s conn call verdict bytes is live spelled small may taken rises = (
   subst (λ (x : State). is_live conn x.conns ≡ true) (sym is) live,
   spelled,
   small,
   subst (λ (x : State). MayHave x conn call verdict) (sym is) may,
   taken,
+  rises,
 )
 
 -- ---- what a machine shows, by its parts
 
-abbrev pub shown : State → Lists → List Entry → Shown
-shown s rows history = record { start = begins s rows; history = history }
+abbrev pub shown : State → Lists → ℕ → List Entry → Past
+shown s rows since history = record { start = begins s rows since; history = history }
 
 config-acted : (s : State) (conn : ℕ) (call : Call) (verdict : Verdict)
     → (acted s conn call verdict).0.config ≡ s.config
@@ -138,37 +139,37 @@ config-step s (Opened conn listener) = refl
 config-step s (Called conn call verdict bytes) = config-acted s conn call verdict
 config-step s (Gone conn) = refl
 
-begins-same : (s s' : State) (rows : Lists) (e : Entry) → s' ≡ step s e → begins s rows ≡ begins s' rows
-begins-same s s' rows e is =
-    ap (λ (x : Config). let y : Start = record { config = x; rows = rows } in y)
+begins-same : (s s' : State) (rows : Lists) (since : ℕ) (e : Entry) → s' ≡ step s e → begins s rows since ≡ begins s' rows since
+begins-same s s' rows since e is =
+    ap (λ (x : Config). let y : Start = record { config = x; rows = rows; faults = since } in y)
     (sym (config-step s e) ∙ ap (λ (x : State). x.config) (sym is))
 
 -- with one more entry
-pub shown-more : (old : Shown) (s s' : State) (rows : Lists) (history more : List Entry) (e : Entry)
-    → shown s rows history ≡ old → s' ≡ step s e → more ≡ history ++ e ∷ []
-    → with_entry old e ≡ shown s' rows more
-shown-more old s s' rows history more e view is longer =
-    subst (λ (m : Shown). with_entry m e ≡ shown s' rows more) view
-    (ap (λ (x : Start). let y : Shown = record { start = x; history = history ++ e ∷ [] } in y)
-    (begins-same s s' rows e is)
-    ∙ ap (λ (x : List Entry). shown s' rows x) (sym longer))
+pub shown-more : (old : Past) (s s' : State) (rows : Lists) (since : ℕ) (history more : List Entry) (e : Entry)
+    → shown s rows since history ≡ old → s' ≡ step s e → more ≡ history ++ e ∷ []
+    → with_entry old e ≡ shown s' rows since more
+shown-more old s s' rows since history more e view is longer =
+    subst (λ (m : Past). with_entry m e ≡ shown s' rows since more) view
+    (ap (λ (x : Start). let y : Past = record { start = x; history = history ++ e ∷ [] } in y)
+    (begins-same s s' rows since e is)
+    ∙ ap (λ (x : List Entry). shown s' rows since x) (sym longer))
 
-pub kept-more : (s s' : State) (rows : Lists) (history more : List Entry)
+pub kept-more : (s s' : State) (rows : Lists) (since : ℕ) (history more : List Entry)
     (calls bytes capacity calls' bytes' capacity' : ℕ) (e : Entry)
-    → IsKept (begins s rows) history s calls bytes capacity
-    → May (begins s rows) history e → s' ≡ step s e → more ≡ history ++ e ∷ []
+    → IsKept (begins s rows since) history s calls bytes capacity
+    → May (begins s rows since) history e → s' ≡ step s e → more ≡ history ++ e ∷ []
     → calls + call_count (e ∷ []) ≡ calls' → bytes + stub_bytes (e ∷ []) ≡ bytes' → capacity ≤ capacity'
-    → IsKept (begins s' rows) more s' calls' bytes' capacity'
-kept-more s s' rows history more calls bytes capacity calls' bytes' capacity' e kept may is longer counts adds grows =
+    → IsKept (begins s' rows since) more s' calls' bytes' capacity'
+kept-more s s' rows since history more calls bytes capacity calls' bytes' capacity' e kept may is longer counts adds grows =
     rw longer (subst (λ (x : Start). IsKept x (history ++ e ∷ []) s' calls' bytes' capacity')
-    (begins-same s s' rows e is)
-    (IsKept-push (begins s rows) history s calls bytes capacity e s' calls' bytes' capacity' kept may (sym is) counts
+    (begins-same s s' rows since e is)
+    (IsKept-push (begins s rows since) history s calls bytes capacity e s' calls' bytes' capacity' kept may (sym is) counts
     adds grows))
 
 -- the state that a machine shows
-pub state-shown : (old : Shown) (s : State) (rows : Lists) (history : List Entry) (calls bytes capacity : ℕ)
-    → shown s rows history ≡ old → IsKept (begins s rows) history s calls bytes capacity → state_of old ≡ s
-state-shown old s rows history calls bytes capacity view kept = subst (λ (m : Shown). state_of m ≡ s) view kept.state
+pub state-shown : (old : Past) (s : State) (rows : Lists) (since : ℕ) (history : List Entry) (calls bytes capacity : ℕ)
+    → shown s rows since history ≡ old → IsKept (begins s rows since) history s calls bytes capacity → state_of old ≡ s
+state-shown old s rows since history calls bytes capacity view kept = subst (λ (m : Past). state_of m ≡ s) view kept.state
 
 -- how many connections were opened, by the parts
 pub opened-kept : (start : Start) (history : List Entry) (s : State) (calls bytes capacity : ℕ)

@@ -10,9 +10,12 @@ pub mod Passing
 pub mod Granting
 pub mod Handles
 pub mod Sounds
+pub mod Frugal
 pub mod Wanting
 pub mod Denying
 pub mod Serials
 pub mod Shapes
 pub mod Answering
+pub mod Storing
+pub mod Puts
 pub mod Kept

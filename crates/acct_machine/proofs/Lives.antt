@@ -1,5 +1,5 @@
 -- A call leaves which connections are live.
-use Rattle.std.proofs.Common.{◌≡◌, ℕ, ◌+◌, length, refl}
+use Rattle.std.proofs.Common.{◌≡◌, ℕ, ◌+◌, refl}
 use Rattle.acct_calls.specs.declared.calls.Call.{Call}
 use Rattle.acct_machine.specs.declared.entry.Verdict.{Verdict}
 use Rattle.acct_machine.specs.State.{State, last_serial}

@@ -1,6 +1,6 @@
 -- What entries of other connections leave as it was, and the openings of connections.
 use Rattle.std.proofs.Common.{◌≡◌, ◌≢◌, inl, inr, ℕ, ◌+◌, ◌≤◌, ◌<◌, ◌==◌, true, false, cond, List, [], ◌∷◌, ◌++◌}
-use Rattle.std.proofs.Common.{length, refl, sym, ap, ◌∙◌, subst, append_assoc, arith}
+use Rattle.std.proofs.Common.{length, refl, sym, ap, ◌∙◌, subst, arith}
 use Rattle.std.proofs.lemmas.Bool.{cases_eq}
 use Rattle.std.proofs.lemmas.List.{append-nil}
 use Rattle.std.proofs.lemmas.Bool.Decides.{nat_tests}
@@ -15,7 +15,7 @@ use Rattle.acct_machine.specs.State.{State, Start, first, is_live}
 use Rattle.acct_machine.specs.Step.{new_conn, acted, step, state_after, state_at}
 use Rattle.acct_machine.specs.Legal.{May, LegalAfter, Legal, calls_of, replies_from, replies, FrontsAreLegal}
 use Rattle.acct_machine.specs.Sound.{IsNumberedFrom, KeepsConnected}
-use Rattle.acct_machine.specs.Passing.{conn_of, AreOfOthers, Passes, OthersChangeNothing, EntriesAreNumbered}
+use Rattle.acct_machine.specs.Passing.{conn_of, AreOfOthers, OthersChangeNothing, EntriesAreNumbered}
 use Rattle.acct_machine.specs.Passing.{OpenedOnce}
 use Rattle.acct_machine.proofs.Conns.{live-push, live-ended-other, live-past, length-push, length-ended}
 use Rattle.acct_machine.proofs.Lives.{same_live-acted}

@@ -1,7 +1,7 @@
 -- Connections that are numbered from 1 stand at the places of their numbers.
-use Rattle.std.proofs.Common.{◌≡◌, ◌≢◌, ℕ, zero, suc, ◌+◌, ◌-◌, ◌<◌, ◌≤◌, List, [], ◌∷◌, length, map, Option, Some}
+use Rattle.std.proofs.Common.{◌≡◌, ◌≢◌, ℕ, zero, suc, ◌+◌, ◌-◌, ◌<◌, ◌≤◌, List, [], ◌∷◌, length, map, Some}
 use Rattle.std.proofs.Common.{None, refl}
-use Rattle.std.proofs.Common.{sym, ◌∙◌, ap, arith, get_or, set}
+use Rattle.std.proofs.Common.{◌∙◌, ap, arith, get_or, set}
 use Rattle.std.proofs.lemmas.Bool.Decides.{nat_tests}
 use Rattle.acct_machine.specs.declared.state.Conn.{Conn}
 use Rattle.acct_machine.specs.State.{find_conn}

@@ -1,14 +1,11 @@
 -- The replies in a legal history have the shapes of their operations.
-use Rattle.std.proofs.Common.{◌≡◌, inl, inr, ℕ, ◌+◌, ◌*◌, ◌^◌, ◌≤◌, ◌<◌, Bool, true, false, cond, Option, Some, None}
+use Rattle.std.proofs.Common.{◌≡◌, ℕ, ◌^◌, ◌<◌, true, false, Option, Some, None}
 use Rattle.std.proofs.Common.{bit_and}
-use Rattle.std.proofs.Common.{List, length, refl, sym, ◌∙◌, ap, subst, arith, lit≤}
-use Rattle.std.specs.Prelude.{◌&&◌, ◌⊎◌}
-use Rattle.std.proofs.lemmas.Bool.Decides.{nat_tests}
+use Rattle.std.proofs.Common.{refl, sym, ◌∙◌, subst, arith}
 use Rattle.std.proofs.lemmas.Nat.{and_le_r}
 use Rattle.acct_codes.specs.declared.kind.Kind.{Kind}
 use Rattle.acct_codes.specs.declared.kind.Kind.TheVariants as kind
 use Rattle.acct_codes.specs.Mappings.{valid_rights}
-use Rattle.acct_codes.specs.Statuses.{status_access_denied}
 use Rattle.acct_calls.specs.declared.calls.Call.{Call}
 use Rattle.acct_calls.specs.declared.handle.Handle.{Handle}
 use Rattle.acct_calls.specs.declared.replies.Outs.{Outs}
@@ -29,7 +26,7 @@ use Rattle.acct_layouts.specs.declared.table.Layout.{Layout}
 use Rattle.acct_layouts.specs.CallShapes.{CanBeSpelled, HasArguments}
 use Rattle.acct_layouts.specs.Laws.{RefusalsHaveShape}
 use Rattle.acct_layouts.specs.Refusals.{is_refusal}
-use Rattle.acct_layouts.specs.ReplyShapes.{ArePlain, AreLists, ArePolicyOuts, AreTranslated, AreOutputs, IsReplyOf}
+use Rattle.acct_layouts.specs.ReplyShapes.{ArePlain, AreLists, ArePolicyOuts, AreTranslated, AreOutputs}
 use Rattle.acct_layouts.specs.ReplyShapes.{HasOutputs, HasShape}
 use Rattle.acct_layouts.specs.Table.{layout_of}
 use Rattle.acct_rules.specs.Filled.{shown_grant, filled}

@@ -1,5 +1,5 @@
 -- Each event of a legal history keeps the state sound, since the operations keep the rows sound.
-use Rattle.std.proofs.Common.{◌≡◌, ◌≢◌, inl, inr, ℕ, ◌+◌, ◌≤◌, ◌<◌, Bool, true, false, not, ◌==◌, List, [], ◌∷◌, ◌++◌}
+use Rattle.std.proofs.Common.{◌≡◌, ◌≢◌, inl, inr, ℕ, ◌+◌, ◌≤◌, Bool, true, false, not, ◌==◌, List, [], ◌∷◌, ◌++◌}
 use Rattle.std.proofs.Common.{length, map, get_or, bit_and, Option, Some, None, refl, sym, ◌∙◌, ap, subst, arith}
 use Rattle.std.specs.List.{All, AllPairs}
 use Rattle.std.proofs.lemmas.Bool.{cases_eq}
@@ -21,7 +21,7 @@ use Rattle.acct_rows.specs.Sound.{IsSoundRows}
 use Rattle.acct_rules.specs.declared.planned.Effect.{Effect}
 use Rattle.acct_rules.specs.declared.planned.Effect.TheVariants as effects
 use Rattle.acct_rules.specs.declared.planned.Planned.{Planned}
-use Rattle.acct_rules.specs.Operations.{Operation, is_deleted, Keeps}
+use Rattle.acct_rules.specs.Operations.{is_deleted, Keeps}
 use Rattle.acct_operations.specs.Laws.{AreRight, KeepRows}
 use Rattle.acct_machine.specs.declared.entry.Verdict.{Verdict}
 use Rattle.acct_machine.specs.declared.entry.Entry.{Entry}
@@ -31,7 +31,7 @@ use Rattle.acct_machine.specs.declared.state.Held.{Held}
 use Rattle.acct_machine.specs.State.{State, Start, first, find_conn, is_live, last_serial, is_handle, without_conn}
 use Rattle.acct_machine.specs.Opening.{descriptor_of, listener_of, checked, grant_of}
 use Rattle.acct_machine.specs.Outcome.{serial_set, left, changed, with_handle, planned_of}
-use Rattle.acct_machine.specs.Step.{new_conn, live_ended, acted, step, state_after, state_at}
+use Rattle.acct_machine.specs.Step.{new_conn, acted, step, state_after, state_at}
 use Rattle.acct_machine.specs.Legal.{May, LegalAfter, Legal}
 use Rattle.acct_machine.specs.Sound.{IsHeldSoundly, AreApart, AreConnected, KeepsConnected, IsSound}
 use Rattle.acct_machine.proofs.Conns.{live-set, serial-set-same, serial-set-other, live-ended-other, serial-ended}

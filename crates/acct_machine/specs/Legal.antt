@@ -1,38 +1,37 @@
 -- Which histories the machine may have, and what they say of one connection.
-use Rattle.std.specs.Prelude.{◌≡◌, ℕ, ◌+◌, ◌^◌, ◌<◌, ◌==◌, true, false, Some, List, [], ◌∷◌, ◌++◌, length, ⊤}
-use Rattle.std.specs.Prelude.{None, if◌then◌else◌}
+use Rattle.std.specs.Prelude.{◌≡◌, ◌≢◌, ℕ, ◌+◌, ◌^◌, ◌<◌, ◌==◌, true, false, Some, List, [], ◌∷◌, ◌++◌, length, ⊤}
+use Rattle.std.specs.Prelude.{None, if◌then◌else◌, All}
 use Rattle.acct_calls.specs.declared.calls.Call.{Call}
 use Rattle.acct_calls.specs.declared.replies.Reply.{Reply}
 use Rattle.acct_rules.specs.declared.profile.Memory.{Memory}
 use Rattle.acct_rules.specs.declared.profile.Memory.TheVariants as memory
-use Rattle.acct_rules.specs.declared.planned.Planned.{Planned}
-use Rattle.acct_rules.specs.Planned.{none_fails, opening_of, takes_room}
+use Rattle.acct_rules.specs.Planned.{none_fails, opening_of}
 use Rattle.acct_rules.specs.Operations.{Operation}
+use Rattle.acct_streams.specs.Causes.{Rose}
 use Rattle.acct_machine.specs.declared.checks.Access.TheVariants.{Passed}
 use Rattle.acct_machine.specs.declared.entry.Verdict.{Verdict}
-use Rattle.acct_machine.specs.declared.entry.Verdict.TheVariants.{Ran, NoMemory}
+use Rattle.acct_machine.specs.declared.entry.Verdict.TheVariants.{Ran, StoreFault, NoMemory}
 use Rattle.acct_machine.specs.declared.entry.Entry.{Entry}
 use Rattle.acct_machine.specs.declared.entry.Entry.TheVariants.{Opened, Called, Gone}
 use Rattle.acct_machine.specs.State.{State, Start, first, is_live}
 use Rattle.acct_machine.specs.Opening.{is_opening_refused}
 use Rattle.acct_machine.specs.Calls.{operation_of, IsCall}
 use Rattle.acct_machine.specs.Access.{access}
-use Rattle.acct_machine.specs.Outcome.{ruled_of}
+use Rattle.acct_machine.specs.Outcome.{ruled_of, outcome}
 use Rattle.acct_machine.specs.Step.{acted, step, state_at}
 use Rattle.acct_machine.specs.Room.{conns_full, TakesCall, IsWithin}
 
 -- ---- verdicts
 
--- where room may want for a plan: its opening is granted, and it takes room
-abbrev pub WantsRoom : State → ℕ → Planned → Verdict → Type 0
-WantsRoom s conn planned Ran = ⊤
-WantsRoom s conn planned NoMemory =
-    (is_opening_refused s conn (opening_of planned.effect) ≡ false) × (takes_room planned ≡ true)
-
 -- no condition of the call fails, that of an opening included
 pub record NoneFails (o : Operation) (s : State) (conn : ℕ) (call : Call) : Type 0 where
   pub conditions : none_fails (ruled_of o s conn call).conditions ≡ true
   pub opening : is_opening_refused s conn (opening_of (ruled_of o s conn call).planned.effect) ≡ false
+
+-- A call's change is committed: no condition of it fails, and its new rows aren't those before.
+pub record HasCommit (o : Operation) (s : State) (conn : ℕ) (call : Call) : Type 0 where
+  pub none : NoneFails o s conn call
+  pub differs : (outcome o s conn call).0.rows ≢ s.rows
 
 -- where memory may want, by the profile of the operation
 abbrev pub MayWant : Memory → Operation → State → ℕ → Call → Type 0
@@ -40,33 +39,51 @@ MayWant memory.Never o s conn call = ⊥
 MayWant memory.BehindConditions o s conn call = NoneFails o s conn call
 MayWant memory.Anywhere o s conn call = ⊤
 
--- the same of the call's verdict
-abbrev pub Wants : Operation → State → ℕ → Call → Verdict → Type 0
-Wants o s conn call Ran = ⊤
-Wants o s conn call NoMemory = MayWant o.profile.memory o s conn call
-
 -- the handle of the call passed
 pub record HasPassed (o : Operation) (s : State) (conn : ℕ) (call : Call) : Type 0 where
   pub found : operation_of call ≡ Some o
   pub passed : access o s conn call ≡ Passed
 
--- which verdict a call may have: memory may want only where its handle passed
+-- Which verdict a call may have: memory may want only where its handle passed, and the store may fail only where there
+-- is a change to commit besides.
 abbrev pub MayHave : State → ℕ → Call → Verdict → Type 0
 MayHave s conn call Ran = ⊤
+MayHave s conn call (StoreFault n) = (o : Operation) × HasPassed o s conn call × HasCommit o s conn call
 MayHave s conn call NoMemory = (o : Operation) × HasPassed o s conn call × MayWant o.profile.memory o s conn call
+
+-- ---- faults of the store
+
+-- the counts at the commits that failed, in order
+abbrev pub faults_of : List Entry → List ℕ
+faults_of [] = []
+faults_of (Opened conn listener ∷ es) = faults_of es
+faults_of (Called conn call Ran bytes ∷ es) = faults_of es
+faults_of (Called conn call (StoreFault n) bytes ∷ es) = n ∷ faults_of es
+faults_of (Called conn call NoMemory bytes ∷ es) = faults_of es
+faults_of (Gone conn ∷ es) = faults_of es
+
+-- the store's counts of faults: where the history began, and at each commit that failed
+abbrev pub counts_of : Start → List Entry → List ℕ
+counts_of start history = start.faults ∷ faults_of history
+
+-- The count at a commit that failed lies above each count before it, or at 2^64 - 1 where one of them does.
+abbrev pub Rises : Start → List Entry → Verdict → Type 0
+Rises start before Ran = ⊤
+Rises start before (StoreFault n) = (n < 2 ^ 64) × All (λ m. Rose m n) (counts_of start before)
+Rises start before NoMemory = ⊤
 
 -- ---- histories
 
 -- What may come after some events: the connections are numbered from 1 in the order of their opening, each at a
 -- listener of the configuration; calls and ends are of live connections, and each call is one of an operation and
--- spelled by some served stub. The limits of the configuration are kept.
+-- spelled by some served stub. The store's count of faults rises. The limits of the configuration are kept.
 abbrev pub May : Start → List Entry → Entry → Type 0
 May start before (Opened conn listener) =
     (conn ≡ length (state_at start before).conns + 1) × (conn < 2 ^ 32) × (listener < length start.config.listeners)
     × (conns_full start before ≡ None)
 May start before (Called conn call verdict bytes) =
     (is_live conn (state_at start before).conns ≡ true) × IsCall call × (bytes < 2 ^ 32)
-    × MayHave (state_at start before) conn call verdict × TakesCall start before bytes
+    × MayHave (state_at start before) conn call verdict × TakesCall start before bytes × Rises start before verdict
 May start before (Gone conn) = is_live conn (state_at start before).conns ≡ true
 
 -- each event may come after those before it

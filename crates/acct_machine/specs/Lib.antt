@@ -1,3 +1,4 @@
+pub mod PairsOf
 pub mod State
 pub mod Opening
 pub mod Calls
@@ -6,11 +7,14 @@ pub mod Outcome
 pub mod Step
 pub mod Room
 pub mod Legal
+pub mod Wants
 pub mod Sound
 pub mod Denial
 pub mod Grants
 pub mod Shapes
 pub mod Passing
+pub mod Storing
 pub mod Shown
 pub mod Machine
 pub mod Decided
+pub mod Opened

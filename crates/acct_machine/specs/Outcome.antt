@@ -1,6 +1,6 @@
 -- What a call does whose handle passed: its operation's conditions in order, an opening as the last of them, and the
 -- change.
-use Rattle.std.specs.Prelude.{ℕ, ◌+◌, ◌==◌, Bool, true, false, List, [], ◌∷◌, ◌++◌, map, Option, Some, None}
+use Rattle.std.specs.Prelude.{ℕ, ◌+◌, ◌==◌, List, [], ◌∷◌, ◌++◌, map, Option, Some, None}
 use Rattle.std.specs.Prelude.{if◌then◌else◌}
 use Rattle.acct_calls.specs.declared.calls.Call.{Call}
 use Rattle.acct_calls.specs.declared.handle.Handle.{Handle}
@@ -8,7 +8,7 @@ use Rattle.acct_calls.specs.declared.replies.Outs.{Outs}
 use Rattle.acct_calls.specs.declared.replies.Outs.TheVariants as outs
 use Rattle.acct_calls.specs.declared.replies.Reply.{Reply}
 use Rattle.acct_calls.specs.declared.replies.Reply.TheVariants.{Done}
-use Rattle.acct_codes.specs.Statuses.{status_access_denied, status_no_memory}
+use Rattle.acct_codes.specs.Statuses.{status_access_denied, status_internal_db_error, status_no_memory}
 use Rattle.acct_layouts.specs.declared.table.Layout.{Layout}
 use Rattle.acct_layouts.specs.Table.{layout_of}
 use Rattle.acct_layouts.specs.Refusals.{is_refusal, refused_outs}
@@ -22,7 +22,7 @@ use Rattle.acct_rules.specs.Planned.{Ruled, decision}
 use Rattle.acct_rules.specs.Filled.{filled}
 use Rattle.acct_rules.specs.Operations.{Operation}
 use Rattle.acct_machine.specs.declared.entry.Verdict.{Verdict}
-use Rattle.acct_machine.specs.declared.entry.Verdict.TheVariants.{Ran, NoMemory}
+use Rattle.acct_machine.specs.declared.entry.Verdict.TheVariants.{Ran, StoreFault, NoMemory}
 use Rattle.acct_machine.specs.declared.state.Conn.{Conn}
 use Rattle.acct_machine.specs.declared.state.Held.{Held}
 use Rattle.acct_machine.specs.State.{State, last_serial, number_of, without_handle, without_object}
@@ -97,9 +97,10 @@ refused s call status = (s, Done status (refusal_outs call))
 abbrev pub done : State → ℕ → Call → Planned → State × Reply
 done s conn call planned = (changed s conn call planned, replied call planned)
 
--- the same, or that memory wanted for it
+-- the same, or that its commit failed or memory wanted for it
 abbrev pub done_by : State → ℕ → Call → Planned → Verdict → State × Reply
 done_by s conn call planned Ran = done s conn call planned
+done_by s conn call planned (StoreFault n) = refused s call status_internal_db_error
 done_by s conn call planned NoMemory = refused s call status_no_memory
 
 -- what was planned is done, and a handle to the object comes
@@ -129,9 +130,10 @@ by_effect s conn call planned (effects.Deletes object) = done s conn call planne
 abbrev pub concluded : State → ℕ → Call → Planned → State × Reply
 concluded s conn call planned = by_effect s conn call planned planned.effect
 
--- the same, or that memory wanted for it
+-- the same, or that its commit failed or memory wanted for it
 abbrev pub concluded_by : State → ℕ → Call → Planned → Verdict → State × Reply
 concluded_by s conn call planned Ran = concluded s conn call planned
+concluded_by s conn call planned (StoreFault n) = refused s call status_internal_db_error
 concluded_by s conn call planned NoMemory = refused s call status_no_memory
 
 -- what the operation of a call has to say

@@ -9,7 +9,7 @@ use Rattle.acct_rows.specs.Sound.{IsSoundRows}
 use Rattle.acct_machine.specs.declared.entry.Verdict.{Verdict}
 use Rattle.acct_machine.specs.declared.entry.Entry.{Entry}
 use Rattle.acct_machine.specs.declared.entry.Entry.TheVariants.{Called}
-use Rattle.acct_machine.specs.State.{State, Start}
+use Rattle.acct_machine.specs.State.{Start}
 use Rattle.acct_machine.specs.Step.{acted, state_at}
 use Rattle.acct_machine.specs.Legal.{May, Legal}
 

@@ -1,7 +1,8 @@
 -- What a machine shows, and what its parts must keep.
-use Rattle.std.specs.Prelude.{◌≡◌, ℕ, ◌+◌, ◌≤◌, List, [], ◌∷◌, length, if◌then◌else◌}
+use Rattle.std.specs.Prelude.{◌≡◌, ℕ, ◌+◌, ◌≤◌, List, [], ◌∷◌, Option, if◌then◌else◌}
 use Rattle.acct_config.specs.declared.config.Config.{Config}
 use Rattle.acct_config.specs.Right.{IsRight}
+use Rattle.acct_keeper.specs.declared.pairs.Pair.{Pair}
 use Rattle.acct_rows.specs.Rows.{Lists}
 use Rattle.acct_rows.specs.Sound.{IsSoundRows}
 use Rattle.acct_machine.specs.declared.entry.Entry.{Entry}
@@ -12,13 +13,24 @@ use Rattle.acct_machine.specs.Room.{call_count, stub_bytes, most_entries}
 use Rattle.acct_machine.specs.Legal.{Legal}
 use Rattle.acct_machine.specs.Sound.{IsNumberedFrom}
 
-pub record Shown : Type 0 where
+-- where a history began, and the history
+pub record Past : Type 0 where
   pub start : Start
   pub history : List Entry
 
--- where a history began whose state has this configuration, with those rows
-abbrev pub begins : State → Lists → Start
-begins s rows = record { config = s.config; rows = rows }
+-- the pairs that a keeper holds, where it tells them, and its count of faults
+pub record Keeping : Type 0 where
+  pub held : Option (List Pair)
+  pub faults : ℕ
+
+-- what happened, and what the keeper tells
+pub record Shown : Type 0 where
+  pub past : Past
+  pub keeper : Keeping
+
+-- where a history began whose state has this configuration, with those rows and that count of faults
+abbrev pub begins : State → Lists → ℕ → Start
+begins s rows faults = record { config = s.config; rows = rows; faults = faults }
 
 -- how many connections are live
 abbrev pub live_count : List Conn → ℕ

@@ -8,10 +8,11 @@ use Rattle.acct_rows.specs.Rows.{Lists}
 use Rattle.acct_machine.specs.declared.state.Conn.{Conn}
 use Rattle.acct_machine.specs.declared.state.Held.{Held}
 
--- where a history begins
+-- Where a history begins: the configuration, the rows, and how often the store that keeps them has failed.
 pub record Start : Type 0 where
   pub config : Config
   pub rows : Lists
+  pub faults : ℕ
 
 -- Connections and handles stand in the order in which they came.
 pub record State : Type 0 where

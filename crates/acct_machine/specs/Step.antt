@@ -4,12 +4,13 @@ use Rattle.acct_calls.specs.declared.calls.Call.{Call}
 use Rattle.acct_calls.specs.declared.replies.Reply.{Reply}
 use Rattle.acct_calls.specs.declared.replies.Reply.TheVariants.{Fault}
 use Rattle.acct_codes.specs.Faults.{fault_context_mismatch, fault_operation_range}
-use Rattle.acct_codes.specs.Statuses.{status_access_denied, status_no_memory, status_object_type_mismatch}
+use Rattle.acct_codes.specs.Statuses.{status_access_denied, status_internal_db_error, status_no_memory}
+use Rattle.acct_codes.specs.Statuses.{status_object_type_mismatch}
 use Rattle.acct_rules.specs.Operations.{Operation}
 use Rattle.acct_machine.specs.declared.checks.Access.{Access}
 use Rattle.acct_machine.specs.declared.checks.Access.TheVariants.{Passed, Unknown, WrongKind, Denied}
 use Rattle.acct_machine.specs.declared.entry.Verdict.{Verdict}
-use Rattle.acct_machine.specs.declared.entry.Verdict.TheVariants.{Ran, NoMemory}
+use Rattle.acct_machine.specs.declared.entry.Verdict.TheVariants.{Ran, StoreFault, NoMemory}
 use Rattle.acct_machine.specs.declared.entry.Entry.{Entry}
 use Rattle.acct_machine.specs.declared.entry.Entry.TheVariants.{Opened, Called, Gone}
 use Rattle.acct_machine.specs.declared.state.Conn.{Conn}
@@ -30,6 +31,7 @@ by_access o s conn call Denied = refused s call status_access_denied
 -- what a call of an operation does, by its verdict
 abbrev pub by_verdict : Operation → State → ℕ → Call → Verdict → State × Reply
 by_verdict o s conn call Ran = by_access o s conn call (access o s conn call)
+by_verdict o s conn call (StoreFault n) = refused s call status_internal_db_error
 by_verdict o s conn call NoMemory = refused s call status_no_memory
 
 -- a call that is none of an operation changes nothing; a legal history has none

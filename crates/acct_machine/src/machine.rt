@@ -1,5 +1,5 @@
 // The machine: one history, and the state after it.
-ghost use Rattle.std.specs.Prelude.{◌≡◌, ◌<◌, true, [], length, IfOk};
+ghost use Rattle.std.specs.Prelude.{◌≡◌, ◌<◌, ◌≤◌, true, [], length, IfOk, IfErr};
 ghost use Rattle.acct_config.specs.Right.{IsRight};
 ghost use Rattle.acct_rows.specs.Sound.{IsSoundRows};
 ghost use Rattle.acct_machine.specs.State.{is_live};
@@ -7,7 +7,10 @@ ghost use Rattle.acct_machine.specs.Calls.{IsCall};
 ghost use Rattle.acct_machine.specs.Legal.{Legal};
 ghost use Rattle.acct_machine.specs.Sound.{IsSound};
 ghost use Rattle.acct_machine.specs.Machine.{state_of, Opens, OpensFresh, OpensLive, Acts, ActsCalls, SameLive};
-ghost use Rattle.acct_machine.specs.Machine.{SameCalls, Ends, OneLessLive, Shaped};
+ghost use Rattle.acct_machine.specs.Machine.{SameCalls, Ends, OneLessLive, Shaped, Stored, Commits};
+ghost use Rattle.acct_machine.specs.Room.{most_entries};
+ghost use Rattle.acct_machine.specs.Storing.{HoldsRows, AreUpTo};
+ghost use Rattle.std.specs.Vec.{vec_capacity};
 
 use crate::laws::{
     connections_are_numbered, connections_are_opened_once, kept_states_are_sound, limits_are_kept,
@@ -15,7 +18,7 @@ use crate::laws::{
 };
 use crate::room::most_entries;
 use crate::store::Store;
-use crate::{Call, Config, Entry, NoMemory, Reply, Rows};
+use crate::{Call, Config, Entry, Keeper, NoMemory, Reply, Rows};
 use std::alloc::Global;
 use std::marker::Model;
 
@@ -38,103 +41,162 @@ pub enum Acted {
     FullBytes(u64),
 }
 
-/// The machine. It shows where its history began, which was with a right configuration and sound rows, and its history.
-/// It keeps the state after the history, the number of its calls and of the bytes of their stubs, and room for all that
-/// the limits of the configuration let it have.
+/// There was no memory for a machine. The keeper comes back.
 #[derive(Drop)]
-pub struct Machine {
+pub struct NoMachine<K> {
+    pub keeper: K,
+}
+
+/// The machine, over a keeper of its rows. It shows where its history began, which was with a right configuration and
+/// sound rows, its history, and what the keeper tells. It keeps the state after the history, whose rows the keeper
+/// holds as pairs, the number of its calls and of the bytes of their stubs, and room for all that the limits of the
+/// configuration let it have.
+#[derive(Drop)]
+pub struct Machine<K: Keeper + Drop> {
     alloc: Global,
     opening: Rows,
     history: Vec<Entry>,
     store: Store,
     calls: u32,
     bytes: u64,
+    keeper: K,
+    since: u64,
 }
 
-impl Model for Machine {
+impl<K: Keeper + Drop> Model for Machine<K> {
     ghost use Rattle.std.specs.Vec.{vec_capacity};
     ghost use Rattle.acct_machine.specs.Shown.{Shown, IsKept, begins};
+    ghost use Rattle.acct_machine.specs.Storing.{IsStored};
 
     ghost Value = { Shown };
 
-    ghost view = { λ m. record { start = begins m.store m.opening.lists; history = m.history.items } };
+    ghost view = { λ m. record {
+      past = record { start = begins m.store m.opening.lists m.since; history = m.history.items };
+      keeper = record { held = K.held m.keeper; faults = K.faults m.keeper };
+    } };
 
     ghost invariant = { λ m.
-        IsKept (begins m.store m.opening.lists) m.history.items m.store m.calls m.bytes (vec_capacity m.history) };
+        let start = begins m.store m.opening.lists m.since in
+        IsKept start m.history.items m.store m.calls m.bytes (vec_capacity m.history)
+        × IsStored (K.held m.keeper) m.store.rows (K.faults m.keeper) start m.history.items };
 }
 
-impl Machine {
+// What a machine is made of: its opening rows, room for its history, and the state where that begins.
+fn begun(alloc: Global, config: &Config, rows: Rows) -> Result<(Rows, Vec<Entry>, Store), NoMemory>
+    requires { IsRight config.now }
+    ensures opening { IfOk result (λ parts. parts.0.lists ≡ rows.lists) }
+    ensures history { IfOk result (λ parts. parts.1.items ≡ []) }
+    ensures room { IfOk result (λ parts. most_entries config.now.limits ≤ vec_capacity parts.1) }
+    ensures store { IfOk result (λ parts. parts.2
+        ≡ record { config = config.now; rows = rows.lists; conns = []; handles = [] }) }
+{
+    let opening = rows.copy(alloc)?;
+    let config = config.copy(alloc)?;
+    let mut history = Vec::new(alloc);
+    history.reserve(most_entries(&config.limits))?;
+    Ok((opening, history, Store::new(alloc, config, rows)?))
+}
+
+impl<K: Keeper + Drop> Machine<K> {
     /// A machine to which nothing has happened, under a copy of the configuration, from these rows, of which it keeps a
-    /// copy as well. All the memory that its history and its connections may come to need is taken here.
-    pub fn new(alloc: Global, config: &Config, rows: Rows) -> Result<Machine, NoMemory>
+    /// copy as well, over a keeper that holds their pairs, if it tells. All the memory that its history and its
+    /// connections may come to need is taken here.
+    pub fn new(
+        alloc: Global,
+        config: &Config,
+        rows: Rows,
+        keeper: K,
+    ) -> Result<Machine<K>, NoMachine<K>>
         requires right { IsRight config.now }
         requires sound { IsSoundRows rows.lists }
-        ensures { IfOk result (λ machine. machine ≡ record {
-          start = record { config = config.now; rows = rows.lists };
-          history = [];
+        requires stored { HoldsRows (K.held keeper) rows.lists }
+        ensures made { IfOk result (λ machine. machine ≡ record {
+          past = record {
+            start = record { config = config.now; rows = rows.lists; faults = K.faults keeper };
+            history = [];
+          };
+          keeper = record { held = K.held keeper; faults = K.faults keeper };
         }) }
+        ensures back { IfErr result (λ none. none.keeper ≡ keeper) }
     {
-        let opening = rows.copy(alloc)?;
-        let config = config.copy(alloc)?;
-        let mut history = Vec::new(alloc);
-        history.reserve(most_entries(&config.limits))?;
-        Ok(Machine {
-            alloc,
-            opening,
-            history,
-            store: Store::new(alloc, config, rows)?,
-            calls: 0,
-            bytes: 0,
-        })
+        match begun(alloc, config, rows) {
+            Ok((opening, history, store)) => {
+                let since = keeper.faults();
+                Ok(Machine {
+                    alloc,
+                    opening,
+                    history,
+                    store,
+                    calls: 0,
+                    bytes: 0,
+                    keeper,
+                    since,
+                })
+            }
+            Err(_) => Err(NoMachine { keeper }),
+        }
     }
 
     /// The configuration.
     pub fn config(&self) -> &Config
-        ensures all { result.now ≡ self.now.start.config }
+        ensures all { result.now ≡ self.now.past.start.config }
         ensures right { IsRight result.now }
     {
         self.store.config()
     }
 
-    /// The rows of the state after the history, which is sound.
+    /// The rows of the state after the history, which is sound. What the keeper holds, if it tells, are their pairs.
     pub fn rows(&self) -> &Rows
-        ensures all { result.now.lists ≡ (state_of self.now).rows }
-        ensures sound { IsSound self.now.start.config (state_of self.now) }
+        ensures all { result.now.lists ≡ (state_of self.now.past).rows }
+        ensures stored { Stored self.now }
+        ensures sound { IsSound self.now.past.start.config (state_of self.now.past) }
     {
         kept_states_are_sound();
         self.store.rows()
     }
 
-    /// What happened, in order.
+    /// What happened, in order. None of the counts at the commits that failed lies above the keeper's count.
     pub fn history(&self) -> &[Entry]
-        ensures all { result.now ≡ self.now.history }
-        ensures legal { Legal self.now.start result.now }
+        ensures all { result.now ≡ self.now.past.history }
+        ensures counts { AreUpTo self.now.keeper.faults self.now.past.start result.now }
+        ensures legal { Legal self.now.past.start result.now }
     {
         &self.history
     }
 
-    /// The rows where the history began, what happened in order, and the rows of the state after it, which is sound. It
-    /// takes no memory.
-    pub fn into_parts(self) -> (Rows, Vec<Entry>, Rows)
-        ensures opening { result.0.lists ≡ self.start.rows }
-        ensures history { result.1.items ≡ self.history }
-        ensures rows { result.2.lists ≡ (state_of self).rows }
-        ensures legal { Legal self.start result.1.items }
-        ensures sound { IsSound self.start.config (state_of self) }
+    /// The rows where the history began, what happened in order, the rows of the state after it, which is sound, and
+    /// the keeper, which holds their pairs, if it tells. It takes no memory.
+    pub fn into_parts(self) -> (Rows, Vec<Entry>, Rows, K)
+        ensures opening { result.0.lists ≡ self.past.start.rows }
+        ensures history { result.1.items ≡ self.past.history }
+        ensures rows { result.2.lists ≡ (state_of self.past).rows }
+        ensures held { K.held result.3 ≡ self.keeper.held }
+        ensures faults { K.faults result.3 ≡ self.keeper.faults }
+        ensures stored { HoldsRows (K.held result.3) result.2.lists }
+        ensures counts { AreUpTo (K.faults result.3) self.past.start result.1.items }
+        ensures legal { Legal self.past.start result.1.items }
+        ensures sound { IsSound self.past.start.config (state_of self.past) }
     {
         kept_states_are_sound();
-        (self.opening, self.history, self.store.into_rows())
+        (
+            self.opening,
+            self.history,
+            self.store.into_rows(),
+            self.keeper,
+        )
     }
 
     /// Opens a connection at a listener of the configuration, by its place there from 0. A full history is left as it
     /// was. It takes no memory.
     pub fn open_conn(&mut self, listener: u32) -> Opened
-        requires configured { listener < length self.old.start.config.listeners }
-        ensures opens { Opens self.old listener result self.new }
-        ensures fresh { OpensFresh self.old result }
-        ensures live { OpensLive self.old result self.new }
-        ensures calls { SameCalls self.old self.new }
-        ensures legal { Legal self.new.start self.new.history }
+        requires configured { listener < length self.old.past.start.config.listeners }
+        ensures keeper { self.new.keeper ≡ self.old.keeper }
+        ensures opens { Opens self.old.past listener result self.new.past }
+        ensures fresh { OpensFresh self.old.past result }
+        ensures live { OpensLive self.old.past result self.new.past }
+        ensures calls { SameCalls self.old.past self.new.past }
+        ensures legal { Legal self.new.past.start self.new.past.history }
+        ensures stored { Stored self.new }
     {
         connections_are_numbered();
         connections_are_opened_once();
@@ -152,16 +214,20 @@ impl Machine {
     }
 
     /// Makes a call of a live connection, whose stub had so many bytes. A full history is left as it was. A call that
-    /// is entered may be answered that memory wanted, where its operation may want it.
+    /// is entered may be answered that memory wanted, where its operation may want it. A change of rows is committed to
+    /// the keeper first; where that fails the call is answered STATUS_INTERNAL_DB_ERROR and changes nothing.
     pub fn act(&mut self, conn: u32, call: Call, bytes: u32) -> Acted
-        requires live { is_live conn (state_of self.old).conns ≡ true }
+        requires live { is_live conn (state_of self.old.past).conns ≡ true }
         requires spelled { IsCall call }
-        ensures acts { Acts self.old conn call bytes result self.new }
-        ensures live { SameLive (state_of self.old) (state_of self.new) }
-        ensures calls { ActsCalls self.old conn call bytes result self.new }
+        ensures keeper { Commits self.old conn call bytes result self.new }
+        ensures acts { Acts self.old.past conn call bytes result self.new.past }
+        ensures live { SameLive (state_of self.old.past) (state_of self.new.past) }
+        ensures calls { ActsCalls self.old.past conn call bytes result self.new.past }
         ensures shaped { Shaped call result }
-        ensures legal { Legal self.new.start self.new.history }
+        ensures legal { Legal self.new.past.start self.new.past.history }
+        ensures stored { Stored self.new }
     {
+        kept_states_are_sound();
         replies_are_shaped();
         limits_are_kept();
         self.store.rows().has_few_rows();
@@ -173,7 +239,7 @@ impl Machine {
         if sum > limits.max_bytes {
             return Acted::FullBytes(sum);
         }
-        let (verdict, reply) = self.store.run(self.alloc, conn, &call);
+        let (verdict, reply) = self.store.run(self.alloc, &mut self.keeper, conn, &call);
         let entry = Entry::Called {
             conn,
             call,
@@ -192,11 +258,13 @@ impl Machine {
 
     /// Ends a live connection, with its handles. It takes no memory.
     pub fn gone(&mut self, conn: u32)
-        requires { is_live conn (state_of self.old).conns ≡ true }
-        ensures ends { Ends self.old conn self.new }
-        ensures live { OneLessLive (state_of self.old) (state_of self.new) conn }
-        ensures calls { SameCalls self.old self.new }
-        ensures legal { Legal self.new.start self.new.history }
+        requires { is_live conn (state_of self.old.past).conns ≡ true }
+        ensures keeper { self.new.keeper ≡ self.old.keeper }
+        ensures ends { Ends self.old.past conn self.new.past }
+        ensures live { OneLessLive (state_of self.old.past) (state_of self.new.past) conn }
+        ensures calls { SameCalls self.old.past self.new.past }
+        ensures legal { Legal self.new.past.start self.new.past.history }
+        ensures stored { Stored self.new }
     {
         limits_are_kept();
         match self.history.push(Entry::Gone { conn }) {

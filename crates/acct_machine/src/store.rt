@@ -1,22 +1,30 @@
 // What the machine keeps. A contract sees it as the state.
-ghost use Rattle.std.specs.Prelude.{◌≡◌, ◌<◌, ◌≤◌, ◌-◌, ◌^◌, ◌+◌, length, nat_lt, true, IfOk, OnOk, OnErr};
+ghost use Rattle.std.specs.Prelude.{◌≡◌, ◌≢◌, ◌<◌, ◌≤◌, ◌-◌, ◌^◌, ◌+◌, length, [], nat_lt, true, IfOk, IfErr, OnOk, OnErr};
 ghost use Rattle.std.specs.Prelude.{if◌then◌else◌};
 ghost use Rattle.acct_config.specs.Right.{IsRight};
 ghost use Rattle.acct_calls.specs.declared.replies.Reply.TheVariants.{Done};
 ghost use Rattle.acct_rows.specs.Rows.{after};
+ghost use Rattle.acct_rows.specs.Sound.{IsSoundRows};
+ghost use Rattle.acct_keeper.specs.Causes.{KeepCause};
+ghost use Rattle.acct_keeper.specs.declared.keeper.KeepError.TheVariants as keeps;
+ghost use Rattle.acct_layouts.specs.CallShapes.{CanBeSpelled};
 ghost use Rattle.acct_rules.specs.declared.planned.Effect.TheVariants as effects;
 ghost use Rattle.acct_operations.specs.Table.{operation};
 ghost use Rattle.acct_layouts.specs.Table.{layout_of};
 ghost use Rattle.acct_layouts.specs.Refusals.{is_refusal};
 ghost use Rattle.acct_machine.specs.declared.entry.Entry.TheVariants.{Opened, Gone};
 ghost use Rattle.acct_machine.specs.declared.entry.Verdict.TheVariants as verdicts;
-ghost use Rattle.acct_machine.specs.State.{State, Start, first, find_conn, serial_of, last_serial, without_conn};
+ghost use Rattle.acct_machine.specs.State.{State, find_conn, serial_of, last_serial, without_conn};
 ghost use Rattle.acct_machine.specs.Opening.{grant_of, granted_to};
 ghost use Rattle.acct_machine.specs.Access.{held_by, object_of};
 ghost use Rattle.acct_machine.specs.Outcome.{refusal_outs, replied, filled_by, with_opened, left, changed, with_handle};
-ghost use Rattle.acct_machine.specs.Outcome.{next_handle, done_by, concluded_by, planned_of, with_plan};
+ghost use Rattle.acct_machine.specs.Outcome.{next_handle, done_by, concluded, concluded_by, outcome, planned_of};
+ghost use Rattle.acct_machine.specs.Outcome.{with_plan};
+ghost use Rattle.acct_machine.specs.Sound.{IsSound};
 ghost use Rattle.acct_machine.specs.Step.{acted, step, live_ended};
-ghost use Rattle.acct_machine.specs.Legal.{MayHave, Wants, WantsRoom};
+ghost use Rattle.acct_machine.specs.Storing.{HoldsRows, Counts};
+ghost use Rattle.acct_machine.specs.Legal.{HasPassed, MayHave};
+ghost use Rattle.acct_machine.specs.Wants.{has_change, MayMiss, Wants, WantsRoom};
 
 use crate::checks::{Access, access_with, object_of};
 use crate::lists::{
@@ -24,11 +32,17 @@ use crate::lists::{
     set_serial,
 };
 use crate::opening::granted;
+use crate::pairs::changes;
 use crate::{Call, Config, Conn, Handle, Held, NoMemory, Object, Outs, Reply, Rows, Verdict};
 use acct_codes::fault::{NCA_S_FAULT_CONTEXT_MISMATCH, NCA_S_OP_RNG_ERROR};
-use acct_codes::status::{STATUS_ACCESS_DENIED, STATUS_NO_MEMORY, STATUS_OBJECT_TYPE_MISMATCH};
+use acct_codes::status::{
+    STATUS_ACCESS_DENIED, STATUS_INTERNAL_DB_ERROR, STATUS_NO_MEMORY, STATUS_OBJECT_TYPE_MISMATCH,
+};
+use acct_keeper::{KeepError, Keeper};
 use acct_layouts::{is_refusal, layout_of, refused_outs};
-use acct_operations::{Work, decide, operations_are_right, profile_of, work_of};
+use acct_operations::{
+    Work, decide, operations_are_right, operations_keep_rows, profile_of, work_of,
+};
 use acct_rows::Plan;
 use acct_rules::{Effect, Opening, Planned, fill, needed_bits};
 use std::alloc::Global;
@@ -114,6 +128,42 @@ fn make_room(rows: &mut Rows, plan: &Plan) -> Result<(), NoMemory>
     rows.reserve(puts)
 }
 
+// Whether a plan puts or removes a row.
+fn has_change(plan: &Plan) -> bool
+    ensures { result ≡ has_change plan.now }
+{
+    plan.puts.as_slice().len() > 0 || plan.removes.as_slice().len() > 0
+}
+
+// Commits what a plan changes of the rows. Where it changes none nothing is committed, and where it has none no memory
+// is taken.
+fn commit<K: Keeper>(
+    alloc: Global,
+    keeper: &mut K,
+    rows: &Rows,
+    plan: &Plan,
+) -> Result<(), KeepError>
+    requires before { IsSoundRows rows.now.lists }
+    requires behind { IsSoundRows (after plan.now rows.now.lists) }
+    ensures ok { OnOk result (HoldsRows (K.held keeper.old) rows.now.lists
+        → HoldsRows (K.held keeper.new) (after plan.now rows.now.lists)) }
+    ensures err { OnErr result (K.held keeper.new ≡ K.held keeper.old) }
+    ensures cause { IfErr result (KeepCause (K.faults keeper.old) (K.faults keeper.new)) }
+    ensures differs { IfErr result (λ e. e ≡ keeps.Failed → after plan.now rows.now.lists ≢ rows.now.lists) }
+    ensures wants { OnErr result (has_change plan.now ≡ true) }
+    ensures later { K.faults keeper.old ≤ K.faults keeper.new }
+    ensures quiet { after plan.now rows.now.lists ≡ rows.now.lists → keeper.new ≡ keeper.old }
+{
+    if !has_change(plan) {
+        return Ok(());
+    }
+    let changes = changes(alloc, rows, plan)?;
+    if changes.is_empty() {
+        return Ok(());
+    }
+    keeper.commit(&changes)
+}
+
 fn drop_left(handles: &mut Vec<Held>, effect: Effect, conn: u32, number: u128)
     ensures { handles.new.items ≡ left effect conn number handles.old.items }
 {
@@ -130,7 +180,8 @@ impl Store {
     /// The state where a history begins, with room for all its connections.
     pub fn new(alloc: Global, config: Config, rows: Rows) -> Result<Self, NoMemory>
         requires { IsRight config }
-        ensures { IfOk result (λ store. store ≡ first (record { config = config; rows = rows.lists })) }
+        ensures { IfOk result (λ store. store
+            ≡ record { config = config; rows = rows.lists; conns = []; handles = [] }) }
     {
         let mut conns = Vec::new(alloc);
         conns.reserve(config.limits.max_conns as usize)?;
@@ -204,57 +255,83 @@ impl Store {
         granted(&self.config, found, opening.object, opening.desired)
     }
 
-    // A plan that opens: its change of rows, and one more handle, with the connection's next serial.
-    fn open(
+    // A plan that opens: its change of rows, and one more handle, with the connection's next serial. All memory is
+    // taken before the commit.
+    fn open<K: Keeper>(
         &mut self,
+        alloc: Global,
+        keeper: &mut K,
         conn: u32,
         serial: u64,
         object: Object,
         granted: u32,
         plan: Plan,
-    ) -> Result<(), NoMemory>
-        requires { serial ≡ last_serial conn self.old.conns + 1 }
+    ) -> Result<(), KeepError>
+        requires serial { serial ≡ last_serial conn self.old.conns + 1 }
+        requires before { IsSoundRows self.old.rows }
+        requires behind { IsSoundRows (after plan self.old.rows) }
         ensures ok { OnOk result (self.new ≡ with_handle (with_plan self.old plan) conn object granted) }
         ensures err { OnErr result (self.new ≡ self.old) }
+        ensures stored { HoldsRows (K.held keeper.old) self.old.rows → HoldsRows (K.held keeper.new) self.new.rows }
+        ensures cause { IfErr result (KeepCause (K.faults keeper.old) (K.faults keeper.new)) }
+        ensures differs { IfErr result (λ e. e ≡ keeps.Failed → after plan self.old.rows ≢ self.old.rows) }
+        ensures later { K.faults keeper.old ≤ K.faults keeper.new }
+        ensures quiet { after plan self.old.rows ≡ self.old.rows → keeper.new ≡ keeper.old }
     {
         make_room(&mut self.rows, &plan)?;
+        self.handles.reserve(1)?;
+        commit(alloc, keeper, &self.rows, &plan)?;
         let held = Held {
             conn,
             serial,
             object,
             granted,
         };
-        self.handles.push(held)?;
+        match self.handles.push(held) {
+            Ok(()) => {}
+            Err(_) => unreachable!(),
+        }
         self.rows.apply(plan);
         set_serial(&mut self.conns, conn, serial);
         Ok(())
     }
 
-    // A plan that opens nothing: its change of rows, and the handles that go.
-    fn change(
+    // A plan that opens nothing: its change of rows, and the handles that go. All memory is taken before the commit.
+    fn change<K: Keeper>(
         &mut self,
+        alloc: Global,
+        keeper: &mut K,
         conn: u32,
         number: u128,
         plan: Plan,
         effect: Effect,
-    ) -> Result<(), NoMemory>
+    ) -> Result<(), KeepError>
+        requires before { IsSoundRows self.old.rows }
+        requires behind { IsSoundRows (after plan self.old.rows) }
         ensures ok { OnOk result (self.new ≡ record self.old {
           rows = after plan self.old.rows;
           handles = left effect conn number self.old.handles;
         }) }
         ensures err { OnErr result (self.new ≡ self.old) }
-        ensures wants { OnErr result (nat_lt 0 (length plan.puts) ≡ true) }
+        ensures wants { OnErr result (has_change plan ≡ true) }
+        ensures stored { HoldsRows (K.held keeper.old) self.old.rows → HoldsRows (K.held keeper.new) self.new.rows }
+        ensures cause { IfErr result (KeepCause (K.faults keeper.old) (K.faults keeper.new)) }
+        ensures differs { IfErr result (λ e. e ≡ keeps.Failed → after plan self.old.rows ≢ self.old.rows) }
+        ensures later { K.faults keeper.old ≤ K.faults keeper.new }
+        ensures quiet { after plan self.old.rows ≡ self.old.rows → keeper.new ≡ keeper.old }
     {
         make_room(&mut self.rows, &plan)?;
+        commit(alloc, keeper, &self.rows, &plan)?;
         self.rows.apply(plan);
         drop_left(&mut self.handles, effect, conn, number);
         Ok(())
     }
 
     // What comes of an opening that was granted: the handle's number, and the change.
-    fn open_to(
+    fn open_to<K: Keeper>(
         &mut self,
         alloc: Global,
+        keeper: &mut K,
         conn: u32,
         call: &Call,
         planned: Planned,
@@ -262,9 +339,16 @@ impl Store {
     ) -> (Verdict, Reply)
         requires opens { planned.effect ≡ effects.Opens opening }
         requires fits { last_serial conn self.old.conns < 2 ^ 64 - 1 }
+        requires before { IsSoundRows self.old.rows }
+        requires behind { IsSoundRows (after planned.plan self.old.rows) }
         ensures state { self.new ≡ (concluded_by self.old conn call.now planned result.0).0 }
         ensures reply { result.1 ≡ (concluded_by self.old conn call.now planned result.0).1 }
         ensures wants { WantsRoom self.old conn planned result.0 }
+        ensures stored { HoldsRows (K.held keeper.old) self.old.rows → HoldsRows (K.held keeper.new) self.new.rows }
+        ensures counts { Counts (K.faults keeper.old) (K.faults keeper.new) result.0 }
+        ensures later { K.faults keeper.old ≤ K.faults keeper.new }
+        ensures quiet { (concluded self.old conn call.now planned).0.rows ≡ self.old.rows
+            → keeper.new ≡ keeper.old }
     {
         let found = find_conn(&self.conns, conn);
         let Some(granted) = self.granted(found, &opening) else {
@@ -278,7 +362,7 @@ impl Store {
         } = planned;
         let mut outs = outs;
         let serial = serial_of(found) + 1;
-        match self.open(conn, serial, opening.object, granted, plan) {
+        match self.open(alloc, keeper, conn, serial, opening.object, granted, plan) {
             Ok(()) => {
                 let handle = Handle {
                     number: number_of(conn, serial),
@@ -286,15 +370,35 @@ impl Store {
                 fill_outs(&mut outs, call, handle, granted);
                 (Verdict::Ran, replied(alloc, call, status, outs))
             }
-            Err(_) => (Verdict::NoMemory, refusal(alloc, call, STATUS_NO_MEMORY)),
+            Err(KeepError::Failed) => (
+                Verdict::StoreFault(keeper.faults()),
+                refusal(alloc, call, STATUS_INTERNAL_DB_ERROR),
+            ),
+            Err(KeepError::NoMemory) => {
+                (Verdict::NoMemory, refusal(alloc, call, STATUS_NO_MEMORY))
+            }
         }
     }
 
     // What comes of a plan without an opening, or behind it.
-    fn done(&mut self, alloc: Global, conn: u32, call: &Call, planned: Planned) -> (Verdict, Reply)
+    fn done<K: Keeper>(
+        &mut self,
+        alloc: Global,
+        keeper: &mut K,
+        conn: u32,
+        call: &Call,
+        planned: Planned,
+    ) -> (Verdict, Reply)
+        requires before { IsSoundRows self.old.rows }
+        requires behind { IsSoundRows (after planned.plan self.old.rows) }
         ensures state { self.new ≡ (done_by self.old conn call.now planned result.0).0 }
         ensures reply { result.1 ≡ (done_by self.old conn call.now planned result.0).1 }
-        ensures wants { result.0 ≡ verdicts.NoMemory → nat_lt 0 (length planned.plan.puts) ≡ true }
+        ensures wants { MayMiss self.old planned result.0 }
+        ensures stored { HoldsRows (K.held keeper.old) self.old.rows → HoldsRows (K.held keeper.new) self.new.rows }
+        ensures counts { Counts (K.faults keeper.old) (K.faults keeper.new) result.0 }
+        ensures later { K.faults keeper.old ≤ K.faults keeper.new }
+        ensures quiet { after planned.plan self.old.rows ≡ self.old.rows
+            → keeper.new ≡ keeper.old }
     {
         let Planned {
             status,
@@ -302,63 +406,86 @@ impl Store {
             plan,
             effect,
         } = planned;
-        match self.change(conn, call.handle.number, plan, effect) {
+        match self.change(alloc, keeper, conn, call.handle.number, plan, effect) {
             Ok(()) => (Verdict::Ran, replied(alloc, call, status, outs)),
-            Err(_) => (Verdict::NoMemory, refusal(alloc, call, STATUS_NO_MEMORY)),
+            Err(KeepError::Failed) => (
+                Verdict::StoreFault(keeper.faults()),
+                refusal(alloc, call, STATUS_INTERNAL_DB_ERROR),
+            ),
+            Err(KeepError::NoMemory) => {
+                (Verdict::NoMemory, refusal(alloc, call, STATUS_NO_MEMORY))
+            }
         }
     }
 
     // What comes of an opening that gives no handle.
-    fn check(
+    fn check<K: Keeper>(
         &mut self,
         alloc: Global,
+        keeper: &mut K,
         conn: u32,
         call: &Call,
         planned: Planned,
         opening: Opening,
     ) -> (Verdict, Reply)
-        requires { planned.effect ≡ effects.Checks opening }
+        requires checks { planned.effect ≡ effects.Checks opening }
+        requires before { IsSoundRows self.old.rows }
+        requires behind { IsSoundRows (after planned.plan self.old.rows) }
         ensures state { self.new ≡ (concluded_by self.old conn call.now planned result.0).0 }
         ensures reply { result.1 ≡ (concluded_by self.old conn call.now planned result.0).1 }
         ensures wants { WantsRoom self.old conn planned result.0 }
+        ensures stored { HoldsRows (K.held keeper.old) self.old.rows → HoldsRows (K.held keeper.new) self.new.rows }
+        ensures counts { Counts (K.faults keeper.old) (K.faults keeper.new) result.0 }
+        ensures later { K.faults keeper.old ≤ K.faults keeper.new }
+        ensures quiet { (concluded self.old conn call.now planned).0.rows ≡ self.old.rows
+            → keeper.new ≡ keeper.old }
     {
         let found = find_conn(&self.conns, conn);
         if self.granted(found, &opening).is_none() {
             return (Verdict::Ran, refusal(alloc, call, STATUS_ACCESS_DENIED));
         }
-        self.done(alloc, conn, call, planned)
+        self.done(alloc, keeper, conn, call, planned)
     }
 
     // What comes of a plan.
-    fn conclude(
+    fn conclude<K: Keeper>(
         &mut self,
         alloc: Global,
+        keeper: &mut K,
         conn: u32,
         call: &Call,
         planned: Planned,
     ) -> (Verdict, Reply)
-        requires { last_serial conn self.old.conns < 2 ^ 64 - 1 }
+        requires fits { last_serial conn self.old.conns < 2 ^ 64 - 1 }
+        requires before { IsSoundRows self.old.rows }
+        requires behind { IsSoundRows (after planned.plan self.old.rows) }
         ensures state { self.new ≡ (concluded_by self.old conn call.now planned result.0).0 }
         ensures reply { result.1 ≡ (concluded_by self.old conn call.now planned result.0).1 }
         ensures wants { WantsRoom self.old conn planned result.0 }
+        ensures stored { HoldsRows (K.held keeper.old) self.old.rows → HoldsRows (K.held keeper.new) self.new.rows }
+        ensures counts { Counts (K.faults keeper.old) (K.faults keeper.new) result.0 }
+        ensures later { K.faults keeper.old ≤ K.faults keeper.new }
+        ensures quiet { (concluded self.old conn call.now planned).0.rows ≡ self.old.rows
+            → keeper.new ≡ keeper.old }
     {
         match &planned.effect {
             Effect::Opens(opening) => {
                 let opening = *opening;
-                self.open_to(alloc, conn, call, planned, opening)
+                self.open_to(alloc, keeper, conn, call, planned, opening)
             }
             Effect::Checks(opening) => {
                 let opening = *opening;
-                self.check(alloc, conn, call, planned, opening)
+                self.check(alloc, keeper, conn, call, planned, opening)
             }
-            _ => self.done(alloc, conn, call, planned),
+            _ => self.done(alloc, keeper, conn, call, planned),
         }
     }
 
     // What comes behind the check of the handle.
-    fn pass(
+    fn pass<K: Keeper>(
         &mut self,
         alloc: Global,
+        keeper: &mut K,
         work: Work,
         conn: u32,
         call: &Call,
@@ -366,25 +493,47 @@ impl Store {
     ) -> (Verdict, Reply)
         requires fits { last_serial conn self.old.conns < 2 ^ 64 - 1 }
         requires object { object ≡ object_of (held_by self.old conn call.now) }
+        requires passed { HasPassed (operation work) self.old conn call.now }
+        requires spelled { CanBeSpelled call.now }
+        requires sound { IsSound self.old.config self.old }
         ensures state { let planned = planned_of (operation work) self.old conn call.now in
             self.new ≡ (concluded_by self.old conn call.now planned result.0).0 }
         ensures reply { let planned = planned_of (operation work) self.old conn call.now in
             result.1 ≡ (concluded_by self.old conn call.now planned result.0).1 }
         ensures wants { Wants (operation work) self.old conn call.now result.0 }
+        ensures stored { HoldsRows (K.held keeper.old) self.old.rows → HoldsRows (K.held keeper.new) self.new.rows }
+        ensures counts { Counts (K.faults keeper.old) (K.faults keeper.new) result.0 }
+        ensures later { K.faults keeper.old ≤ K.faults keeper.new }
+        ensures quiet { (outcome (operation work) self.old conn call.now).0.rows ≡ self.old.rows
+            → keeper.new ≡ keeper.old }
     {
         operations_are_right();
+        operations_keep_rows();
         match decide(alloc, work, &self.rows, object, &call.args) {
-            Ok(planned) => self.conclude(alloc, conn, call, planned),
+            Ok(planned) => self.conclude(alloc, keeper, conn, call, planned),
             Err(_) => (Verdict::NoMemory, refusal(alloc, call, STATUS_NO_MEMORY)),
         }
     }
 
-    /// Makes a call: its verdict and its reply.
-    pub fn run(&mut self, alloc: Global, conn: u32, call: &Call) -> (Verdict, Reply)
-        requires { last_serial conn self.old.conns < 2 ^ 64 - 1 }
+    /// Makes a call: its verdict and its reply. A change of rows is committed to the keeper.
+    pub fn run<K: Keeper>(
+        &mut self,
+        alloc: Global,
+        keeper: &mut K,
+        conn: u32,
+        call: &Call,
+    ) -> (Verdict, Reply)
+        requires fits { last_serial conn self.old.conns < 2 ^ 64 - 1 }
+        requires spelled { CanBeSpelled call.now }
+        requires sound { IsSound self.old.config self.old }
         ensures state { self.new ≡ (acted self.old conn call.now result.0).0 }
         ensures reply { result.1 ≡ (acted self.old conn call.now result.0).1 }
         ensures verdict { MayHave self.old conn call.now result.0 }
+        ensures stored { HoldsRows (K.held keeper.old) self.old.rows → HoldsRows (K.held keeper.new) self.new.rows }
+        ensures counts { Counts (K.faults keeper.old) (K.faults keeper.new) result.0 }
+        ensures later { K.faults keeper.old ≤ K.faults keeper.new }
+        ensures quiet { (acted self.old conn call.now verdicts.Ran).0.rows ≡ self.old.rows
+            → keeper.new ≡ keeper.old }
     {
         let Some(work) = work_of(call.face, call.opnum) else {
             return (Verdict::Ran, Reply::Fault(NCA_S_OP_RNG_ERROR));
@@ -400,7 +549,7 @@ impl Store {
                 refusal(alloc, call, STATUS_OBJECT_TYPE_MISMATCH),
             ),
             Access::Denied => (Verdict::Ran, refusal(alloc, call, STATUS_ACCESS_DENIED)),
-            Access::Passed => self.pass(alloc, work, conn, call, object),
+            Access::Passed => self.pass(alloc, keeper, work, conn, call, object),
         }
     }
 }

@@ -94,8 +94,8 @@ keeps-earlier old mid new (Some period) ended status same telling (inl is) =
     inl (is.0, λ tells. is.1 (telling ∙ tells) ∙ ap (λ (ps : List Period). ps ++ period ∷ []) same)
 keeps-earlier old mid new (Some period) ended status same telling (inr is) = inr (is.0, is.1 ∙ same)
 
-pub returned : {S T : Type 0} (told : Telling S T) (name : List ℕ) (before after : Parts S T)
-    (w3 w4 w5 w6 w7 : Seen S T) (left : Replayed) (status : Status) → name ≢ standard_input
+pub returned : {S T K : Type 0} (told : Telling S T K) (name : List ℕ) (before after : Parts S T K)
+    (w3 w4 w5 w6 w7 : Seen S T) (left : Replayed K) (status : Status) → name ≢ standard_input
     → IsReplay told before after left → KeepsAny w3 w4 (period_of left) left.status status
     → GivesSink w4 w5 after.out → GivesSource w5 w6 standard_input after.events → GivesSource w6 w7 name after.config
     → Returned told name before w3 w7 status
@@ -131,7 +131,7 @@ write_cause old mid new take.NoMemory rose = tt
 rose_within : (a b c d : ℕ) → a ≤ b → Rose b c → c ≡ d → Rose a d
 rose_within a b c d le rose same = omega (arith, le, rose, same)
 
-pub config-not-handed-out : {S T : Type 0} (told : Telling S T) (name : List ℕ) (w0 w1 : Seen S T) (e : TakeError)
+pub config-not-handed-out : {S T K : Type 0} (told : Telling S T K) (name : List ℕ) (w0 w1 : Seen S T) (e : TakeError)
     (status : Status) → TakesSource w0 w1 name (Err e) → status ≡ read_status e → Commanded told name w0 w1 status
 config-not-handed-out told name w0 w1 e status fails is = inl (record {
   cause = subst (λ (s : Status). TakeCause w0 w1 s) (sym is)
@@ -143,7 +143,7 @@ config-not-handed-out told name w0 w1 e status fails is = inl (record {
       w1.asked (Err e) (sym (append-nil w0.asked)) (fails.asked tells);
 })
 
-pub events-not-handed-out : {S T : Type 0} (told : Telling S T) (name : List ℕ) (w0 w1 w2 w3 : Seen S T) (config : S)
+pub events-not-handed-out : {S T K : Type 0} (told : Telling S T K) (name : List ℕ) (w0 w1 w2 w3 : Seen S T) (config : S)
     (e : TakeError) (status : Status) → name ≢ standard_input → TakesSource w0 w1 name (Ok config)
     → TakesSource w1 w2 standard_input (Err e) → GivesSource w2 w3 name config → status ≡ read_status e
     → Commanded told name w0 w3 status
@@ -169,7 +169,7 @@ events-not-handed-out told name w0 w1 w2 w3 config e status differs takes fails 
           (Err e) first (fails.asked (takes.tells ∙ tells)));
     })
 
-pub sink-not-handed-out : {S T : Type 0} (told : Telling S T) (name : List ℕ) (w0 w1 w2 w3 w4 w5 : Seen S T)
+pub sink-not-handed-out : {S T K : Type 0} (told : Telling S T K) (name : List ℕ) (w0 w1 w2 w3 w4 w5 : Seen S T)
     (config events : S) (e : TakeError) (status : Status) → name ≢ standard_input → TakesSource w0 w1 name (Ok config)
     → TakesSource w1 w2 standard_input (Ok events) → TakesSink w2 w3 (Err e) → GivesSource w3 w4 standard_input events
     → GivesSource w4 w5 name config → status ≡ write_status e → Commanded told name w0 w5 status
@@ -208,19 +208,20 @@ sink-not-handed-out told name w0 w1 w2 w3 w4 w5 config events e status differs t
           (fails.asked (taken.tells ∙ takes.tells ∙ tells)));
     })
 
-pub has-run : {S T : Type 0} (told : Telling S T) (name : List ℕ) (w0 w1 w2 w3 w7 : Seen S T) (config events : S)
-    (out : T) (status : Status) → name ≢ standard_input → TakesSource w0 w1 name (Ok config)
+pub has-run : {S T K : Type 0} (told : Telling S T K) (name : List ℕ) (w0 w1 w2 w3 w7 : Seen S T) (config events : S)
+    (out : T) (keeper : K) (status : Status) → name ≢ standard_input → told.pairs keeper ≡ Some []
+    → TakesSource w0 w1 name (Ok config)
     → TakesSource w1 w2 standard_input (Ok events) → TakesSink w2 w3 (Ok out)
-    → Returned told name (record { config = config; events = events; out = out }) w3 w7 status
+    → Returned told name (record { config = config; events = events; out = out; keeper = keeper }) w3 w7 status
     → Commanded told name w0 w7 status
-has-run told name w0 w1 w2 w3 w7 config events out status differs takes taken sink back =
+has-run told name w0 w1 w2 w3 w7 config events out keeper status differs empty takes taken sink back =
     let tells3 : w3.tells ≡ w0.tells = sink.tells ∙ taken.tells ∙ takes.tells in
     let knows1 : (n : List ℕ) → w1.knows n ≡ w0.knows n = λ n. ap (λ (f : List ℕ → Bool). f n) takes.knows in
     let knows3 : (n : List ℕ) → w3.knows n ≡ w1.knows n =
     λ n. ap (λ (f : List ℕ → Bool). f n) (sink.knows ∙ taken.knows) in
     let periods3 : w3.periods ≡ w0.periods = sink.periods ∙ taken.periods ∙ takes.periods in
     inr (record {
-      before = record { config = config; events = events; out = out };
+      before = record { config = config; events = events; out = out; keeper = keeper };
       after = back.after;
       left = back.left;
       replayed = back.replayed;
@@ -228,6 +229,7 @@ has-run told name w0 w1 w2 w3 w7 config events out status differs takes taken si
       took_events = λ tells. sym (takes.others standard_input (λ same. differs (sym same)))
           ∙ (taken.part (takes.tells ∙ tells)).0;
       took_sink = λ tells. sym (taken.sink ∙ takes.sink) ∙ sink.part (taken.tells ∙ takes.tells ∙ tells);
+      keeper = empty;
       gave_config = λ tells. back.gave_config (tells3 ∙ tells) (knows3 name ∙ knows1 name ∙ (takes.part tells).1);
       gave_events = λ tells. back.gave_events (tells3 ∙ tells)
           (knows3 standard_input ∙ (taken.part (takes.tells ∙ tells)).1);

@@ -51,7 +51,7 @@ period_between (Some opening) history (Some rows) =
 period_between _ history _ = None
 
 -- the period that a replay leaves, if its machine was made
-abbrev pub period_of : Replayed → Option Period
+abbrev pub period_of : {K : Type 0} → Replayed K → Option Period
 period_of left = period_between left.opening left.history left.rows
 
 -- The world keeps the period, and what is answered is how it ended; or it found no memory to keep it. Where there is no
@@ -72,15 +72,17 @@ pub record KeepsAny {S T : Type 0} (old new : Seen S T) (period : Option Period)
   pub asked : new.asked ≡ old.asked
 
 -- All parts were handed out: a replay ran over them, the world keeps the period that it left, and has the parts again.
-pub record HasRun {S T : Type 0} (told : Telling S T) (name : List ℕ) (old new : Seen S T) (status : Status) : Type 0
+pub record HasRun {S T K : Type 0} (told : Telling S T K) (name : List ℕ) (old new : Seen S T) (status : Status) : Type 0
   where
-    pub before : Parts S T
-    pub after : Parts S T
-    pub left : Replayed
+    pub before : Parts S T K
+    pub after : Parts S T K
+    pub left : Replayed K
     pub replayed : IsReplay told before after left
     pub took_config : old.tells ≡ true → old.source name ≡ Some before.config
     pub took_events : old.tells ≡ true → old.source standard_input ≡ Some before.events
     pub took_sink : old.tells ≡ true → old.sink ≡ Some before.out
+    -- the keeper is one in memory that holds no pair
+    pub keeper : told.pairs before.keeper ≡ Some []
     pub gave_config : old.tells ≡ true → new.source name ≡ Some after.config
     pub gave_events : old.tells ≡ true → new.source standard_input ≡ Some after.events
     pub gave_sink : old.tells ≡ true → new.sink ≡ Some after.out
@@ -88,10 +90,10 @@ pub record HasRun {S T : Type 0} (told : Telling S T) (name : List ℕ) (old new
     pub keeps : Keeps old new (period_of left) left.status status
 
 -- A replay ran over parts that were out: the world keeps the period that it left, and has the parts again.
-pub record Returned {S T : Type 0} (told : Telling S T) (name : List ℕ) (before : Parts S T) (old new : Seen S T)
-    (status : Status) : Type 0 where
-  pub after : Parts S T
-  pub left : Replayed
+pub record Returned {S T K : Type 0} (told : Telling S T K) (name : List ℕ) (before : Parts S T K)
+    (old new : Seen S T) (status : Status) : Type 0 where
+  pub after : Parts S T K
+  pub left : Replayed K
   pub replayed : IsReplay told before after left
   pub gave_config : old.tells ≡ true → old.knows name ≡ true → new.source name ≡ Some after.config
   pub gave_events : old.tells ≡ true → old.knows standard_input ≡ true → new.source standard_input ≡ Some after.events
@@ -99,7 +101,7 @@ pub record Returned {S T : Type 0} (told : Telling S T) (name : List ℕ) (befor
   pub asked : new.asked ≡ old.asked
   pub keeps : Keeps old new (period_of left) left.status status
 
-abbrev pub Commanded : {S T : Type 0} → Telling S T → List ℕ → Seen S T → Seen S T → Status → Type 0
+abbrev pub Commanded : {S T K : Type 0} → Telling S T K → List ℕ → Seen S T → Seen S T → Status → Type 0
 Commanded told name old new status = NotHandedOut name old new status ⊎ HasRun told name old new status
 
 abbrev pub read_status : TakeError → Status

@@ -2,7 +2,7 @@
 use Rattle.std.specs.Prelude.{ℕ, List, codes}
 use Rattle.acct_server.specs.declared.status.Status.{Status}
 use Rattle.acct_server.specs.declared.status.Status.TheVariants.{Done, NoMemory, Usage, Config, ReadFault, WriteFault}
-use Rattle.acct_server.specs.declared.status.Status.TheVariants.{EventLine, HistoryFull}
+use Rattle.acct_server.specs.declared.status.Status.TheVariants.{StoreFault, StoredPair, EventLine, HistoryFull}
 use Rattle.acct_server.specs.declared.status.Status.TheVariants.{InputTooLong}
 
 abbrev pub code_of : Status → ℕ
@@ -12,6 +12,8 @@ code_of Usage = 2
 code_of (Config rule) = 3
 code_of ReadFault = 4
 code_of WriteFault = 5
+code_of StoreFault = 6
+code_of (StoredPair key) = 7
 code_of (EventLine line) = 8
 code_of (HistoryFull count) = 10
 code_of InputTooLong = 13
@@ -23,6 +25,8 @@ word_of Usage = codes "usage"
 word_of (Config rule) = codes "config"
 word_of ReadFault = codes "read"
 word_of WriteFault = codes "write"
+word_of StoreFault = codes "store"
+word_of (StoredPair key) = codes "pair"
 word_of (EventLine line) = codes "event"
 word_of (HistoryFull count) = codes "full"
 word_of InputTooLong = codes "long"

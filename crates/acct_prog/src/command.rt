@@ -1,13 +1,14 @@
 // The program's commands, over a world.
-ghost use Rattle.std.specs.Prelude.{◌≡◌, ◌≢◌, ◌↔◌, ℕ, List, Some, None, map, MatchOption, MatchResult};
+ghost use Rattle.std.specs.Prelude.{◌≡◌, ◌≢◌, ◌↔◌, ℕ, List, [], Some, None, map, MatchOption, MatchResult};
 ghost use Rattle.std.specs.String.{string_bytes};
 ghost use Rattle.acct_server.specs.declared.status.Status.TheVariants.{Usage, NoMemory};
 ghost use Rattle.acct_prog.specs.Words.{form_of};
 ghost use Rattle.acct_prog.specs.Commanded.{Commanded, Returned, KeepsAny, standard_input, read_status, write_status};
 
-use crate::period::{Period, period_of};
+use crate::period::{Period, parted};
 use crate::take::TakeError;
 use crate::world::World;
+use acct_keeper::SteadyKeeper;
 use acct_server::{Status, replay};
 use std::alloc::{AllocError, Global};
 
@@ -78,14 +79,15 @@ fn run_parts<W: World>(
       left = W.S.left;
       read_faults = W.S.faults;
       held = W.T.held;
-      write_faults =
-          W.T.faults;
-    }) name.now (record { config = config; events = events; out = out }) (W.seen world.old)
+      write_faults = W.T.faults;
+      pairs = λ pairs. Some pairs;
+      store_faults = λ _. 0;
+    }) name.now (record { config = config; events = events; out = out; keeper = [] }) (W.seen world.old)
         (W.seen world.new) result }
 {
-    let replayed = replay(alloc, &mut config, &mut events, &mut out);
-    let ended = replayed.status;
-    let status = keep(world, period_of(replayed), ended);
+    let keeper = SteadyKeeper::new(alloc);
+    let (ended, period) = parted(replay(alloc, &mut config, &mut events, &mut out, keeper));
+    let status = keep(world, period, ended);
     world.give_sink(out);
     world.give_source("-", events);
     world.give_source(name, config);
@@ -99,8 +101,9 @@ fn run_replay<W: World>(alloc: Global, name: &str, world: &mut W) -> Status
       left = W.S.left;
       read_faults = W.S.faults;
       held = W.T.held;
-      write_faults =
-          W.T.faults;
+      write_faults = W.T.faults;
+      pairs = λ pairs. Some pairs;
+      store_faults = λ _. 0;
     }) name.now (W.seen world.old) (W.seen world.new) result }
 {
     let config = match world.take_source(name) {
@@ -130,8 +133,14 @@ pub fn account<W: World>(alloc: Global, words: &Vec<String>, world: &mut W) -> S
     ensures usage { result ≡ Usage ↔ form_of (map string_bytes words.now.items) ≡ None }
     ensures untouched { result ≡ Usage → world.new ≡ world.old }
     ensures commanded { (name : List ℕ) → form_of (map string_bytes words.now.items) ≡ Some name →
-        Commanded (record { left = W.S.left; read_faults = W.S.faults; held = W.T.held; write_faults = W.T.faults })
-        name (W.seen world.old) (W.seen world.new) result }
+        Commanded (record {
+          left = W.S.left;
+          read_faults = W.S.faults;
+          held = W.T.held;
+          write_faults = W.T.faults;
+          pairs = λ pairs. Some pairs;
+          store_faults = λ _. 0;
+        }) name (W.seen world.old) (W.seen world.new) result }
 {
     match replay_name(words) {
         Some(name) => run_replay(alloc, name, world),

@@ -30,8 +30,8 @@ use words::words;
 pub use world::World;
 
 /// The exit code of a status.
-fn code_of(status: Status) -> u8
-    ensures { result ≡ code_of status }
+fn code_of(status: &Status) -> u8
+    ensures { result ≡ code_of status.now }
 {
     match status {
         Status::Done => 0,
@@ -40,6 +40,8 @@ fn code_of(status: Status) -> u8
         Status::Config(_) => 3,
         Status::ReadFault => 4,
         Status::WriteFault => 5,
+        Status::StoreFault => 6,
+        Status::StoredPair(_) => 7,
         Status::EventLine(_) => 8,
         Status::HistoryFull(_) => 10,
         Status::InputTooLong => 13,
@@ -47,8 +49,8 @@ fn code_of(status: Status) -> u8
 }
 
 /// Its word.
-fn word_of(status: Status) -> &'static str
-    ensures { result.now ≡ word_of status }
+fn word_of(status: &Status) -> &'static str
+    ensures { result.now ≡ word_of status.now }
 {
     match status {
         Status::Done => "done",
@@ -57,6 +59,8 @@ fn word_of(status: Status) -> &'static str
         Status::Config(_) => "config",
         Status::ReadFault => "read",
         Status::WriteFault => "write",
+        Status::StoreFault => "store",
+        Status::StoredPair(_) => "pair",
         Status::EventLine(_) => "event",
         Status::HistoryFull(_) => "full",
         Status::InputTooLong => "long",
@@ -74,9 +78,9 @@ fn run(rt: &HostRuntime) -> Status {
 /// It only prints and exits: where the line can't be printed, the code says it alone.
 fn main(rt: HostRuntime) -> ExitCode {
     let status = run(&rt);
-    let code = code_of(status);
+    let code = code_of(&status);
     if code != 0 {
-        let _ = eprintln!(rt; "account: {code} {}", word_of(status));
+        let _ = eprintln!(rt; "account: {code} {}", word_of(&status));
     }
     ExitCode::from(code)
 }

@@ -1,10 +1,10 @@
 // What a run leaves to the world.
 ghost use Rattle.std.specs.Prelude.{◌≡◌};
-ghost use Rattle.acct_prog.specs.Commanded.{period_of};
+ghost use Rattle.acct_prog.specs.Commanded.{period_between, period_of};
 
 use acct_base::Seq;
 use acct_machine::{Entry, Rows};
-use acct_server::Replayed;
+use acct_server::{Replayed, Status};
 
 /// A period: the rows from which its history began, the history, and the rows after it.
 #[derive(Drop)]
@@ -14,13 +14,31 @@ pub struct Period {
     pub rows: Rows,
 }
 
-/// The period that a replay leaves, if its machine was made.
-pub fn period_of(left: Replayed) -> Option<Period>
-    ensures { result ≡ period_of left }
+fn period_between(
+    opening: Option<Rows>,
+    history: Seq<Entry>,
+    rows: Option<Rows>,
+) -> Option<Period>
+    ensures { result ≡ period_between opening history rows }
 {
     Some(Period {
-        opening: left.opening?,
-        history: left.history,
-        rows: left.rows?,
+        opening: opening?,
+        history,
+        rows: rows?,
     })
+}
+
+/// How a replay ended, and the period that it leaves, if its machine was made.
+pub fn parted<K: Drop>(left: Replayed<K>) -> (Status, Option<Period>)
+    ensures status { result.0 ≡ left.status }
+    ensures period { result.1 ≡ period_of left }
+{
+    let Replayed {
+        status,
+        opening,
+        history,
+        rows,
+        keeper: _,
+    } = left;
+    (status, period_between(opening, history, rows))
 }

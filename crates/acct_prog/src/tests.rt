@@ -378,7 +378,8 @@ fn a_period_has_the_rows_before_and_after(rt: HostRuntime) -> Result<(), Fail> {
     let words = words_of(alloc, "replay first.toml")?;
     let events = lines_of(alloc, "OPEN BIND CONNECT")?;
     let mut world = world_of(alloc, config_of(alloc, "")?, events, making_of(""))?;
-    assert_eq!(rt; account(alloc, &words, &mut world), Status::Done);
+    let status = account(alloc, &words, &mut world);
+    assert!(rt; matches!(status, Status::Done));
     assert_eq!(rt; world.periods().len(), 1);
     let seeded = "0: 500 501 512 513 514;1: 544 545 546;";
     for period in world.periods() {
@@ -408,11 +409,11 @@ fn lines_end_in_both_ways(rt: HostRuntime) -> Result<(), Fail> {
     let bind = line_of("BIND");
     let events = format!(in alloc; "# a comment\r\n\r\nopen 1 a\r\n\n{bind}\nend 1")?;
     let (status, text) = run(alloc, events.as_str())?;
-    assert_eq!(rt; status, Status::Done);
+    assert!(rt; matches!(status, Status::Done));
     assert_eq!(rt; text.as_str(), lines_of(alloc, "ACK GONE")?.as_str());
     // A carriage return before the end of the input belongs to the line.
     let (status, _) = run(alloc, "open 1 a\r")?;
-    assert_eq!(rt; status, Status::EventLine(1));
+    assert!(rt; matches!(status, Status::EventLine(1)));
     Ok(())
 }
 
@@ -439,7 +440,7 @@ fn a_stream_cut_anywhere(rt: HostRuntime) -> Result<(), Fail> {
             .unwrap_or(("", ""));
         let events = format!(in alloc; "open 1 a\ndata 1 {front}\ndata 1 {back}\nend 1\n")?;
         let (status, text) = run(alloc, events.as_str())?;
-        assert_eq!(rt; status, Status::Done);
+        assert!(rt; matches!(status, Status::Done));
         assert_eq!(rt; text.as_str(), wanted.as_str(), "cut at {place}");
     }
     Ok(())
@@ -455,7 +456,7 @@ fn a_stream_byte_by_byte(rt: HostRuntime) -> Result<(), Fail> {
         events.push_str(format!(in alloc; "data 1 {byte}\n")?.as_str())?;
     }
     let (status, text) = run(alloc, events.as_str())?;
-    assert_eq!(rt; status, Status::Done);
+    assert!(rt; matches!(status, Status::Done));
     let wanted = lines_of(alloc, "ACK CONNECTED CLOSED GONE")?;
     assert_eq!(rt; text.as_str(), wanted.as_str());
     Ok(())
@@ -470,10 +471,10 @@ fn a_source_above_the_limit_is_too_long(rt: HostRuntime) -> Result<(), Fail> {
     }
     assert_eq!(rt; text.len(), 67108864);
     let (status, _) = run(alloc, text.as_str())?;
-    assert_eq!(rt; status, Status::Done);
+    assert!(rt; matches!(status, Status::Done));
     text.push('#')?;
     let (status, _) = run(alloc, text.as_str())?;
-    assert_eq!(rt; status, Status::InputTooLong);
+    assert!(rt; matches!(status, Status::InputTooLong));
     Ok(())
 }
 
@@ -486,7 +487,7 @@ fn first_run_over_steady_parts(rt: HostRuntime) -> Result<(), Fail> {
     let events = SteadySource::new(lines_of(alloc, "OPEN BIND CONNECT CLOSE END")?.into_bytes());
     let mut world = MemoryWorld::new(alloc, name, config, events, SteadySink, Vec::new(alloc));
     let status = account(alloc, &words, &mut world);
-    assert_eq!(rt; status, Status::Done);
+    assert!(rt; matches!(status, Status::Done));
     assert_eq!(rt; world.periods().len(), 1);
     Ok(())
 }

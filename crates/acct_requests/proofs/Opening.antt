@@ -4,11 +4,11 @@ use Rattle.acct_machine.specs.declared.machine.Opened.{Opened}
 use Rattle.acct_machine.specs.declared.machine.Opened.TheVariants as opens
 use Rattle.acct_machine.specs.Machine.{OpensFresh, SameCalls}
 use Rattle.acct_machine.specs.Passing.{OthersChangeNothing}
-use Rattle.acct_machine.specs.Shown.{Shown}
+use Rattle.acct_machine.specs.Shown.{Past}
 use Rattle.acct_requests.specs.Turns.{HasNoCall, IfConn}
 
 -- a connection that no entry before is of has made no call
-pub silent-opened : OthersChangeNothing → (old new : Shown) (answer : Opened) → OpensFresh old answer
+pub silent-opened : OthersChangeNothing → (old new : Past) (answer : Opened) → OpensFresh old answer
     → SameCalls old new
     → IfConn answer (HasNoCall new.start new.history)
 silent-opened others old new (opens.Conn conn) fresh same =

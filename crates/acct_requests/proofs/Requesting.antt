@@ -7,7 +7,7 @@ use Rattle.acct_machine.specs.declared.entry.Entry.{Entry}
 use Rattle.acct_machine.specs.declared.machine.Acted.TheVariants as acts
 use Rattle.acct_machine.specs.Machine.{OneMoreCall}
 use Rattle.acct_machine.specs.Room.{calls_full, bytes_full, call_full, TakesCall}
-use Rattle.acct_machine.specs.Shown.{Shown}
+use Rattle.acct_machine.specs.Shown.{Past}
 use Rattle.acct_requests.specs.declared.requests.Asked.{Asked}
 use Rattle.acct_requests.specs.Transcript.{answer_bytes}
 use Rattle.acct_requests.specs.Turns.{shown, Turn, MachineActs}
@@ -27,7 +27,7 @@ call-entered start k finds left size call reply turn =
       finds_it = turn.finds_it;
       taken = taken start turn.found size enters.taken;
       verdict = enters.verdict;
-      entered = ap (λ (m : Shown). m.history) enters.entered;
+      entered = ap (λ (m : Past). m.history) enters.entered;
       live = turn.does_it.live;
       more = subst (λ (r : Reply). OneMoreCall (shown start turn.found) (shown start left) k call size r) enters.reply
           turn.does_it.calls;
@@ -55,7 +55,7 @@ full-bytes : (start : Start) (history : List Entry) (size sum : ℕ) → calls_f
 full-bytes start history size sum few is = rw (few, is) refl
 
 same-history : (start : Start) (left found : List Entry) → shown start left ≡ shown start found → found ≡ left
-same-history start left found is = sym (ap (λ (m : Shown). m.history) is)
+same-history start left found is = sym (ap (λ (m : Past). m.history) is)
 
 pub calls-found : (start : Start) (k : ℕ) (finds : List Entry → Type 0) (left : List Entry) (size : ℕ) (call : Call)
     (count : ℕ)

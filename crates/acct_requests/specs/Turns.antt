@@ -7,12 +7,12 @@ use Rattle.acct_machine.specs.declared.machine.Opened.{Opened}
 use Rattle.acct_machine.specs.declared.machine.Opened.TheVariants as opens
 use Rattle.acct_machine.specs.State.{Start}
 use Rattle.acct_machine.specs.Step.{state_at}
-use Rattle.acct_machine.specs.Shown.{Shown}
+use Rattle.acct_machine.specs.Shown.{Past}
 use Rattle.acct_machine.specs.Legal.{Legal, calls_of, replies}
 use Rattle.acct_machine.specs.Machine.{Opens, OpensFresh, OpensLive, Acts, ActsCalls, SameLive, SameCalls, Ends}
 use Rattle.acct_machine.specs.Machine.{OneLessLive}
 
-abbrev pub shown : Start → List Entry → Shown
+abbrev pub shown : Start → List Entry → Past
 shown start history = record { start = start; history = history }
 
 -- what is known of a history is a front of it

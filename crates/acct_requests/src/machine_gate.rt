@@ -2,20 +2,20 @@
 ghost use Rattle.std.specs.Prelude.{◌≡◌, true};
 
 use crate::gate::Gate;
-use acct_machine::{Acted, Call, Machine, Opened, others_change_nothing};
+use acct_machine::{Acted, Call, Keeper, Machine, Opened, others_change_nothing};
 
-impl Gate for Machine {
+impl<K: Keeper + Drop> Gate for Machine<K> {
     ghost use Rattle.acct_machine.specs.State.{is_live};
     ghost use Rattle.acct_machine.specs.Machine.{state_of};
     ghost use Rattle.acct_requests.specs.Turning.{fronts-same, passes-same};
 
-    ghost start = { λ m. m.start };
+    ghost start = { λ m. m.past.start };
 
-    ghost known = { λ m. m.history };
+    ghost known = { λ m. m.past.history };
 
-    ghost finds = { λ m found. found ≡ m.history };
+    ghost finds = { λ m found. found ≡ m.past.history };
 
-    ghost serves = { λ m k. is_live k (state_of m).conns ≡ true };
+    ghost serves = { λ m k. is_live k (state_of m.past).conns ≡ true };
 
     ghost moves = { λ m k n. Unit {0} };
 
@@ -36,9 +36,9 @@ impl Gate for Machine {
         self.gone(conn)
     }
 
-    ghost fronts = { λ g found same. fronts-same g.history found same };
+    ghost fronts = { λ g found same. fronts-same g.past.history found same };
 
-    ghost passes = { λ g k found serves same. passes-same g.start k g.history found same };
+    ghost passes = { λ g k found serves same. passes-same g.past.start k g.past.history found same };
 
     ghost stays = { λ g k. tt };
 

@@ -13,17 +13,23 @@ use Rattle.acct_base.specs.Words.{is_within}
 use Rattle.acct_machine.specs.declared.entry.Entry.{Entry}
 use Rattle.acct_server.specs.declared.status.Status.{Status}
 use Rattle.acct_server.specs.declared.status.Status.TheVariants.{Done, NoMemory, Usage, Config as ConfigBroken}
-use Rattle.acct_server.specs.declared.status.Status.TheVariants.{ReadFault, WriteFault, EventLine, HistoryFull}
-use Rattle.acct_server.specs.declared.status.Status.TheVariants.{InputTooLong}
+use Rattle.acct_server.specs.declared.status.Status.TheVariants.{ReadFault, WriteFault, StoreFault, StoredPair}
+use Rattle.acct_server.specs.declared.status.Status.TheVariants.{EventLine, HistoryFull, InputTooLong}
 use Rattle.acct_streams.specs.declared.whole.WholeError.{WholeError}
 use Rattle.acct_streams.specs.declared.whole.WholeError.TheVariants.{Fault, TooLong, Memory}
 use Rattle.acct_streams.specs.Causes.{Rose, NotRisen}
 use Rattle.acct_streams.specs.Whole.{most_bytes, WholeCause, IsWhole}
-use Rattle.acct_server.specs.Begun.{begun}
-use Rattle.acct_server.specs.Configured.{BreaksNone, IsConfigured, refused_status}
+use Rattle.acct_keeper.specs.declared.pairs.Pair.{Pair}
+use Rattle.acct_machine.specs.declared.opened.OpenError.{OpenError}
+use Rattle.acct_machine.specs.declared.opened.OpenError.TheVariants as unopened
+use Rattle.acct_machine.specs.Opened.{OpensRows, OpenCause}
+use Rattle.acct_machine.specs.State.{Start}
+use Rattle.acct_machine.specs.Storing.{AreUpTo}
+use Rattle.acct_server.specs.Begun.{IsBegun}
+use Rattle.acct_server.specs.Configured.{BreaksNone, IsConfigured, refused_status, spelled}
 use Rattle.acct_server.specs.Leaves.{IsRunThrough, IsOfRun, ConfigCause, EventsCause, unread_status, unless_broken}
-use Rattle.acct_server.specs.Leaves.{asked_status, IsAsked}
-use Rattle.acct_server.specs.Replaying.{Telling, Parts, RunsLines, HasRunLines, IsReplay}
+use Rattle.acct_server.specs.Leaves.{StoreCause, asked_before, IsAsked, unopened_status}
+use Rattle.acct_server.specs.Replaying.{Telling, Parts, RunsLines, HasRunLines, StopsAtStore, AsksFor, IsReplay}
 use Rattle.acct_server.specs.Replayed.{replayed}
 use Rattle.acct_server.specs.declared.replays.Replayed.{Replayed}
 
@@ -44,36 +50,44 @@ not_long bytes short = grind (arith, nat_tests)
 long : (bytes : List ℕ) → most_bytes < length bytes → nat_lt most_bytes (length bytes) ≡ true
 long bytes more = grind (arith, nat_tests)
 
-asked-by : (l : Bool) (o : Option ℕ) (m : Bool) (status : Status) → l ≡ false → o ≡ None → m ≡ false
-    → cond l InputTooLong (unless_broken o (cond m InputTooLong status)) ≡ status
-asked-by l o m status short kept few = rw short (rw kept (rw few refl))
+none-by : (l : Bool) (o : Option ℕ) (m : Bool) → l ≡ false → o ≡ None → m ≡ false
+    → cond l (Some InputTooLong) (unless_broken o (cond m (Some InputTooLong) None)) ≡ None
+none-by l o m short kept few = rw short (rw kept (rw few refl))
 
-asked-through : (document bytes : List ℕ) (history : List Entry) (config : Config) (status : Status)
-    → length document ≤ most_bytes → IsSpelledBy document config → length bytes ≤ most_bytes
-    → status ≡ (replayed (begun config) bytes history).status → status ≡ asked_status document bytes history
-asked-through document bytes history config status short spells few ends =
-    ends
-    ∙ ap (λ (c : Config). (replayed (begun c) bytes history).status) spells.value
-    ∙ sym (asked-by (nat_lt most_bytes (length document)) (first_broken document) (nat_lt most_bytes (length bytes)) _
-    (not_long document short) spells.kept_all (not_long bytes few))
+asked-none : (document bytes : List ℕ) → length document ≤ most_bytes → first_broken document ≡ None
+    → length bytes ≤ most_bytes → asked_before document bytes ≡ None
+asked-none document bytes short kept few =
+    none-by (nat_lt most_bytes (length document)) (first_broken document) (nat_lt most_bytes (length bytes))
+    (not_long document short) kept (not_long bytes few)
 
-asked-run : (document bytes : List ℕ) (history : List Entry) (config : Config) (status : Status)
-    → length document ≤ most_bytes → IsSpelledBy document config → length bytes ≤ most_bytes
+begun-spelled : (document : List ℕ) (config : Config) (pairs : List Pair) (faults : ℕ) (start : Start)
+    → IsSpelledBy document config → IsBegun config (Some pairs) faults start
+    → IsBegun (spelled document) (Some pairs) 0 start
+begun-spelled document config pairs faults start spells begun = record {
+  config = begun.config ∙ spells.value;
+  rows = subst (λ (c : Config). OpensRows c pairs start.rows) spells.value begun.rows;
+  later = omega arith;
+}
+
+asked-run : (document bytes : List ℕ) (pairs : List Pair) (history : List Entry) (start : Start) (status : Status)
+    → asked_before document bytes ≡ None → IsBegun (spelled document) (Some pairs) 0 start
     → IsOfRun status → (status ≡ WriteFault → ⊥)
-    → (IsRunThrough status → status ≡ (replayed (begun config) bytes history).status)
-    → IsAsked document bytes history status
-asked-run document bytes history config Done short spells few of_run none through = inl
-    (asked-through document bytes history config Done short spells few (through tt))
-asked-run document bytes history config NoMemory short spells few of_run none through = inr refl
-asked-run document bytes history config Usage short spells few of_run none through = absurd of_run
-asked-run document bytes history config (ConfigBroken n) short spells few of_run none through = absurd of_run
-asked-run document bytes history config ReadFault short spells few of_run none through = absurd of_run
-asked-run document bytes history config WriteFault short spells few of_run none through = absurd (none refl)
-asked-run document bytes history config (EventLine n) short spells few of_run none through = inl
-    (asked-through document bytes history config (EventLine n) short spells few (through tt))
-asked-run document bytes history config (HistoryFull n) short spells few of_run none through = inl
-    (asked-through document bytes history config (HistoryFull n) short spells few (through tt))
-asked-run document bytes history config InputTooLong short spells few of_run none through = absurd of_run
+    → (IsRunThrough status → status ≡ (replayed start bytes history).status)
+    → IsAsked document bytes pairs history status
+asked-run document bytes pairs history start Done before begun of_run none through =
+    inr (inl (before, inr (record { start = start; begun = begun; is = through tt })))
+asked-run document bytes pairs history start NoMemory before begun of_run none through = inr (inr refl)
+asked-run document bytes pairs history start Usage before begun of_run none through = absurd of_run
+asked-run document bytes pairs history start (ConfigBroken n) before begun of_run none through = absurd of_run
+asked-run document bytes pairs history start ReadFault before begun of_run none through = absurd of_run
+asked-run document bytes pairs history start WriteFault before begun of_run none through = absurd (none refl)
+asked-run document bytes pairs history start StoreFault before begun of_run none through = absurd of_run
+asked-run document bytes pairs history start (StoredPair key) before begun of_run none through = absurd of_run
+asked-run document bytes pairs history start (EventLine n) before begun of_run none through =
+    inr (inl (before, inr (record { start = start; begun = begun; is = through tt })))
+asked-run document bytes pairs history start (HistoryFull n) before begun of_run none through =
+    inr (inl (before, inr (record { start = start; begun = begun; is = through tt })))
+asked-run document bytes pairs history start InputTooLong before begun of_run none through = absurd of_run
 
 -- ---- what was read of the sources
 
@@ -102,6 +116,13 @@ events-whole left before now Fault cause = cause
 events-whole left before now TooLong cause = cause
 events-whole left before now Memory cause = tt
 
+-- why the store isn't opened
+pub store-unopened : (held : Option (List Pair)) (before now : ℕ) (e : OpenError) → OpenCause held before now e
+    → StoreCause held before now (unopened_status e)
+store-unopened held before now unopened.StoreFault cause = cause
+store-unopened held before now (unopened.StoredPair key) cause = cause
+store-unopened held before now unopened.Memory cause = tt
+
 pub config-rule : (left : Option (List ℕ)) (before now : ℕ) (whole given : List ℕ) (error : ConfigError)
     → IfSome left (λ bytes. whole ≡ bytes) → length whole ≤ most_bytes → given ≡ whole
     → IsFirst (first_broken given) error → ConfigCause left before now (refused_status error)
@@ -118,79 +139,123 @@ config-rule left before now whole given refusal.Memory is few same first = tt
 not_risen : (before now : ℕ) → NotRisen before now → Rose before now → ⊥
 not_risen before now still rose = omega (arith, still.0, still.1, rose)
 
-asked-long : (l : Bool) (o : Option ℕ) (m : Bool) (status : Status) → o ≡ None → m ≡ true
-    → cond l InputTooLong (unless_broken o (cond m InputTooLong status)) ≡ InputTooLong
-asked-long true o m status kept many = refl
-asked-long false o m status kept many = rw kept (rw many refl)
+events-by : (l : Bool) (o : Option ℕ) (m : Bool) → o ≡ None → m ≡ true
+    → cond l (Some InputTooLong) (unless_broken o (cond m (Some InputTooLong) None)) ≡ Some InputTooLong
+events-by true o m kept many = refl
+events-by false o m kept many = rw kept (rw many refl)
 
-asked-first : (l : Bool) (o : Option ℕ) (status : Status) → l ≡ true → cond l InputTooLong (unless_broken o status)
-    ≡ InputTooLong
-asked-first l o status is = rw is refl
+document-by : (l : Bool) (rest : Option Status) → l ≡ true → cond l (Some InputTooLong) rest ≡ Some InputTooLong
+document-by l rest is = rw is refl
 
-asked-rule : (l : Bool) (o : Option ℕ) (n : ℕ) (status : Status) → l ≡ false → o ≡ Some n
-    → cond l InputTooLong (unless_broken o status) ≡ ConfigBroken n
-asked-rule l o n status short broken = rw short (rw broken refl)
+rule-by : (l : Bool) (o : Option ℕ) (n : ℕ) (rest : Option Status) → l ≡ false → o ≡ Some n
+    → cond l (Some InputTooLong) (unless_broken o rest) ≡ Some (ConfigBroken n)
+rule-by l o n rest short broken = rw short (rw broken refl)
 
 -- the configuration wasn't taken
-config-asked : (document bytes : List ℕ) (before now : ℕ) (history : List Entry) (status : Status)
-    → ConfigCause (Some document) before now status → NotRisen before now → IsAsked document bytes history status
-config-asked document bytes before now history Done cause still = absurd cause
-config-asked document bytes before now history NoMemory cause still = inr refl
-config-asked document bytes before now history Usage cause still = absurd cause
-config-asked document bytes before now history (ConfigBroken n) cause still =
-    inl (sym (asked-rule (nat_lt most_bytes (length document)) (first_broken document) n _ (not_long document cause.1)
-    cause.0))
-config-asked document bytes before now history ReadFault cause still = absurd (not_risen before now still cause)
-config-asked document bytes before now history WriteFault cause still = absurd cause
-config-asked document bytes before now history (EventLine n) cause still = absurd cause
-config-asked document bytes before now history (HistoryFull n) cause still = absurd cause
-config-asked document bytes before now history InputTooLong cause still =
-    inl (sym (asked-first (nat_lt most_bytes (length document)) (first_broken document) _ (long document cause)))
+config-asked : (document bytes : List ℕ) (pairs : List Pair) (before now : ℕ) (history : List Entry) (status : Status)
+    → ConfigCause (Some document) before now status → NotRisen before now
+    → IsAsked document bytes pairs history status
+config-asked document bytes pairs before now history Done cause still = absurd cause
+config-asked document bytes pairs before now history NoMemory cause still = inr (inr refl)
+config-asked document bytes pairs before now history Usage cause still = absurd cause
+config-asked document bytes pairs before now history (ConfigBroken n) cause still =
+    inl (rule-by (nat_lt most_bytes (length document)) (first_broken document) n _ (not_long document cause.1) cause.0)
+config-asked document bytes pairs before now history ReadFault cause still =
+    absurd (not_risen before now still cause)
+config-asked document bytes pairs before now history WriteFault cause still = absurd cause
+config-asked document bytes pairs before now history StoreFault cause still = absurd cause
+config-asked document bytes pairs before now history (StoredPair key) cause still = absurd cause
+config-asked document bytes pairs before now history (EventLine n) cause still = absurd cause
+config-asked document bytes pairs before now history (HistoryFull n) cause still = absurd cause
+config-asked document bytes pairs before now history InputTooLong cause still =
+    inl (document-by (nat_lt most_bytes (length document)) _ (long document cause))
 
 -- the events weren't
-events-asked : (document bytes : List ℕ) (before now : ℕ) (history : List Entry) (status : Status)
+events-asked : (document bytes : List ℕ) (pairs : List Pair) (before now : ℕ) (history : List Entry) (status : Status)
     → first_broken document ≡ None → EventsCause (Some bytes) before now status → NotRisen before now
-    → IsAsked document bytes history status
-events-asked document bytes before now history Done none cause still = absurd cause
-events-asked document bytes before now history NoMemory none cause still = inr refl
-events-asked document bytes before now history Usage none cause still = absurd cause
-events-asked document bytes before now history (ConfigBroken n) none cause still = absurd cause
-events-asked document bytes before now history ReadFault none cause still = absurd (not_risen before now still cause)
-events-asked document bytes before now history WriteFault none cause still = absurd cause
-events-asked document bytes before now history (EventLine n) none cause still = absurd cause
-events-asked document bytes before now history (HistoryFull n) none cause still = absurd cause
-events-asked document bytes before now history InputTooLong none cause still =
-    inl (sym (asked-long (nat_lt most_bytes (length document)) (first_broken document)
-    (nat_lt most_bytes (length bytes)) _ none (long bytes cause)))
+    → IsAsked document bytes pairs history status
+events-asked document bytes pairs before now history Done none cause still = absurd cause
+events-asked document bytes pairs before now history NoMemory none cause still = inr (inr refl)
+events-asked document bytes pairs before now history Usage none cause still = absurd cause
+events-asked document bytes pairs before now history (ConfigBroken n) none cause still = absurd cause
+events-asked document bytes pairs before now history ReadFault none cause still =
+    absurd (not_risen before now still cause)
+events-asked document bytes pairs before now history WriteFault none cause still = absurd cause
+events-asked document bytes pairs before now history StoreFault none cause still = absurd cause
+events-asked document bytes pairs before now history (StoredPair key) none cause still = absurd cause
+events-asked document bytes pairs before now history (EventLine n) none cause still = absurd cause
+events-asked document bytes pairs before now history (HistoryFull n) none cause still = absurd cause
+events-asked document bytes pairs before now history InputTooLong none cause still =
+    inl (events-by (nat_lt most_bytes (length document)) (first_broken document) (nat_lt most_bytes (length bytes)) none
+    (long bytes cause))
 
-abbrev Asks : Option (List ℕ) → Option (List ℕ) → List Entry → Status → Type 0
-Asks left events history status =
-    IfSome left (λ document. IfSome events (λ bytes. IsAsked document bytes history status))
+-- the store wasn't opened
+store-asked : (document bytes : List ℕ) (pairs : List Pair) (before now : ℕ) (history : List Entry) (status : Status)
+    → asked_before document bytes ≡ None → StoreCause (Some pairs) before now status → NotRisen before now
+    → IsAsked document bytes pairs history status
+store-asked document bytes pairs before now history Done none cause still = absurd cause
+store-asked document bytes pairs before now history NoMemory none cause still = inr (inr refl)
+store-asked document bytes pairs before now history Usage none cause still = absurd cause
+store-asked document bytes pairs before now history (ConfigBroken n) none cause still = absurd cause
+store-asked document bytes pairs before now history ReadFault none cause still = absurd cause
+store-asked document bytes pairs before now history WriteFault none cause still = absurd cause
+store-asked document bytes pairs before now history StoreFault none cause still =
+    absurd (not_risen before now still cause)
+store-asked document bytes pairs before now history (StoredPair key) none cause still =
+    inr (inl (none, inl (record { key = key; some = cause.0; broken = cause.1; is = refl })))
+store-asked document bytes pairs before now history (EventLine n) none cause still = absurd cause
+store-asked document bytes pairs before now history (HistoryFull n) none cause still = absurd cause
+store-asked document bytes pairs before now history InputTooLong none cause still = absurd cause
 
-config-complete : (left events : Option (List ℕ)) (before now : ℕ) (history : List Entry) (status : Status)
-    → ConfigCause left before now status → NotRisen before now → Asks left events history status
-config-complete None events before now history status cause still = tt
-config-complete (Some document) None before now history status cause still = tt
-config-complete (Some document) (Some bytes) before now history status cause still =
-    config-asked document bytes before now history status cause still
+config-complete : (left events : Option (List ℕ)) (held : Option (List Pair)) (before now : ℕ) (history : List Entry)
+    (status : Status) → ConfigCause left before now status → NotRisen before now
+    → AsksFor left events held history status
+config-complete None events held before now history status cause still = tt
+config-complete (Some document) None held before now history status cause still = tt
+config-complete (Some document) (Some bytes) None before now history status cause still = tt
+config-complete (Some document) (Some bytes) (Some pairs) before now history status cause still =
+    config-asked document bytes pairs before now history status cause still
 
-events-complete : (left events : Option (List ℕ)) (before now : ℕ) (history : List Entry) (status : Status)
-    → BreaksNone left → EventsCause events before now status → NotRisen before now → Asks left events history status
-events-complete None events before now history status none cause still = tt
-events-complete (Some document) None before now history status none cause still = tt
-events-complete (Some document) (Some bytes) before now history status none cause still =
-    events-asked document bytes before now history status none cause still
+events-complete : (left events : Option (List ℕ)) (held : Option (List Pair)) (before now : ℕ) (history : List Entry)
+    (status : Status) → BreaksNone left → EventsCause events before now status → NotRisen before now
+    → AsksFor left events held history status
+events-complete None events held before now history status none cause still = tt
+events-complete (Some document) None held before now history status none cause still = tt
+events-complete (Some document) (Some bytes) None before now history status none cause still = tt
+events-complete (Some document) (Some bytes) (Some pairs) before now history status none cause still =
+    events-asked document bytes pairs before now history status none cause still
 
-run-complete : (left told : Option (List ℕ)) (config : Config) (events : List ℕ) (held now : Option (List ℕ))
-    (before after : ℕ) (end : Replayed) → IsConfigured left config
-    → IfSome left (λ document. length document ≤ most_bytes) → IsWhole told events
-    → RunsLines (begun config) events held now before after end → NotRisen before after
-    → Asks left told end.history end.status
-run-complete None told config events held now before after end configured short whole runs still = tt
-run-complete (Some document) None config events held now before after end configured short whole runs still = tt
-run-complete (Some document) (Some bytes) config events held now before after end configured short whole runs still =
-    subst (λ (bs : List ℕ). IsAsked document bs end.history end.status) whole.all
-    (asked-run document events end.history config end.status short configured.told whole.within runs.possible
+store-complete : (left events : Option (List ℕ)) (held : Option (List Pair)) (before now : ℕ) (history : List Entry)
+    (status : Status) → BreaksNone left → IfSome left (λ document. length document ≤ most_bytes)
+    → IfSome events (λ bytes. length bytes ≤ most_bytes) → StoreCause held before now status → NotRisen before now
+    → AsksFor left events held history status
+store-complete None events held before now history status none short few cause still = tt
+store-complete (Some document) None held before now history status none short few cause still = tt
+store-complete (Some document) (Some bytes) None before now history status none short few cause still = tt
+store-complete (Some document) (Some bytes) (Some pairs) before now history status none short few cause still =
+    store-asked document bytes pairs before now history status (asked-none document bytes short none few) cause still
+
+run-complete : {K : Type 0} (left told : Option (List ℕ)) (pairs : Option (List Pair)) (config : Config)
+    (events : List ℕ) (faults : ℕ) (start : Start) (held now : Option (List ℕ)) (before after : ℕ) (end : Replayed K)
+    → IsConfigured left config
+    → IfSome left (λ document. length document ≤ most_bytes) → IsWhole told events → IsBegun config pairs faults start
+    → RunsLines start events held now before after end → NotRisen before after
+    → AsksFor left told pairs end.history end.status
+run-complete None told pairs config events faults start held now before after end configured short whole begun runs
+    still =
+    tt
+run-complete (Some document) None pairs config events faults start held now before after end configured short whole
+    begun runs still =
+    tt
+run-complete (Some document) (Some bytes) None config events faults start held now before after end configured short
+    whole begun runs still =
+    tt
+run-complete (Some document) (Some bytes) (Some pairs) config events faults start held now before after end configured
+    short whole begun runs still =
+    subst (λ (bs : List ℕ). IsAsked document bs pairs end.history end.status) whole.all
+    (asked-run document events pairs end.history start end.status
+    (asked-none document events short configured.told.kept_all whole.within)
+    (begun-spelled document config pairs faults start configured.told begun) runs.possible
     (λ fault. not_risen before after still (runs.write fault)) (λ ran. (runs.through ran).ends))
 
 -- ---- a replay, by what it came to
@@ -200,64 +265,100 @@ same-later : (m n : ℕ) → n ≡ m → m ≤ n
 same-later m n same = omega (arith, same)
 
 -- no machine was made
-pub record MadeNone (left : Replayed) : Type 0 where
+pub record MadeNone {K : Type 0} (left : Replayed K) : Type 0 where
   pub opening : left.opening ≡ None
   pub nothing : left.history ≡ []
   pub rows : left.rows ≡ None
 
-pub made-none : (left : Replayed) → left.opening ≡ None → left.history ≡ [] → left.rows ≡ None → MadeNone left
+pub made-none : {K : Type 0} (left : Replayed K) → left.opening ≡ None → left.history ≡ [] → left.rows ≡ None
+    → MadeNone left
 made-none left opening nothing rows = record { opening = opening; nothing = nothing; rows = rows }
 
-pub config-not-taken : {S T : Type 0} (told : Telling S T) (old new : Parts S T) (left : Replayed) → MadeNone left
-    → new.out ≡ old.out → new.events ≡ old.events
+pub config-not-taken : {S T K : Type 0} (told : Telling S T K) (old new : Parts S T K) (left : Replayed K)
+    → MadeNone left → new.out ≡ old.out → new.events ≡ old.events → new.keeper ≡ old.keeper
     → ConfigCause (told.left old.config) (told.read_faults old.config) (told.read_faults new.config) left.status
     → told.read_faults old.config ≤ told.read_faults new.config → IsReplay told old new left
-config-not-taken told old new left none out events cause later = record {
+config-not-taken told old new left none out events keeper cause later = record {
   leaves = inl (record {
     opening = none.opening;
     nothing = none.nothing;
     rows = none.rows;
     out = out;
-    cause = inl (cause, events);
+    cause = inl (record { cause = cause; events = events; keeper = keeper });
   });
-  complete = λ quiet. config-complete (told.left old.config) (told.left old.events) (told.read_faults old.config)
-      (told.read_faults new.config) left.history left.status cause quiet.config;
+  complete = λ quiet. config-complete (told.left old.config) (told.left old.events) (told.pairs old.keeper)
+      (told.read_faults old.config) (told.read_faults new.config) left.history left.status cause quiet.config;
   config_later = later;
   events_later = same-later (told.read_faults old.events) (told.read_faults new.events) (ap told.read_faults events);
   out_later = same-later (told.write_faults old.out) (told.write_faults new.out) (ap told.write_faults out);
+  keeper_later =
+      same-later (told.store_faults old.keeper) (told.store_faults new.keeper) (ap told.store_faults keeper);
 }
 
-pub events-not-taken : {S T : Type 0} (told : Telling S T) (old new : Parts S T) (left : Replayed) → MadeNone left
-    → new.out ≡ old.out → BreaksNone (told.left old.config)
+pub events-not-taken : {S T K : Type 0} (told : Telling S T K) (old new : Parts S T K) (left : Replayed K)
+    → MadeNone left → new.out ≡ old.out → new.keeper ≡ old.keeper → BreaksNone (told.left old.config)
     → EventsCause (told.left old.events) (told.read_faults old.events) (told.read_faults new.events) left.status
     → told.read_faults old.config ≤ told.read_faults new.config
     → told.read_faults old.events ≤ told.read_faults new.events
     → IsReplay told old new left
-events-not-taken told old new left none out breaks cause config_later events_later = record {
+events-not-taken told old new left none out keeper breaks cause config_later events_later = record {
   leaves = inl (record {
     opening = none.opening;
     nothing = none.nothing;
     rows = none.rows;
     out = out;
-    cause = inr (breaks, cause);
+    cause = inr (inl (record { taken = breaks; cause = cause; keeper = keeper }));
   });
-  complete = λ quiet. events-complete (told.left old.config) (told.left old.events) (told.read_faults old.events)
-      (told.read_faults new.events) left.history left.status breaks cause quiet.events;
+  complete = λ quiet. events-complete (told.left old.config) (told.left old.events) (told.pairs old.keeper)
+      (told.read_faults old.events) (told.read_faults new.events) left.history left.status breaks cause quiet.events;
   config_later = config_later;
   events_later = events_later;
   out_later = same-later (told.write_faults old.out) (told.write_faults new.out) (ap told.write_faults out);
+  keeper_later =
+      same-later (told.store_faults old.keeper) (told.store_faults new.keeper) (ap told.store_faults keeper);
 }
 
-pub lines-run : {S T : Type 0} (told : Telling S T) (old new : Parts S T) (left : Replayed)
+pub store-not-opened : {S T K : Type 0} (told : Telling S T K) (old new : Parts S T K) (left : Replayed K)
+    → MadeNone left → new.out ≡ old.out → StopsAtStore told old new left.status
+    → told.read_faults old.config ≤ told.read_faults new.config
+    → told.read_faults old.events ≤ told.read_faults new.events
+    → told.store_faults old.keeper ≤ told.store_faults new.keeper → IsReplay told old new left
+store-not-opened told old new left none out stops config_later events_later keeper_later = record {
+  leaves = inl (record {
+    opening = none.opening;
+    nothing = none.nothing;
+    rows = none.rows;
+    out = out;
+    cause = inr (inr stops);
+  });
+  complete = λ quiet. store-complete (told.left old.config) (told.left old.events) (told.pairs old.keeper)
+      (told.store_faults old.keeper) (told.store_faults new.keeper) left.history left.status stops.taken stops.short
+      stops.read stops.cause quiet.keeper;
+  config_later = config_later;
+  events_later = events_later;
+  out_later = same-later (told.write_faults old.out) (told.write_faults new.out) (ap told.write_faults out);
+  keeper_later = keeper_later;
+}
+
+-- the keeper's count doesn't fall while lines are run
+up-to-first : (now : ℕ) (start : Start) (history : List Entry) (faults : ℕ) → AreUpTo now start history
+    → faults ≤ start.faults → faults ≤ now
+up-to-first now start history faults up le =
+    let first : start.faults ≤ now = up 0 start.faults (omega arith) in omega (arith, first, le)
+
+pub lines-run : {S T K : Type 0} (told : Telling S T K) (old new : Parts S T K) (left : Replayed K)
     → HasRunLines told old new left → told.read_faults old.config ≤ told.read_faults new.config
     → told.read_faults old.events ≤ told.read_faults new.events → told.write_faults old.out ≤ told.write_faults new.out
     → IsReplay told old new left
 lines-run told old new left has config_later events_later out_later = record {
   leaves = inr has;
-  complete = λ quiet. run-complete (told.left old.config) (told.left old.events) has.config has.events
-      (told.held old.out) (told.held new.out) (told.write_faults old.out) (told.write_faults new.out) left
-      has.configured has.short has.whole has.runs quiet.out;
+  complete = λ quiet. run-complete (told.left old.config) (told.left old.events) (told.pairs old.keeper) has.config
+      has.events (told.store_faults old.keeper) has.start (told.held old.out) (told.held new.out)
+      (told.write_faults old.out) (told.write_faults new.out) left has.configured has.short has.whole has.begun has.runs
+      quiet.out;
   config_later = config_later;
   events_later = events_later;
   out_later = out_later;
+  keeper_later = up-to-first (told.store_faults new.keeper) has.start left.history (told.store_faults old.keeper)
+      has.counts has.begun.later;
 }

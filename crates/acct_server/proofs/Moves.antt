@@ -14,7 +14,7 @@ use Rattle.acct_machine.specs.declared.entry.Entry.TheVariants.{Opened, Called, 
 use Rattle.acct_machine.specs.declared.entry.Verdict.{Verdict}
 use Rattle.acct_machine.specs.Machine.{with_entry, SameLive}
 use Rattle.acct_machine.specs.State.{State}
-use Rattle.acct_machine.specs.Shown.{Shown}
+use Rattle.acct_machine.specs.Shown.{Past}
 use Rattle.acct_machine.specs.Step.{acted, state_at}
 use Rattle.acct_machine.specs.Room.{conns_full, call_full}
 use Rattle.rpc_session.specs.declared.sessions.Act.{Act}
@@ -75,9 +75,9 @@ open-does old new conn given listener name output found next same room machine p
   full = refl;
   is = λ later. opens (standing old) conn listener (listener_from 0 name old.machine.start.config.listeners) None found
       next room;
-  history = ap (λ (m : Shown). m.history) machine ∙ ap (λ (n : ℕ). old.machine.history ++ Opened n listener ∷ []) same;
+  history = ap (λ (m : Past). m.history) machine ∙ ap (λ (n : ℕ). old.machine.history ++ Opened n listener ∷ []) same;
   peers = peers;
-  start = ap (λ (m : Shown). m.start) machine;
+  start = ap (λ (m : Past). m.start) machine;
   prints = printed;
 }
 
@@ -251,7 +251,7 @@ request-acts start before now conn asked stub_size (Ok call) bytes old_lines new
     call-acts start before now conn asked stub_size call bytes.items old_lines new_lines answers printed
 
 -- a call found the history full, and its connection is gone
-pub request-fills : (old now : Shown) (mid : List Entry) (conn : ℕ) (asked : Asked) (stub_size : ℕ)
+pub request-fills : (old now : Past) (mid : List Entry) (conn : ℕ) (asked : Asked) (stub_size : ℕ)
     (r : Result Call WireError) (count : ℕ) (old_lines new_lines : List ℕ)
     → AnswersRequest old.start conn (Only old.history) old.history mid asked stub_size r (answer.Full count)
     → now.history ≡ mid ++ Gone conn ∷ []
@@ -294,7 +294,7 @@ ties-live peers old new ties live = record {
 }
 
 -- a refusal was answered
-pub close-acts : (old now : Shown) (conn place cause : ℕ) (bytes old_lines new_lines : List ℕ)
+pub close-acts : (old now : Past) (conn place cause : ℕ) (bytes old_lines new_lines : List ℕ)
     → now ≡ with_entry old (Gone conn)
     → new_lines ≡ old_lines ++ (line_bytes (Out conn bytes) ++ line_bytes (IsClosed conn place cause))
     → Acts (λ verdicts. on_act old.start verdicts old.history conn (act.Closed place cause bytes)) old.history
@@ -303,7 +303,7 @@ close-acts old now conn place cause bytes old_lines new_lines is printed = recor
   doing = record { entries = Gone conn ∷ []; prints = Out conn bytes ∷ IsClosed conn place cause ∷ []; full = None };
   full = refl;
   is = λ later. refl;
-  history = ap (λ (m : Shown). m.history) is;
+  history = ap (λ (m : Past). m.history) is;
   prints = printed ∙ ap (λ (bs : List ℕ). old_lines ++ (line_bytes (Out conn bytes) ++ bs))
       (sym (append-nil (line_bytes (IsClosed conn place cause))));
 }
@@ -438,11 +438,11 @@ pub data-does : (old mid new : Running) (conn : ℕ) (bytes output : List ℕ) (
 data-does old mid new conn bytes output as' found hears done peers start =
     let heard = on hears.hearing bytes in
     let machine : mid.machine ≡ old.machine = ap (λ (r : Running). r.machine) hears.left in
-    let same : mid.machine.history ≡ old.machine.history = ap (λ (m : Shown). m.history) machine in
+    let same : mid.machine.history ≡ old.machine.history = ap (λ (m : Past). m.history) machine in
     let d = done.doing in
     let is : (later : List Entry) → on_acts old.machine.start (verdict_in (new.machine.history ++ later))
     old.machine.history conn heard.acts ≡ d =
-    λ later. ap (λ (m : Shown). on_acts m.start (verdict_in (new.machine.history ++ later)) m.history conn heard.acts)
+    λ later. ap (λ (m : Past). on_acts m.start (verdict_in (new.machine.history ++ later)) m.history conn heard.acts)
     (sym machine) ∙ ap (λ (x : List Act). on_acts mid.machine.start (verdict_in (new.machine.history ++ later))
     mid.machine.history conn x) (sym hears.completed) ∙ done.is later in
     record {
@@ -474,7 +474,7 @@ pub data-stops : (old mid new : Running) (conn : ℕ) (bytes : List ℕ) (as' : 
 data-stops old mid new conn bytes as' hears began =
     let heard = on hears.hearing bytes in
     let machine : mid.machine ≡ old.machine = ap (λ (r : Running). r.machine) hears.left in
-    let same : mid.machine.history ≡ old.machine.history = ap (λ (m : Shown). m.history) machine in
+    let same : mid.machine.history ≡ old.machine.history = ap (λ (m : Past). m.history) machine in
     inr (record {
       front = began.front;
       history = began.history ∙ ap (λ (h : List Entry). h ++ began.front) same;
@@ -483,7 +483,7 @@ data-stops old mid new conn bytes as' hears began =
           bytes p) hears.stood;
       others = began.others;
       begins = λ later.
-          ap (λ (m : Shown). (on_acts m.start (verdict_in (new.machine.history ++ later)) m.history conn
+          ap (λ (m : Past). (on_acts m.start (verdict_in (new.machine.history ++ later)) m.history conn
           heard.acts).entries) (sym machine)
           ∙ ap (λ (x : List Act). (on_acts mid.machine.start (verdict_in (new.machine.history ++ later))
           mid.machine.history conn x).entries) (sym hears.completed)

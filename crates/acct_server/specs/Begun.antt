@@ -1,7 +1,13 @@
--- Where the history of a replay begins: with the seed rows of the configured domain.
+-- Where the history of a replay begins.
+use Rattle.std.specs.Prelude.{◌≡◌, ℕ, ◌≤◌, List, Option, IfSome}
 use Rattle.acct_config.specs.declared.config.Config.{Config}
-use Rattle.acct_rows.specs.Seed.{seed_lists}
+use Rattle.acct_keeper.specs.declared.pairs.Pair.{Pair}
+use Rattle.acct_machine.specs.Opened.{OpensRows}
 use Rattle.acct_machine.specs.State.{Start}
 
-abbrev pub begun : Config → Start
-begun config = record { config = config; rows = seed_lists config.name config.sid }
+-- Under the configuration, from the rows whose pairs the keeper held, or the seed rows where it held none, with its count
+-- of faults then.
+pub record IsBegun (config : Config) (held : Option (List Pair)) (faults : ℕ) (start : Start) : Type 0 where
+  pub config : start.config ≡ config
+  pub rows : IfSome held (λ pairs. OpensRows config pairs start.rows)
+  pub later : faults ≤ start.faults

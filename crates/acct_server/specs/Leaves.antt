@@ -1,5 +1,5 @@
 -- What a replay leaves, by its status.
-use Rattle.std.specs.Prelude.{◌≡◌, ℕ, ◌<◌, ◌≤◌, List, ◌∷◌, ◌++◌, ◌⊎◌, take, length, Option, Some, None, IfSome}
+use Rattle.std.specs.Prelude.{◌≡◌, ◌≢◌, ℕ, ◌<◌, ◌≤◌, List, [], ◌∷◌, ◌++◌, ◌⊎◌, take, length, Option, Some, None, IfSome}
 use Rattle.std.specs.Prelude.{if◌then◌else◌, nat_lt}
 use Rattle.std.specs.Io.KnownBytes.{Appends}
 use Rattle.acct_machine.specs.State.{Start}
@@ -7,12 +7,17 @@ use Rattle.acct_config.specs.Rules.{first_broken}
 use Rattle.acct_machine.specs.declared.entry.Entry.{Entry}
 use Rattle.acct_server.specs.declared.status.Status.{Status}
 use Rattle.acct_server.specs.declared.status.Status.TheVariants.{Done, NoMemory, Config as ConfigBroken, ReadFault}
-use Rattle.acct_server.specs.declared.status.Status.TheVariants.{WriteFault, EventLine, HistoryFull, InputTooLong}
+use Rattle.acct_server.specs.declared.status.Status.TheVariants.{WriteFault, StoreFault, StoredPair, EventLine, HistoryFull}
+use Rattle.acct_server.specs.declared.status.Status.TheVariants.{InputTooLong}
 use Rattle.acct_streams.specs.declared.whole.WholeError.{WholeError}
 use Rattle.acct_streams.specs.declared.whole.WholeError.TheVariants.{Fault, TooLong, Memory}
 use Rattle.acct_streams.specs.Causes.{Rose}
 use Rattle.acct_streams.specs.Whole.{most_bytes}
-use Rattle.acct_server.specs.Begun.{begun}
+use Rattle.acct_keeper.specs.declared.pairs.Pair.{Pair}
+use Rattle.acct_machine.specs.declared.opened.OpenError.{OpenError}
+use Rattle.acct_machine.specs.declared.opened.OpenError.TheVariants as unopened
+use Rattle.acct_machine.specs.PairsOf.{IsSmallestBroken}
+use Rattle.acct_server.specs.Begun.{IsBegun}
 use Rattle.acct_server.specs.Configured.{spelled}
 use Rattle.acct_server.specs.Replayed.{Effect, replayed, ending, entries_of, output_of, line_bytes}
 use Rattle.acct_server.specs.Running.{Running, standing}
@@ -93,24 +98,52 @@ EventsCause left before now InputTooLong = IsLong left
 EventsCause left before now NoMemory = Unit {0}
 EventsCause left before now _ = ⊥
 
+-- why the store wasn't opened, by what the keeper held and its counts before and after
+abbrev pub StoreCause : Option (List Pair) → ℕ → ℕ → Status → Type 0
+StoreCause held before now StoreFault = Rose before now
+StoreCause held before now (StoredPair key) = IfSome held (λ pairs. (pairs ≢ []) × IsSmallestBroken pairs key)
+StoreCause held before now NoMemory = Unit {0}
+StoreCause held before now _ = ⊥
+
 -- a status, or that of a rule that is broken
-abbrev pub unless_broken : Option ℕ → Status → Status
+abbrev pub unless_broken : Option ℕ → Option Status → Option Status
 unless_broken None status = status
-unless_broken (Some n) status = ConfigBroken n
+unless_broken (Some n) status = Some (ConfigBroken n)
 
--- The status that a configuration and events ask for, with the verdicts of a history.
-abbrev pub asked_status : List ℕ → List ℕ → List Entry → Status
-asked_status document events history =
-    if nat_lt most_bytes (length document) then InputTooLong
-    else unless_broken (first_broken document) (
-    if nat_lt most_bytes (length events) then InputTooLong
-    else (replayed (begun (spelled document)) events history).status)
+-- the status that a configuration and events ask for before the store is opened
+abbrev pub asked_before : List ℕ → List ℕ → Option Status
+asked_before document events =
+    if nat_lt most_bytes (length document) then Some InputTooLong
+    else unless_broken (first_broken document) (if nat_lt most_bytes (length events) then Some InputTooLong else None)
 
--- it is that one, or memory was wanted
-abbrev pub IsAsked : List ℕ → List ℕ → List Entry → Status → Type 0
-IsAsked document events history status = (status ≡ asked_status document events history) ⊎ (status ≡ NoMemory)
+-- the stored pairs break a rule, and this is the status of the smallest broken key
+pub record AsksPair (pairs : List Pair) (status : Status) : Type 0 where
+  pub key : List ℕ
+  pub some : pairs ≢ []
+  pub broken : IsSmallestBroken pairs key
+  pub is : status ≡ StoredPair key
+
+-- the status of the events, from the rows with which the store is opened, with the verdicts of a history
+pub record AsksRun (document events : List ℕ) (pairs : List Pair) (history : List Entry) (status : Status) : Type 0
+  where
+    pub start : Start
+    pub begun : IsBegun (spelled document) (Some pairs) 0 start
+    pub is : status ≡ (replayed start events history).status
+
+-- The status that a configuration, events and stored pairs ask for, or memory was wanted.
+abbrev pub IsAsked : List ℕ → List ℕ → List Pair → List Entry → Status → Type 0
+IsAsked document events pairs history status =
+    (asked_before document events ≡ Some status)
+    ⊎ (((asked_before document events ≡ None)
+    × (AsksPair pairs status ⊎ AsksRun document events pairs history status))
+    ⊎ (status ≡ NoMemory))
 
 abbrev pub unread_status : WholeError → Status
 unread_status Fault = ReadFault
 unread_status TooLong = InputTooLong
 unread_status Memory = NoMemory
+
+abbrev pub unopened_status : OpenError → Status
+unopened_status unopened.StoreFault = StoreFault
+unopened_status (unopened.StoredPair key) = StoredPair key
+unopened_status unopened.Memory = NoMemory

@@ -1,5 +1,6 @@
--- The contract of a replay, by the sources and the sink before and after it, and what it leaves. The functions tell of
--- a source the bytes that it has left and its count of faults, of a sink the bytes that it holds and its count.
+-- The contract of a replay, by its sources, its sink and its keeper before and after it, and what it leaves. The
+-- functions tell of a source the bytes that it has left and its count of faults, of a sink the bytes that it holds and
+-- its count, and of a keeper the pairs and its count.
 use Rattle.std.specs.Prelude.{◌≡◌, ℕ, ◌≤◌, ◌⊎◌, List, [], Option, Some, None, IfSome, length}
 use Rattle.std.specs.Option.{option_map}
 use Rattle.acct_config.specs.declared.config.Config.{Config}
@@ -8,49 +9,75 @@ use Rattle.acct_machine.specs.Step.{state_at}
 use Rattle.acct_machine.specs.Legal.{Legal}
 use Rattle.acct_rows.specs.Rows.{Lists, Shown}
 use Rattle.acct_server.specs.declared.replays.Replayed.{Replayed}
+use Rattle.acct_server.specs.declared.status.Status.{Status}
 use Rattle.acct_server.specs.declared.status.Status.TheVariants.{WriteFault, NoMemory}
 use Rattle.acct_streams.specs.Causes.{Rose, NotRisen}
 use Rattle.acct_streams.specs.Whole.{most_bytes, IsWhole}
-use Rattle.acct_server.specs.Begun.{begun}
+use Rattle.acct_keeper.specs.declared.pairs.Pair.{Pair}
+use Rattle.acct_machine.specs.Storing.{HoldsRows, AreUpTo}
+use Rattle.acct_server.specs.Begun.{IsBegun}
 use Rattle.acct_server.specs.Configured.{BreaksNone, IsConfigured}
-use Rattle.acct_server.specs.Leaves.{Leaves, Breaks, Stops, IsRunThrough, IsOfRun, ConfigCause, EventsCause, IsAsked}
+use Rattle.acct_server.specs.Leaves.{Leaves, Breaks, Stops, IsRunThrough, IsOfRun, ConfigCause, EventsCause}
+use Rattle.acct_server.specs.Leaves.{StoreCause, IsAsked}
 use Rattle.acct_requests.specs.Transcribed.{IsTranscribed}
 use Rattle.acct_server.specs.Connections.{found_full, received, sent}
 use Rattle.acct_server.specs.Replayed.{replayed}
 use Rattle.acct_server.specs.Denied.{DeniesExactlyIn}
 
 -- what the parts of a replay tell
-pub record Telling (S T : Type 0) : Type 0 where
+pub record Telling (S T K : Type 0) : Type 0 where
   pub left : S → Option (List ℕ)
   pub read_faults : S → ℕ
   pub held : T → Option (List ℕ)
   pub write_faults : T → ℕ
+  pub pairs : K → Option (List Pair)
+  pub store_faults : K → ℕ
 
 -- the parts at one time
-pub record Parts (S T : Type 0) : Type 0 where
+pub record Parts (S T K : Type 0) : Type 0 where
   pub config : S
   pub events : S
   pub out : T
+  pub keeper : K
 
 -- the lists of rows that were left, if any were
 abbrev pub lists_in : Option Shown → Option Lists
 lists_in rows = option_map (λ (r : Shown). r.lists) rows
 
--- The lines weren't run: no machine was made, nothing has happened and nothing was written. Either the configuration
--- wasn't taken, and the events are untouched, or it was, and the events weren't.
-pub record HasNotRun {S T : Type 0} (told : Telling S T) (old new : Parts S T) (left : Replayed) : Type 0 where
+-- The configuration wasn't taken, and the events and the keeper are untouched.
+pub record StopsAtConfig {S T K : Type 0} (told : Telling S T K) (old new : Parts S T K) (status : Status) : Type 0
+  where
+    pub cause : ConfigCause (told.left old.config) (told.read_faults old.config) (told.read_faults new.config) status
+    pub events : new.events ≡ old.events
+    pub keeper : new.keeper ≡ old.keeper
+
+-- It was, and the events weren't, and the keeper is untouched.
+pub record StopsAtEvents {S T K : Type 0} (told : Telling S T K) (old new : Parts S T K) (status : Status) : Type 0
+  where
+    pub taken : BreaksNone (told.left old.config)
+    pub cause : EventsCause (told.left old.events) (told.read_faults old.events) (told.read_faults new.events) status
+    pub keeper : new.keeper ≡ old.keeper
+
+-- Both were, and the store wasn't opened.
+pub record StopsAtStore {S T K : Type 0} (told : Telling S T K) (old new : Parts S T K) (status : Status) : Type 0
+  where
+    pub taken : BreaksNone (told.left old.config)
+    pub short : IfSome (told.left old.config) (λ document. length document ≤ most_bytes)
+    pub read : IfSome (told.left old.events) (λ events. length events ≤ most_bytes)
+    pub cause : StoreCause (told.pairs old.keeper) (told.store_faults old.keeper) (told.store_faults new.keeper) status
+
+-- The lines weren't run: no machine was made, nothing has happened and nothing was written.
+pub record HasNotRun {S T K : Type 0} (told : Telling S T K) (old new : Parts S T K) (left : Replayed K) : Type 0 where
   pub opening : left.opening ≡ None
   pub nothing : left.history ≡ []
   pub rows : left.rows ≡ None
   pub out : new.out ≡ old.out
-  pub cause : (ConfigCause (told.left old.config) (told.read_faults old.config) (told.read_faults new.config)
-      left.status × (new.events ≡ old.events))
-      ⊎ (BreaksNone (told.left old.config)
-      × EventsCause (told.left old.events) (told.read_faults old.events) (told.read_faults new.events) left.status)
+  pub cause : StopsAtConfig told old new left.status
+      ⊎ (StopsAtEvents told old new left.status ⊎ StopsAtStore told old new left.status)
 
 -- Lines were run from one beginning.
-pub record RunsLines (start : Start) (events : List ℕ) (held now : Option (List ℕ)) (before after : ℕ)
-    (left : Replayed) : Type 0 where
+pub record RunsLines {K : Type 0} (start : Start) (events : List ℕ) (held now : Option (List ℕ)) (before after : ℕ)
+    (left : Replayed K) : Type 0 where
   pub possible : IsOfRun left.status
   -- the rows from which the history began, and those of the state after it
   pub opening : lists_in left.opening ≡ Some start.rows
@@ -72,29 +99,43 @@ pub record RunsLines (start : Start) (events : List ℕ) (held now : Option (Lis
   pub legal : Legal start left.history
   pub denies : DeniesExactlyIn start left.history
 
--- The lines were run, from the seed rows, under the one configuration that the document spells and over the bytes of
--- the events; where a source doesn't tell, under some right one, and over some bytes.
-pub record HasRunLines {S T : Type 0} (told : Telling S T) (old new : Parts S T) (left : Replayed) : Type 0 where
-  pub config : Config
-  pub events : List ℕ
-  pub configured : IsConfigured (told.left old.config) config
-  pub short : IfSome (told.left old.config) (λ document. length document ≤ most_bytes)
-  pub whole : IsWhole (told.left old.events) events
-  pub runs : RunsLines (begun config) events (told.held old.out) (told.held new.out) (told.write_faults old.out)
-      (told.write_faults new.out) left
+-- The lines were run, under the one configuration that the document spells and over the bytes of the events, from the
+-- rows whose pairs the keeper held, or the seed rows where it held none; where a source or the keeper doesn't tell, under
+-- some right configuration, over some bytes, from some sound rows. The keeper holds the pairs of the rows after them, and
+-- no count at a commit that failed lies above its count.
+pub record HasRunLines {S T K : Type 0} (told : Telling S T K) (old new : Parts S T K) (left : Replayed K) : Type 0
+  where
+    pub config : Config
+    pub events : List ℕ
+    pub start : Start
+    pub configured : IsConfigured (told.left old.config) config
+    pub short : IfSome (told.left old.config) (λ document. length document ≤ most_bytes)
+    pub whole : IsWhole (told.left old.events) events
+    pub begun : IsBegun config (told.pairs old.keeper) (told.store_faults old.keeper) start
+    pub runs : RunsLines start events (told.held old.out) (told.held new.out) (told.write_faults old.out)
+        (told.write_faults new.out) left
+    pub stored : HoldsRows (told.pairs new.keeper) (state_at start left.history).rows
+    pub counts : AreUpTo (told.store_faults new.keeper) start left.history
 
 -- no count rose
-pub record AllQuiet {S T : Type 0} (told : Telling S T) (old new : Parts S T) : Type 0 where
+pub record AllQuiet {S T K : Type 0} (told : Telling S T K) (old new : Parts S T K) : Type 0 where
   pub config : NotRisen (told.read_faults old.config) (told.read_faults new.config)
   pub events : NotRisen (told.read_faults old.events) (told.read_faults new.events)
   pub out : NotRisen (told.write_faults old.out) (told.write_faults new.out)
+  pub keeper : NotRisen (told.store_faults old.keeper) (told.store_faults new.keeper)
 
-pub record IsReplay {S T : Type 0} (told : Telling S T) (old new : Parts S T) (left : Replayed) : Type 0 where
+-- where all tell, the status is the one that the configuration, the events and the pairs ask for
+abbrev pub AsksFor : Option (List ℕ) → Option (List ℕ) → Option (List Pair) → List Entry → Status → Type 0
+AsksFor document events held history status =
+    IfSome document
+    (λ document. IfSome events (λ bytes. IfSome held (λ pairs. IsAsked document bytes pairs history status)))
+
+pub record IsReplay {S T K : Type 0} (told : Telling S T K) (old new : Parts S T K) (left : Replayed K) : Type 0 where
   pub leaves : HasNotRun told old new left ⊎ HasRunLines told old new left
-  -- where no count rose, the status is the one that the configuration and the events ask for, or memory was wanted
+  -- where no count rose, the status is the one that is asked for, or memory was wanted
   pub complete : AllQuiet told old new
-      → IfSome (told.left old.config)
-      (λ document. IfSome (told.left old.events) (λ bytes. IsAsked document bytes left.history left.status))
+      → AsksFor (told.left old.config) (told.left old.events) (told.pairs old.keeper) left.history left.status
   pub config_later : told.read_faults old.config ≤ told.read_faults new.config
   pub events_later : told.read_faults old.events ≤ told.read_faults new.events
   pub out_later : told.write_faults old.out ≤ told.write_faults new.out
+  pub keeper_later : told.store_faults old.keeper ≤ told.store_faults new.keeper

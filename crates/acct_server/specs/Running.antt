@@ -3,7 +3,7 @@ use Rattle.std.specs.Prelude.{◌≡◌, ℕ, ◌^◌, ◌<◌, ◌≤◌, ◌+�
 use Rattle.std.specs.Prelude.{length}
 use Rattle.std.specs.List.{flat_map}
 use Rattle.acct_machine.specs.declared.entry.Entry.{Entry}
-use Rattle.acct_machine.specs.Shown.{Shown}
+use Rattle.acct_machine.specs.Shown.{Past}
 use Rattle.acct_machine.specs.State.{State, is_live}
 use Rattle.acct_requests.specs.declared.connections.Peer.{Peer}
 use Rattle.acct_requests.specs.declared.connections.Peer.TheVariants.{Open, Ended}
@@ -17,7 +17,7 @@ use Rattle.acct_server.specs.Replayed.{line_bytes, ending}
 
 -- the machine, and the connections
 pub record Running : Type 0 where
-  pub machine : Shown
+  pub machine : Past
   pub peers : List Peer
 
 abbrev pub standing : Running → Standing

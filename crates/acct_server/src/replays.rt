@@ -3,9 +3,13 @@ ghost use Rattle.std.specs.Prelude.{◌≡◌, ◌<◌, ◌≤◌, ◌^◌, [], 
 ghost use Rattle.acct_server.specs.declared.status.Status.TheVariants.{NoMemory, WriteFault};
 ghost use Rattle.acct_streams.specs.Causes.{Rose};
 ghost use Rattle.acct_streams.specs.Whole.{most_bytes};
+ghost use Rattle.acct_config.specs.Right.{IsRight};
+ghost use Rattle.acct_machine.specs.Step.{state_at};
+ghost use Rattle.acct_machine.specs.Storing.{HoldsRows, AreUpTo};
+ghost use Rattle.acct_server.specs.Begun.{IsBegun};
 ghost use Rattle.acct_server.specs.Configured.{IsConfigured, refused_status};
 ghost use Rattle.acct_server.specs.Leaves.{Leaves, ConfigCause, unread_status, Breaks, Stops, Finishes, FinishBreaks};
-ghost use Rattle.acct_server.specs.Leaves.{IsRunThrough, IsOfRun};
+ghost use Rattle.acct_server.specs.Leaves.{IsRunThrough, IsOfRun, StoreCause, unopened_status};
 ghost use Rattle.acct_server.specs.Replaying.{IsReplay, RunsLines};
 
 use crate::events::LineError;
@@ -13,18 +17,22 @@ use crate::lines::next_line;
 use crate::running::Run;
 use crate::{Sink, Source, Status, WholeError, read_whole, write_all};
 use acct_base::Seq;
-use acct_machine::{Config, ConfigError, Entry, Rows, access_is_denied_exactly, read_config};
+use acct_machine::{
+    Config, ConfigError, Entry, Keeper, OpenError, Rows, access_is_denied_exactly, open_store,
+    read_config,
+};
 use rpc_session::streams_are_cut_anywhere;
 use std::alloc::Global;
 
-/// What a replay leaves: how it ended, the rows from which the history of its machine began, the history, and the rows
-/// after it. There are rows exactly where the machine was made, so that lines were run.
+/// What a replay leaves: how it ended, the rows from which the history of its machine began, the history, the rows after
+/// it, and the keeper. There are rows exactly where the machine was made, so that lines were run.
 #[derive(Drop)]
-pub struct Replayed {
+pub struct Replayed<K: Drop> {
     pub status: Status,
     pub opening: Option<Rows>,
     pub history: Seq<Entry>,
     pub rows: Option<Rows>,
+    pub keeper: K,
 }
 
 fn unread(e: WholeError) -> Status
@@ -46,6 +54,16 @@ fn refused(error: ConfigError) -> Status
     }
 }
 
+fn unopened(e: OpenError) -> Status
+    ensures { result ≡ unopened_status e }
+{
+    match e {
+        OpenError::StoreFault => Status::StoreFault,
+        OpenError::StoredPair(key) => Status::StoredPair(key),
+        OpenError::Memory => Status::NoMemory,
+    }
+}
+
 // The configuration that a source's document spells.
 fn read_configuration<S: Source>(alloc: Global, source: &mut S) -> Result<Config, Status>
     ensures configured { IfOk result (IsConfigured (S.left source.old)) }
@@ -63,7 +81,12 @@ fn read_configuration<S: Source>(alloc: Global, source: &mut S) -> Result<Config
 }
 
 // Ends the connections that are still open, writes their lines, and answers the status.
-fn finish<T: Sink>(alloc: Global, run: &mut Run, out: &mut T, status: Status) -> Status
+fn finish<K: Keeper + Drop, T: Sink>(
+    alloc: Global,
+    run: &mut Run<K>,
+    out: &mut T,
+    status: Status,
+) -> Status
     requires { IsRunThrough status }
     ensures through { IsRunThrough result → Finishes (T.held out.old) (T.held out.new) run.old run.new status result }
     ensures breaks { result ≡ WriteFault → FinishBreaks (T.held out.old) (T.held out.new) run.old run.new }
@@ -83,7 +106,12 @@ fn finish<T: Sink>(alloc: Global, run: &mut Run, out: &mut T, status: Status) ->
 }
 
 // Runs the lines, writes what each of them prints, and answers the status.
-fn run_lines<T: Sink>(alloc: Global, run: &mut Run, bytes: &[u8], out: &mut T) -> Status
+fn run_lines<K: Keeper + Drop, T: Sink>(
+    alloc: Global,
+    run: &mut Run<K>,
+    bytes: &[u8],
+    out: &mut T,
+) -> Status
     requires history { run.old.machine.history ≡ [] }
     requires peers { run.old.peers ≡ [] }
     requires short { length bytes.now < 2 ^ 32 }
@@ -123,64 +151,121 @@ fn run_lines<T: Sink>(alloc: Global, run: &mut Run, bytes: &[u8], out: &mut T) -
 }
 
 // A replay whose lines weren't run.
-fn not_run(alloc: Global, status: Status) -> Replayed
+fn not_run<K: Drop>(alloc: Global, status: Status, keeper: K) -> Replayed<K>
     ensures status { result.status ≡ status }
     ensures opening { result.opening ≡ None }
     ensures history { result.history ≡ [] }
     ensures rows { result.rows ≡ None }
+    ensures keeper { result.keeper ≡ keeper }
 {
     Replayed {
         status,
         opening: None,
         history: Seq::new(alloc),
         rows: None,
+        keeper,
     }
 }
 
 // Runs the lines of events from the beginning of a run.
-fn run_events<T: Sink>(alloc: Global, mut run: Run, events: &[u8], out: &mut T) -> Replayed
+fn run_events<K: Keeper + Drop, T: Sink>(
+    alloc: Global,
+    mut run: Run<K>,
+    events: &[u8],
+    out: &mut T,
+) -> Replayed<K>
     requires history { run.machine.history ≡ [] }
     requires peers { run.peers ≡ [] }
     requires short { length events.now < 2 ^ 32 }
     ensures runs { RunsLines run.machine.start events.now (T.held out.old) (T.held out.new) (T.faults out.old)
         (T.faults out.new) result }
+    ensures stored { HoldsRows (K.held result.keeper) (state_at run.machine.start result.history).rows }
+    ensures counts { AreUpTo (K.faults result.keeper) run.machine.start result.history }
     ensures later { T.faults out.old ≤ T.faults out.new }
 {
     let status = run_lines(alloc, &mut run, events, out);
     streams_are_cut_anywhere();
     access_is_denied_exactly();
-    let (opening, history, rows) = run.into_parts();
+    let (opening, history, rows, keeper) = run.into_parts();
     Replayed {
         status,
         opening: Some(opening),
         history: Seq::from_vec(history),
         rows: Some(rows),
+        keeper,
     }
 }
 
-/// Replays the lines of an event file on one machine, and writes what each of them prints after it has run. It always
-/// returns. The configuration is read and checked first, then the events are read whole, then the lines are run.
-pub fn replay<S: Source, T: Sink>(
+// Why no machine was made, with the keeper.
+#[derive(Drop)]
+struct NoRun<K: Drop> {
+    status: Status,
+    keeper: K,
+}
+
+// A run to which nothing has happened, from the rows with which the store is opened.
+fn begin<K: Keeper + Drop>(
+    alloc: Global,
+    config: &Config,
+    mut keeper: K,
+) -> Result<Run<K>, NoRun<K>>
+    requires { IsRight config.now }
+    ensures begun { IfOk result (λ run. IsBegun config.now (K.held keeper) (K.faults keeper) run.machine.start) }
+    ensures history { IfOk result (λ run. run.machine.history ≡ []) }
+    ensures peers { IfOk result (λ run. run.peers ≡ []) }
+    ensures cause { IfErr result (λ none.
+        StoreCause (K.held keeper) (K.faults keeper) (K.faults none.keeper) none.status) }
+    ensures later { IfErr result (λ none. K.faults keeper ≤ K.faults none.keeper) }
+{
+    let rows = match open_store(alloc, config, &mut keeper) {
+        Ok(rows) => rows,
+        Err(e) => {
+            return Err(NoRun {
+                status: unopened(e),
+                keeper,
+            });
+        }
+    };
+    match Run::new(alloc, config, rows, keeper) {
+        Ok(run) => Ok(run),
+        Err(none) => Err(NoRun {
+            status: Status::NoMemory,
+            keeper: none.keeper,
+        }),
+    }
+}
+
+/// Replays the lines of an event file on one machine, over a keeper of its rows, and writes what each of them prints
+/// after it has run. It always returns. The configuration is read and checked first, then the events are read whole,
+/// then the store is opened, then the lines are run.
+pub fn replay<S: Source, T: Sink, K: Keeper + Drop>(
     alloc: Global,
     config: &mut S,
     events: &mut S,
     out: &mut T,
-) -> Replayed
-    ensures { IsReplay (record { left = S.left; read_faults = S.faults; held = T.held; write_faults = T.faults })
-        (record { config = config.old; events = events.old; out = out.old })
-        (record { config = config.new; events = events.new; out = out.new }) result }
+    keeper: K,
+) -> Replayed<K>
+    ensures { IsReplay (record {
+        left = S.left;
+        read_faults = S.faults;
+        held = T.held;
+        write_faults = T.faults;
+        pairs = K.held;
+        store_faults = K.faults;
+      })
+        (record { config = config.old; events = events.old; out = out.old; keeper = keeper })
+        (record { config = config.new; events = events.new; out = out.new; keeper = result.keeper }) result }
 {
     let configuration = match read_configuration(alloc, config) {
         Ok(configuration) => configuration,
-        Err(status) => return not_run(alloc, status),
+        Err(status) => return not_run(alloc, status, keeper),
     };
     let bytes = match read_whole(alloc, events) {
         Ok(bytes) => bytes,
-        Err(e) => return not_run(alloc, unread(e)),
+        Err(e) => return not_run(alloc, unread(e), keeper),
     };
-    let run = match Run::new(alloc, &configuration) {
-        Ok(run) => run,
-        Err(_) => return not_run(alloc, Status::NoMemory),
-    };
-    run_events(alloc, run, &bytes, out)
+    match begin(alloc, &configuration, keeper) {
+        Ok(run) => run_events(alloc, run, &bytes, out),
+        Err(none) => not_run(alloc, none.status, none.keeper),
+    }
 }

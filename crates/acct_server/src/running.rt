@@ -1,10 +1,12 @@
 // A machine with the connections of a replay.
 ghost use Rattle.std.specs.Prelude.{◌≡◌, ◌≢◌, ◌⊎◌, ◌+◌, ◌≤◌, ◌<◌, ◌^◌, ℕ, true, false, [], ◌++◌, ◌∷◌, if◌then◌else◌};
-ghost use Rattle.std.specs.Prelude.{length, take, Some, None, Ok, Err, OnOk, OnErr, IfOk, IfSome, IsSome, slice_get};
-ghost use Rattle.std.specs.Prelude.{slice_set, map, All, option_map};
+ghost use Rattle.std.specs.Prelude.{length, take, Some, None, Ok, Err, OnOk, OnErr, IfOk, IfErr, IfSome, IsSome};
+ghost use Rattle.std.specs.Prelude.{slice_get, slice_set, map, All, option_map};
 ghost use Rattle.std.specs.List.{flat_map};
 ghost use Rattle.acct_codes.specs.Limits.{least_fragment, most_fragment, most_stub};
 ghost use Rattle.acct_config.specs.Right.{IsRight};
+ghost use Rattle.acct_rows.specs.Sound.{IsSoundRows};
+ghost use Rattle.acct_machine.specs.Storing.{HoldsRows, AreUpTo};
 ghost use Rattle.acct_machine.specs.State.{is_live};
 ghost use Rattle.acct_machine.specs.Machine.{state_of, with_entry};
 ghost use Rattle.acct_machine.specs.Legal.{Legal};
@@ -14,7 +16,6 @@ ghost use Rattle.rpc_session.specs.Hearings.{HasRoom, on, is_going};
 ghost use Rattle.rpc_session.specs.Acts.{IsFit, is_refusal};
 ghost use Rattle.acct_server.specs.declared.events.LineError.TheVariants.{NoMemory, Refused};
 ghost use Rattle.acct_requests.specs.declared.connections.Peer.TheVariants as peer;
-ghost use Rattle.acct_server.specs.Begun.{begun};
 ghost use Rattle.acct_requests.specs.Requests.{call_on};
 ghost use Rattle.acct_server.specs.Events.{DataFits};
 ghost use Rattle.acct_requests.specs.Transcript.{busy_bytes};
@@ -30,7 +31,7 @@ use crate::events::{Event, LineError, event_of};
 use crate::printing::{closed_line, full_line, gone_line, out_line};
 use acct_base::is_same;
 use acct_codes::fault::NCA_S_SERVER_TOO_BUSY;
-use acct_machine::{Config, Entry, Listener, Machine, Opened, Rows, seed_rows};
+use acct_machine::{Config, Entry, Keeper, Listener, Machine, NoMachine, Opened, Rows};
 use acct_requests::{Answer, Asked, Gate, Peer, heard, is_served, new_peer, request};
 use rpc_session::{
     Act, calls_fit, fault_bytes, refusals_are_last, room_by_length, streams_are_cut_anywhere,
@@ -119,41 +120,59 @@ pub struct Ran {
 
 /// A machine, and how each connection of the replay stands.
 #[derive(Drop)]
-pub struct Run {
-    machine: Machine,
+pub struct Run<K: Keeper + Drop> {
+    machine: Machine<K>,
     peers: Vec<Peer>,
 }
 
-impl Model for Run {
+impl<K: Keeper + Drop> Model for Run<K> {
     ghost use Rattle.acct_machine.specs.Step.{state_at};
     ghost use Rattle.acct_server.specs.Running.{Running, Ties};
 
     ghost Value = { Running };
 
-    ghost view = { λ r. record { machine = r.machine; peers = r.peers.items } };
+    ghost view = { λ r. record { machine = r.machine.past; peers = r.peers.items } };
 
-    ghost invariant = { λ r. Ties r.peers.items (state_at r.machine.start r.machine.history) };
+    ghost invariant = { λ r. Ties r.peers.items (state_at r.machine.past.start r.machine.past.history) };
 }
 
-impl Run {
-    /// A run to which nothing has happened, from the seed rows of the configured domain.
-    pub fn new(alloc: Global, config: &Config) -> Result<Run, AllocError>
-        requires { IsRight config.now }
-        ensures { IfOk result (λ run. run
-            ≡ record { machine = record { start = begun config.now; history = [] }; peers = [] }) }
+impl<K: Keeper + Drop> Run<K> {
+    /// A run to which nothing has happened, from these rows, over a keeper that holds their pairs, if it tells. Where
+    /// there is no memory the keeper comes back.
+    pub fn new(
+        alloc: Global,
+        config: &Config,
+        rows: Rows,
+        keeper: K,
+    ) -> Result<Run<K>, NoMachine<K>>
+        requires right { IsRight config.now }
+        requires sound { IsSoundRows rows.lists }
+        requires stored { HoldsRows (K.held keeper) rows.lists }
+        ensures made { IfOk result (λ run. run
+            ≡ record {
+              machine = record {
+                start = record { config = config.now; rows = rows.lists; faults = K.faults keeper };
+                history = [];
+              };
+              peers = [];
+            }) }
+        ensures back { IfErr result (λ none. none.keeper ≡ keeper) }
     {
         Ok(Run {
-            machine: Machine::new(alloc, config, seed_rows(alloc, config)?)?,
+            machine: Machine::new(alloc, config, rows, keeper)?,
             peers: Vec::new(alloc),
         })
     }
 
-    /// The rows from which the machine's history began, the history, and the rows of the state after it.
-    pub fn into_parts(self) -> (Rows, Vec<Entry>, Rows)
+    /// The rows from which the machine's history began, the history, the rows of the state after it, and the keeper,
+    /// which holds their pairs, if it tells.
+    pub fn into_parts(self) -> (Rows, Vec<Entry>, Rows, K)
         ensures opening { result.0.lists ≡ self.machine.start.rows }
         ensures history { result.1.items ≡ self.machine.history }
         ensures rows { result.2.lists ≡ (state_of self.machine).rows }
         ensures legal { Legal self.machine.start result.1.items }
+        ensures stored { HoldsRows (K.held result.3) result.2.lists }
+        ensures counts { AreUpTo (K.faults result.3) self.machine.start result.1.items }
     {
         self.machine.into_parts()
     }

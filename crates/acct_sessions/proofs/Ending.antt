@@ -13,7 +13,7 @@ use Rattle.acct_machine.specs.declared.entry.Entry.{Entry}
 use Rattle.acct_machine.specs.declared.entry.Entry.TheVariants.{Gone}
 use Rattle.acct_machine.specs.Legal.{replies}
 use Rattle.acct_machine.specs.Passing.{Passes}
-use Rattle.acct_machine.specs.Shown.{Shown}
+use Rattle.acct_machine.specs.Shown.{Past}
 use Rattle.rpc_session.specs.declared.sessions.Act.{Act}
 use Rattle.rpc_session.specs.declared.hearing.Hearing.{Hearing}
 use Rattle.rpc_session.specs.Acts.{acts}
@@ -118,7 +118,7 @@ pub is-ended : (start : Start) (k : ℕ) (finds : List Entry → Type 0) (known 
 is-ended start k finds known left passes fronts turn =
     let passed = passes turn.found turn.finds_it in
     let same = turn.does_it.calls in
-    let gone : left ≡ turn.found ++ Gone k ∷ [] = ap (λ (m : Shown). m.history) turn.does_it.ends in record {
+    let gone : left ≡ turn.found ++ Gone k ∷ [] = ap (λ (m : Past). m.history) turn.does_it.ends in record {
       grows = front-then known turn.found left (fronts turn.found turn.finds_it) (Gone k ∷ [], gone);
       calls = same.calls k ∙ passed.calls;
       replied = same.replies k ∙ passed.replies;

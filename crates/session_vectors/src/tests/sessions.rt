@@ -1,6 +1,7 @@
 // Sessions over a link in memory and the machine.
 use acct_links::{MemoryLink, SteadyLink};
-use acct_machine::{Entry, Machine, Opened, read_config, seed_rows};
+use acct_keeper::SteadyKeeper;
+use acct_machine::{Entry, Machine, Opened, open_store, read_config};
 use acct_requests::Gate;
 use acct_sessions::session;
 use std::alloc::Global;
@@ -116,14 +117,18 @@ fn link_of(alloc: Global, making: Making, came: Vec<u8>) -> Result<MemoryLink, F
 }
 
 /// A machine, where the history has a limit or none.
-fn machine_of(alloc: Global, limit: &str) -> Result<Option<Machine>, Fail> {
+fn machine_of(alloc: Global, limit: &str) -> Result<Option<Machine<SteadyKeeper>>, Fail> {
     let text = if limit.is_empty() {
         String::from_str(alloc, CONFIG)?
     } else {
         format!(in alloc; "{CONFIG}[limits]\n{limit}\n")?
     };
-    match read_config(alloc, text.as_bytes()) {
-        Ok(config) => Ok(Some(Machine::new(alloc, &config, seed_rows(alloc, &config)?)?)),
+    let Ok(config) = read_config(alloc, text.as_bytes()) else {
+        return Ok(None);
+    };
+    let mut keeper = SteadyKeeper::new(alloc);
+    match open_store(alloc, &config, &mut keeper) {
+        Ok(rows) => Ok(Machine::new(alloc, &config, rows, keeper).ok()),
         Err(_) => Ok(None),
     }
 }
@@ -137,7 +142,7 @@ fn entry_text(alloc: Global, entry: &Entry) -> Result<String, Fail> {
     })
 }
 
-fn history_text(alloc: Global, machine: &Machine) -> Result<String, Fail> {
+fn history_text(alloc: Global, machine: &Machine<SteadyKeeper>) -> Result<String, Fail> {
     let mut text = String::new(alloc);
     for entry in machine.history() {
         text.push_str(&entry_text(alloc, entry)?)?;
@@ -148,7 +153,7 @@ fn history_text(alloc: Global, machine: &Machine) -> Result<String, Fail> {
 /// What a session on a new connection leaves: the end, what was written, what was entered.
 fn told(
     alloc: Global,
-    machine: &mut Machine,
+    machine: &mut Machine<SteadyKeeper>,
     link: &mut MemoryLink,
     most: u64,
 ) -> Result<String, Fail> {

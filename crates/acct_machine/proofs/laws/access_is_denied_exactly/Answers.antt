@@ -1,5 +1,5 @@
 -- The law of `access_is_denied_exactly`, by the lemmas that are cited.
-use Rattle.std.proofs.Common.{◌≡◌, Option, Some, refl, sym, subst, ◌↔◌}
+use Rattle.std.proofs.Common.{Option, refl, sym, subst, ◌↔◌}
 use Rattle.acct_codes.specs.Statuses.{status_access_denied}
 use Rattle.acct_rules.specs.Operations.{Operation, IsRight}
 use Rattle.acct_operations.specs.Table.{work_of}

@@ -1,6 +1,6 @@
 -- The law of `openings_are_decided`, by the lemmas that are cited.
 use Rattle.std.proofs.Common.{◌≡◌, ℕ, zero, suc, ◌<◌, Bool, true, false, cond, ◌==◌, List, [], ◌∷◌, length, Option}
-use Rattle.std.proofs.Common.{Some, refl, sym, ap, subst, arith}
+use Rattle.std.proofs.Common.{Some, refl, sym, subst, arith}
 use Rattle.std.specs.List.{All, slice_get}
 use Rattle.acct_codes.specs.declared.kind.Kind.{Kind}
 use Rattle.dtyp_access.specs.declared.descriptor.Descriptor.{Descriptor}
@@ -14,7 +14,7 @@ use Rattle.acct_rows.specs.declared.object.Object.{Object}
 use Rattle.acct_rows.specs.Objects.{kind_of}
 use Rattle.acct_codes.specs.declared.kind.Kind.TheVariants as kind
 use Rattle.acct_machine.specs.State.{State, find_conn}
-use Rattle.acct_machine.specs.Opening.{descriptor_of, listener_of, checked, grant_of}
+use Rattle.acct_machine.specs.Opening.{descriptor_of, listener_of, checked}
 use Rattle.acct_machine.specs.Step.{state_at}
 use Rattle.acct_machine.specs.Sound.{AreConnected}
 use Rattle.acct_machine.specs.Decided.{IsDecided}

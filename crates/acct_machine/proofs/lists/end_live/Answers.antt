@@ -1,5 +1,5 @@
 -- `end_live` meets its contract: what the search leaves open.
-use Rattle.std.proofs.Common.{rules, ◌≡◌, ◌-◌, set, sym, ◌∙◌, ap, arith, List}
+use Rattle.std.proofs.Common.{◌-◌, set, sym, ◌∙◌, ap, arith}
 use Rattle.std.proofs.lemmas.Bool.Decides.{nat_tests}
 use Rattle.acct_machine.specs.declared.state.Conn.{Conn}
 use Rattle.acct_machine.specs.Step.{live_ended}

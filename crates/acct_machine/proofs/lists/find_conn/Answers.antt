@@ -1,5 +1,5 @@
 -- `find_conn` meets its contract: what the search leaves open.
-use Rattle.std.proofs.Common.{◌≡◌, sym, arith}
+use Rattle.std.proofs.Common.{sym, arith}
 use Rattle.std.proofs.lemmas.Bool.Decides.{nat_tests}
 use Rattle.acct_machine.proofs.Places.{find-at, find-none}
 use Rattle.acct_machine.proofs.lists.find_conn.Goals as goal

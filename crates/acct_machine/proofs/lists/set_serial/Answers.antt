@@ -1,5 +1,5 @@
 -- `set_serial` meets its contract: what the search leaves open.
-use Rattle.std.proofs.Common.{rules, ◌≡◌, ◌-◌, set, sym, ◌∙◌, ap, arith, List}
+use Rattle.std.proofs.Common.{◌-◌, set, sym, ◌∙◌, ap, arith}
 use Rattle.std.proofs.lemmas.Bool.Decides.{nat_tests}
 use Rattle.acct_machine.specs.declared.state.Conn.{Conn}
 use Rattle.acct_machine.specs.Outcome.{serial_set}

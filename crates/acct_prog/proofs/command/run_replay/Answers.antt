@@ -1,4 +1,5 @@
 -- `run_replay` meets its contract: what the search leaves open.
+use Rattle.std.proofs.Common.{Some, [], refl}
 use Rattle.acct_prog.proofs.Worlds.{config-not-handed-out, events-not-handed-out, sink-not-handed-out, has-run}
 use Rattle.acct_prog.proofs.command.run_replay.Goals as goal
 
@@ -9,7 +10,14 @@ returns-in-Err g c =
     let w = g.W.World in
     record {
       commanded = config-not-handed-out
-          (record { left = s.left; read_faults = s.faults; held = t.held; write_faults = t.faults }) c.args.name.now
+          (record {
+      left = s.left;
+      read_faults = s.faults;
+      held = t.held;
+      write_faults = t.faults;
+      pairs = λ ps. Some ps;
+      store_faults = λ _. 0;
+    }) c.args.name.now
           (w.seen c.args.world.now) (w.seen c.take_source.new.self)
           c.in-Err.e c.read_status.result c.in-Err.ensures.takes c.read_status.ensures;
     }
@@ -21,7 +29,14 @@ returns-in-Err-take_source g c =
     let w = g.W.World in
     record {
       commanded = events-not-handed-out
-          (record { left = s.left; read_faults = s.faults; held = t.held; write_faults = t.faults }) c.args.name.now
+          (record {
+      left = s.left;
+      read_faults = s.faults;
+      held = t.held;
+      write_faults = t.faults;
+      pairs = λ ps. Some ps;
+      store_faults = λ _. 0;
+    }) c.args.name.now
           (w.seen c.args.world.now) (w.seen c.take_source.new.self) (w.seen c.take_source-2.new.self)
           (w.seen c.give_source.new.self)
           c.in-Ok.config c.in-Err-take_source.e c.read_status-in-Err-take_source.result c.requires c.in-Ok.ensures.takes
@@ -35,7 +50,14 @@ returns-in-Err-take_sink g c =
     let w = g.W.World in
     record {
       commanded = sink-not-handed-out
-          (record { left = s.left; read_faults = s.faults; held = t.held; write_faults = t.faults }) c.args.name.now
+          (record {
+      left = s.left;
+      read_faults = s.faults;
+      held = t.held;
+      write_faults = t.faults;
+      pairs = λ ps. Some ps;
+      store_faults = λ _. 0;
+    }) c.args.name.now
           (w.seen c.args.world.now) (w.seen c.take_source.new.self) (w.seen c.take_source-2.new.self)
           (w.seen c.take_sink.new.self)
           (w.seen c.give_source-in-Err-take_sink.new.self) (w.seen c.give_source-in-Err-take_sink-2.new.self)
@@ -51,10 +73,17 @@ returns g c =
     let t = g.W.T.Sink in
     let w = g.W.World in
     record {
-      commanded = has-run (record { left = s.left; read_faults = s.faults; held = t.held; write_faults = t.faults })
+      commanded = has-run (record {
+      left = s.left;
+      read_faults = s.faults;
+      held = t.held;
+      write_faults = t.faults;
+      pairs = λ ps. Some ps;
+      store_faults = λ _. 0;
+    })
           c.args.name.now (w.seen c.args.world.now) (w.seen c.take_source.new.self) (w.seen c.take_source-2.new.self)
           (w.seen c.take_sink.new.self) (w.seen c.run_parts.new.world)
-          c.in-Ok.config c.in-Ok-take_source.events c.in-Ok-take_sink.out c.run_parts.result c.requires
+          c.in-Ok.config c.in-Ok-take_source.events c.in-Ok-take_sink.out [] c.run_parts.result c.requires refl
           c.in-Ok.ensures.takes c.in-Ok-take_source.ensures.takes c.in-Ok-take_sink.ensures.takes
           c.run_parts.ensures;
     }

@@ -4,6 +4,7 @@ use Rattle.acct_machine.specs.declared.entry.Entry.{Entry}
 use Rattle.acct_machine.specs.State.{Start}
 use Rattle.acct_machine.specs.Step.{state_at}
 use Rattle.acct_machine.specs.Legal.{Legal}
+use Rattle.acct_machine.specs.Storing.{HoldsRows, AreUpTo}
 use Rattle.acct_rows.specs.Rows.{Lists}
 use Rattle.acct_server.proofs.Denying.{denies-in}
 use Rattle.acct_server.proofs.Transcribing.{transcribing}
@@ -34,3 +35,19 @@ returns-clause-runs g c =
       denies = denies-in c.access_is_denied_exactly.ensures.exactly c.access_is_denied_exactly.ensures.ran start history
           legal;
     })
+
+pub returns-clause-stored : goal.returns-clause-stored
+returns-clause-stored g c =
+    let run = c.run_lines-status in
+    let parts = c.into_parts-opening in
+    let history = run.new.run.machine.history in
+    let hands : c.from_vec.result ≡ history = c.from_vec.ensures ∙ parts.ensures.history in
+    rw hands (subst (λ (l : Lists). HoldsRows (g.K.Keeper.held parts.result.3) l)
+    (parts.ensures.rows ∙ ap (λ (s : Start). (state_at s history).rows) run.ensures.start) parts.ensures.stored)
+
+pub returns-clause-counts : goal.returns-clause-counts
+returns-clause-counts g c =
+    let run = c.run_lines-status in
+    let parts = c.into_parts-opening in
+    rw c.from_vec.ensures (subst (λ (s : Start). AreUpTo (g.K.Keeper.faults parts.result.3) s parts.result.1.items)
+    run.ensures.start parts.ensures.counts)

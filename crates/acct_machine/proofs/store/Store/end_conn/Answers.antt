@@ -1,5 +1,5 @@
 -- `Store::end_conn` meets its contract: what the search leaves open.
-use Rattle.std.proofs.Common.{◌≡◌, List, sym, subst, arith}
+use Rattle.std.proofs.Common.{List, sym, subst, arith}
 use Rattle.acct_machine.specs.declared.state.Conn.{Conn}
 use Rattle.acct_machine.specs.Sound.{IsNumberedFrom}
 use Rattle.acct_machine.proofs.Conns.{numbered-ended}

@@ -16,7 +16,7 @@ use Rattle.acct_server.proofs.Placing.{act-here, parted, one-more, not-last, clo
 use Rattle.acct_server.proofs.running.Run.act_all.Goals as goal
 
 pub loop-i-init : goal.loop-i-init
-loop-i-init c = record {
+loop-i-init g c = record {
   done = none-done c.args.self.now.machine.start c.args.conn c.args.self.now.machine.history c.new-lines.result.items
       c.new-lines.ensures.items;
   live = c.requires.live;
@@ -25,10 +25,10 @@ loop-i-init c = record {
 }
 
 pub act-requires-clause-live : goal.act-requires-clause-live
-act-requires-clause-live c = c.loop-i.invariant.live c.loop-i-test.true
+act-requires-clause-live g c = c.loop-i.invariant.live c.loop-i-test.true
 
 pub act-requires-clause-closed : goal.act-requires-clause-closed
-act-requires-clause-closed c = λ is.
+act-requires-clause-closed g c = λ is.
     let a = c.args in
     let x = c.index-acts-i.result in
     let here = act-here c.loop-i.i a.acts.now x x c.loop-i-test.true c.index-acts-i.is in
@@ -37,7 +37,7 @@ act-requires-clause-closed c = λ is.
     (c.requires.closed c.loop-i.i) is).1
 
 pub returns-in_err-count-clause-began : goal.returns-in_err-count-clause-began
-returns-in_err-count-clause-began c =
+returns-in_err-count-clause-began g c =
     let a = c.args in
     let x = c.index-acts-i.result in
     let parts = parted c.loop-i.i a.acts.now x
@@ -53,10 +53,10 @@ returns-in_err-count-clause-began c =
     c.in_err-count.ensures.began)))
 
 pub returns-in_err-count-clause-start : goal.returns-in_err-count-clause-start
-returns-in_err-count-clause-start c = c.act.ensures.start ∙ c.loop-i.invariant.start
+returns-in_err-count-clause-start g c = c.act.ensures.start ∙ c.loop-i.invariant.start
 
 pub returns-in-Some-clause-acts : goal.returns-in-Some-clause-acts
-returns-in-Some-clause-acts c =
+returns-in-Some-clause-acts g c =
     let a = c.args in
     let x = c.index-acts-i.result in
     let count = c.in-Some.count in
@@ -84,7 +84,7 @@ returns-in-Some-clause-acts c =
     c.act.new.lines.items count goes)
 
 pub loop-i-preserved : goal.loop-i-preserved
-loop-i-preserved c =
+loop-i-preserved g c =
     let a = c.args in
     let x = c.index-acts-i.result in
     let before = a.self.now.machine.history in
@@ -115,7 +115,7 @@ loop-i-preserved c =
     }
 
 pub returns-clause-acts : goal.returns-clause-acts
-returns-clause-acts c =
+returns-clause-acts g c =
     let a = c.args in
     let before = a.self.now.machine.history in
     let ends = c.loop-i-test.false in
@@ -124,7 +124,7 @@ returns-clause-acts c =
     c.loop-i.invariant.done
 
 pub returns-clause-peers : goal.returns-clause-peers
-returns-clause-peers c = c.loop-i.invariant.peers
+returns-clause-peers g c = c.loop-i.invariant.peers
 
 pub returns-clause-start : goal.returns-clause-start
-returns-clause-start c = c.loop-i.invariant.start
+returns-clause-start g c = c.loop-i.invariant.start

@@ -7,7 +7,7 @@ use Rattle.acct_server.specs.Running.{Acts}
 use Rattle.acct_server.proofs.running.Run.act_all.Given as goal
 
 abbrev pub invariant-loop-i : goal.invariant-loop-i
-invariant-loop-i l = record {
+invariant-loop-i g l = record {
   done : Acts (λ verdicts. on_acts l.initial.self.machine.start verdicts l.initial.self.machine.history l.conn
       (take l.i l.acts)) l.initial.self.machine.history l.self.machine.history [] l.lines.items None;
   live : l.i < length l.acts → is_live l.conn (state_of l.self.machine).conns ≡ true;

@@ -7,7 +7,7 @@ use Rattle.acct_server.proofs.Closing.{closing-goes_on, closing-count}
 use Rattle.acct_server.proofs.running.Run.end_all.Goals as goal
 
 pub loop-i-preserved : goal.loop-i-preserved
-loop-i-preserved c =
+loop-i-preserved g c =
     let old = c.loop-i.self in
     let new = c.end_if_served.new.self in
     let same : length c.self.inside.peers.items ≡ length c.args.self.now.peers =

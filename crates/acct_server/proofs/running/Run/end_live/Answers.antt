@@ -11,12 +11,12 @@ use Rattle.acct_server.proofs.Placing.{some-there, ties-ended}
 use Rattle.acct_server.proofs.running.Run.end_live.Goals as goal
 
 pub invariant_of-self : goal.invariant_of-self
-invariant_of-self c =
+invariant_of-self g c =
     let conn = c.args.conn in
     let peers = c.self.inside.peers.items in
     let some = subst (λ (r : Running). IsSome (peer_of conn r.peers)) (sym c.self.view_is) c.requires.there in
     let there = some-there (peer_of conn peers) some in
-    subst (λ (ps : List Peer). Ties ps (state_at c.gone.new.self.start c.gone.new.self.history))
+    subst (λ (ps : List Peer). Ties ps (state_at c.gone.new.self.past.start c.gone.new.self.past.history))
     (sym (peer-set conn peers there.0 Ended there.1))
-    (ties-ended conn peers there.0 (state_at c.self.inside.machine.start c.self.inside.machine.history)
-    (state_at c.gone.new.self.start c.gone.new.self.history) there.1 c.self.invariant c.gone.ensures.live)
+    (ties-ended conn peers there.0 (state_at c.self.inside.machine.past.start c.self.inside.machine.past.history)
+    (state_at c.gone.new.self.past.start c.gone.new.self.past.history) there.1 c.self.invariant c.gone.ensures.live)

@@ -9,7 +9,7 @@ use Rattle.acct_server.proofs.Placing.{served-some}
 use Rattle.acct_server.proofs.running.Run.end_served.Goals as goal
 
 pub end_live-requires-clause-live : goal.end_live-requires-clause-live
-end_live-requires-clause-live c =
+end_live-requires-clause-live g c =
     let conn = c.args.conn in
     let served = subst (λ (r : Running). is_served (peer_of conn r.peers) ≡ true) (sym c.self.view_is)
     c.requires.served in
@@ -17,4 +17,4 @@ end_live-requires-clause-live c =
     (c.self.invariant.lives conn served)
 
 pub end_live-requires-clause-there : goal.end_live-requires-clause-there
-end_live-requires-clause-there c = served-some (peer_of c.args.conn c.args.self.now.peers) c.requires.served
+end_live-requires-clause-there g c = served-some (peer_of c.args.conn c.args.self.now.peers) c.requires.served

@@ -1,9 +1,9 @@
--- `connect4` meets its contract: what the search leaves open.
+-- `connect5` meets its contract: what the search leaves open.
 use Rattle.std.proofs.Common.{◌≡◌, refl}
 use Rattle.acct_layouts.specs.CallShapes.{CanBeSpelled}
 use Rattle.acct_layouts.specs.Table.{samr_layout}
 use Rattle.acct_operations.specs.Table.{operation, work_of}
-use Rattle.acct_machine.proofs.tests.connect4.Goals as goal
+use Rattle.machine_vectors.proofs.tests.connect5.Goals as goal
 
 pub returns : goal.returns
 unfolding operation work_of CanBeSpelled samr_layout

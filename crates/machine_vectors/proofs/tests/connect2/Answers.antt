@@ -3,7 +3,7 @@ use Rattle.std.proofs.Common.{◌≡◌, refl}
 use Rattle.acct_layouts.specs.CallShapes.{CanBeSpelled}
 use Rattle.acct_layouts.specs.Table.{samr_layout}
 use Rattle.acct_operations.specs.Table.{operation, work_of}
-use Rattle.acct_machine.proofs.tests.connect2.Goals as goal
+use Rattle.machine_vectors.proofs.tests.connect2.Goals as goal
 
 pub returns : goal.returns
 unfolding operation work_of CanBeSpelled samr_layout

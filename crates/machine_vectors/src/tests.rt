@@ -6,13 +6,14 @@ ghost use Rattle.acct_machine.specs.State.{is_live};
 ghost use Rattle.acct_machine.specs.Calls.{IsCall};
 ghost use Rattle.acct_machine.specs.Machine.{state_of};
 
-use crate::checks::access_with;
-use crate::opening::granted;
-use crate::{
-    Access, Acted, Args, Call, Config, ConfigError, Conn, Entry, Face, Handle, Held, Machine,
-    Object, Opened, Outs, Reply, Verdict, read_config, seed_rows,
-};
+use acct_base::Seq;
 use acct_codes::Kind;
+use acct_keeper::{Change, MemoryKeeper, SteadyKeeper};
+use acct_machine::{
+    Access, Acted, Args, Call, Config, ConfigError, Conn, Entry, Face, Handle, Held, Keeper,
+    Machine, Object, OpenError, Opened, Outs, Reply, Verdict, access_with, granted, open_store,
+    read_config,
+};
 use acct_operations::{Work, profile_of, works};
 use acct_rules::{Brings, Kinds};
 use dtyp_sid::Sid;
@@ -64,17 +65,46 @@ fn restricted(rt: &impl Abort, alloc: Global, first: &str, second: &str) -> Resu
     Ok(configured(rt, alloc, document.as_str()))
 }
 
-/// A machine with connection 1 at the first listener and connection 2 at the second.
-fn started(rt: &impl Abort, alloc: Global, config: &Config) -> Result<Machine, Fail>
+/// A keeper in memory without a pair, whose calls of these numbers fail.
+fn keeper_with(alloc: Global, failing: &[u64]) -> Result<MemoryKeeper, Fail> {
+    Ok(MemoryKeeper::new(SteadyKeeper::new(alloc), failing.to_vec(alloc)?))
+}
+
+/// A machine with connection 1 at the first listener and connection 2 at the second, over a keeper in memory whose
+/// calls of these numbers fail.
+fn started_over(
+    rt: &impl Abort,
+    alloc: Global,
+    config: &Config,
+    failing: &[u64],
+) -> Result<Machine<MemoryKeeper>, Fail>
     requires right { IsRight config.now }
     requires listeners { length config.now.listeners ≡ 2 }
-    ensures first { IfOk result (λ machine. is_live 1 (state_of machine).conns ≡ true) }
-    ensures second { IfOk result (λ machine. is_live 2 (state_of machine).conns ≡ true) }
+    ensures first { IfOk result (λ machine. is_live 1 (state_of machine.past).conns ≡ true) }
+    ensures second { IfOk result (λ machine. is_live 2 (state_of machine.past).conns ≡ true) }
 {
-    let mut machine = Machine::new(alloc, config, seed_rows(alloc, config)?)?;
+    let mut keeper = keeper_with(alloc, failing)?;
+    let rows = match open_store(alloc, config, &mut keeper) {
+        Ok(rows) => rows,
+        Err(e) => panic!(rt; "{e:?}"),
+    };
+    let mut machine = match Machine::new(alloc, config, rows, keeper) {
+        Ok(machine) => machine,
+        Err(_) => panic!(rt; "memory is wanted"),
+    };
     assert_eq!(rt; machine.open_conn(0), Opened::Conn(1));
     assert_eq!(rt; machine.open_conn(1), Opened::Conn(2));
     Ok(machine)
+}
+
+/// The same over a keeper whose calls don't fail.
+fn started(rt: &impl Abort, alloc: Global, config: &Config) -> Result<Machine<MemoryKeeper>, Fail>
+    requires right { IsRight config.now }
+    requires listeners { length config.now.listeners ≡ 2 }
+    ensures first { IfOk result (λ machine. is_live 1 (state_of machine.past).conns ≡ true) }
+    ensures second { IfOk result (λ machine. is_live 2 (state_of machine.past).conns ≡ true) }
+{
+    started_over(rt, alloc, config, &[])
 }
 
 /// A call of each operation.
@@ -86,6 +116,7 @@ enum Ask {
     OpenPolicy2 { rooted: bool, access: u32 },
     SamrClose(u128),
     LsarClose(u128),
+    CreateAccount(u128, Sid),
 }
 
 fn connect2(access: u32) -> Call
@@ -154,6 +185,17 @@ fn lsar_close(number: u128) -> Call
     }
 }
 
+fn create_account(number: u128, sid: Sid) -> Call
+    ensures { IsCall result }
+{
+    Call {
+        face: Face::Lsa,
+        opnum: 10,
+        handle: Handle { number },
+        args: Args::AccessSid { access: 1, sid },
+    }
+}
+
 fn call_of(ask: Ask) -> Call
     ensures { IsCall result }
 {
@@ -164,6 +206,7 @@ fn call_of(ask: Ask) -> Call
         Ask::OpenPolicy2 { rooted, access } => open_policy2(rooted, access),
         Ask::SamrClose(number) => samr_close(number),
         Ask::LsarClose(number) => lsar_close(number),
+        Ask::CreateAccount(number, sid) => create_account(number, sid),
     }
 }
 
@@ -190,11 +233,11 @@ fn answer_of(acted: &Acted) -> Answer {
 }
 
 /// What the first or the second connection is answered.
-fn answered(machine: &mut Machine, first: bool, ask: Ask) -> Answer
-    requires first { is_live 1 (state_of machine.old).conns ≡ true }
-    requires second { is_live 2 (state_of machine.old).conns ≡ true }
-    ensures first { is_live 1 (state_of machine.new).conns ≡ true }
-    ensures second { is_live 2 (state_of machine.new).conns ≡ true }
+fn answered(machine: &mut Machine<MemoryKeeper>, first: bool, ask: Ask) -> Answer
+    requires first { is_live 1 (state_of machine.old.past).conns ≡ true }
+    requires second { is_live 2 (state_of machine.old.past).conns ≡ true }
+    ensures first { is_live 1 (state_of machine.new.past).conns ≡ true }
+    ensures second { is_live 2 (state_of machine.new.past).conns ≡ true }
 {
     let call = call_of(ask);
     if first {
@@ -205,9 +248,9 @@ fn answered(machine: &mut Machine, first: bool, ask: Ask) -> Answer
 }
 
 /// Asks in order, each on the first or the second connection.
-fn ask_all(rt: &impl Abort, machine: &mut Machine, script: &[(bool, Ask, Answer)])
-    requires first { is_live 1 (state_of machine.old).conns ≡ true }
-    requires second { is_live 2 (state_of machine.old).conns ≡ true }
+fn ask_all(rt: &impl Abort, machine: &mut Machine<MemoryKeeper>, script: &[(bool, Ask, Answer)])
+    requires first { is_live 1 (state_of machine.old.past).conns ≡ true }
+    requires second { is_live 2 (state_of machine.old.past).conns ≡ true }
 {
     for (first, ask, wanted) in script {
         assert_eq!(rt; answered(machine, *first, *ask), *wanted, "{ask:?}");
@@ -508,7 +551,7 @@ fn histories_are_handed_out(rt: HostRuntime) -> Result<(), Fail> {
     machine.gone(1);
     assert_eq!(rt; machine.history().len(), 4);
     assert_eq!(rt; machine.rows().accounts().len(), 8);
-    let (opening, history, rows) = machine.into_parts();
+    let (opening, history, rows, _) = machine.into_parts();
     assert_eq!(rt; opening.accounts().len(), 8);
     assert_eq!(rt; rows.accounts().len(), 8);
     assert!(rt;
@@ -537,5 +580,147 @@ fn histories_are_handed_out(rt: HostRuntime) -> Result<(), Fail> {
             ]
         )
     );
+    Ok(())
+}
+
+/// STATUS_INTERNAL_DB_ERROR and STATUS_OBJECT_NAME_COLLISION.
+const STORE: Answer = Answer::Handle(0xC0000158, 0);
+
+const COLLISION: Answer = Answer::Handle(0xC0000035, 0);
+
+#[test]
+fn a_commit_that_fails_changes_nothing(rt: HostRuntime) -> Result<(), Fail> {
+    let alloc = rt.alloc();
+    let config = configured(&rt, alloc, PLAIN);
+    // The keeper's third call, behind the loading and the seeding, is the first creation's.
+    let mut machine = started_over(&rt, alloc, &config, &[3])?;
+    let script = [
+        (
+            true,
+            Ask::OpenPolicy2 {
+                rooted: false,
+                access: 0x10,
+            },
+            Answer::Handle(0, FIRST),
+        ),
+        (true, Ask::CreateAccount(FIRST, config.sid), STORE),
+        // The serial wasn't used up, and the account isn't there.
+        (
+            true,
+            Ask::CreateAccount(FIRST, config.sid),
+            Answer::Handle(0, FIRST + 1),
+        ),
+        (true, Ask::CreateAccount(FIRST, config.sid), COLLISION),
+    ];
+    ask_all(&rt, &mut machine, &script);
+    let (opening, history, rows, keeper) = machine.into_parts();
+    assert_eq!(rt; rows.lsa_rows().len(), opening.lsa_rows().len() + 1);
+    assert_eq!(rt; keeper.faults(), 1);
+    assert!(rt;
+        matches!(
+            history.as_slice(),
+            [
+                Entry::Opened { .. },
+                Entry::Opened { .. },
+                Entry::Called {
+                    verdict: Verdict::Ran,
+                    ..
+                },
+                Entry::Called {
+                    verdict: Verdict::StoreFault(1),
+                    ..
+                },
+                Entry::Called {
+                    verdict: Verdict::Ran,
+                    ..
+                },
+                Entry::Called {
+                    verdict: Verdict::Ran,
+                    ..
+                },
+            ]
+        )
+    );
+    Ok(())
+}
+
+#[test]
+fn counts_of_faults_rise(rt: HostRuntime) -> Result<(), Fail> {
+    let alloc = rt.alloc();
+    let config = configured(&rt, alloc, PLAIN);
+    let mut machine = started_over(&rt, alloc, &config, &[3, 4])?;
+    let script = [
+        (true, OPENING, Answer::Handle(0, FIRST)),
+        // Nothing is committed where nothing changes: this handle lacks the right to create.
+        (true, Ask::CreateAccount(FIRST, config.sid), DENIED),
+        (
+            true,
+            Ask::OpenPolicy2 {
+                rooted: false,
+                access: 0x10,
+            },
+            Answer::Handle(0, FIRST + 1),
+        ),
+        (true, Ask::CreateAccount(FIRST + 1, config.sid), STORE),
+        (true, Ask::CreateAccount(FIRST + 1, config.sid), STORE),
+    ];
+    ask_all(&rt, &mut machine, &script);
+    let history = machine.history();
+    assert!(rt;
+        matches!(
+            history,
+            [
+                Entry::Opened { .. },
+                Entry::Opened { .. },
+                Entry::Called { .. },
+                Entry::Called { .. },
+                Entry::Called { .. },
+                Entry::Called {
+                    verdict: Verdict::StoreFault(1),
+                    ..
+                },
+                Entry::Called {
+                    verdict: Verdict::StoreFault(2),
+                    ..
+                },
+            ]
+        )
+    );
+    Ok(())
+}
+
+#[test]
+fn stores_are_opened(rt: HostRuntime) -> Result<(), Fail> {
+    let alloc = rt.alloc();
+    let config = configured(&rt, alloc, PLAIN);
+    // A load that fails, and a seeding that does: no pair is kept.
+    for failing in [1, 2] {
+        let mut keeper = keeper_with(alloc, &[failing])?;
+        assert!(rt;
+            matches!(
+                open_store(alloc, &config, &mut keeper),
+                Err(OpenError::StoreFault)
+            )
+        );
+        assert_eq!(rt; keeper.as_slice().len(), 0);
+    }
+    // A store is opened again as it was left.
+    let mut keeper = keeper_with(alloc, &[])?;
+    for _ in 0..2 {
+        match open_store(alloc, &config, &mut keeper) {
+            Ok(rows) => assert_eq!(rt; rows.accounts().len(), 8),
+            Err(e) => panic!(rt; "{e:?}"),
+        }
+    }
+    // The format's pair goes, whose key is then the one that is broken.
+    let gone = Change {
+        key: Seq::copy_of(alloc, b"f")?,
+        value: None,
+    };
+    assert!(rt; keeper.commit(&[gone]).is_ok());
+    match open_store(alloc, &config, &mut keeper) {
+        Err(OpenError::StoredPair(key)) => assert_eq!(rt; key.as_slice(), b"f".as_slice()),
+        _ => panic!(rt; "a broken store was opened"),
+    }
     Ok(())
 }

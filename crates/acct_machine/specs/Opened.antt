@@ -1,0 +1,35 @@
+-- What opening a store gives.
+use Rattle.std.specs.Prelude.{◌≡◌, ◌≢◌, ℕ, List, [], ◌∷◌, Option, Some, IfSome, ⊤}
+use Rattle.acct_config.specs.declared.config.Config.{Config}
+use Rattle.acct_keeper.specs.declared.keeper.KeepError.{KeepError}
+use Rattle.acct_keeper.specs.declared.keeper.KeepError.TheVariants as keeps
+use Rattle.acct_keeper.specs.declared.pairs.Change.{Change}
+use Rattle.acct_keeper.specs.declared.pairs.Pair.{Pair}
+use Rattle.acct_rows.specs.Rows.{Lists}
+use Rattle.acct_rows.specs.Seed.{seed_lists}
+use Rattle.acct_streams.specs.Causes.{Rose}
+use Rattle.acct_machine.specs.declared.opened.OpenError.{OpenError}
+use Rattle.acct_machine.specs.declared.opened.OpenError.TheVariants.{StoreFault, StoredPair, Memory}
+use Rattle.acct_machine.specs.PairsOf.{ArePairsOf, AreUnbroken, IsSmallestBroken}
+
+-- The rows that a store is opened with: the seed rows of the configured domain where it has no pair, and else those whose
+-- pairs it has, which break no rule.
+abbrev pub OpensRows : Config → List Pair → Lists → Type 0
+OpensRows config [] rows = rows ≡ seed_lists config.name config.sid
+OpensRows config (pair ∷ pairs) rows = AreUnbroken (pair ∷ pairs) × ArePairsOf rows (pair ∷ pairs)
+
+-- Why a store isn't opened: the keeper failed and its count of faults rose, or its pairs break a rule, and this is the
+-- smallest key that is broken. Want of memory is free.
+abbrev pub OpenCause : Option (List Pair) → ℕ → ℕ → OpenError → Type 0
+OpenCause told before now StoreFault = Rose before now
+OpenCause told before now (StoredPair key) = IfSome told (λ pairs. (pairs ≢ []) × IsSmallestBroken pairs key)
+OpenCause told before now Memory = ⊤
+
+-- what a keeper's error makes of the opening
+abbrev pub unopened : KeepError → OpenError
+unopened keeps.Failed = StoreFault
+unopened keeps.NoMemory = Memory
+
+-- a pair is put at its key
+abbrev pub put_of : Pair → Change
+put_of pair = record { key = pair.key; value = Some pair.value }

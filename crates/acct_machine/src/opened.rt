@@ -1,0 +1,114 @@
+// Opening a store: the rows whose pairs a keeper holds.
+ghost use Rattle.std.specs.Prelude.{◌≡◌, ◌≢◌, ◌≤◌, [], Some, map, IfOk, IfErr, IfSome, OnErr};
+ghost use Rattle.acct_config.specs.Right.{IsRight};
+ghost use Rattle.acct_keeper.specs.Causes.{KeepCause};
+ghost use Rattle.acct_keeper.specs.Pairs.{after};
+ghost use Rattle.acct_rows.specs.Seed.{seed_lists};
+ghost use Rattle.acct_rows.specs.Sound.{IsSoundRows};
+ghost use Rattle.acct_machine.specs.Opened.{OpensRows, OpenCause, put_of, unopened};
+ghost use Rattle.acct_machine.specs.PairsOf.{ArePairsOf};
+ghost use Rattle.acct_machine.specs.Storing.{HoldsRows};
+
+use crate::pairs::{PairsError, from_pairs, to_pairs};
+use crate::{Config, Keeper, NoMemory, Rows, seed_rows};
+use acct_base::Seq;
+use acct_keeper::{Change, KeepError, Pair};
+use std::alloc::Global;
+
+/// Why a store isn't opened.
+#[derive(Debug, Drop)]
+pub enum OpenError {
+    /// The keeper failed, and its count of faults rose.
+    StoreFault,
+    /// The pairs break a rule: the smallest key that is broken.
+    StoredPair(Seq<u8>),
+    /// Memory was wanted.
+    Memory,
+}
+
+fn unopened(e: KeepError) -> OpenError
+    ensures { result ≡ unopened e }
+{
+    match e {
+        KeepError::Failed => OpenError::StoreFault,
+        KeepError::NoMemory => OpenError::Memory,
+    }
+}
+
+// A change for each pair, in order, that puts it.
+fn puts_of(alloc: Global, pairs: Vec<Pair>) -> Result<Vec<Change>, NoMemory>
+    ensures { IfOk result (λ changes. changes.items ≡ map put_of pairs.items) }
+{
+    let mut changes = Vec::new(alloc);
+    changes.reserve(pairs.len())?;
+    for pair in pairs {
+        changes.push(Change {
+            key: pair.key,
+            value: Some(pair.value),
+        })?;
+    }
+    Ok(changes)
+}
+
+// The changes that give a keeper without a pair those of the rows.
+fn first_changes(alloc: Global, rows: &Rows) -> Result<Vec<Change>, NoMemory>
+    requires { IsSoundRows rows.now.lists }
+    ensures { IfOk result (λ changes. ArePairsOf rows.now.lists (after changes.items [])) }
+{
+    let pairs = to_pairs(alloc, rows)?;
+    let changes = puts_of(alloc, pairs)?;
+    Ok(changes)
+}
+
+// The seed rows of the configured domain, whose pairs a keeper without a pair gets in one commit.
+fn seed_store<K: Keeper>(alloc: Global, config: &Config, keeper: &mut K) -> Result<Rows, OpenError>
+    requires right { IsRight config.now }
+    requires empty { IfSome (K.held keeper.old) (λ told. told ≡ []) }
+    ensures lists { IfOk result (λ rows. rows.lists ≡ seed_lists config.now.name config.now.sid) }
+    ensures sound { IfOk result (λ rows. IsSoundRows rows.lists) }
+    ensures stored { IfOk result (λ rows. HoldsRows (K.held keeper.new) rows.lists) }
+    ensures err { OnErr result (K.held keeper.new ≡ K.held keeper.old) }
+    ensures cause { IfErr result (OpenCause (Some []) (K.faults keeper.old) (K.faults keeper.new)) }
+    ensures later { K.faults keeper.old ≤ K.faults keeper.new }
+{
+    let Ok(rows) = seed_rows(alloc, config) else {
+        return Err(OpenError::Memory);
+    };
+    let Ok(changes) = first_changes(alloc, &rows) else {
+        return Err(OpenError::Memory);
+    };
+    match keeper.commit(&changes) {
+        Ok(()) => Ok(rows),
+        Err(e) => Err(unopened(e)),
+    }
+}
+
+/// The rows whose pairs the keeper holds. One that holds no pair gets those of the seed rows of the configured domain,
+/// in one commit.
+pub fn open_store<K: Keeper>(
+    alloc: Global,
+    config: &Config,
+    keeper: &mut K,
+) -> Result<Rows, OpenError>
+    requires { IsRight config.now }
+    ensures opened { IfOk result (λ rows. IfSome (K.held keeper.old) (λ told. OpensRows config.now told rows.lists)) }
+    ensures kept { IfSome (K.held keeper.old) (λ told. told ≢ [] → K.held keeper.new ≡ Some told) }
+    ensures sound { IfOk result (λ rows. IsSoundRows rows.lists) }
+    ensures stored { IfOk result (λ rows. HoldsRows (K.held keeper.new) rows.lists) }
+    ensures err { OnErr result (K.held keeper.new ≡ K.held keeper.old) }
+    ensures cause { IfErr result (OpenCause (K.held keeper.old) (K.faults keeper.old) (K.faults keeper.new)) }
+    ensures later { K.faults keeper.old ≤ K.faults keeper.new }
+{
+    let pairs = match keeper.load() {
+        Ok(pairs) => pairs,
+        Err(e) => return Err(unopened(e)),
+    };
+    if pairs.is_empty() {
+        return seed_store(alloc, config, keeper);
+    }
+    match from_pairs(alloc, &pairs) {
+        Ok(rows) => Ok(rows),
+        Err(PairsError::BadPair(key)) => Err(OpenError::StoredPair(key)),
+        Err(PairsError::Memory) => Err(OpenError::Memory),
+    }
+}
