@@ -1,4 +1,3 @@
-pub mod PairsOf
 pub mod State
 pub mod Opening
 pub mod Calls

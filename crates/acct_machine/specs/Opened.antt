@@ -10,7 +10,8 @@ use Rattle.acct_rows.specs.Seed.{seed_lists}
 use Rattle.acct_streams.specs.Causes.{Rose}
 use Rattle.acct_machine.specs.declared.opened.OpenError.{OpenError}
 use Rattle.acct_machine.specs.declared.opened.OpenError.TheVariants.{StoreFault, StoredPair, Memory}
-use Rattle.acct_machine.specs.PairsOf.{ArePairsOf, AreUnbroken, IsSmallestBroken}
+use Rattle.acct_rows.specs.PairsOf.{ArePairsOf}
+use Rattle.acct_rows.specs.PairRules.{AreUnbroken, IsSmallestBroken}
 
 -- The rows that a store is opened with: the seed rows of the configured domain where it has no pair, and else those whose
 -- pairs it has, which break no rule.

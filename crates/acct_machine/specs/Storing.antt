@@ -6,7 +6,7 @@ use Rattle.acct_streams.specs.Causes.{Rose}
 use Rattle.acct_machine.specs.declared.entry.Verdict.{Verdict}
 use Rattle.acct_machine.specs.declared.entry.Verdict.TheVariants.{Ran, StoreFault, NoMemory}
 use Rattle.acct_machine.specs.declared.entry.Entry.{Entry}
-use Rattle.acct_machine.specs.PairsOf.{ArePairsOf}
+use Rattle.acct_rows.specs.PairsOf.{ArePairsOf}
 use Rattle.acct_machine.specs.State.{Start}
 use Rattle.acct_machine.specs.Legal.{counts_of}
 

@@ -28,7 +28,6 @@ mod lists;
 mod machine;
 mod opened;
 mod opening;
-mod pairs;
 mod room;
 mod seeding;
 mod state;

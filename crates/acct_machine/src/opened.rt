@@ -6,13 +6,14 @@ ghost use Rattle.acct_keeper.specs.Pairs.{after};
 ghost use Rattle.acct_rows.specs.Seed.{seed_lists};
 ghost use Rattle.acct_rows.specs.Sound.{IsSoundRows};
 ghost use Rattle.acct_machine.specs.Opened.{OpensRows, OpenCause, put_of, unopened};
-ghost use Rattle.acct_machine.specs.PairsOf.{ArePairsOf};
+ghost use Rattle.acct_rows.specs.PairsOf.{ArePairsOf};
 ghost use Rattle.acct_machine.specs.Storing.{HoldsRows};
 
-use crate::pairs::{PairsError, from_pairs, to_pairs};
 use crate::{Config, Keeper, NoMemory, Rows, seed_rows};
 use acct_base::Seq;
 use acct_keeper::{Change, KeepError, Pair};
+use acct_rows::PairsError;
+use acct_rows::pairs::laws::ascending_keys_differ;
 use std::alloc::Global;
 
 /// Why a store isn't opened.
@@ -55,7 +56,7 @@ fn first_changes(alloc: Global, rows: &Rows) -> Result<Vec<Change>, NoMemory>
     requires { IsSoundRows rows.now.lists }
     ensures { IfOk result (λ changes. ArePairsOf rows.now.lists (after changes.items [])) }
 {
-    let pairs = to_pairs(alloc, rows)?;
+    let pairs = rows.to_pairs(alloc)?;
     let changes = puts_of(alloc, pairs)?;
     Ok(changes)
 }
@@ -106,7 +107,8 @@ pub fn open_store<K: Keeper>(
     if pairs.is_empty() {
         return seed_store(alloc, config, keeper);
     }
-    match from_pairs(alloc, &pairs) {
+    ascending_keys_differ();
+    match Rows::from_pairs(alloc, &pairs) {
         Ok(rows) => Ok(rows),
         Err(PairsError::BadPair(key)) => Err(OpenError::StoredPair(key)),
         Err(PairsError::Memory) => Err(OpenError::Memory),

@@ -32,7 +32,6 @@ use crate::lists::{
     set_serial,
 };
 use crate::opening::granted;
-use crate::pairs::changes;
 use crate::{Call, Config, Conn, Handle, Held, NoMemory, Object, Outs, Reply, Rows, Verdict};
 use acct_codes::fault::{NCA_S_FAULT_CONTEXT_MISMATCH, NCA_S_OP_RNG_ERROR};
 use acct_codes::status::{
@@ -157,7 +156,7 @@ fn commit<K: Keeper>(
     if !has_change(plan) {
         return Ok(());
     }
-    let changes = changes(alloc, rows, plan)?;
+    let changes = rows.changes(alloc, plan)?;
     if changes.is_empty() {
         return Ok(());
     }

@@ -16,7 +16,7 @@ use Rattle.acct_streams.specs.Whole.{most_bytes}
 use Rattle.acct_keeper.specs.declared.pairs.Pair.{Pair}
 use Rattle.acct_machine.specs.declared.opened.OpenError.{OpenError}
 use Rattle.acct_machine.specs.declared.opened.OpenError.TheVariants as unopened
-use Rattle.acct_machine.specs.PairsOf.{IsSmallestBroken}
+use Rattle.acct_rows.specs.PairRules.{IsSmallestBroken}
 use Rattle.acct_server.specs.Begun.{IsBegun}
 use Rattle.acct_server.specs.Configured.{spelled}
 use Rattle.acct_server.specs.Replayed.{Effect, replayed, ending, entries_of, output_of, line_bytes}

@@ -3,7 +3,7 @@ use Rattle.std.proofs.Common.{[], List, sym, ◌∙◌, ap, subst}
 use Rattle.acct_keeper.specs.declared.pairs.Change.{Change}
 use Rattle.acct_keeper.specs.declared.pairs.Pair.{Pair}
 use Rattle.acct_keeper.specs.Pairs.{after}
-use Rattle.acct_machine.specs.PairsOf.{ArePairsOf}
+use Rattle.acct_rows.specs.PairsOf.{ArePairsOf}
 use Rattle.acct_machine.proofs.Puts.{all-put}
 use Rattle.acct_machine.proofs.opened.first_changes.Goals as goal
 
