@@ -14,11 +14,7 @@ pub struct Period {
     pub rows: Rows,
 }
 
-fn period_between(
-    opening: Option<Rows>,
-    history: Seq<Entry>,
-    rows: Option<Rows>,
-) -> Option<Period>
+fn period_between(opening: Option<Rows>, history: Seq<Entry>, rows: Option<Rows>) -> Option<Period>
     ensures { result ≡ period_between opening history rows }
 {
     Some(Period {

@@ -1,6 +1,6 @@
 -- A replay under the configuration that its document spells.
 use Rattle.std.proofs.Common.{◌≡◌, ℕ, ◌<◌, ◌≤◌, inl, inr, Bool, true, false, cond, List, [], length, Option, Some, None}
-use Rattle.std.proofs.Common.{refl, sym, ◌∙◌, ap, subst, arith, IfSome}
+use Rattle.std.proofs.Common.{refl, ◌∙◌, ap, subst, arith, IfSome}
 use Rattle.std.proofs.lemmas.Bool.Decides.{nat_tests}
 use Rattle.std.specs.Prelude.{nat_lt}
 use Rattle.acct_config.specs.declared.config.Config.{Config}
@@ -64,7 +64,7 @@ begun-spelled : (document : List ℕ) (config : Config) (pairs : List Pair) (fau
     → IsSpelledBy document config → IsBegun config (Some pairs) faults start
     → IsBegun (spelled document) (Some pairs) 0 start
 begun-spelled document config pairs faults start spells begun = record {
-  config = begun.config ∙ spells.value;
+  under = begun.under ∙ spells.value;
   rows = subst (λ (c : Config). OpensRows c pairs start.rows) spells.value begun.rows;
   later = omega arith;
 }

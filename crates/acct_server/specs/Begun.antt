@@ -5,9 +5,9 @@ use Rattle.acct_keeper.specs.declared.pairs.Pair.{Pair}
 use Rattle.acct_machine.specs.Opened.{OpensRows}
 use Rattle.acct_machine.specs.State.{Start}
 
--- Under the configuration, from the rows whose pairs the keeper held, or the seed rows where it held none, with its count
--- of faults then.
+-- Under the configuration, from the rows whose pairs the keeper held, or the seed rows where it held none, with its
+-- count of faults then.
 pub record IsBegun (config : Config) (held : Option (List Pair)) (faults : ℕ) (start : Start) : Type 0 where
-  pub config : start.config ≡ config
+  pub under : start.config ≡ config
   pub rows : IfSome held (λ pairs. OpensRows config pairs start.rows)
   pub later : faults ≤ start.faults

@@ -246,13 +246,13 @@ pub fn replay<S: Source, T: Sink, K: Keeper + Drop>(
     keeper: K,
 ) -> Replayed<K>
     ensures { IsReplay (record {
-        left = S.left;
-        read_faults = S.faults;
-        held = T.held;
-        write_faults = T.faults;
-        pairs = K.held;
-        store_faults = K.faults;
-      })
+      left = S.left;
+      read_faults = S.faults;
+      held = T.held;
+      write_faults = T.faults;
+      pairs = K.held;
+      store_faults = K.faults;
+    })
         (record { config = config.old; events = events.old; out = out.old; keeper = keeper })
         (record { config = config.new; events = events.new; out = out.new; keeper = result.keeper }) result }
 {

@@ -11,13 +11,13 @@ returns-in-Err g c =
     record {
       commanded = config-not-handed-out
           (record {
-      left = s.left;
-      read_faults = s.faults;
-      held = t.held;
-      write_faults = t.faults;
-      pairs = λ ps. Some ps;
-      store_faults = λ _. 0;
-    }) c.args.name.now
+            left = s.left;
+            read_faults = s.faults;
+            held = t.held;
+            write_faults = t.faults;
+            pairs = λ ps. Some ps;
+            store_faults = λ _. 0;
+          }) c.args.name.now
           (w.seen c.args.world.now) (w.seen c.take_source.new.self)
           c.in-Err.e c.read_status.result c.in-Err.ensures.takes c.read_status.ensures;
     }
@@ -30,13 +30,13 @@ returns-in-Err-take_source g c =
     record {
       commanded = events-not-handed-out
           (record {
-      left = s.left;
-      read_faults = s.faults;
-      held = t.held;
-      write_faults = t.faults;
-      pairs = λ ps. Some ps;
-      store_faults = λ _. 0;
-    }) c.args.name.now
+            left = s.left;
+            read_faults = s.faults;
+            held = t.held;
+            write_faults = t.faults;
+            pairs = λ ps. Some ps;
+            store_faults = λ _. 0;
+          }) c.args.name.now
           (w.seen c.args.world.now) (w.seen c.take_source.new.self) (w.seen c.take_source-2.new.self)
           (w.seen c.give_source.new.self)
           c.in-Ok.config c.in-Err-take_source.e c.read_status-in-Err-take_source.result c.requires c.in-Ok.ensures.takes
@@ -51,13 +51,13 @@ returns-in-Err-take_sink g c =
     record {
       commanded = sink-not-handed-out
           (record {
-      left = s.left;
-      read_faults = s.faults;
-      held = t.held;
-      write_faults = t.faults;
-      pairs = λ ps. Some ps;
-      store_faults = λ _. 0;
-    }) c.args.name.now
+            left = s.left;
+            read_faults = s.faults;
+            held = t.held;
+            write_faults = t.faults;
+            pairs = λ ps. Some ps;
+            store_faults = λ _. 0;
+          }) c.args.name.now
           (w.seen c.args.world.now) (w.seen c.take_source.new.self) (w.seen c.take_source-2.new.self)
           (w.seen c.take_sink.new.self)
           (w.seen c.give_source-in-Err-take_sink.new.self) (w.seen c.give_source-in-Err-take_sink-2.new.self)
@@ -74,13 +74,13 @@ returns g c =
     let w = g.W.World in
     record {
       commanded = has-run (record {
-      left = s.left;
-      read_faults = s.faults;
-      held = t.held;
-      write_faults = t.faults;
-      pairs = λ ps. Some ps;
-      store_faults = λ _. 0;
-    })
+        left = s.left;
+        read_faults = s.faults;
+        held = t.held;
+        write_faults = t.faults;
+        pairs = λ ps. Some ps;
+        store_faults = λ _. 0;
+      })
           c.args.name.now (w.seen c.args.world.now) (w.seen c.take_source.new.self) (w.seen c.take_source-2.new.self)
           (w.seen c.take_sink.new.self) (w.seen c.run_parts.new.world)
           c.in-Ok.config c.in-Ok-take_source.events c.in-Ok-take_sink.out [] c.run_parts.result c.requires refl

@@ -1,10 +1,7 @@
 -- `replay` meets its contract: what the search leaves open.
-use Rattle.std.proofs.Common.{refl, ◌≤◌, ◌∙◌, sym, ap, subst, List, ℕ}
+use Rattle.std.proofs.Common.{refl, ◌≤◌, ◌∙◌, sym, subst, List, ℕ}
 use Rattle.acct_streams.specs.Whole.{IsWhole}
 use Rattle.acct_server.specs.declared.status.Status.{Status}
-use Rattle.acct_machine.specs.State.{Start}
-use Rattle.acct_machine.specs.Step.{state_at}
-use Rattle.acct_machine.specs.Storing.{HoldsRows}
 use Rattle.acct_server.specs.Leaves.{ConfigCause, EventsCause, StoreCause}
 use Rattle.acct_server.proofs.Configuring.{breaks_none, events-whole, made-none, config-not-taken, told-short}
 use Rattle.acct_server.proofs.Configuring.{events-not-taken, store-not-opened, lines-run}
@@ -61,8 +58,8 @@ returns-in-Err-read_whole g c =
     c.in-Err-read_whole.ensures.cause))
     c.in-Ok.ensures.later c.in-Err-read_whole.ensures.later
 
-pub returns-in-Err-begin : goal.returns-in-Err-begin
-returns-in-Err-begin g c =
+pub returns : goal.returns
+returns g c =
     let s = g.S.Source in
     let t = g.T.Sink in
     let k = g.K.Keeper in
@@ -121,7 +118,7 @@ returns-in-Ok-begin g c =
     (record {
       config = c.in-Ok.configuration;
       events = c.deref.result.now;
-      start = c.in-Ok-begin.run.machine.start;
+      start = c.in-Ok-begin.run'.machine.start;
       configured = c.in-Ok.ensures.configured;
       short = c.in-Ok.ensures.short;
       whole = subst (λ (bs : List ℕ). IsWhole (s.left a.events.now) bs) (sym c.deref.ensures.value)

@@ -1,5 +1,5 @@
 -- `run_events` meets its contract: what the search leaves open.
-use Rattle.std.proofs.Common.{◌≡◌, List, Some, ◌∙◌, ap, subst}
+use Rattle.std.proofs.Common.{◌≡◌, List, Some, ◌∙◌, sym, ap, subst}
 use Rattle.acct_machine.specs.declared.entry.Entry.{Entry}
 use Rattle.acct_machine.specs.State.{Start}
 use Rattle.acct_machine.specs.Step.{state_at}
@@ -49,5 +49,7 @@ pub returns-clause-counts : goal.returns-clause-counts
 returns-clause-counts g c =
     let run = c.run_lines-status in
     let parts = c.into_parts-opening in
-    rw c.from_vec.ensures (subst (λ (s : Start). AreUpTo (g.K.Keeper.faults parts.result.3) s parts.result.1.items)
-    run.ensures.start parts.ensures.counts)
+    let start = c.args.run.machine.start in
+    subst (λ (h : List Entry). AreUpTo (g.K.Keeper.faults parts.result.3) start h) (sym c.from_vec.ensures)
+    (subst (λ (s : Start). AreUpTo (g.K.Keeper.faults parts.result.3) s parts.result.1.items) run.ensures.start
+    parts.ensures.counts)

@@ -1,5 +1,5 @@
 -- `Run::hear` meets its contract: what the search leaves open.
-use Rattle.std.proofs.Common.{◌≡◌, ℕ, ◌^◌, ◌+◌, ◌-◌, List, Option, Some, All, length, slice_get, slice_set, sym, ap}
+use Rattle.std.proofs.Common.{◌≡◌, ◌^◌, ◌+◌, ◌-◌, List, Option, Some, All, length, slice_get, slice_set, sym, ap}
 use Rattle.std.proofs.Common.{◌∙◌, subst}
 use Rattle.rpc_session.specs.declared.sessions.Act.{Act}
 use Rattle.rpc_session.specs.declared.hearing.Hearing.{Hearing}
