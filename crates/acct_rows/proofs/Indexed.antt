@@ -1,16 +1,15 @@
 -- Indexes: the same rows by another key, as their list changes
-use Rattle.std.proofs.Common.{◌≡◌, ◌≢◌, ℕ, Bool, true, false, ◌&&◌, not, cond, List, [], ◌∷◌, Option, Some, None, refl}
+use Rattle.std.proofs.Common.{◌≡◌, ◌≢◌, ℕ, Bool, true, false, not, cond, List, [], ◌∷◌, Option, Some, None, refl}
 use Rattle.std.proofs.Common.{sym, ap, subst, ◌∙◌, inl, inr, ◌⊎◌}
-use Rattle.std.specs.declared.cmp.Ordering.{Ordering}
 use Rattle.std.specs.declared.cmp.Ordering.TheVariants.{Less, Equal, Greater}
-use Rattle.std.specs.Ordering.{is_eq, is_lt, ordering_reverse}
+use Rattle.std.specs.Ordering.{is_eq, ordering_reverse}
 use Rattle.std.specs.Cmp.{first_so, second_so, tied_itself}
 use Rattle.std.specs.Cmp.Lexicographic.{nat_list_cmp_total}
 use Rattle.acct_rows.specs.Indexes.{index}
 use Rattle.acct_rows.specs.Keyed.{compare, same_key, by_order, at, put, without, below_all, is_ascending}
 use Rattle.acct_rows.proofs.Lookups.{tested, same_Some, key_found, there_or_not}
 use Rattle.acct_rows.proofs.Members.{In, at_in, in_at, below_in}
-use Rattle.acct_rows.proofs.Tables.{same_key-is, same_key-itself, tied-is, apart, less, swapped, at-put, at-without}
+use Rattle.acct_rows.proofs.Tables.{same_key-is, same_key-itself, tied-is, apart, swapped, at-put, at-without}
 use Rattle.acct_rows.proofs.Tables.{is_ascending-put, is_ascending-filter, below_apart, below_less}
 
 module _ {A : Type 0} (key : A → List ℕ) where

@@ -1,26 +1,26 @@
 -- The accounts by domain and folded name: where one stands, and which is found there
-use Rattle.std.proofs.Common.{◌≡◌, ◌≢◌, ℕ, suc, zero, ◌<◌, ◌≤◌, ◌==◌, Bool, true, false, ◌&&◌, not, cond, List, [], ◌∷◌, map}
-use Rattle.std.proofs.Common.{length, get_or, drop, set, insert, remove, Option, Some, None, Result, Ok, Err, refl, sym, ap}
+use Rattle.std.proofs.Common.{◌≡◌, ◌≢◌, ℕ, suc, zero, ◌<◌, ◌≤◌, Bool, true, false, ◌&&◌, cond, List, [], ◌∷◌, map}
+use Rattle.std.proofs.Common.{length, get_or, drop, set, insert, remove, Some, None, Result, Ok, Err, refl, sym, ap}
 use Rattle.std.proofs.Common.{subst, ◌∙◌, inl, inr, ◌⊎◌, arith}
 use Rattle.std.proofs.lemmas.Bool.{eq-eqb}
 use Rattle.std.proofs.Math.Seq.{drop-cons, drop-length}
 use Rattle.std.specs.List.{filter, find}
 use Rattle.std.specs.declared.cmp.Ordering.{Ordering}
 use Rattle.std.specs.declared.cmp.Ordering.TheVariants.{Less, Equal, Greater}
-use Rattle.std.specs.Ordering.{nat_cmp, is_eq, is_lt, ordering_then, ordering_reverse}
+use Rattle.std.specs.Ordering.{nat_cmp, is_lt, ordering_then, ordering_reverse}
 use Rattle.std.specs.Cmp.{first_so, second_so, tied_itself, nat_cmp_is}
 use Rattle.std.proofs.lemmas.Cmp.{nat_cmp_total}
 use Rattle.std.specs.Cmp.Lexicographic.{nat_list_cmp_total}
 use Rattle.std.specs.FinMap.{nat_cmp-IsAntisymmetric}
-use Rattle.acct_calls.specs.Folding.{folded_points, is_same, TestTellsSame}
-use Rattle.acct_rows.specs.Indexes.{named, name_key, index, by_name, pair_of, names_of, key_at, found_key, put_in, with_pair}
-use Rattle.acct_rows.specs.Keyed.{compare, same_key, at, put, without, place, by_order, further, below_all, is_ascending}
+use Rattle.acct_calls.specs.Folding.{folded_points, TestTellsSame}
+use Rattle.acct_rows.specs.Indexes.{named, name_key, by_name, pair_of, names_of, key_at, found_key, put_in, with_pair}
+use Rattle.acct_rows.specs.Keyed.{compare, at, put, without, place, by_order, further, below_all, is_ascending}
 use Rattle.acct_rows.specs.Rows.{account_key, has_name}
 use Rattle.acct_rows.specs.declared.row.AccountRow.{AccountRow}
 use Rattle.acct_rows.proofs.FoldOrder.{alone, squeezed, not_below, ended-compare, ended-parts}
 use Rattle.acct_rows.proofs.Indexed.{without_none, index_ascends, index_put_over, index_without, in_index}
-use Rattle.acct_rows.proofs.Lookups.{tested, same_Some, there_or_not}
-use Rattle.acct_rows.proofs.Members.{In, at_in, in_at, below_in}
+use Rattle.acct_rows.proofs.Lookups.{tested}
+use Rattle.acct_rows.proofs.Members.{In, in_at, below_in}
 use Rattle.acct_rows.proofs.Moves.{equal_is}
 use Rattle.acct_rows.proofs.Places.{put-place, put_at, without-placed, without_at}
 use Rattle.acct_rows.proofs.Runs.{spot, first_if, first_found}

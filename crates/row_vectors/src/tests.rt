@@ -1,4 +1,5 @@
-// Rows, their pairs, profiles and the table of operations.
+// Rows, their pairs and indexes, profiles and the table of operations.
+mod indexes;
 mod operations;
 mod pairs;
 mod profiles;

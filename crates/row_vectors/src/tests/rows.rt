@@ -23,7 +23,7 @@ fn sid_of(rt: &impl Abort, text: &str) -> Sid {
     }
 }
 
-fn seeded(rt: &impl Abort, alloc: Global) -> Result<Rows, Fail>
+pub fn seeded(rt: &impl Abort, alloc: Global) -> Result<Rows, Fail>
     ensures { IfOk result (λ rows. IsSoundRows rows.lists) }
 {
     let name = Name::from_text(alloc, "CORP")?;

@@ -1,5 +1,5 @@
 -- `aliases_among` meets its contract: what the search leaves open.
-use Rattle.std.proofs.Common.{◌≡◌, [], ◌∷◌, true, take, length, sym, ap, subst, ◌∙◌, rules}
+use Rattle.std.proofs.Common.{◌≡◌, sym, ap, subst, ◌∙◌}
 use Rattle.std.proofs.lemmas.List.{take_all}
 use Rattle.std.proofs.lemmas.List.Filters.{dedup_is}
 use Rattle.std.proofs.lemmas.List.Kept.{Contains-dedup_nat, Contains-from_dedup}
@@ -7,7 +7,6 @@ use Rattle.std.proofs.lemmas.List.Sorted.{Contains-permutation, IsPermutation-sy
 use Rattle.std.proofs.lemmas.Map.Keys.{IsStrictlyIncreasing-dedup}
 use Rattle.std.specs.List.{Contains}
 use Rattle.acct_rows.specs.Indexes.{held_by}
-use Rattle.acct_rows.specs.Keyed.{is_ascending}
 use Rattle.acct_rows.proofs.Holding.{numbers_rise}
 use Rattle.acct_rows.proofs.membership.aliases_among.Goals as goal
 

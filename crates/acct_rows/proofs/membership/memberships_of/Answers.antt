@@ -1,5 +1,5 @@
 -- `memberships_of` meets its contract: what the search leaves open.
-use Rattle.std.proofs.Common.{◌≡◌, ◌-◌, suc, sym, ap, ◌∙◌, rules}
+use Rattle.std.proofs.Common.{◌≡◌, ◌-◌, suc, ap, ◌∙◌, rules}
 use Rattle.acct_rows.specs.Indexes.{membership_key, membership_of}
 use Rattle.acct_rows.specs.Keyed.{put}
 use Rattle.acct_rows.proofs.Holding.{memberships_start, memberships_next}

@@ -1,5 +1,5 @@
 -- `Aliases::put` meets its contract: what the search leaves open.
-use Rattle.std.proofs.Common.{◌≡◌, true, sym, ap, ◌∙◌, rules, arith}
+use Rattle.std.proofs.Common.{◌≡◌, true, sym, ap, ◌∙◌, rules}
 use Rattle.acct_rows.specs.Indexes.{membership_key, membership_of, memberships_of}
 use Rattle.acct_rows.specs.Keyed.{put, is_ascending}
 use Rattle.acct_rows.specs.Rows.{alias_key}

@@ -1,6 +1,6 @@
 -- `Names::find` meets its contract: what the search leaves open.
 use Rattle.std.proofs.Common.{◌≡◌, ◌≤◌, ◌<◌, [], ◌∷◌, true, false, cond, drop, length, get_or, Some, None, sym, ap, subst, ◌∙◌}
-use Rattle.std.proofs.Common.{rules, arith}
+use Rattle.std.proofs.Common.{rules}
 use Rattle.acct_rows.specs.Indexes.{named, key_at, names_of, by_name}
 use Rattle.acct_rows.specs.Keyed.{at, place, is_ascending}
 use Rattle.acct_rows.specs.Rows.{account_key, has_name}

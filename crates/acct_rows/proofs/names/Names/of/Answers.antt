@@ -1,6 +1,6 @@
 -- `Names::of` meets its contract: what the search leaves open.
-use Rattle.std.proofs.Common.{◌≡◌, ◌-◌, suc, true, drop, length, sym, ap, subst, ◌∙◌, rules, arith}
-use Rattle.acct_rows.specs.Indexes.{key_at, names_of, with_pair}
+use Rattle.std.proofs.Common.{◌≡◌, ◌-◌, suc, true, sym, ap, subst, ◌∙◌, rules}
+use Rattle.acct_rows.specs.Indexes.{key_at, with_pair}
 use Rattle.acct_rows.specs.Keyed.{is_ascending}
 use Rattle.acct_rows.proofs.Named.{names_start, names_ascend_behind, names_next}
 use Rattle.acct_rows.proofs.names.Names.of.Goals as goal

@@ -6,8 +6,8 @@ use Rattle.acct_rows.proofs.rows.Rows.seed.Goals as goal
 pub seed_aliases-requires : goal.seed_aliases-requires
 seed_aliases-requires c = has_slot c.args.sid c.requires.sid
 
-pub from_rows-in_ok-seed_aliases-requires-clause-ascending : goal.from_rows-requires-4-clause-ascending
-from_rows-in_ok-seed_aliases-requires-clause-ascending c = rw (c.in_ok-seed_aliases.ensures) (seed_aliases_ascend c.args.sid)
+pub from_rows-requires-4-clause-ascending : goal.from_rows-requires-4-clause-ascending
+from_rows-requires-4-clause-ascending c = rw (c.in_ok-seed_aliases.ensures) (seed_aliases_ascend c.args.sid)
 
 pub returns-clause-sound : goal.returns-clause-sound
 returns-clause-sound c =
