@@ -1,0 +1,8 @@
+mod Asking
+mod Cutting
+mod Parts
+mod Places
+mod Running
+mod Serving
+mod Taken
+mod Taking

@@ -1,0 +1,6 @@
+-- `streams_are_cut_anywhere` meets its contract: what the search leaves open.
+use Rattle.acct_client.proofs.Cutting.{cut_anywhere_is}
+use Rattle.acct_client.proofs.hearing.streams_are_cut_anywhere.Goals as goal
+
+pub returns : goal.returns
+returns c = cut_anywhere_is c.front_is_stable.ensures

@@ -1,0 +1,67 @@
+-- What is heard of the answer that is awaited: the whole PDUs of the peer's stream one after the other, until the
+-- answer is whole or a PDU is no part of it.
+use Rattle.std.specs.Prelude.{◌≡◌, ℕ, zero, suc, ◌+◌, List, ◌++◌, length, drop, Option, None}
+use Rattle.rpc_pdu.specs.declared.pdus.Side.TheVariants.{Client}
+use Rattle.rpc_pdu.specs.Front.{Front, Whole, Rest, Refused, front}
+use Rattle.acct_client.specs.declared.answers.Awaited.{Awaited}
+use Rattle.acct_client.specs.declared.answers.PartialReply.{PartialReply}
+use Rattle.acct_client.specs.declared.answers.Turn.{Turn}
+use Rattle.acct_client.specs.declared.answers.Turn.TheVariants.{Goes, Gives, Wrong}
+use Rattle.acct_client.specs.declared.hearing.Next.{Next}
+use Rattle.acct_client.specs.declared.hearing.Next.TheVariants as next
+use Rattle.acct_client.specs.declared.hearing.Listening.{Listening}
+use Rattle.acct_client.specs.declared.hearing.Heard.{Heard}
+use Rattle.acct_client.specs.declared.hearing.Heard.TheVariants.{Waits, Answered, NoAnswer}
+use Rattle.acct_client.specs.Answers.{turned}
+
+-- a whole PDU that begins at a place of the stream
+abbrev pub stepped : ℕ → ℕ → Turn → Next
+stepped place size (Goes reply) = next.Goes reply size
+stepped place size (Gives answer) = next.Gives answer size
+stepped place size Wrong = next.Wrong place
+
+-- what stands in front of the bytes from a place on
+abbrev pub next_of : Awaited → ℕ → Option PartialReply → Front → Next
+next_of awaited place reply (Whole pdu size) = stepped place size (turned awaited place reply pdu)
+next_of awaited place reply Rest = next.Waits reply
+next_of awaited place reply (Refused at cause ptype id) = next.Wrong (place + at)
+
+unfoldable pub heard_next : Awaited → ℕ → Option PartialReply → List ℕ → Next
+heard_next awaited place reply bytes = next_of awaited place reply (front Client bytes)
+
+abbrev pub listening : ℕ → Option PartialReply → List ℕ → Listening
+listening place reply rest = record { place = place; reply = reply; rest = rest }
+
+abbrev pub on_next : ℕ → List ℕ → Next → (ℕ → Option PartialReply → List ℕ → Heard) → Heard
+on_next place bytes (next.Waits reply) later = Waits (listening place reply bytes)
+on_next place bytes (next.Wrong at) later = NoAnswer at
+on_next place bytes (next.Gives answer size) later =
+    Answered answer (listening (place + size) None (drop size bytes))
+on_next place bytes (next.Goes reply size) later = later (place + size) reply (drop size bytes)
+
+-- in at most so many PDUs
+unfoldable pub hear_in : ℕ → Awaited → ℕ → Option PartialReply → List ℕ → Heard
+hear_in zero awaited place reply bytes = Waits (listening place reply bytes)
+hear_in (suc turns) awaited place reply bytes =
+    on_next place bytes (heard_next awaited place reply bytes)
+    (λ after gathered rest. hear_in turns awaited after gathered rest)
+
+-- each PDU takes a byte and more
+unfoldable pub hear : Awaited → ℕ → Option PartialReply → List ℕ → Heard
+hear awaited place reply bytes = hear_in (length bytes) awaited place reply bytes
+
+-- what is heard where more bytes come
+abbrev pub on : Awaited → Listening → List ℕ → Heard
+on awaited l piece = hear awaited l.place l.reply (l.rest ++ piece)
+
+-- what becomes of what was heard, where more bytes come: they are heard while the answer isn't whole, and wait behind
+-- a whole one
+abbrev pub with_more : Awaited → Heard → List ℕ → Heard
+with_more awaited (Waits l) piece = on awaited l piece
+with_more awaited (Answered answer l) piece = Answered answer (record l { rest = l.rest ++ piece })
+with_more awaited (NoAnswer at) piece = NoAnswer at
+
+-- pieces may be heard one after the other
+abbrev pub IsCutAnywhere : Type 0
+IsCutAnywhere = (awaited : Awaited) (l : Listening) (front more : List ℕ)
+    → on awaited l (front ++ more) ≡ with_more awaited (on awaited l front) more

@@ -1,0 +1,35 @@
+// Why a client ends without its last answer.
+ghost use Rattle.acct_client.specs.declared.errors.AskError.TheVariants.{Memory};
+ghost use Rattle.std.specs.Prelude.{◌≡◌};
+
+use crate::NoMemory;
+use thiserror::Error;
+
+/// Why a client ends without its last answer.
+#[derive(Clone, Copy, Debug, PartialEq, Eq, Error)]
+pub enum AskError {
+    /// The words are no command.
+    #[error("the words are no command of the client")]
+    Usage,
+    /// The peer's bytes are no answer. The place is that of the first byte, counted from the start of its stream, of
+    /// what isn't the answer that was awaited.
+    #[error("the peer's bytes are no answer from byte {0} on")]
+    PeerBytes(u64),
+    /// The peer answered a fault with this status, or refused to bind, which is the status 0.
+    #[error("the peer answered fault {0:#x}")]
+    PeerFault(u32),
+    /// A reply refused the call with this status.
+    #[error("the peer refused with status {0:#x}")]
+    Refused(u32),
+    /// There is no memory.
+    #[error("there is no memory for the command")]
+    Memory,
+}
+
+impl From<NoMemory> for AskError {
+    ghost from_gives = { λ _ e. e ≡ Memory };
+
+    fn from(_: NoMemory) -> Self {
+        AskError::Memory
+    }
+}

@@ -1,0 +1,6 @@
+mod Fitting
+mod Listed
+mod Names
+mod Reading
+mod Spelled
+mod Unfitting

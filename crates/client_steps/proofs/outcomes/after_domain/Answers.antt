@@ -1,0 +1,9 @@
+-- `after_domain` meets its contract: what the search leaves open.
+use Rattle.client_steps.proofs.Unfitting.{no_sid}
+use Rattle.client_steps.proofs.outcomes.after_domain.Goals as goal
+
+pub returns-in_default : goal.returns-in_default
+returns-in_default c = record {
+  value = no_sid c.args.server c.args.task c.args.outs.now c.in_default.not-OneSid;
+  fit = λ _. tt;
+}

@@ -1,0 +1,9 @@
+-- `after_look_up` meets its contract: what the search leaves open.
+use Rattle.client_steps.proofs.Unfitting.{no_uses}
+use Rattle.client_steps.proofs.outcomes.after_look_up.Goals as goal
+
+pub returns-in_default : goal.returns-in_default
+returns-in_default c = record {
+  value = no_uses c.args.domain c.args.task.now c.args.outs.now c.in_default.not-RidUses;
+  fit = tt;
+}

@@ -1,0 +1,8 @@
+-- What the loop of `sid_lines` keeps.
+use Rattle.std.proofs.Common.{◌≡◌, ◌++◌, drop}
+use Rattle.client_steps.specs.Outcomes.{sid_lines}
+use Rattle.client_steps.proofs.outcomes.sid_lines.Given as goal
+
+abbrev pub invariant-loop-place : goal.invariant-loop-place
+invariant-loop-place l =
+    l.lines ++ sid_lines (drop l.place l.sids) (drop l.place l.entries) ≡ sid_lines l.sids l.entries

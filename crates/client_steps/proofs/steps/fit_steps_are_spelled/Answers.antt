@@ -1,0 +1,6 @@
+-- `fit_steps_are_spelled` meets its contract: what the search leaves open.
+use Rattle.client_steps.proofs.Spelled.{fit_steps_are_spelled_is}
+use Rattle.client_steps.proofs.steps.fit_steps_are_spelled.Goals as goal
+
+pub returns : goal.returns
+returns c = fit_steps_are_spelled_is

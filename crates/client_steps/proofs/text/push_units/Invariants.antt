@@ -1,0 +1,10 @@
+-- What the loop of `push_units` keeps.
+use Rattle.std.proofs.Common.{◌≡◌, ◌++◌, length, string_bytes}
+use Rattle.client_steps.specs.Texts.{name_text}
+use Rattle.client_steps.proofs.text.push_units.Given as goal
+
+abbrev pub invariant-loop-point : goal.invariant-loop-point
+invariant-loop-point l = string_bytes l.text ++ name_text l.left ≡ string_bytes l.fn.text ++ name_text l.units
+
+abbrev pub decreases-loop-point : goal.decreases-loop-point
+decreases-loop-point l = length l.left

@@ -1,0 +1,12 @@
+-- What the loop of `all_names` keeps.
+use Rattle.std.proofs.Common.{◌≡◌, map, take, string_bytes, length, All}
+use Rattle.acct_calls.specs.CodePoints.{AreUnits}
+use Rattle.client_steps.specs.Words.{name_in}
+use Rattle.client_steps.proofs.words.all_names.Given as goal
+
+abbrev pub invariant-loop-word : goal.invariant-loop-word
+invariant-loop-word l = record {
+  names : l.names.items ≡ map name_in (map string_bytes (take l.word-index l.words));
+  units : All AreUnits l.names.items;
+  count : length l.names.items ≡ l.word-index;
+}
