@@ -7,6 +7,5 @@
 #![tactic(auto)]
 
 pub mod plain;
-
 #[cfg(test)]
 mod tests;

@@ -18,11 +18,7 @@ fn has_name(account: &AccountRow, domain: u8, name: &Name) -> bool
 }
 
 /// The account of a domain with that name, the first of them.
-pub fn find_name<'a>(
-    accounts: &'a [AccountRow],
-    domain: u8,
-    name: &Name,
-) -> Option<&'a AccountRow>
+pub fn find_name<'a>(accounts: &'a [AccountRow], domain: u8, name: &Name) -> Option<&'a AccountRow>
     ensures { option_copied result ≡ find (has_name domain name.now) accounts.now }
 {
     for account in accounts {

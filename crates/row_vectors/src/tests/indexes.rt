@@ -112,7 +112,12 @@ fn change(alloc: Global, rows: &mut Rows, state: &mut u64) -> Result<(), NoMemor
     let member = holder(random(state) % 8);
     rows.reserve(1)?;
     match (random(state) % 6, member) {
-        (0 | 1 | 2, _) => rows.put(Row::Account(account(alloc, domain, rid, spelled(alloc, number)?))),
+        (0 | 1 | 2, _) => rows.put(Row::Account(account(
+            alloc,
+            domain,
+            rid,
+            spelled(alloc, number)?,
+        ))),
         (3, _) => rows.remove(&RowKey::Account { domain, rid }),
         (4, Some(member)) => rows.remove(&RowKey::Alias {
             domain,

@@ -1,6 +1,6 @@
 // Sessions over a link in memory and the machine.
-use acct_links::{MemoryLink, SteadyLink};
 use acct_keeper::SteadyKeeper;
+use acct_links::{MemoryLink, SteadyLink};
 use acct_machine::{Entry, Machine, Opened, open_store, read_config};
 use acct_requests::Gate;
 use acct_sessions::session;
