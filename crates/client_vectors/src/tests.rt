@@ -109,5 +109,6 @@ fn laws_are_called() {
     acct_client::streams_are_cut_anywhere();
     acct_client::dialogues_are_cut_anywhere();
     acct_client::short_stubs_are_one_pdu();
-    acct_client::fit_steps_are_spelled();
+    acct_client::replies_are_printed();
+    client_steps::fit_steps_are_spelled();
 }
