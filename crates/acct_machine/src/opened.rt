@@ -9,7 +9,7 @@ ghost use Rattle.acct_machine.specs.Opened.{OpensRows, OpenCause, put_of, unopen
 ghost use Rattle.acct_machine.specs.PairsOf.{ArePairsOf};
 ghost use Rattle.acct_machine.specs.Storing.{HoldsRows};
 
-use crate::pairs::{PairsError, from_pairs, to_pairs};
+use crate::pairs::{PairsError, ascending_keys_differ, from_pairs, to_pairs};
 use crate::{Config, Keeper, NoMemory, Rows, seed_rows};
 use acct_base::Seq;
 use acct_keeper::{Change, KeepError, Pair};
@@ -106,6 +106,7 @@ pub fn open_store<K: Keeper>(
     if pairs.is_empty() {
         return seed_store(alloc, config, keeper);
     }
+    ascending_keys_differ();
     match from_pairs(alloc, &pairs) {
         Ok(rows) => Ok(rows),
         Err(PairsError::BadPair(key)) => Err(OpenError::StoredPair(key)),

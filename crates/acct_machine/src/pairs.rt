@@ -1,11 +1,9 @@
 // (stands here until acct_rows has it) What a plan changes of the pairs of the rows.
-ghost use Rattle.std.specs.Prelude.{◌≡◌, [], List, true, IfOk, IfErr, OnOk, ◌↔◌};
-ghost use Rattle.acct_keeper.specs.declared.pairs.Pair.{Pair};
-ghost use Rattle.acct_keeper.specs.Pairs.{is_ascending};
-ghost use Rattle.acct_keeper.specs.Pairs.{after as kept_after};
+ghost use Rattle.std.specs.Prelude.{◌≡◌, [], true, IfOk, IfErr, OnOk, ◌↔◌};
 ghost use Rattle.acct_rows.specs.Rows.{after};
 ghost use Rattle.acct_rows.specs.Sound.{IsSoundRows};
-ghost use Rattle.acct_machine.specs.PairsOf.{ArePairsOf, AreUnbroken, PairsCause};
+ghost use Rattle.acct_machine.specs.PairsOf.{ArePairsOf, HoldPairs, AreUnbroken, BadPairs, Follow, keys_differ};
+ghost use Rattle.acct_machine.specs.PairsOf.{AscendingKeysDiffer};
 
 use crate::{NoMemory, Rows};
 use acct_base::Seq;
@@ -15,10 +13,9 @@ use std::alloc::{AllocError, Global};
 
 pub fn changes(_alloc: Global, rows: &Rows, plan: &Plan) -> Result<Vec<Change>, NoMemory>
     requires before { IsSoundRows rows.now.lists }
-    requires behind { IsSoundRows (after plan.now rows.now.lists) }
-    ensures pairs { IfOk result (λ changes. (pairs : List Pair) → ArePairsOf rows.now.lists pairs
-        → ArePairsOf (after plan.now rows.now.lists) (kept_after changes.items pairs)) }
-    ensures none { IfOk result (λ changes. changes.items ≡ [] ↔ after plan.now rows.now.lists ≡ rows.now.lists) }
+    requires after { IsSoundRows (after plan.now rows.now.lists) }
+    ensures follows { IfOk result (λ changes. Follow rows.now.lists (after plan.now rows.now.lists) changes.items) }
+    ensures none { IfOk result (λ changes. (changes.items ≡ []) ↔ (after plan.now rows.now.lists ≡ rows.now.lists)) }
 {
     Err(AllocError)
 }
@@ -29,6 +26,10 @@ pub enum PairsError {
     Memory,
 }
 
+pub fn ascending_keys_differ()
+    ensures { AscendingKeysDiffer }
+{}
+
 pub fn to_pairs(_alloc: Global, rows: &Rows) -> Result<Vec<Pair>, NoMemory>
     requires { IsSoundRows rows.now.lists }
     ensures { IfOk result (λ pairs. ArePairsOf rows.now.lists pairs.items) }
@@ -37,11 +38,11 @@ pub fn to_pairs(_alloc: Global, rows: &Rows) -> Result<Vec<Pair>, NoMemory>
 }
 
 pub fn from_pairs(_alloc: Global, pairs: &[Pair]) -> Result<Rows, PairsError>
-    requires { is_ascending pairs.now ≡ true }
+    requires { keys_differ pairs.now ≡ true }
     ensures sound { IfOk result (λ rows. IsSoundRows rows.lists) }
-    ensures pairs { IfOk result (λ rows. ArePairsOf rows.lists pairs.now) }
+    ensures pairs { IfOk result (λ rows. HoldPairs rows.lists pairs.now) }
     ensures unbroken { OnOk result (AreUnbroken pairs.now) }
-    ensures cause { IfErr result (PairsCause pairs.now) }
+    ensures broken { IfErr result (BadPairs pairs.now) }
 {
     Err(PairsError::Memory)
 }
