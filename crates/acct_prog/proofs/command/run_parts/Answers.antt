@@ -20,6 +20,6 @@ returns g c =
     (record { config = c.args.config; events = c.args.events; out = c.args.out; keeper = [] })
     (record { config = r.new.config; events = r.new.events; out = r.new.out; keeper = r.result.keeper }) (w.seen c.args.world.now)
     (w.seen c.keep-status.new.world) (w.seen c.give_sink.new.self) (w.seen c.give_source.new.self)
-    (w.seen c.give_source-2.new.self) r.result c.keep-status.result c.requires r.ensures
+    (w.seen c.give_source-2.new.self) r.result c.keep-status.result c.requires (rw c.new-keeper.ensures at r.ensures)
     (rw (c.parted-ended.ensures.period, c.parted-ended.ensures.status) at c.keep-status.ensures) c.give_sink.ensures.gives c.give_source.ensures.gives
     c.give_source-2.ensures.gives
