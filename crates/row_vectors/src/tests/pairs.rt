@@ -1,6 +1,7 @@
 // Rows as pairs and back, byte by byte, in hexadecimal. The values are written by hand from the format.
 ghost use Rattle.std.specs.Prelude.{◌≡◌, true, IfOk};
 ghost use Rattle.acct_keeper.specs.Pairs.{is_ascending};
+ghost use Rattle.acct_rows.specs.PairsOf.{keys_differ};
 ghost use Rattle.acct_rows.specs.Sound.{IsSoundRows};
 
 use acct_base::{Seq, parted};
@@ -244,10 +245,12 @@ fn seeded(rt: &impl Abort, alloc: Global) -> Result<Rows, Fail>
 }
 
 /// The smallest broken key, none where the pairs are those of rows.
-fn tell_broken(alloc: Global, loaded: Result<Rows, PairsError>) -> Result<Vec<u8>, Fail> {
+fn tell_broken(alloc: Global, pairs: &[Pair]) -> Result<Vec<u8>, Fail>
+    requires { keys_differ pairs.now ≡ true }
+{
     let mut told = Vec::new(alloc);
-    match loaded {
-        Ok(_) => {}
+    match Rows::from_pairs(alloc, pairs) {
+        Ok(_rows) => {}
         Err(PairsError::BadPair(key)) => push_hex(&mut told, key.as_slice())?,
         Err(PairsError::Memory) => told.extend_from_slice(b"memory")?,
     }
@@ -270,7 +273,7 @@ fn the_smallest_broken_key_is_told(rt: HostRuntime) -> Result<(), Fail> {
     let alloc = rt.alloc();
     for (words, want) in BROKEN {
         let keeper = kept(alloc, words)?;
-        let told = tell_broken(alloc, Rows::from_pairs(alloc, keeper.as_slice()))?;
+        let told = tell_broken(alloc, keeper.as_slice())?;
         assert_eq!(rt; told.as_slice(), want.as_bytes(), "{words}");
     }
     Ok(())
@@ -279,7 +282,7 @@ fn the_smallest_broken_key_is_told(rt: HostRuntime) -> Result<(), Fail> {
 #[test]
 fn without_a_pair_the_group_of_all_users_is_missing(rt: HostRuntime) -> Result<(), Fail> {
     let alloc = rt.alloc();
-    let told = tell_broken(alloc, Rows::from_pairs(alloc, &[]))?;
+    let told = tell_broken(alloc, &[])?;
     assert_eq!(rt; told.as_slice(), b"610000000201".as_slice());
     Ok(())
 }
@@ -304,7 +307,7 @@ fn pairs_are_read_in_any_order(rt: HostRuntime) -> Result<(), Fail> {
         turned.insert(0, pair.copy(alloc)?)?;
     }
     assert!(rt; keys_differ(&turned));
-    assert!(rt; tell_broken(alloc, Rows::from_pairs(alloc, &turned))?.is_empty());
+    assert!(rt; tell_broken(alloc, &turned)?.is_empty());
     turned.push(turned[3].copy(alloc)?)?;
     assert!(rt; !keys_differ(&turned));
     Ok(())
@@ -351,20 +354,20 @@ fn tell_changes(alloc: Global, changes: &[Change]) -> Result<Vec<u8>, Fail> {
     Ok(told)
 }
 
+/// A member of Users of BUILTIN.
+fn user_row(rt: &impl Abort, sid: &str) -> AliasRow {
+    AliasRow {
+        domain: 1,
+        alias: 545,
+        member: sid_of(rt, sid),
+    }
+}
+
 #[test]
 fn a_plan_changes_the_pairs_of_its_rows(rt: HostRuntime) -> Result<(), Fail> {
     let alloc = rt.alloc();
     let rows = seeded(&rt, alloc)?;
-    let users = AliasRow {
-        domain: 1,
-        alias: 545,
-        member: sid_of(&rt, "S-1-5-21-1-2-3-513"),
-    };
-    let everyone = AliasRow {
-        domain: 1,
-        alias: 545,
-        member: sid_of(&rt, "S-1-1-0"),
-    };
+    let (users, everyone) = ("S-1-5-21-1-2-3-513", "S-1-1-0");
     for (gone, put, want) in [
         (users, users, ""),
         (
@@ -376,7 +379,7 @@ fn a_plan_changes_the_pairs_of_its_rows(rt: HostRuntime) -> Result<(), Fail> {
         (everyone, users, ""),
         (everyone, everyone, "+6c0100000221010100000000000100000000"),
     ] {
-        let changes = alias_changes(&rt, alloc, &rows, gone, put)?;
+        let changes = alias_changes(&rt, alloc, &rows, user_row(&rt, gone), user_row(&rt, put))?;
         let told = tell_changes(alloc, &changes)?;
         assert_eq!(rt; told.as_slice(), want.as_bytes());
     }

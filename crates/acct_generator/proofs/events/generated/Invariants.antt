@@ -1,0 +1,10 @@
+-- What the loop of `generated` keeps.
+use Rattle.std.proofs.Common.{◌≡◌, ◌+◌, ◌*◌, ◌≤◌, ◌++◌, length}
+use Rattle.acct_generator.specs.Generated.{beginning, call_lines}
+use Rattle.acct_generator.proofs.Lines.{so_far}
+use Rattle.acct_generator.proofs.events.generated.Given as goal
+
+abbrev pub invariant-loop-before : goal.invariant-loop-before
+invariant-loop-before l =
+    (l.lines.items ≡ beginning ++ call_lines 2 (so_far l.before)) × (l.id ≡ 2 + length (so_far l.before))
+    × (l.id ≤ 5 + 4 * l.before)

@@ -1,0 +1,9 @@
+-- What the loop of `push_calls` keeps.
+use Rattle.std.proofs.Common.{◌≡◌, ◌+◌, ◌++◌, take}
+use Rattle.acct_generator.specs.Generated.{call_lines}
+use Rattle.acct_generator.proofs.events.push_calls.Given as goal
+
+abbrev pub invariant-loop-call : goal.invariant-loop-call
+invariant-loop-call l =
+    (l.lines.items ≡ l.initial.lines.items ++ call_lines l.id (take l.call-index l.calls))
+    × (l.next ≡ l.id + l.call-index)
