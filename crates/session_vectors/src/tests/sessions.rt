@@ -1,9 +1,11 @@
 // Sessions over a link in memory and the machine.
+ghost use Rattle.std.specs.Prelude.{◌≡◌, false, IfOk};
+
 use acct_keeper::SteadyKeeper;
 use acct_links::{MemoryLink, SteadyLink};
 use acct_machine::{Entry, Machine, Opened, open_store, read_config};
 use acct_requests::Gate;
-use acct_sessions::session;
+use acct_sessions::{SessionEnd, session};
 use std::alloc::Global;
 use std::process::Abort;
 use std::test::Fail;
@@ -110,7 +112,9 @@ fn making_of(words: &str) -> Making {
     making
 }
 
-fn link_of(alloc: Global, making: Making, came: Vec<u8>) -> Result<MemoryLink, Fail> {
+fn link_of(alloc: Global, making: Making, came: Vec<u8>) -> Result<MemoryLink, Fail>
+    ensures { IfOk result (λ link. link.input.ended ≡ false) }
+{
     let input = SteadyLink::new(came, making.read_size.max(1));
     let failing = [making.failing].to_vec(alloc)?;
     Ok(MemoryLink::new(alloc, input, making.room, making.write_size.max(1), failing)?)
@@ -150,20 +154,36 @@ fn history_text(alloc: Global, machine: &Machine<SteadyKeeper>) -> Result<String
     Ok(text)
 }
 
-/// What a session on a new connection leaves: the end, what was written, what was entered.
+/// A session on a new connection.
+fn served(
+    alloc: Global,
+    machine: &mut Machine<SteadyKeeper>,
+    link: &mut MemoryLink,
+    most: u64,
+) -> Option<SessionEnd>
+    requires { link.old.input.ended ≡ false }
+{
+    if machine.config().listeners.as_slice().is_empty() {
+        return None;
+    }
+    match Gate::open_conn(machine, 0) {
+        Opened::Conn(conn) => Some(session(alloc, link, machine, conn, most)),
+        Opened::Full(_) => None,
+    }
+}
+
+/// What a session on a new connection leaves: what was written, the end, what was entered.
 fn told(
     alloc: Global,
     machine: &mut Machine<SteadyKeeper>,
     link: &mut MemoryLink,
     most: u64,
-) -> Result<String, Fail> {
-    if machine.config().listeners.as_slice().is_empty() {
-        return Ok(String::new(alloc));
-    }
-    let Opened::Conn(conn) = Gate::open_conn(machine, 0) else {
+) -> Result<String, Fail>
+    requires { link.old.input.ended ≡ false }
+{
+    let Some(end) = served(alloc, machine, link, most) else {
         return Ok(String::new(alloc));
     };
-    let end = session(alloc, link, machine, conn, most);
     let written = hex::encode(alloc, link.as_slice())?;
     Ok(format!(in alloc; "{written}|{end:?}|{}", history_text(alloc, machine)?)?)
 }
