@@ -4,7 +4,7 @@ use Rattle.acct_client.specs.Askers.{bytes_taken}
 use Rattle.client_vectors.proofs.tests.talks.told.Given as goal
 
 abbrev pub invariant-loop-place : goal.invariant-loop-place
-invariant-loop-place l = record {
+invariant-loop-place g l = record {
   idle : l.asker.is_awaiting ≡ false;
   few : bytes_taken l.asker ≤ l.place * 2 ^ 20;
 }
