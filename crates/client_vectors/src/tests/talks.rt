@@ -180,6 +180,7 @@ pub fn told(rt: &impl Abort, alloc: Global, dialogue: &str, cut: Cut) -> Result<
     let words = words_of(alloc, words)?;
     let mut asker = Asker::new(alloc, &words)?;
     let mut rows = rows.lines();
+    let mut taken = 0;
     for place in 0..100 {
         let Some(sent) = next(alloc, &mut asker)? else {
             return ended(rt, alloc, &mut asker, "done");
@@ -188,10 +189,12 @@ pub fn told(rt: &impl Abort, alloc: Global, dialogue: &str, cut: Cut) -> Result<
         assert!(rt; sent == wanted, "another request, {place} of {dialogue}");
         let row = behind(rows.next(), "< ");
         let answer = answer_of(alloc, dialogue, place == 0, row, cut)?;
+        assert!(rt; taken < 0x1000_0000, "long answers");
         assert!(rt; answer.len() < 0x10_0000, "a long answer");
         if let Some(told) = turn(rt, alloc, &mut asker, &answer, cut)? {
             return Ok(told);
         }
+        taken += answer.len();
     }
     Ok(String::from_str(alloc, "a long dialogue\n")?)
 }

@@ -1,10 +1,10 @@
 -- What the loop of `told` keeps.
-use Rattle.std.proofs.Common.{◌≡◌, ◌*◌, ◌^◌, ◌≤◌, false}
+use Rattle.std.proofs.Common.{◌≡◌, ◌≤◌, false}
 use Rattle.acct_client.specs.Askers.{bytes_taken}
 use Rattle.client_vectors.proofs.tests.talks.told.Given as goal
 
 abbrev pub invariant-loop-place : goal.invariant-loop-place
 invariant-loop-place g l = record {
   idle : l.asker.is_awaiting ≡ false;
-  few : bytes_taken l.asker ≤ l.place * 2 ^ 20;
+  few : bytes_taken l.asker ≤ l.taken;
 }
