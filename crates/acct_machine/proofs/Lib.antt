@@ -19,3 +19,4 @@ pub mod Answering
 pub mod Storing
 pub mod Puts
 pub mod Kept
+pub mod Loaded
