@@ -1,6 +1,4 @@
-// Rows, their pairs and indexes, profiles and the table of operations.
-mod indexes;
+// Rows, profiles and the table of operations, one module for each crate that is called.
 mod operations;
-mod pairs;
 mod profiles;
 mod rows;
