@@ -1,4 +1,0 @@
-// Rows, profiles and the table of operations, one module for each crate that is called.
-mod operations;
-mod profiles;
-mod rows;
