@@ -24,7 +24,8 @@ fn is_host_port(text: &str) -> bool
     }
 }
 
-/// Whether a listener may have the address.
+/// Whether a listener may have the address: `tcp:HOST:PORT`, the host without a colon and the port from 1 to 65535, or
+/// `unix:PATH`. Neither host nor path is empty.
 #[tactic(auto, unfolding(crate::specs::Address::is_address))]
 pub fn is_address(text: &str) -> bool
     ensures { result ≡ is_address text.now }

@@ -4,7 +4,7 @@
 //! `acct_codes`, the list type of `acct_base`, and the kit's reader of TOML. The layers above use that `read_config`
 //! gives exactly the configuration that the document spells where it breaks no rule, and else the number of the first
 //! broken rule; that such a configuration is right, which is what the machine asks of it; and that `copy` gives an
-//! equal one.
+//! equal one. `is_address` is what may stand as the address of a listener.
 #![tactic(auto)]
 
 mod address;
@@ -23,6 +23,7 @@ mod text;
 mod values;
 mod words;
 
+pub use address::is_address;
 pub use config::{Config, Listener};
 pub use errors::ConfigError;
 pub use limits::Limits;

@@ -2,8 +2,8 @@
 use Rattle.std.specs.Prelude.{ℕ, List, codes}
 use Rattle.acct_server.specs.declared.status.Status.{Status}
 use Rattle.acct_server.specs.declared.status.Status.TheVariants.{Done, NoMemory, Usage, Config, ReadFault, WriteFault}
-use Rattle.acct_server.specs.declared.status.Status.TheVariants.{StoreFault, StoredPair, EventLine, HistoryFull}
-use Rattle.acct_server.specs.declared.status.Status.TheVariants.{InputTooLong}
+use Rattle.acct_server.specs.declared.status.Status.TheVariants.{StoreFault, StoredPair, EventLine, DoorFault}
+use Rattle.acct_server.specs.declared.status.Status.TheVariants.{HistoryFull, PeerBytes, PeerFault, InputTooLong, Refused}
 
 abbrev pub code_of : Status → ℕ
 code_of Done = 0
@@ -15,8 +15,12 @@ code_of WriteFault = 5
 code_of StoreFault = 6
 code_of (StoredPair key) = 7
 code_of (EventLine line) = 8
+code_of DoorFault = 9
 code_of (HistoryFull count) = 10
+code_of (PeerBytes place) = 11
+code_of PeerFault = 12
 code_of InputTooLong = 13
+code_of (Refused number) = 14
 
 abbrev pub word_of : Status → List ℕ
 word_of Done = codes "done"
@@ -28,5 +32,9 @@ word_of WriteFault = codes "write"
 word_of StoreFault = codes "store"
 word_of (StoredPair key) = codes "pair"
 word_of (EventLine line) = codes "event"
+word_of DoorFault = codes "door"
 word_of (HistoryFull count) = codes "full"
+word_of (PeerBytes place) = codes "peer"
+word_of PeerFault = codes "link"
 word_of InputTooLong = codes "long"
+word_of (Refused number) = codes "refused"

@@ -43,8 +43,12 @@ fn code_of(status: &Status) -> u8
         Status::StoreFault => 6,
         Status::StoredPair(_) => 7,
         Status::EventLine(_) => 8,
+        Status::DoorFault => 9,
         Status::HistoryFull(_) => 10,
+        Status::PeerBytes(_) => 11,
+        Status::PeerFault => 12,
         Status::InputTooLong => 13,
+        Status::Refused(_) => 14,
     }
 }
 
@@ -62,8 +66,12 @@ fn word_of(status: &Status) -> &'static str
         Status::StoreFault => "store",
         Status::StoredPair(_) => "pair",
         Status::EventLine(_) => "event",
+        Status::DoorFault => "door",
         Status::HistoryFull(_) => "full",
+        Status::PeerBytes(_) => "peer",
+        Status::PeerFault => "link",
         Status::InputTooLong => "long",
+        Status::Refused(_) => "refused",
     }
 }
 

@@ -14,7 +14,8 @@ use Rattle.acct_machine.specs.declared.entry.Entry.{Entry}
 use Rattle.acct_server.specs.declared.status.Status.{Status}
 use Rattle.acct_server.specs.declared.status.Status.TheVariants.{Done, NoMemory, Usage, Config as ConfigBroken}
 use Rattle.acct_server.specs.declared.status.Status.TheVariants.{ReadFault, WriteFault, StoreFault, StoredPair}
-use Rattle.acct_server.specs.declared.status.Status.TheVariants.{EventLine, HistoryFull, InputTooLong}
+use Rattle.acct_server.specs.declared.status.Status.TheVariants.{EventLine, DoorFault, HistoryFull, PeerBytes, PeerFault}
+use Rattle.acct_server.specs.declared.status.Status.TheVariants.{InputTooLong, Refused}
 use Rattle.acct_streams.specs.declared.whole.WholeError.{WholeError}
 use Rattle.acct_streams.specs.declared.whole.WholeError.TheVariants.{Fault, TooLong, Memory}
 use Rattle.acct_streams.specs.Causes.{Rose, NotRisen}
@@ -85,9 +86,13 @@ asked-run document bytes pairs history start StoreFault before begun of_run none
 asked-run document bytes pairs history start (StoredPair key) before begun of_run none through = absurd of_run
 asked-run document bytes pairs history start (EventLine n) before begun of_run none through =
     inr (inl (before, inr (record { start = start; begun = begun; is = through tt })))
+asked-run document bytes pairs history start DoorFault before begun of_run none through = absurd of_run
 asked-run document bytes pairs history start (HistoryFull n) before begun of_run none through =
     inr (inl (before, inr (record { start = start; begun = begun; is = through tt })))
+asked-run document bytes pairs history start (PeerBytes place) before begun of_run none through = absurd of_run
+asked-run document bytes pairs history start PeerFault before begun of_run none through = absurd of_run
 asked-run document bytes pairs history start InputTooLong before begun of_run none through = absurd of_run
+asked-run document bytes pairs history start (Refused n) before begun of_run none through = absurd of_run
 
 -- ---- what was read of the sources
 
@@ -166,9 +171,13 @@ config-asked document bytes pairs before now history WriteFault cause still = ab
 config-asked document bytes pairs before now history StoreFault cause still = absurd cause
 config-asked document bytes pairs before now history (StoredPair key) cause still = absurd cause
 config-asked document bytes pairs before now history (EventLine n) cause still = absurd cause
+config-asked document bytes pairs before now history DoorFault cause still = absurd cause
 config-asked document bytes pairs before now history (HistoryFull n) cause still = absurd cause
+config-asked document bytes pairs before now history (PeerBytes place) cause still = absurd cause
+config-asked document bytes pairs before now history PeerFault cause still = absurd cause
 config-asked document bytes pairs before now history InputTooLong cause still =
     inl (document-by (nat_lt most_bytes (length document)) _ (long document cause))
+config-asked document bytes pairs before now history (Refused n) cause still = absurd cause
 
 -- the events weren't
 events-asked : (document bytes : List ℕ) (pairs : List Pair) (before now : ℕ) (history : List Entry) (status : Status)
@@ -184,10 +193,14 @@ events-asked document bytes pairs before now history WriteFault none cause still
 events-asked document bytes pairs before now history StoreFault none cause still = absurd cause
 events-asked document bytes pairs before now history (StoredPair key) none cause still = absurd cause
 events-asked document bytes pairs before now history (EventLine n) none cause still = absurd cause
+events-asked document bytes pairs before now history DoorFault none cause still = absurd cause
 events-asked document bytes pairs before now history (HistoryFull n) none cause still = absurd cause
+events-asked document bytes pairs before now history (PeerBytes place) none cause still = absurd cause
+events-asked document bytes pairs before now history PeerFault none cause still = absurd cause
 events-asked document bytes pairs before now history InputTooLong none cause still =
     inl (events-by (nat_lt most_bytes (length document)) (first_broken document) (nat_lt most_bytes (length bytes)) none
     (long bytes cause))
+events-asked document bytes pairs before now history (Refused n) none cause still = absurd cause
 
 -- the store wasn't opened
 store-asked : (document bytes : List ℕ) (pairs : List Pair) (before now : ℕ) (history : List Entry) (status : Status)
@@ -204,8 +217,12 @@ store-asked document bytes pairs before now history StoreFault none cause still 
 store-asked document bytes pairs before now history (StoredPair key) none cause still =
     inr (inl (none, inl (record { key = key; some = cause.0; broken = cause.1; is = refl })))
 store-asked document bytes pairs before now history (EventLine n) none cause still = absurd cause
+store-asked document bytes pairs before now history DoorFault none cause still = absurd cause
 store-asked document bytes pairs before now history (HistoryFull n) none cause still = absurd cause
+store-asked document bytes pairs before now history (PeerBytes place) none cause still = absurd cause
+store-asked document bytes pairs before now history PeerFault none cause still = absurd cause
 store-asked document bytes pairs before now history InputTooLong none cause still = absurd cause
+store-asked document bytes pairs before now history (Refused n) none cause still = absurd cause
 
 config-complete : (left events : Option (List ℕ)) (held : Option (List Pair)) (before now : ℕ) (history : List Entry)
     (status : Status) → ConfigCause left before now status → NotRisen before now

@@ -22,8 +22,16 @@ pub enum Status {
     StoredPair(Seq<u8>),
     /// A line of the events is refused, the first by its number from 1.
     EventLine(u32),
+    /// A call of the entrance or of a door failed, or the entrance wasn't handed out.
+    DoorFault,
     /// The history was full, with the count of what it has.
     HistoryFull(u64),
-    /// A source has more than 67,108,864 bytes.
+    /// The peer's bytes spell no answer, at this place of its stream.
+    PeerBytes(u64),
+    /// A call of the caller or of the link failed, the caller wasn't handed out, or the link ended before the answer.
+    PeerFault,
+    /// A source has more than 67,108,864 bytes, or an answer isn't whole after as many.
     InputTooLong,
+    /// The peer refused, with the status that it answered, 0 of a bind_nak.
+    Refused(u32),
 }

@@ -18,6 +18,12 @@ const LOCKED: &str = "keeper_sqlite_locked/accounts.db";
 
 const NOTES: &str = "keeper_sqlite_refused/notes.txt";
 
+const COMMITS_FOLDER: &str = "keeper_sqlite_commits";
+
+const COMMITS: &str = "keeper_sqlite_commits/accounts.db";
+
+const COMMIT_COUNT: u16 = 300;
+
 fn put(alloc: Global, key: &[u8], value: &[u8]) -> Result<Change, Fail> {
     Ok(Change {
         key: Seq::copy_of(alloc, key)?,
@@ -94,5 +100,34 @@ fn a_file_that_is_open_is_refused(rt: HostRuntime) -> Result<(), Fail> {
     assert!(rt; keeper.load()?.is_empty());
     assert_eq!(rt; keeper.faults(), 0);
     fs::remove_dir_all(&rt, LOCKED_FOLDER)?;
+    Ok(())
+}
+
+// A commit of two pairs: the number's own, and which number came last.
+fn commit_number(alloc: Global, keeper: &mut SqliteKeeper, number: u16) -> Result<(), Fail> {
+    let key = number.to_be_bytes();
+    keeper.commit(&[put(alloc, &key, b"1")?, put(alloc, b"last", &key)?])?;
+    Ok(())
+}
+
+fn commit_each_number(rt: &HostRuntime) -> Result<(), Fail> {
+    let mut keeper = SqliteKeeper::new(rt, COMMITS)?;
+    for number in 0..COMMIT_COUNT {
+        commit_number(rt.alloc(), &mut keeper, number)?;
+    }
+    Ok(())
+}
+
+// The folder is removed at the end alone: the file of a run that is killed, or whose disk is full, stays to be looked at.
+#[test]
+fn each_commit_stands_whole(rt: HostRuntime) -> Result<(), Fail> {
+    let _ = fs::remove_dir_all(&rt, COMMITS_FOLDER);
+    fs::create_dir(&rt, COMMITS_FOLDER)?;
+    commit_each_number(&rt)?;
+    let told = loaded(&rt, COMMITS)?;
+    assert!(rt; told.starts_with(b"\0\0=1;\0\x01=1;\0\x02=1;"));
+    assert!(rt; told.ends_with(b"\x01\x2a=1;\x01\x2b=1;last=\x01\x2b;"));
+    assert_eq!(rt; told.len(), 300 * 5 + 8);
+    fs::remove_dir_all(&rt, COMMITS_FOLDER)?;
     Ok(())
 }
