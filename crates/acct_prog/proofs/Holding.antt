@@ -1,64 +1,41 @@
 -- What a world in memory shows once it was asked for a part.
-use Rattle.std.proofs.Common.{◌≡◌, ◌≢◌, ℕ, ◌≤◌, Bool, true, false, List, ◌∷◌, [], ◌++◌, codes, inl, Option, Some, None}
-use Rattle.std.proofs.Common.{is_none, Result, Ok, Err, IfOk, OnErr, is_ok, is_err, if◌then◌else◌, refl, sym, ◌∙◌, ap}
-use Rattle.std.proofs.Common.{arith}
+use Rattle.std.proofs.Common.{◌≡◌, ◌≢◌, ℕ, ◌||◌, Bool, true, false, not, List, ◌∷◌, [], ◌++◌, codes, inl, Option}
+use Rattle.std.proofs.Common.{Result, Ok, Err, refl, sym, ◌∙◌, ap, subst, arith}
 use Rattle.std.specs.Str.{bytes_eq}
 use Rattle.std.proofs.lemmas.Slice.Eq.{bytes_eq-Decides}
+use Rattle.acct_keeper.specs.declared.pairs.Pair.{Pair}
 use Rattle.acct_streams.specs.Causes.{Rose}
 use Rattle.acct_streams.specs.Memory.{one_more}
 use Rattle.acct_prog.specs.declared.part.Part.{Part}
 use Rattle.acct_prog.specs.declared.part.Part.TheVariants as part
-use Rattle.acct_prog.specs.declared.period.Period.{Period}
 use Rattle.acct_prog.specs.declared.take.TakeError.{TakeError}
-use Rattle.acct_prog.specs.World.{TakesSource, TakesSink}
-use Rattle.acct_prog.specs.Memory.{shown}
+use Rattle.acct_prog.specs.World.{Seen, TakesSource, TakesSink, TakesKeeper}
+use Rattle.acct_prog.specs.Memory.{WorldInMemory, shown, Hands, is_empty_name}
 
--- a part that was taken out of its place, or that wasn't there
-pub record Given {P : Type 0} (place left held : Option P) (faults counted : ℕ) (answer : Result P TakeError) : Type 0
-  where
-    pub taken : held ≡ place
-    pub none_left : left ≡ None
-    pub there : IfOk answer (λ p. held ≡ Some p)
-    pub missing : OnErr answer (held ≡ None)
-    pub counts : counted ≡ (if is_none held then one_more faults else faults)
-    pub later : faults ≤ counted
+rose : (faults counted : ℕ) → counted ≡ one_more faults → Rose faults counted
+rose faults counted counts = omega (arith, counts)
 
-rose : (missing : Bool) (faults counted : ℕ) → missing ≡ true → counted ≡ (if missing then one_more faults else faults)
-    → Rose faults counted
-rose missing faults counted is counts = let risen : counted ≡ one_more faults =
-    counts ∙ ap (λ (b : Bool). if b then one_more faults else faults) is in omega (arith, risen)
-
-pub sink-taken : {S T : Type 0} (name : List ℕ) (config events : Option S) (sink left held : Option T)
-    (periods : List Period) (asked noted : List Part) (sources faults counted : ℕ) (answer : Result T TakeError)
-    → noted ≡ asked ++ part.Sink ∷ []
-    → Given sink left held faults counted answer
-    → TakesSink (shown name config events sink periods asked sources faults)
-    (shown name config events left periods noted sources counted) answer
-sink-taken name config events sink left held periods asked noted sources faults counted (Ok p) notes given = record {
-  part = λ tells. sym given.taken ∙ given.there;
+pub sink-taken : {S T K : Type 0} (w : WorldInMemory S T K) (left : Option T) (noted : List Part) (counted takes : ℕ)
+    (to_fail : Bool) (answer : Result T TakeError) → noted ≡ w.asked ++ part.Sink ∷ []
+    → Hands to_fail w.sink left w.sink_faults counted answer
+    → TakesSink (shown w)
+    (shown (record w { sink = left; asked = noted; sink_faults = counted; takes = takes })) answer
+sink-taken w left noted counted takes to_fail (Ok p) notes hands = record {
+  part = λ tells. hands.part;
   kept = tt;
-  sources = λ other. refl;
-  periods = refl;
-  tells = refl;
-  knows = refl;
+  others = refl;
   asked = λ tells. inl notes;
   cause = λ is. absurd cc;
-  later = given.later;
-  source_count = refl;
+  later = hands.later;
 }
-sink-taken name config events sink left held periods asked noted sources faults counted (Err e) notes given =
-    let none : left ≡ sink = given.none_left ∙ sym given.missing ∙ given.taken in record {
-      part = tt;
-      kept = ap (λ (s : Option _). shown name config events s periods noted sources counted) none;
-      sources = λ other. refl;
-      periods = refl;
-      tells = refl;
-      knows = refl;
-      asked = λ tells. inl notes;
-      cause = λ is. rose (is_none held) faults counted (ap is_none given.missing) given.counts;
-      later = given.later;
-      source_count = refl;
-    }
+sink-taken w left noted counted takes to_fail (Err e) notes hands = record {
+  part = tt;
+  kept = hands.kept;
+  others = refl;
+  asked = λ tells. inl notes;
+  cause = λ is. rose w.sink_faults counted hands.count;
+  later = hands.later;
+}
 
 other-name : (other name target : List ℕ) → bytes_eq name target ≡ true → other ≢ name → bytes_eq other target ≡ false
 other-name other name target is differ =
@@ -70,80 +47,106 @@ other-name other name target is differ =
     ] in
     split (bytes_eq other target) refl
 
-pub events-taken : {S T : Type 0} (name asked_name : List ℕ) (config events left held : Option S) (sink : Option T)
-    (periods : List Period) (asked noted : List Part) (faults counted sinks : ℕ) (answer : Result S TakeError)
-    → bytes_eq asked_name (codes "-") ≡ true → noted ≡ asked ++ part.Source asked_name ∷ []
-    → Given events left held faults counted answer
-    → TakesSource (shown name config events sink periods asked faults sinks)
-    (shown name config left sink periods noted counted sinks) asked_name answer
-events-taken name asked_name config events left held sink periods asked noted faults counted sinks (Ok p) here notes
-    given = record {
-      part = λ tells. (rw here (sym given.taken ∙ given.there), rw here refl);
-      kept = tt;
-      others = λ other differ. rw (other-name other asked_name (codes "-") here differ) refl;
-      sink = refl;
-      periods = refl;
-      tells = refl;
-      knows = refl;
-      asked = λ tells. inl notes;
-      cause = λ is. absurd cc;
-      later = given.later;
-      sink_count = refl;
-    }
-events-taken name asked_name config events left held sink periods asked noted faults counted sinks (Err e) here notes
-    given =
-    let none : left ≡ events = given.none_left ∙ sym given.missing ∙ given.taken in record {
+pub events-taken : {S T K : Type 0} (w : WorldInMemory S T K) (name : List ℕ) (left : Option S) (noted : List Part)
+    (counted takes : ℕ) (to_fail : Bool) (answer : Result S TakeError) → bytes_eq name (codes "-") ≡ true
+    → noted ≡ w.asked ++ part.Source name ∷ [] → Hands to_fail w.events left w.source_faults counted answer
+    → TakesSource (shown w)
+    (shown (record w { events = left; asked = noted; source_faults = counted; takes = takes })) name answer
+events-taken w name left noted counted takes to_fail (Ok p) here notes hands = record {
+  part = λ tells. (rw here hands.part, rw here refl);
+  kept = tt;
+  sources = λ other differ. rw (other-name other name (codes "-") here differ) refl;
+  others = refl;
+  asked = λ tells. inl notes;
+  cause = λ is. absurd cc;
+  later = hands.later;
+}
+events-taken w name left noted counted takes to_fail (Err e) here notes hands = record {
+  part = tt;
+  kept = ap (λ (s : Option _). (shown (record w { events = s })).source) hands.kept;
+  sources = λ other differ. rw (other-name other name (codes "-") here differ) refl;
+  others = refl;
+  asked = λ tells. inl notes;
+  cause = λ is. rose w.source_faults counted hands.count;
+  later = hands.later;
+}
+
+pub config-taken : {S T K : Type 0} (w : WorldInMemory S T K) (name : List ℕ) (left : Option S)
+    (noted : List Part) (counted takes : ℕ) (fails known : Bool) (answer : Result S TakeError)
+    → bytes_eq name (codes "-") ≡ false → bytes_eq name w.name ≡ known → noted ≡ w.asked ++ part.Source name ∷ []
+    → Hands (fails || not known) w.config left w.source_faults counted answer
+    → TakesSource (shown w)
+    (shown (record w { config = left; asked = noted; source_faults = counted; takes = takes })) name answer
+config-taken w name left noted counted takes true known (Ok p) not_events is notes hands =
+    let clash : false ≡ true = hands.fails in absurd cc
+config-taken w name left noted counted takes false false (Ok p) not_events is notes hands =
+    let clash : false ≡ true = hands.fails in absurd cc
+config-taken w name left noted counted takes false true (Ok p) not_events is notes hands = record {
+  part = λ tells. (rw (not_events, is) hands.part, rw (not_events, is) refl);
+  kept = tt;
+  sources = λ other differ. rw (other-name other name w.name is differ) refl;
+  others = refl;
+  asked = λ tells. inl notes;
+  cause = λ is. absurd cc;
+  later = hands.later;
+}
+config-taken w name left noted counted takes fails known (Err e) not_events is notes hands =
+    let none : left ≡ w.config = hands.kept in record {
       part = tt;
-      kept = ap (λ (s : Option _). shown name config s sink periods noted counted sinks) none;
-      others = λ other differ. rw (other-name other asked_name (codes "-") here differ) refl;
-      sink = refl;
-      periods = refl;
-      tells = refl;
-      knows = refl;
+      kept = ap (λ (s : Option _). (shown (record w { config = s })).source) none;
+      sources = λ other differ. ap (λ (s : Option _). (shown (record w { config = s })).source other) none;
+      others = refl;
       asked = λ tells. inl notes;
-      cause = λ is. rose (is_none held) faults counted (ap is_none given.missing) given.counts;
-      later = given.later;
-      sink_count = refl;
+      cause = λ is. rose w.source_faults counted hands.count;
+      later = hands.later;
     }
 
-pub config-taken : {S T : Type 0} (name asked_name : List ℕ) (config events left held : Option S) (sink : Option T)
-    (periods : List Period) (asked noted : List Part) (faults counted sinks : ℕ) (answer : Result S TakeError)
-    → bytes_eq asked_name (codes "-") ≡ false → bytes_eq asked_name name ≡ true
-    → noted ≡ asked ++ part.Source asked_name ∷ [] → Given config left held faults counted answer
-    → TakesSource (shown name config events sink periods asked faults sinks)
-    (shown name left events sink periods noted counted sinks) asked_name answer
-config-taken name asked_name config events left held sink periods asked noted faults counted sinks (Ok p) not_events
-    here notes given = record {
-      part = λ tells. (rw (not_events, here) (sym given.taken ∙ given.there), rw (not_events, here) refl);
-      kept = tt;
-      others = λ other differ. rw (other-name other asked_name name here differ) refl;
-      sink = refl;
-      periods = refl;
-      tells = refl;
-      knows = refl;
-      asked = λ tells. inl notes;
-      cause = λ is. absurd cc;
-      later = given.later;
-      sink_count = refl;
-    }
-config-taken name asked_name config events left held sink periods asked noted faults counted sinks (Err e) not_events
-    here notes given =
-    let none : left ≡ config = given.none_left ∙ sym given.missing ∙ given.taken in record {
-      part = tt;
-      kept = ap (λ (s : Option _). shown name s events sink periods noted counted sinks) none;
-      others = λ other differ. rw (other-name other asked_name name here differ) refl;
-      sink = refl;
-      periods = refl;
-      tells = refl;
-      knows = refl;
-      asked = λ tells. inl notes;
-      cause = λ is. rose (is_none held) faults counted (ap is_none given.missing) given.counts;
-      later = given.later;
-      sink_count = refl;
-    }
+pub keeper-taken : {S T K : Type 0} (pairs : K → Option (List Pair)) (w : WorldInMemory S T K) (name : List ℕ)
+    (left : Option K) (noted : List Part) (counted takes : ℕ) (fails known : Bool) (answer : Result K TakeError)
+    → is_empty_name name ≡ known → noted ≡ w.asked ++ part.Keeper name ∷ []
+    → Hands (fails || not known) w.keeper left w.keeper_faults counted answer
+    → TakesKeeper pairs (shown w)
+    (shown (record w { keeper = left; asked = noted; keeper_faults = counted; takes = takes })) name answer
+keeper-taken pairs w name left noted counted takes true known (Ok p) is notes hands =
+    let clash : false ≡ true = hands.fails in absurd cc
+keeper-taken pairs w name left noted counted takes false false (Ok p) is notes hands =
+    let clash : false ≡ true = hands.fails in absurd cc
+keeper-taken pairs w name left noted counted takes false true (Ok p) is notes hands = record {
+  part = λ tells. (rw is hands.part, is);
+  empty = λ tells. absurd cc;
+  kept = tt;
+  keepers = λ other differ. rw (other-name other name [] is differ) refl;
+  others = refl;
+  asked = λ tells. inl notes;
+  cause = λ is. absurd cc;
+  later = hands.later;
+}
+keeper-taken pairs w name left noted counted takes fails known (Err e) is notes hands = record {
+  part = tt;
+  empty = tt;
+  kept = ap (λ (k : Option _). (shown (record w { keeper = k })).keeper) hands.kept;
+  keepers = λ other differ. ap (λ (k : Option _). (shown (record w { keeper = k })).keeper other) hands.kept;
+  others = refl;
+  asked = λ tells. inl notes;
+  cause = λ is. rose w.keeper_faults counted hands.count;
+  later = hands.later;
+}
 
--- what was pushed without an error stands last
-pub pushed : {E : Type 0} (old new : List Part) (p : Part) (r : Result (Unit {0}) E) (failed : Bool) → failed ≡ is_err r
-    → failed ≡ false → new ≡ (if is_ok r then old ++ p ∷ [] else old) → new ≡ old ++ p ∷ []
-pushed old new p (Ok u) failed is not_failed pushes = pushes
-pushed old new p (Err e) failed is not_failed pushes = absurd cc
+-- ---- the world is what its parts show
+
+pub seen-sink : {S T K : Type 0} (w now : WorldInMemory S T K) (new : Seen S T K)
+    (answer : Result T TakeError) → w ≡ now → TakesSink (shown w) new answer → TakesSink (shown now) new answer
+seen-sink w now new answer is takes =
+    subst (λ (x : WorldInMemory _ _ _). TakesSink (shown x) new answer) is takes
+
+pub seen-source : {S T K : Type 0} (w now : WorldInMemory S T K) (new : Seen S T K) (name : List ℕ)
+    (answer : Result S TakeError) → w ≡ now → TakesSource (shown w) new name answer
+    → TakesSource (shown now) new name answer
+seen-source w now new name answer is takes =
+    subst (λ (x : WorldInMemory _ _ _). TakesSource (shown x) new name answer) is takes
+
+pub seen-keeper : {S T K : Type 0} (pairs : K → Option (List Pair)) (w now : WorldInMemory S T K)
+    (new : Seen S T K) (name : List ℕ) (answer : Result K TakeError) → w ≡ now
+    → TakesKeeper pairs (shown w) new name answer → TakesKeeper pairs (shown now) new name answer
+seen-keeper pairs w now new name answer is takes =
+    subst (λ (x : WorldInMemory _ _ _). TakesKeeper pairs (shown x) new name answer) is takes

@@ -1,23 +1,25 @@
 -- What a world shows over the calls of a command.
-use Rattle.std.proofs.Common.{◌≡◌, ◌≢◌, ℕ, ◌≤◌, ◌⊎◌, inl, inr, Bool, true, false, List, ◌∷◌, [], ◌++◌, Result, Ok, Err}
+use Rattle.std.proofs.Common.{◌≡◌, ◌≢◌, ℕ, ◌≤◌, inl, inr, Bool, true, false, List, ◌∷◌, [], ◌++◌, Result, Ok, Err}
 use Rattle.std.proofs.Common.{Option, Some, None}
 use Rattle.std.proofs.Common.{refl, sym, ◌∙◌, ap, subst, arith, append_assoc, MatchResult}
 use Rattle.std.specs.Str.{bytes_eq}
 use Rattle.std.proofs.lemmas.List.{append-nil}
 use Rattle.std.proofs.lemmas.Slice.Eq.{bytes_eq-Decides}
+use Rattle.acct_keeper.specs.declared.pairs.Pair.{Pair}
 use Rattle.acct_streams.specs.Causes.{Rose}
 use Rattle.acct_server.specs.declared.replays.Replayed.{Replayed}
 use Rattle.acct_server.specs.declared.status.Status.{Status}
-use Rattle.acct_server.specs.declared.status.Status.TheVariants.{NoMemory}
+use Rattle.acct_server.specs.declared.status.Status.TheVariants.{ReadFault, WriteFault, StoreFault, NoMemory}
 use Rattle.acct_server.specs.Replaying.{Telling, Parts, IsReplay}
 use Rattle.acct_prog.specs.declared.period.Period.{Period}
 use Rattle.acct_prog.specs.declared.take.TakeError.{TakeError}
 use Rattle.acct_prog.specs.declared.take.TakeError.TheVariants as take
 use Rattle.acct_prog.specs.declared.part.Part.{Part}
 use Rattle.acct_prog.specs.declared.part.Part.TheVariants as part
-use Rattle.acct_prog.specs.World.{Seen, Asks, TakesSource, GivesSource, TakesSink, GivesSink, KeepsPeriod}
-use Rattle.acct_prog.specs.Commanded.{standard_input, wanted, AsksFront, TakeCause, Returned, Commanded, read_status}
-use Rattle.acct_prog.specs.Commanded.{write_status, period_of, Keeps, KeepsAny}
+use Rattle.acct_prog.specs.World.{Seen, Asks, TakesSource, GivesSource, TakesSink, GivesSink, TakesKeeper, GivesKeeper}
+use Rattle.acct_prog.specs.World.{KeepsPeriod}
+use Rattle.acct_prog.specs.Commanded.{standard_input, no_name, AsksFront, TakeCause, NotHandedOut, Returned}
+use Rattle.acct_prog.specs.Commanded.{HasRun, read_status, write_status, store_status, period_of, Keeps, KeepsAny}
 
 -- what holds of a name and of each other name holds of all
 by_name : (P : List ℕ → Type 0) (name other : List ℕ) → P name → (other ≢ name → P other) → P other
@@ -32,25 +34,29 @@ by_name P name other one others =
 
 -- ---- what was asked for
 
-asked-ok : {P : Type 0} (p : Part) (old new : List Part) (x : P) (answer : Result P TakeError) → answer ≡ Ok x
+pub asked-ok : {P : Type 0} (p : Part) (old new : List Part) (x : P) (answer : Result P TakeError) → answer ≡ Ok x
     → Asks p old new answer → new ≡ old ++ p ∷ []
 asked-ok p old new x answer is (inl asks) = asks
 asked-ok p old new x answer is (inr none) = absurd cc
 
-asked-front : {P : Type 0} (front others : List Part) (p : Part) (start old new : List Part)
-    (answer : Result P TakeError) → old ≡ start ++ front → Asks p old new answer
-    → AsksFront (front ++ p ∷ others) start new
-asked-front front others p start old new answer so_far (inl asks) = record {
-  done = front ++ p ∷ [];
-  others = others;
-  splits = sym (append_assoc front (p ∷ []) others);
-  asked = asks ∙ ap (λ (ps : List Part). ps ++ p ∷ []) so_far ∙ append_assoc start front (p ∷ []);
-}
-asked-front front others p start old new answer so_far (inr none) =
-    record { done = front; others = p ∷ others; splits = refl; asked = none.1 ∙ so_far }
+-- the first part at most
+asked-one : {P : Type 0} (p : Part) (others old new : List Part) (answer : Result P TakeError)
+    → Asks p old new answer → AsksFront (p ∷ others) old new
+asked-one p others old new answer (inl asks) =
+    record { done = p ∷ []; others = others; splits = refl; asked = asks }
+asked-one p others old new answer (inr none) =
+    record { done = []; others = p ∷ others; splits = refl; asked = none.1 ∙ sym (append-nil old) }
 
-front-kept : (parts start old new : List Part) → new ≡ old → AsksFront parts start old → AsksFront parts start new
-front-kept parts start old new same front = subst (λ (ps : List Part). AsksFront parts start ps) (sym same) front
+-- one part, and then some of the others
+asked-then : (p : Part) (others w0 w1 w2 w3 : List Part) → w1 ≡ w0 ++ p ∷ [] → AsksFront others w1 w2 → w3 ≡ w2
+    → AsksFront (p ∷ others) w0 w3
+asked-then p others w0 w1 w2 w3 first front same = record {
+  done = p ∷ front.done;
+  others = front.others;
+  splits = ap (λ (ps : List Part). p ∷ ps) front.splits;
+  asked = same ∙ front.asked ∙ ap (λ (ps : List Part). ps ++ front.done) first
+      ∙ append_assoc w0 (p ∷ []) front.done;
+}
 
 -- one part more was asked for
 asked-more : (start old new : List Part) (front : List Part) (p : Part) → old ≡ start ++ front → new ≡ old ++ p ∷ []
@@ -58,35 +64,205 @@ asked-more : (start old new : List Part) (front : List Part) (p : Part) → old 
 asked-more start old new front p so_far asks = asks ∙ ap (λ (ps : List Part). ps ++ p ∷ []) so_far
     ∙ append_assoc start front (p ∷ [])
 
--- ---- the command
+-- ---- the counts
 
-keeps-one : {S T E : Type 0} (old new : Seen S T) (period : Period) (ended status : Status)
+-- no count of failed handings out has fallen
+record CountsLater {S T K : Type 0} (old new : Seen S T K) : Type 0 where
+  source : old.source_faults ≤ new.source_faults
+  sink : old.sink_faults ≤ new.sink_faults
+  keeper : old.keeper_faults ≤ new.keeper_faults
+
+equal-later : (a b : ℕ) → b ≡ a → a ≤ b
+equal-later a b is = omega (arith, is)
+
+rose-within : (a b c d : ℕ) → a ≤ b → Rose b c → c ≤ d → Rose a d
+rose-within a b c d before rose after = omega (arith, before, rose, after)
+
+cause-within : {S T K : Type 0} (w0 w1 w2 w3 : Seen S T K) (status : Status) → CountsLater w0 w1 → CountsLater w2 w3
+    → TakeCause w1 w2 status → TakeCause w0 w3 status
+cause-within w0 w1 w2 w3 ReadFault before after rose =
+    rose-within w0.source_faults w1.source_faults w2.source_faults w3.source_faults before.source rose after.source
+cause-within w0 w1 w2 w3 WriteFault before after rose =
+    rose-within w0.sink_faults w1.sink_faults w2.sink_faults w3.sink_faults before.sink rose after.sink
+cause-within w0 w1 w2 w3 StoreFault before after rose =
+    rose-within w0.keeper_faults w1.keeper_faults w2.keeper_faults w3.keeper_faults before.keeper rose after.keeper
+cause-within w0 w1 w2 w3 NoMemory before after rose = tt
+cause-within w0 w1 w2 w3 _ before after rose = absurd rose
+
+takes-source-later : {S T K : Type 0} (w0 w1 : Seen S T K) (name : List ℕ) (answer : Result S TakeError)
+    → TakesSource w0 w1 name answer → CountsLater w0 w1
+takes-source-later w0 w1 name answer takes = record {
+  source = takes.later;
+  sink = equal-later w0.sink_faults w1.sink_faults (ap (λ (s : Seen _ _ _). s.sink_faults) takes.others);
+  keeper = equal-later w0.keeper_faults w1.keeper_faults (ap (λ (s : Seen _ _ _). s.keeper_faults) takes.others);
+}
+
+gives-source-later : {S T K : Type 0} (w0 w1 : Seen S T K) (name : List ℕ) (p : S) → GivesSource w0 w1 name p
+    → CountsLater w0 w1
+gives-source-later w0 w1 name p gives = record {
+  source = equal-later w0.source_faults w1.source_faults (ap (λ (s : Seen _ _ _). s.source_faults) gives.others);
+  sink = equal-later w0.sink_faults w1.sink_faults (ap (λ (s : Seen _ _ _). s.sink_faults) gives.others);
+  keeper = equal-later w0.keeper_faults w1.keeper_faults (ap (λ (s : Seen _ _ _). s.keeper_faults) gives.others);
+}
+
+takes-sink-later : {S T K : Type 0} (w0 w1 : Seen S T K) (answer : Result T TakeError) → TakesSink w0 w1 answer
+    → CountsLater w0 w1
+takes-sink-later w0 w1 answer takes = record {
+  source = equal-later w0.source_faults w1.source_faults (ap (λ (s : Seen _ _ _). s.source_faults) takes.others);
+  sink = takes.later;
+  keeper = equal-later w0.keeper_faults w1.keeper_faults (ap (λ (s : Seen _ _ _). s.keeper_faults) takes.others);
+}
+
+gives-sink-later : {S T K : Type 0} (w0 w1 : Seen S T K) (p : T) → GivesSink w0 w1 p → CountsLater w0 w1
+gives-sink-later w0 w1 p gives = record {
+  source = equal-later w0.source_faults w1.source_faults (ap (λ (s : Seen _ _ _). s.source_faults) gives.others);
+  sink = equal-later w0.sink_faults w1.sink_faults (ap (λ (s : Seen _ _ _). s.sink_faults) gives.others);
+  keeper = equal-later w0.keeper_faults w1.keeper_faults (ap (λ (s : Seen _ _ _). s.keeper_faults) gives.others);
+}
+
+-- ---- a part that isn't handed out
+
+read-cause : {S T K : Type 0} (old new : Seen S T K) (e : TakeError)
+    → (e ≡ take.Failed → Rose old.source_faults new.source_faults) → TakeCause old new (read_status e)
+read-cause old new take.Failed rose = rose refl
+read-cause old new take.NoMemory rose = tt
+
+write-cause : {S T K : Type 0} (old new : Seen S T K) (e : TakeError)
+    → (e ≡ take.Failed → Rose old.sink_faults new.sink_faults) → TakeCause old new (write_status e)
+write-cause old new take.Failed rose = rose refl
+write-cause old new take.NoMemory rose = tt
+
+store-cause : {S T K : Type 0} (old new : Seen S T K) (e : TakeError)
+    → (e ≡ take.Failed → Rose old.keeper_faults new.keeper_faults) → TakeCause old new (store_status e)
+store-cause old new take.Failed rose = rose refl
+store-cause old new take.NoMemory rose = tt
+
+pub source-refused : {S T K : Type 0} (name : List ℕ) (others : List Part) (w0 w1 : Seen S T K) (e : TakeError)
+    (status : Status) → TakesSource w0 w1 name (Err e) → status ≡ read_status e
+    → NotHandedOut (part.Source name ∷ others) w0 w1 status
+source-refused name others w0 w1 e status fails is = record {
+  cause = subst (λ (s : Status). TakeCause w0 w1 s) (sym is)
+      (read-cause w0 w1 e (λ failed. fails.cause (ap (λ (x : TakeError). Err x) failed)));
+  sources = λ tells name. ap (λ (f : List ℕ → Option _). f name) fails.kept;
+  sink = λ tells. ap (λ (s : Seen _ _ _). s.sink) fails.others;
+  keepers = λ tells name. ap (λ (s : Seen _ _ _). s.keeper name) fails.others;
+  periods = ap (λ (s : Seen _ _ _). s.periods) fails.others;
+  tells = ap (λ (s : Seen _ _ _). s.tells) fails.others;
+  knows = ap (λ (s : Seen _ _ _). s.knows) fails.others;
+  stores = ap (λ (s : Seen _ _ _). s.stores) fails.others;
+  asked = λ tells. asked-one (part.Source name) others w0.asked w1.asked (Err e) (fails.asked tells);
+}
+
+pub sink-refused : {S T K : Type 0} (others : List Part) (w0 w1 : Seen S T K) (e : TakeError) (status : Status)
+    → TakesSink w0 w1 (Err e) → status ≡ write_status e → NotHandedOut (part.Sink ∷ others) w0 w1 status
+sink-refused others w0 w1 e status fails is = record {
+  cause = subst (λ (s : Status). TakeCause w0 w1 s) (sym is)
+      (write-cause w0 w1 e (λ failed. fails.cause (ap (λ (x : TakeError). Err x) failed)));
+  sources = λ tells name. ap (λ (s : Seen _ _ _). s.source name) fails.others;
+  sink = λ tells. fails.kept;
+  keepers = λ tells name. ap (λ (s : Seen _ _ _). s.keeper name) fails.others;
+  periods = ap (λ (s : Seen _ _ _). s.periods) fails.others;
+  tells = ap (λ (s : Seen _ _ _). s.tells) fails.others;
+  knows = ap (λ (s : Seen _ _ _). s.knows) fails.others;
+  stores = ap (λ (s : Seen _ _ _). s.stores) fails.others;
+  asked = λ tells. asked-one part.Sink others w0.asked w1.asked (Err e) (fails.asked tells);
+}
+
+pub keeper-refused : {S T K : Type 0} (pairs : K → Option (List Pair)) (name : List ℕ) (others : List Part)
+    (w0 w1 : Seen S T K) (e : TakeError) (status : Status) → TakesKeeper pairs w0 w1 name (Err e)
+    → status ≡ store_status e → NotHandedOut (part.Keeper name ∷ others) w0 w1 status
+keeper-refused pairs name others w0 w1 e status fails is = record {
+  cause = subst (λ (s : Status). TakeCause w0 w1 s) (sym is)
+      (store-cause w0 w1 e (λ failed. fails.cause (ap (λ (x : TakeError). Err x) failed)));
+  sources = λ tells name. ap (λ (s : Seen _ _ _). s.source name) fails.others;
+  sink = λ tells. ap (λ (s : Seen _ _ _). s.sink) fails.others;
+  keepers = λ tells name. ap (λ (f : List ℕ → Option _). f name) fails.kept;
+  periods = ap (λ (s : Seen _ _ _). s.periods) fails.others;
+  tells = ap (λ (s : Seen _ _ _). s.tells) fails.others;
+  knows = ap (λ (s : Seen _ _ _). s.knows) fails.others;
+  stores = ap (λ (s : Seen _ _ _). s.stores) fails.others;
+  asked = λ tells. asked-one (part.Keeper name) others w0.asked w1.asked (Err e) (fails.asked tells);
+}
+
+-- ---- a part that is given back, since a later one wasn't handed out
+
+pub source-back : {S T K : Type 0} (name : List ℕ) (others : List Part) (w0 w1 w2 w3 : Seen S T K) (p : S)
+    (status : Status) → TakesSource w0 w1 name (Ok p) → NotHandedOut others w1 w2 status → GivesSource w2 w3 name p
+    → NotHandedOut (part.Source name ∷ others) w0 w3 status
+source-back name others w0 w1 w2 w3 p status takes fails gives =
+    let tells1 : w1.tells ≡ w0.tells = ap (λ (s : Seen _ _ _). s.tells) takes.others in
+    let knows2 : w2.knows ≡ w0.knows = fails.knows ∙ ap (λ (s : Seen _ _ _). s.knows) takes.others in
+    record {
+      cause = cause-within w0 w1 w2 w3 status (takes-source-later w0 w1 name (Ok p) takes)
+          (gives-source-later w2 w3 name p gives) fails.cause;
+      sources = λ tells other.
+          by_name (λ n. w3.source n ≡ w0.source n) name other
+          (gives.holds (fails.tells ∙ tells1 ∙ tells)
+          (ap (λ (f : List ℕ → Bool). f name) knows2 ∙ (takes.part tells).1) ∙ sym (takes.part tells).0)
+          (λ differ. gives.sources other differ ∙ fails.sources (tells1 ∙ tells) other ∙ takes.sources other differ);
+      sink = λ tells. ap (λ (s : Seen _ _ _). s.sink) gives.others ∙ fails.sink (tells1 ∙ tells)
+          ∙ ap (λ (s : Seen _ _ _). s.sink) takes.others;
+      keepers = λ tells other. ap (λ (s : Seen _ _ _). s.keeper other) gives.others
+          ∙ fails.keepers (tells1 ∙ tells) other ∙ ap (λ (s : Seen _ _ _). s.keeper other) takes.others;
+      periods = ap (λ (s : Seen _ _ _). s.periods) gives.others ∙ fails.periods
+          ∙ ap (λ (s : Seen _ _ _). s.periods) takes.others;
+      tells = ap (λ (s : Seen _ _ _). s.tells) gives.others ∙ fails.tells ∙ tells1;
+      knows = ap (λ (s : Seen _ _ _). s.knows) gives.others ∙ knows2;
+      stores = ap (λ (s : Seen _ _ _). s.stores) gives.others ∙ fails.stores
+          ∙ ap (λ (s : Seen _ _ _). s.stores) takes.others;
+      asked = λ tells. asked-then (part.Source name) others w0.asked w1.asked w2.asked w3.asked
+          (asked-ok (part.Source name) w0.asked w1.asked p (Ok p) refl (takes.asked tells))
+          (fails.asked (tells1 ∙ tells)) (ap (λ (s : Seen _ _ _). s.asked) gives.others);
+    }
+
+pub sink-back : {S T K : Type 0} (others : List Part) (w0 w1 w2 w3 : Seen S T K) (p : T) (status : Status)
+    → TakesSink w0 w1 (Ok p) → NotHandedOut others w1 w2 status → GivesSink w2 w3 p
+    → NotHandedOut (part.Sink ∷ others) w0 w3 status
+sink-back others w0 w1 w2 w3 p status takes fails gives =
+    let tells1 : w1.tells ≡ w0.tells = ap (λ (s : Seen _ _ _). s.tells) takes.others in
+    record {
+      cause = cause-within w0 w1 w2 w3 status (takes-sink-later w0 w1 (Ok p) takes) (gives-sink-later w2 w3 p gives)
+          fails.cause;
+      sources = λ tells other. ap (λ (s : Seen _ _ _). s.source other) gives.others
+          ∙ fails.sources (tells1 ∙ tells) other ∙ ap (λ (s : Seen _ _ _). s.source other) takes.others;
+      sink = λ tells. gives.holds (fails.tells ∙ tells1 ∙ tells) ∙ sym (takes.part tells);
+      keepers = λ tells other. ap (λ (s : Seen _ _ _). s.keeper other) gives.others
+          ∙ fails.keepers (tells1 ∙ tells) other ∙ ap (λ (s : Seen _ _ _). s.keeper other) takes.others;
+      periods = ap (λ (s : Seen _ _ _). s.periods) gives.others ∙ fails.periods
+          ∙ ap (λ (s : Seen _ _ _). s.periods) takes.others;
+      tells = ap (λ (s : Seen _ _ _). s.tells) gives.others ∙ fails.tells ∙ tells1;
+      knows = ap (λ (s : Seen _ _ _). s.knows) gives.others ∙ fails.knows
+          ∙ ap (λ (s : Seen _ _ _). s.knows) takes.others;
+      stores = ap (λ (s : Seen _ _ _). s.stores) gives.others ∙ fails.stores
+          ∙ ap (λ (s : Seen _ _ _). s.stores) takes.others;
+      asked = λ tells. asked-then part.Sink others w0.asked w1.asked w2.asked w3.asked
+          (asked-ok part.Sink w0.asked w1.asked p (Ok p) refl (takes.asked tells)) (fails.asked (tells1 ∙ tells))
+          (ap (λ (s : Seen _ _ _). s.asked) gives.others);
+    }
+
+-- ---- the period
+
+keeps-one : {S T K E : Type 0} (old new : Seen S T K) (period : Period) (ended status : Status)
     (answer : Result (Unit {0}) E) → KeepsPeriod old new period answer
     → MatchResult answer (λ u. status ≡ ended) (λ e. status ≡ NoMemory) → Keeps old new (Some period) ended status
 keeps-one old new period ended status (Ok u) keeps is = inl (is, keeps.kept)
 keeps-one old new period ended status (Err e) keeps is = inr (is, keeps.none)
 
 -- the world was asked to keep the period
-pub kept-one : {S T E : Type 0} (old new : Seen S T) (period : Period) (ended status : Status)
+pub kept-one : {S T K E : Type 0} (old new : Seen S T K) (period : Period) (ended status : Status)
     (answer : Result (Unit {0}) E) → KeepsPeriod old new period answer
     → MatchResult answer (λ u. status ≡ ended) (λ e. status ≡ NoMemory) → KeepsAny old new (Some period) ended status
-kept-one old new period ended status answer keeps is = record {
-  periods = keeps-one old new period ended status answer keeps is;
-  sources = keeps.sources;
-  sink = keeps.sink;
-  tells = keeps.tells;
-  knows = keeps.knows;
-  asked = keeps.asked;
-}
+kept-one old new period ended status answer keeps is =
+    record { periods = keeps-one old new period ended status answer keeps is; others = keeps.others }
 
 -- what is kept is told by the periods alone
-keeps-later : {S T : Type 0} (old mid new : Seen S T) (period : Option Period) (ended status : Status)
+pub keeps-later : {S T K : Type 0} (old mid new : Seen S T K) (period : Option Period) (ended status : Status)
     → new.periods ≡ mid.periods → Keeps old mid period ended status → Keeps old new period ended status
 keeps-later old mid new None ended status same keeps = (keeps.0, same ∙ keeps.1)
 keeps-later old mid new (Some period) ended status same (inl is) = inl (is.0, λ tells. same ∙ is.1 tells)
 keeps-later old mid new (Some period) ended status same (inr is) = inr (is.0, same ∙ is.1)
 
-keeps-earlier : {S T : Type 0} (old mid new : Seen S T) (period : Option Period) (ended status : Status)
+pub keeps-earlier : {S T K : Type 0} (old mid new : Seen S T K) (period : Option Period) (ended status : Status)
     → mid.periods ≡ old.periods → mid.tells ≡ old.tells → Keeps mid new period ended status
     → Keeps old new period ended status
 keeps-earlier old mid new None ended status same telling keeps = (keeps.0, keeps.1 ∙ same)
@@ -94,155 +270,103 @@ keeps-earlier old mid new (Some period) ended status same telling (inl is) =
     inl (is.0, λ tells. is.1 (telling ∙ tells) ∙ ap (λ (ps : List Period). ps ++ period ∷ []) same)
 keeps-earlier old mid new (Some period) ended status same telling (inr is) = inr (is.0, is.1 ∙ same)
 
+-- ---- the command
+
 pub returned : {S T K : Type 0} (told : Telling S T K) (name : List ℕ) (before after : Parts S T K)
-    (w3 w4 w5 w6 w7 : Seen S T) (left : Replayed K) (status : Status) → name ≢ standard_input
-    → IsReplay told before after left → KeepsAny w3 w4 (period_of left) left.status status
-    → GivesSink w4 w5 after.out → GivesSource w5 w6 standard_input after.events → GivesSource w6 w7 name after.config
-    → Returned told name before w3 w7 status
-returned told name before after w3 w4 w5 w6 w7 left status differs replayed keeps sink events config =
-    let tells5 : w5.tells ≡ w3.tells = sink.tells ∙ keeps.tells in
-    let knows5 : w5.knows ≡ w3.knows = sink.knows ∙ keeps.knows in
-    let tells6 : w6.tells ≡ w3.tells = events.tells ∙ tells5 in
-    let knows6 : w6.knows ≡ w3.knows = events.knows ∙ knows5 in
+    (w4 w5 w6 w7 w8 w9 : Seen S T K) (left : Replayed K) (status : Status) → name ≢ standard_input
+    → IsReplay told before after left → KeepsAny w4 w5 (period_of left) left.status status
+    → GivesKeeper w5 w6 no_name after.keeper → GivesSink w6 w7 after.out → GivesSource w7 w8 standard_input after.events
+    → GivesSource w8 w9 name after.config → Returned told name before w4 w9 status
+returned told name before after w4 w5 w6 w7 w8 w9 left status differs replayed keeps keeper sink events config =
+    let tells5 : w5.tells ≡ w4.tells = ap (λ (s : Seen _ _ _). s.tells) keeps.others in
+    let tells6 : w6.tells ≡ w4.tells = ap (λ (s : Seen _ _ _). s.tells) keeper.others ∙ tells5 in
+    let tells7 : w7.tells ≡ w4.tells = ap (λ (s : Seen _ _ _). s.tells) sink.others ∙ tells6 in
+    let tells8 : w8.tells ≡ w4.tells = ap (λ (s : Seen _ _ _). s.tells) events.others ∙ tells7 in
+    let knows7 : (n : List ℕ) → w7.knows n ≡ w4.knows n = λ n. ap (λ (s : Seen _ _ _). s.knows n) sink.others
+    ∙ ap (λ (s : Seen _ _ _). s.knows n) keeper.others ∙ ap (λ (s : Seen _ _ _). s.knows n) keeps.others in
+    let keeper9 : (n : List ℕ) → w9.keeper n ≡ w6.keeper n = λ n. ap (λ (s : Seen _ _ _). s.keeper n) config.others
+    ∙ ap (λ (s : Seen _ _ _). s.keeper n) events.others ∙ ap (λ (s : Seen _ _ _). s.keeper n) sink.others in
     record {
       after = after;
       left = left;
       replayed = replayed;
-      gave_config = λ tells knows. config.holds (tells6 ∙ tells) (ap (λ (f : List ℕ → Bool). f name) knows6 ∙ knows);
-      gave_events = λ tells knows. config.others standard_input (λ same. differs (sym same))
-          ∙ events.holds (tells5 ∙ tells) (ap (λ (f : List ℕ → Bool). f standard_input) knows5 ∙ knows);
-      gave_sink = λ tells. config.sink ∙ events.sink ∙ sink.holds (keeps.tells ∙ tells);
-      asked = config.asked ∙ events.asked ∙ sink.asked ∙ keeps.asked;
-      keeps = keeps-later w3 w4 w7 (period_of left) left.status status
-          (config.periods ∙ events.periods ∙ sink.periods) keeps.periods;
+      gave_config = λ tells knows.
+          config.holds (tells8 ∙ tells) (ap (λ (s : Seen _ _ _). s.knows name) events.others ∙ knows7 name ∙ knows);
+      gave_events = λ tells knows. config.sources standard_input (λ same. differs (sym same))
+          ∙ events.holds (tells7 ∙ tells) (knows7 standard_input ∙ knows);
+      gave_sink = λ tells. ap (λ (s : Seen _ _ _). s.sink) config.others ∙ ap (λ (s : Seen _ _ _). s.sink) events.others
+          ∙ sink.holds (tells6 ∙ tells);
+      gave_keeper = λ tells stores. keeper9 no_name
+          ∙ keeper.holds (tells5 ∙ tells) (ap (λ (s : Seen _ _ _). s.stores no_name) keeps.others ∙ stores);
+      sources = λ other not_config not_events. config.sources other not_config ∙ events.sources other not_events
+          ∙ ap (λ (s : Seen _ _ _). s.source other) sink.others
+          ∙ ap (λ (s : Seen _ _ _). s.source other) keeper.others
+          ∙ ap (λ (s : Seen _ _ _). s.source other) keeps.others;
+      keepers = λ other differ. keeper9 other ∙ keeper.keepers other differ
+          ∙ ap (λ (s : Seen _ _ _). s.keeper other) keeps.others;
+      asked = ap (λ (s : Seen _ _ _). s.asked) config.others ∙ ap (λ (s : Seen _ _ _). s.asked) events.others
+          ∙ ap (λ (s : Seen _ _ _). s.asked) sink.others ∙ ap (λ (s : Seen _ _ _). s.asked) keeper.others
+          ∙ ap (λ (s : Seen _ _ _). s.asked) keeps.others;
+      keeps = keeps-later w4 w5 w9 (period_of left) left.status status
+          (ap (λ (s : Seen _ _ _). s.periods) config.others ∙ ap (λ (s : Seen _ _ _). s.periods) events.others
+          ∙ ap (λ (s : Seen _ _ _). s.periods) sink.others ∙ ap (λ (s : Seen _ _ _). s.periods) keeper.others)
+          keeps.periods;
     }
 
-read_cause : {S T : Type 0} (old mid new : Seen S T) (e : TakeError)
-    → (e ≡ take.Failed → Rose old.source_faults new.source_faults) → TakeCause old new (read_status e)
-read_cause old mid new take.Failed rose = rose refl
-read_cause old mid new take.NoMemory rose = tt
-
-write_cause : {S T : Type 0} (old mid new : Seen S T) (e : TakeError)
-    → (e ≡ take.Failed → Rose old.sink_faults new.sink_faults) → TakeCause old new (write_status e)
-write_cause old mid new take.Failed rose = rose refl
-write_cause old mid new take.NoMemory rose = tt
-
--- a count that is no lower before, and no lower after
-rose_within : (a b c d : ℕ) → a ≤ b → Rose b c → c ≡ d → Rose a d
-rose_within a b c d le rose same = omega (arith, le, rose, same)
-
-pub config-not-handed-out : {S T K : Type 0} (told : Telling S T K) (name : List ℕ) (w0 w1 : Seen S T) (e : TakeError)
-    (status : Status) → TakesSource w0 w1 name (Err e) → status ≡ read_status e → Commanded told name w0 w1 status
-config-not-handed-out told name w0 w1 e status fails is = inl (record {
-  cause = subst (λ (s : Status). TakeCause w0 w1 s) (sym is)
-      (read_cause w0 w0 w1 e (λ failed. fails.cause (ap (λ (x : TakeError). Err x) failed)));
-  sources = λ tells other. ap (λ (s : Seen _ _). s.source other) fails.kept;
-  sink = λ tells. fails.sink;
-  periods = fails.periods;
-  asked = λ tells. asked-front [] (part.Source standard_input ∷ part.Sink ∷ []) (part.Source name) w0.asked w0.asked
-      w1.asked (Err e) (sym (append-nil w0.asked)) (fails.asked tells);
-})
-
-pub events-not-handed-out : {S T K : Type 0} (told : Telling S T K) (name : List ℕ) (w0 w1 w2 w3 : Seen S T) (config : S)
-    (e : TakeError) (status : Status) → name ≢ standard_input → TakesSource w0 w1 name (Ok config)
-    → TakesSource w1 w2 standard_input (Err e) → GivesSource w2 w3 name config → status ≡ read_status e
-    → Commanded told name w0 w3 status
-events-not-handed-out told name w0 w1 w2 w3 config e status differs takes fails gives is =
-    let same : w2 ≡ record w1 { asked = w2.asked; source_faults = w2.source_faults } = fails.kept in
-    inl (record {
-      cause = subst (λ (s : Status). TakeCause w0 w3 s) (sym is)
-          (read_cause w0 w1 w3 e (λ failed. rose_within w0.source_faults w1.source_faults w2.source_faults
-          w3.source_faults takes.later (fails.cause (ap (λ (x : TakeError). Err x) failed)) (sym gives.source_count)));
-      sources = λ tells other.
-          by_name (λ n. w3.source n ≡ w0.source n) name other
-          (gives.holds (fails.tells ∙ takes.tells ∙ tells)
-          (ap (λ (f : List ℕ → Bool). f name) (fails.knows ∙ takes.knows) ∙ (takes.part tells).1)
-          ∙ sym (takes.part tells).0)
-          (λ differ. gives.others other differ ∙ ap (λ (s : Seen _ _). s.source other) same
-          ∙ takes.others other differ);
-      sink = λ tells. gives.sink ∙ fails.sink ∙ takes.sink;
-      periods = gives.periods ∙ fails.periods ∙ takes.periods;
-      asked = λ tells.
-          let first = asked-ok (part.Source name) w0.asked w1.asked config (Ok config) refl (takes.asked tells) in
-          front-kept (wanted name) w0.asked w2.asked w3.asked gives.asked
-          (asked-front (part.Source name ∷ []) (part.Sink ∷ []) (part.Source standard_input) w0.asked w1.asked w2.asked
-          (Err e) first (fails.asked (takes.tells ∙ tells)));
-    })
-
-pub sink-not-handed-out : {S T K : Type 0} (told : Telling S T K) (name : List ℕ) (w0 w1 w2 w3 w4 w5 : Seen S T)
-    (config events : S) (e : TakeError) (status : Status) → name ≢ standard_input → TakesSource w0 w1 name (Ok config)
-    → TakesSource w1 w2 standard_input (Ok events) → TakesSink w2 w3 (Err e) → GivesSource w3 w4 standard_input events
-    → GivesSource w4 w5 name config → status ≡ write_status e → Commanded told name w0 w5 status
-sink-not-handed-out told name w0 w1 w2 w3 w4 w5 config events e status differs takes taken fails gives given is =
-    let tells3 : w3.tells ≡ w0.tells = fails.tells ∙ taken.tells ∙ takes.tells in
-    let knows3 : w3.knows ≡ w0.knows = fails.knows ∙ taken.knows ∙ takes.knows in
-    let count : w3.sink_faults ≡ w5.sink_faults = sym (given.sink_count ∙ gives.sink_count) in
-    let before : w0.sink_faults ≤ w2.sink_faults = omega (arith, takes.sink_count, taken.sink_count) in
-    inl (record {
-      cause = subst (λ (s : Status). TakeCause w0 w5 s) (sym is)
-          (write_cause w0 w2 w5 e (λ failed. rose_within w0.sink_faults w2.sink_faults w3.sink_faults w5.sink_faults
-          before (fails.cause (ap (λ (x : TakeError). Err x) failed)) count));
-      sources = λ tells other.
-          let input : w5.source standard_input ≡ w0.source standard_input =
-          given.others standard_input (λ same. differs (sym same))
-          ∙ gives.holds (tells3 ∙ tells) (ap (λ (f : List ℕ → Bool). f standard_input) (fails.knows ∙ taken.knows)
-          ∙ (taken.part (takes.tells ∙ tells)).1)
-          ∙ sym (taken.part (takes.tells ∙ tells)).0 ∙ takes.others standard_input (λ same. differs (sym same)) in
-          by_name (λ n. w5.source n ≡ w0.source n) name other
-          (given.holds (gives.tells ∙ tells3 ∙ tells)
-          (ap (λ (f : List ℕ → Bool). f name) (gives.knows ∙ knows3) ∙ (takes.part tells).1)
-          ∙ sym (takes.part tells).0)
-          (λ differ. by_name (λ n. n ≢ name → w5.source n ≡ w0.source n) standard_input other (λ d. input)
-          (λ not_input d. given.others other d ∙ gives.others other not_input ∙ fails.sources other
-          ∙ taken.others other not_input ∙ takes.others other d) differ);
-      sink = λ tells. given.sink ∙ gives.sink ∙ ap (λ (s : Seen _ _). s.sink) fails.kept ∙ taken.sink ∙ takes.sink;
-      periods = given.periods ∙ gives.periods ∙ fails.periods ∙ taken.periods ∙ takes.periods;
-      asked = λ tells.
-          let first = asked-ok (part.Source name) w0.asked w1.asked config (Ok config) refl (takes.asked tells) in
-          let second = asked-ok (part.Source standard_input) w1.asked w2.asked events (Ok events) refl
-          (taken.asked (takes.tells ∙ tells)) in
-          front-kept (wanted name) w0.asked w3.asked w5.asked (given.asked ∙ gives.asked)
-          (asked-front (part.Source name ∷ part.Source standard_input ∷ []) [] part.Sink w0.asked w2.asked w3.asked
-          (Err e)
-          (asked-more w0.asked w1.asked w2.asked (part.Source name ∷ []) (part.Source standard_input) first second)
-          (fails.asked (taken.tells ∙ takes.tells ∙ tells)));
-    })
-
-pub has-run : {S T K : Type 0} (told : Telling S T K) (name : List ℕ) (w0 w1 w2 w3 w7 : Seen S T) (config events : S)
-    (out : T) (keeper : K) (status : Status) → name ≢ standard_input → told.pairs keeper ≡ Some []
-    → TakesSource w0 w1 name (Ok config)
-    → TakesSource w1 w2 standard_input (Ok events) → TakesSink w2 w3 (Ok out)
-    → Returned told name (record { config = config; events = events; out = out; keeper = keeper }) w3 w7 status
-    → Commanded told name w0 w7 status
-has-run told name w0 w1 w2 w3 w7 config events out keeper status differs empty takes taken sink back =
-    let tells3 : w3.tells ≡ w0.tells = sink.tells ∙ taken.tells ∙ takes.tells in
-    let knows1 : (n : List ℕ) → w1.knows n ≡ w0.knows n = λ n. ap (λ (f : List ℕ → Bool). f n) takes.knows in
-    let knows3 : (n : List ℕ) → w3.knows n ≡ w1.knows n =
-    λ n. ap (λ (f : List ℕ → Bool). f n) (sink.knows ∙ taken.knows) in
-    let periods3 : w3.periods ≡ w0.periods = sink.periods ∙ taken.periods ∙ takes.periods in
-    inr (record {
+pub has-run : {S T K : Type 0} (told : Telling S T K) (name : List ℕ) (w0 w1 w2 w3 w4 w9 : Seen S T K)
+    (config events : S) (out : T) (keeper : K) (status : Status) → name ≢ standard_input
+    → TakesSource w0 w1 name (Ok config) → TakesSource w1 w2 standard_input (Ok events) → TakesSink w2 w3 (Ok out)
+    → TakesKeeper told.pairs w3 w4 no_name (Ok keeper)
+    → Returned told name (record { config = config; events = events; out = out; keeper = keeper }) w4 w9 status
+    → HasRun told name w0 w9 status
+has-run told name w0 w1 w2 w3 w4 w9 config events out keeper status differs takes taken sink store back =
+    let input : standard_input ≢ name = λ same. differs (sym same) in
+    let tells1 : w1.tells ≡ w0.tells = ap (λ (s : Seen _ _ _). s.tells) takes.others in
+    let tells2 : w2.tells ≡ w0.tells = ap (λ (s : Seen _ _ _). s.tells) taken.others ∙ tells1 in
+    let tells3 : w3.tells ≡ w0.tells = ap (λ (s : Seen _ _ _). s.tells) sink.others ∙ tells2 in
+    let tells4 : w4.tells ≡ w0.tells = ap (λ (s : Seen _ _ _). s.tells) store.others ∙ tells3 in
+    let knows4 : (n : List ℕ) → w4.knows n ≡ w1.knows n = λ n. ap (λ (s : Seen _ _ _). s.knows n) store.others
+    ∙ ap (λ (s : Seen _ _ _). s.knows n) sink.others ∙ ap (λ (s : Seen _ _ _). s.knows n) taken.others in
+    let source4 : (n : List ℕ) → w4.source n ≡ w2.source n = λ n. ap (λ (s : Seen _ _ _). s.source n) store.others
+    ∙ ap (λ (s : Seen _ _ _). s.source n) sink.others in
+    let keeper3 : (n : List ℕ) → w3.keeper n ≡ w0.keeper n = λ n. ap (λ (s : Seen _ _ _). s.keeper n) sink.others
+    ∙ ap (λ (s : Seen _ _ _). s.keeper n) taken.others ∙ ap (λ (s : Seen _ _ _). s.keeper n) takes.others in
+    record {
       before = record { config = config; events = events; out = out; keeper = keeper };
       after = back.after;
       left = back.left;
       replayed = back.replayed;
       took_config = λ tells. (takes.part tells).0;
-      took_events = λ tells. sym (takes.others standard_input (λ same. differs (sym same)))
-          ∙ (taken.part (takes.tells ∙ tells)).0;
-      took_sink = λ tells. sym (taken.sink ∙ takes.sink) ∙ sink.part (taken.tells ∙ takes.tells ∙ tells);
-      keeper = empty;
-      gave_config = λ tells. back.gave_config (tells3 ∙ tells) (knows3 name ∙ knows1 name ∙ (takes.part tells).1);
-      gave_events = λ tells. back.gave_events (tells3 ∙ tells)
-          (knows3 standard_input ∙ (taken.part (takes.tells ∙ tells)).1);
-      gave_sink = λ tells. back.gave_sink (tells3 ∙ tells);
+      took_events = λ tells. sym (takes.sources standard_input input) ∙ (taken.part (tells1 ∙ tells)).0;
+      took_sink = λ tells. sym (ap (λ (s : Seen _ _ _). s.sink) taken.others
+          ∙ ap (λ (s : Seen _ _ _). s.sink) takes.others) ∙ sink.part (tells2 ∙ tells);
+      took_keeper = λ tells. sym (keeper3 no_name) ∙ (store.part (tells3 ∙ tells)).0;
+      no_pair = λ silent. store.empty (tells3 ∙ silent) refl;
+      gave_config = λ tells. back.gave_config (tells4 ∙ tells)
+          (knows4 name ∙ ap (λ (s : Seen _ _ _). s.knows name) takes.others ∙ (takes.part tells).1);
+      gave_events = λ tells. back.gave_events (tells4 ∙ tells)
+          (knows4 standard_input ∙ (taken.part (tells1 ∙ tells)).1);
+      gave_sink = λ tells. back.gave_sink (tells4 ∙ tells);
+      gave_keeper = λ tells. back.gave_keeper (tells4 ∙ tells)
+          (ap (λ (s : Seen _ _ _). s.stores no_name) store.others ∙ (store.part (tells3 ∙ tells)).1);
+      sources = λ other not_config not_events. back.sources other not_config not_events ∙ source4 other
+          ∙ taken.sources other not_events ∙ takes.sources other not_config;
+      keepers = λ other differ. back.keepers other differ ∙ store.keepers other differ ∙ keeper3 other;
       asked = λ tells.
           let first = asked-ok (part.Source name) w0.asked w1.asked config (Ok config) refl (takes.asked tells) in
           let second = asked-ok (part.Source standard_input) w1.asked w2.asked events (Ok events) refl
-          (taken.asked (takes.tells ∙ tells)) in
-          let third = asked-ok part.Sink w2.asked w3.asked out (Ok out) refl
-          (sink.asked (taken.tells ∙ takes.tells ∙ tells)) in
+          (taken.asked (tells1 ∙ tells)) in
+          let third = asked-ok part.Sink w2.asked w3.asked out (Ok out) refl (sink.asked (tells2 ∙ tells)) in
+          let fourth = asked-ok (part.Keeper no_name) w3.asked w4.asked keeper (Ok keeper) refl
+          (store.asked (tells3 ∙ tells)) in
           back.asked
-          ∙ asked-more w0.asked w2.asked w3.asked (part.Source name ∷ part.Source standard_input ∷ []) part.Sink
+          ∙ asked-more w0.asked w3.asked w4.asked
+          (part.Source name ∷ part.Source standard_input ∷ part.Sink ∷ []) (part.Keeper no_name)
+          (asked-more w0.asked w2.asked w3.asked (part.Source name ∷ part.Source standard_input ∷ []) part.Sink
           (asked-more w0.asked w1.asked w2.asked (part.Source name ∷ []) (part.Source standard_input) first second)
-          third;
-      keeps = keeps-earlier w0 w3 w7 (period_of back.left) back.left.status status periods3 tells3 back.keeps;
-    })
+          third) fourth;
+      keeps = keeps-earlier w0 w4 w9 (period_of back.left) back.left.status status
+          (ap (λ (s : Seen _ _ _). s.periods) store.others ∙ ap (λ (s : Seen _ _ _). s.periods) sink.others
+          ∙ ap (λ (s : Seen _ _ _). s.periods) taken.others ∙ ap (λ (s : Seen _ _ _). s.periods) takes.others)
+          tells4 back.keeps;
+    }

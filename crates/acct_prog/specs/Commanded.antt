@@ -1,26 +1,31 @@
 -- What the command `replay CONFIG` does to a world.
-use Rattle.std.specs.Prelude.{◌≡◌, ℕ, true, List, ◌∷◌, [], ◌++◌, ◌⊎◌, codes, Option, Some, None, MatchOption}
+use Rattle.std.specs.Prelude.{◌≡◌, ◌≢◌, ℕ, true, false, List, ◌∷◌, [], ◌++◌, ◌⊎◌, codes, Option, Some, None}
+use Rattle.std.specs.Prelude.{MatchOption}
 use Rattle.acct_machine.specs.declared.entry.Entry.{Entry}
 use Rattle.acct_rows.specs.Rows.{Shown}
 use Rattle.acct_streams.specs.Causes.{Rose}
 use Rattle.acct_server.specs.declared.replays.Replayed.{Replayed}
 use Rattle.acct_server.specs.declared.status.Status.{Status}
-use Rattle.acct_server.specs.declared.status.Status.TheVariants.{ReadFault, WriteFault, NoMemory}
+use Rattle.acct_server.specs.declared.status.Status.TheVariants.{ReadFault, WriteFault, StoreFault, NoMemory}
 use Rattle.acct_server.specs.Replaying.{Telling, Parts, IsReplay}
 use Rattle.acct_prog.specs.declared.take.TakeError.{TakeError}
 use Rattle.acct_prog.specs.declared.take.TakeError.TheVariants.{Failed, NoMemory as NoMemoryTaken}
 use Rattle.acct_prog.specs.declared.period.Period.{Period}
 use Rattle.acct_prog.specs.declared.part.Part.{Part}
-use Rattle.acct_prog.specs.declared.part.Part.TheVariants.{Source, Sink}
+use Rattle.acct_prog.specs.declared.part.Part.TheVariants.{Source, Sink, Keeper}
 use Rattle.acct_prog.specs.World.{Seen}
 
 -- the name of the standard input
 abbrev pub standard_input : List ℕ
 standard_input = codes "-"
 
+-- the name of the keeper over which events are replayed
+abbrev pub no_name : List ℕ
+no_name = []
+
 -- the parts that a replay asks for, in order
 abbrev pub wanted : List ℕ → List Part
-wanted name = Source name ∷ Source standard_input ∷ Sink ∷ []
+wanted name = Source name ∷ Source standard_input ∷ Sink ∷ Keeper no_name ∷ []
 
 -- The first of some parts were asked for.
 pub record AsksFront (parts old new : List Part) : Type 0 where
@@ -30,19 +35,24 @@ pub record AsksFront (parts old new : List Part) : Type 0 where
   pub asked : new ≡ old ++ done
 
 -- why a part wasn't handed out
-abbrev pub TakeCause : {S T : Type 0} → Seen S T → Seen S T → Status → Type 0
+abbrev pub TakeCause : {S T K : Type 0} → Seen S T K → Seen S T K → Status → Type 0
 TakeCause old new ReadFault = Rose old.source_faults new.source_faults
 TakeCause old new WriteFault = Rose old.sink_faults new.sink_faults
+TakeCause old new StoreFault = Rose old.keeper_faults new.keeper_faults
 TakeCause old new NoMemory = Unit {0}
 TakeCause old new _ = ⊥
 
--- A part wasn't handed out: those before it were asked for, and the world has what it had.
-pub record NotHandedOut {S T : Type 0} (name : List ℕ) (old new : Seen S T) (status : Status) : Type 0 where
+-- One of these parts wasn't handed out: those before it were asked for, and the world has what it had.
+pub record NotHandedOut {S T K : Type 0} (parts : List Part) (old new : Seen S T K) (status : Status) : Type 0 where
   pub cause : TakeCause old new status
   pub sources : old.tells ≡ true → (name : List ℕ) → new.source name ≡ old.source name
   pub sink : old.tells ≡ true → new.sink ≡ old.sink
+  pub keepers : old.tells ≡ true → (name : List ℕ) → new.keeper name ≡ old.keeper name
   pub periods : new.periods ≡ old.periods
-  pub asked : old.tells ≡ true → AsksFront (wanted name) old.asked new.asked
+  pub tells : new.tells ≡ old.tells
+  pub knows : new.knows ≡ old.knows
+  pub stores : new.stores ≡ old.stores
+  pub asked : old.tells ≡ true → AsksFront parts old.asked new.asked
 
 -- the period of rows, if there are both, and a history
 abbrev pub period_between : Option Shown → List Entry → Option Shown → Option Period
@@ -56,53 +66,58 @@ period_of left = period_between left.opening left.history left.rows
 
 -- The world keeps the period, and what is answered is how it ended; or it found no memory to keep it. Where there is no
 -- period, it is asked to keep none.
-abbrev pub Keeps : {S T : Type 0} → Seen S T → Seen S T → Option Period → Status → Status → Type 0
+abbrev pub Keeps : {S T K : Type 0} → Seen S T K → Seen S T K → Option Period → Status → Status → Type 0
 Keeps old new period ended status =
     MatchOption period ((status ≡ ended) × (new.periods ≡ old.periods))
     (λ kept. ((status ≡ ended) × (old.tells ≡ true → new.periods ≡ old.periods ++ kept ∷ []))
     ⊎ ((status ≡ NoMemory) × (new.periods ≡ old.periods)))
 
 -- A world was asked to keep a period, if there is one, and nothing else of it has changed.
-pub record KeepsAny {S T : Type 0} (old new : Seen S T) (period : Option Period) (ended status : Status) : Type 0 where
-  pub periods : Keeps old new period ended status
-  pub sources : (name : List ℕ) → new.source name ≡ old.source name
-  pub sink : new.sink ≡ old.sink
-  pub tells : new.tells ≡ old.tells
-  pub knows : new.knows ≡ old.knows
-  pub asked : new.asked ≡ old.asked
+pub record KeepsAny {S T K : Type 0} (old new : Seen S T K) (period : Option Period) (ended status : Status) : Type 0
+  where
+    pub periods : Keeps old new period ended status
+    pub others : new ≡ record old { periods = new.periods }
 
 -- All parts were handed out: a replay ran over them, the world keeps the period that it left, and has the parts again.
-pub record HasRun {S T K : Type 0} (told : Telling S T K) (name : List ℕ) (old new : Seen S T) (status : Status) : Type 0
-  where
-    pub before : Parts S T K
-    pub after : Parts S T K
-    pub left : Replayed K
-    pub replayed : IsReplay told before after left
-    pub took_config : old.tells ≡ true → old.source name ≡ Some before.config
-    pub took_events : old.tells ≡ true → old.source standard_input ≡ Some before.events
-    pub took_sink : old.tells ≡ true → old.sink ≡ Some before.out
-    -- the keeper is one in memory that holds no pair
-    pub keeper : told.pairs before.keeper ≡ Some []
-    pub gave_config : old.tells ≡ true → new.source name ≡ Some after.config
-    pub gave_events : old.tells ≡ true → new.source standard_input ≡ Some after.events
-    pub gave_sink : old.tells ≡ true → new.sink ≡ Some after.out
-    pub asked : old.tells ≡ true → new.asked ≡ old.asked ++ wanted name
-    pub keeps : Keeps old new (period_of left) left.status status
+pub record HasRun {S T K : Type 0} (told : Telling S T K) (name : List ℕ) (old new : Seen S T K) (status : Status)
+    : Type 0 where
+  pub before : Parts S T K
+  pub after : Parts S T K
+  pub left : Replayed K
+  pub replayed : IsReplay told before after left
+  pub took_config : old.tells ≡ true → old.source name ≡ Some before.config
+  pub took_events : old.tells ≡ true → old.source standard_input ≡ Some before.events
+  pub took_sink : old.tells ≡ true → old.sink ≡ Some before.out
+  pub took_keeper : old.tells ≡ true → old.keeper no_name ≡ Some before.keeper
+  -- where the world doesn't tell its keeper, that holds no pair
+  pub no_pair : old.tells ≡ false → told.pairs before.keeper ≡ Some []
+  pub gave_config : old.tells ≡ true → new.source name ≡ Some after.config
+  pub gave_events : old.tells ≡ true → new.source standard_input ≡ Some after.events
+  pub gave_sink : old.tells ≡ true → new.sink ≡ Some after.out
+  pub gave_keeper : old.tells ≡ true → new.keeper no_name ≡ Some after.keeper
+  -- and no other source or keeper has changed
+  pub sources : (other : List ℕ) → other ≢ name → other ≢ standard_input → new.source other ≡ old.source other
+  pub keepers : (other : List ℕ) → other ≢ no_name → new.keeper other ≡ old.keeper other
+  pub asked : old.tells ≡ true → new.asked ≡ old.asked ++ wanted name
+  pub keeps : Keeps old new (period_of left) left.status status
 
 -- A replay ran over parts that were out: the world keeps the period that it left, and has the parts again.
 pub record Returned {S T K : Type 0} (told : Telling S T K) (name : List ℕ) (before : Parts S T K)
-    (old new : Seen S T) (status : Status) : Type 0 where
+    (old new : Seen S T K) (status : Status) : Type 0 where
   pub after : Parts S T K
   pub left : Replayed K
   pub replayed : IsReplay told before after left
   pub gave_config : old.tells ≡ true → old.knows name ≡ true → new.source name ≡ Some after.config
   pub gave_events : old.tells ≡ true → old.knows standard_input ≡ true → new.source standard_input ≡ Some after.events
   pub gave_sink : old.tells ≡ true → new.sink ≡ Some after.out
+  pub gave_keeper : old.tells ≡ true → old.stores no_name ≡ true → new.keeper no_name ≡ Some after.keeper
+  pub sources : (other : List ℕ) → other ≢ name → other ≢ standard_input → new.source other ≡ old.source other
+  pub keepers : (other : List ℕ) → other ≢ no_name → new.keeper other ≡ old.keeper other
   pub asked : new.asked ≡ old.asked
   pub keeps : Keeps old new (period_of left) left.status status
 
-abbrev pub Commanded : {S T K : Type 0} → Telling S T K → List ℕ → Seen S T → Seen S T → Status → Type 0
-Commanded told name old new status = NotHandedOut name old new status ⊎ HasRun told name old new status
+abbrev pub Commanded : {S T K : Type 0} → Telling S T K → List ℕ → Seen S T K → Seen S T K → Status → Type 0
+Commanded told name old new status = NotHandedOut (wanted name) old new status ⊎ HasRun told name old new status
 
 abbrev pub read_status : TakeError → Status
 read_status Failed = ReadFault
@@ -111,3 +126,7 @@ read_status NoMemoryTaken = NoMemory
 abbrev pub write_status : TakeError → Status
 write_status Failed = WriteFault
 write_status NoMemoryTaken = NoMemory
+
+abbrev pub store_status : TakeError → Status
+store_status Failed = StoreFault
+store_status NoMemoryTaken = NoMemory

@@ -3,7 +3,8 @@ use Rattle.std.specs.Prelude.{ℕ, List, codes}
 use Rattle.acct_server.specs.declared.status.Status.{Status}
 use Rattle.acct_server.specs.declared.status.Status.TheVariants.{Done, NoMemory, Usage, Config, ReadFault, WriteFault}
 use Rattle.acct_server.specs.declared.status.Status.TheVariants.{StoreFault, StoredPair, EventLine, DoorFault}
-use Rattle.acct_server.specs.declared.status.Status.TheVariants.{HistoryFull, PeerBytes, PeerFault, InputTooLong, Refused}
+use Rattle.acct_server.specs.declared.status.Status.TheVariants.{HistoryFull, PeerBytes, PeerFault, InputTooLong}
+use Rattle.acct_server.specs.declared.status.Status.TheVariants.{Refused}
 
 abbrev pub code_of : Status → ℕ
 code_of Done = 0

@@ -4,11 +4,11 @@ ghost use Rattle.std.specs.String.{string_bytes};
 ghost use Rattle.acct_server.specs.declared.status.Status.TheVariants.{Usage, NoMemory};
 ghost use Rattle.acct_prog.specs.Words.{form_of};
 ghost use Rattle.acct_prog.specs.Commanded.{Commanded, Returned, KeepsAny, standard_input, read_status, write_status};
+ghost use Rattle.acct_prog.specs.Commanded.{store_status};
 
 use crate::period::{Period, parted};
 use crate::take::TakeError;
 use crate::world::World;
-use acct_keeper::SteadyKeeper;
 use acct_server::{Status, replay};
 use std::alloc::{AllocError, Global};
 
@@ -26,6 +26,15 @@ fn write_status(e: TakeError) -> Status
 {
     match e {
         TakeError::Failed => Status::WriteFault,
+        TakeError::NoMemory => Status::NoMemory,
+    }
+}
+
+fn store_status(e: TakeError) -> Status
+    ensures { result ≡ store_status e }
+{
+    match e {
+        TakeError::Failed => Status::StoreFault,
         TakeError::NoMemory => Status::NoMemory,
     }
 }
@@ -73,6 +82,7 @@ fn run_parts<W: World>(
     mut config: W::S,
     mut events: W::S,
     mut out: W::T,
+    keeper: W::K,
 ) -> Status
     requires { name.now ≢ standard_input }
     ensures { Returned (record {
@@ -80,21 +90,22 @@ fn run_parts<W: World>(
       read_faults = W.S.faults;
       held = W.T.held;
       write_faults = W.T.faults;
-      pairs = λ pairs. Some pairs;
-      store_faults = λ _. 0;
-    }) name.now (record { config = config; events = events; out = out; keeper = [] }) (W.seen world.old)
+      pairs = W.K.held;
+      store_faults = W.K.faults;
+    }) name.now (record { config = config; events = events; out = out; keeper = keeper }) (W.seen world.old)
         (W.seen world.new) result }
 {
-    let keeper = SteadyKeeper::new(alloc);
-    let (ended, period) = parted(replay(alloc, &mut config, &mut events, &mut out, keeper));
+    let (ended, period, keeper) = parted(replay(alloc, &mut config, &mut events, &mut out, keeper));
     let status = keep(world, period, ended);
+    world.give_keeper("", keeper);
     world.give_sink(out);
     world.give_source("-", events);
     world.give_source(name, config);
     status
 }
 
-// The command `replay`: it takes the configuration, the standard input and the sink, in this order.
+// The command `replay`: it takes the configuration, the standard input, the sink and the keeper with the empty name, in
+// this order.
 fn run_replay<W: World>(alloc: Global, name: &str, world: &mut W) -> Status
     requires { name.now ≢ standard_input }
     ensures commanded { Commanded (record {
@@ -102,9 +113,10 @@ fn run_replay<W: World>(alloc: Global, name: &str, world: &mut W) -> Status
       read_faults = W.S.faults;
       held = W.T.held;
       write_faults = W.T.faults;
-      pairs = λ pairs. Some pairs;
-      store_faults = λ _. 0;
+      pairs = W.K.held;
+      store_faults = W.K.faults;
     }) name.now (W.seen world.old) (W.seen world.new) result }
+    ensures not_usage { result ≢ Usage }
 {
     let config = match world.take_source(name) {
         Ok(config) => config,
@@ -125,7 +137,16 @@ fn run_replay<W: World>(alloc: Global, name: &str, world: &mut W) -> Status
             return write_status(e);
         }
     };
-    run_parts(alloc, name, world, config, events, out)
+    let keeper = match world.take_keeper("") {
+        Ok(keeper) => keeper,
+        Err(e) => {
+            world.give_sink(out);
+            world.give_source("-", events);
+            world.give_source(name, config);
+            return store_status(e);
+        }
+    };
+    run_parts(alloc, name, world, config, events, out, keeper)
 }
 
 /// Does all that the program does. The one form of the words is `replay CONFIG`; other words take no part of the world.
@@ -138,8 +159,8 @@ pub fn account<W: World>(alloc: Global, words: &Vec<String>, world: &mut W) -> S
           read_faults = W.S.faults;
           held = W.T.held;
           write_faults = W.T.faults;
-          pairs = λ pairs. Some pairs;
-          store_faults = λ _. 0;
+          pairs = W.K.held;
+          store_faults = W.K.faults;
         }) name (W.seen world.old) (W.seen world.new) result }
 {
     match replay_name(words) {

@@ -5,8 +5,9 @@ use crate::opened::Opened;
 use crate::period::Period;
 use crate::take::TakeError;
 use crate::world::World;
+use acct_keeper::SteadyKeeper;
 use acct_server::{Failed, Sink, Source};
-use std::alloc::AllocError;
+use std::alloc::{AllocError, Global};
 use std::fs::File;
 use std::io::{self, Input, Print, Printer, Read, Write};
 use std::rt::Files;
@@ -98,21 +99,27 @@ impl<W: Write + Drop> Sink for HostSink<W> {
     }
 }
 
-/// The real world. The name `-` is the standard input, each other name a file's path. It keeps no period.
+/// The real world. The name `-` is the standard input, each other name of a source a file's path. The keeper with the
+/// empty name is a new one in memory each time, and there is no other. It keeps no period.
 #[derive(Drop)]
 pub struct HostWorld<'a, R: Files<File = File> + Input + Print> {
     rt: &'a R,
+    alloc: Global,
     source_faults: u64,
+    keeper_faults: u64,
 }
 
 impl<'a, R: Files<File = File> + Input + Print> HostWorld<'a, R> {
     /// The real world of a runtime.
-    pub fn new(rt: &'a R) -> Self
-        ensures { result.source_faults ≡ 0 }
+    pub fn new(rt: &'a R, alloc: Global) -> Self
+        ensures source { result.source_faults ≡ 0 }
+        ensures keeper { result.keeper_faults ≡ 0 }
     {
         HostWorld {
             rt,
+            alloc,
             source_faults: 0,
+            keeper_faults: 0,
         }
     }
 }
@@ -122,15 +129,20 @@ impl<'a, R: Files<File = File> + Input + Print> World for HostWorld<'a, R> {
 
     type T = HostSink<Printer<'a, R>>;
 
+    type K = SteadyKeeper;
+
     ghost seen = { λ w. record {
       tells = false;
       knows = λ _. false;
       source = λ _. None;
       sink = None;
+      stores = λ _. false;
+      keeper = λ _. None;
       periods = [];
       asked = [];
       source_faults = w.source_faults;
       sink_faults = 0;
+      keeper_faults = w.keeper_faults;
     } };
 
     fn take_source(&mut self, name: &str) -> Result<HostSource<R::Reader>, TakeError> {
@@ -157,6 +169,18 @@ impl<'a, R: Files<File = File> + Input + Print> World for HostWorld<'a, R> {
     }
 
     fn give_sink(&mut self, part: HostSink<Printer<'a, R>>) {
+        drop(part);
+    }
+
+    fn take_keeper(&mut self, name: &str) -> Result<SteadyKeeper, TakeError> {
+        if !name.is_empty() {
+            self.keeper_faults = self.keeper_faults.saturating_add(1);
+            return Err(TakeError::Failed);
+        }
+        Ok(SteadyKeeper::new(self.alloc))
+    }
+
+    fn give_keeper(&mut self, _name: &str, part: SteadyKeeper) {
         drop(part);
     }
 

@@ -1,8 +1,9 @@
-//! The program `account`: its top call over a world that hands out sources and the sink, worlds in memory and the real
-//! one, and `main`, which makes the real world and calls `account`.
+//! The program `account`: its top call over a world that hands out sources, the sink and keepers, worlds in memory and
+//! the real one, and `main`, which makes the real world and calls `account`.
 //!
-//! It stands on `acct_server`. What the program promises are the clauses of [`account`]: over a world that tells, the
-//! words without a form take no part, and a replay leaves the history, the lines and the status of its events.
+//! It stands on `acct_server` and `acct_keeper`. What the program promises are the clauses of [`account`]: over a world
+//! that tells, the words without a form take no part, and a replay leaves the history, the lines and the status of its
+//! events, and the world's keeper with the pairs of the rows after them.
 #![tactic(auto)]
 
 ghost use Rattle.std.specs.Prelude.{◌≡◌};
@@ -21,7 +22,7 @@ mod world;
 use acct_server::Status;
 pub use command::account;
 pub use host::{HostSink, HostSource, HostWorld};
-pub use memory::MemoryWorld;
+pub use memory::{MemoryParts, MemoryWorld};
 pub use part::Part;
 pub use period::Period;
 use std::process::ExitCode;
@@ -78,7 +79,7 @@ fn word_of(status: &Status) -> &'static str
 /// The status of the words of the command line, over the real world.
 fn run(rt: &HostRuntime) -> Status {
     match words(rt, rt.alloc()) {
-        Ok(words) => account(rt.alloc(), &words, &mut HostWorld::new(rt)),
+        Ok(words) => account(rt.alloc(), &words, &mut HostWorld::new(rt, rt.alloc())),
         Err(_) => Status::NoMemory,
     }
 }

@@ -1,84 +1,127 @@
 // A world in memory.
-ghost use Rattle.std.specs.Prelude.{◌≡◌, ◌≢◌, ◌≤◌, ◌||◌, [], Some, None, Err, IfOk, OnErr, is_err, is_none};
-ghost use Rattle.std.specs.Prelude.{if◌then◌else◌};
-ghost use Rattle.std.specs.Option.{option_copied};
-ghost use Rattle.acct_streams.specs.Memory.{one_more, is_among};
-ghost use Rattle.acct_prog.specs.declared.take.TakeError.TheVariants.{Failed, NoMemory};
-ghost use Rattle.acct_prog.specs.World.{TakesSource, TakesSink};
+ghost use Rattle.std.specs.Prelude.{◌≡◌, [], Some, option_copied};
+ghost use Rattle.acct_prog.specs.World.{TakesSource, TakesSink, TakesKeeper};
+ghost use Rattle.acct_prog.specs.Memory.{shown, source_under, keeper_under, Notes, Hands, TakesInMemory};
 
 use crate::part::Part;
 use crate::period::Period;
 use crate::take::TakeError;
 use crate::world::World;
 use acct_base::{Seq, is_same};
+use acct_keeper::Keeper;
 use acct_server::{Sink, Source};
 use std::alloc::{AllocError, Global};
+use std::marker::Model;
 
-// The part, if it is there.
-fn given<P>(held: Option<P>, faults: &mut u64) -> Result<P, TakeError>
-    ensures part { IfOk result (λ part. held ≡ Some part) }
-    ensures failed { OnErr result (result ≡ Err Failed) }
-    ensures none { OnErr result (held ≡ None) }
-    ensures faults { faults.new ≡ (if is_none held then one_more faults.old else faults.old) }
-    ensures later { faults.old ≤ faults.new }
+// Notes what is asked for, and counts the handing out: whether it is one of those that fail.
+fn note(
+    asked: &mut Vec<Part>,
+    part: Part,
+    failing: &[u64],
+    takes: &mut u64,
+) -> Result<bool, AllocError>
+    ensures { Notes failing.now part asked.old.items asked.new.items takes.old takes.new result }
 {
-    match held {
-        Some(part) => Ok(part),
-        None => {
-            *faults = faults.saturating_add(1);
-            Err(TakeError::Failed)
-        }
-    }
+    asked.push(part)?;
+    *takes = takes.saturating_add(1);
+    Ok(failing.contains(takes))
 }
 
-/// A world with one configuration under its name, the events, a sink, and the periods that it was given. Its handings
-/// out of a source or the sink are numbered from 1, and those of the given numbers fail; so does one of a part that
-/// isn't there. It tells what it holds, and what it was asked for.
+// The part, if it is there and its handing out isn't to fail.
+fn hand<P>(place: &mut Option<P>, to_fail: bool, faults: &mut u64) -> Result<P, TakeError>
+    ensures { Hands to_fail place.old place.new faults.old faults.new result }
+{
+    if !to_fail {
+        if let Some(part) = place.take() {
+            return Ok(part);
+        }
+    }
+    *faults = faults.saturating_add(1);
+    Err(TakeError::Failed)
+}
+
+/// What a world in memory has to hand out: the configuration, the events, the sink, and the keeper with the empty name.
 #[derive(Drop)]
-pub struct MemoryWorld<S: Source + Drop, T: Sink + Drop> {
+pub struct MemoryParts<S: Drop, T: Drop, K: Drop> {
+    pub config: S,
+    pub events: S,
+    pub sink: T,
+    pub keeper: K,
+}
+
+/// A world with one configuration under its name, the events, a sink, one keeper, under the empty name, and the periods
+/// that it was given. Its handings out are numbered from 1, and those of the given numbers fail; so does one of a part
+/// that isn't there. It tells what it holds, and what it was asked for.
+#[derive(Drop)]
+pub struct MemoryWorld<S: Source + Drop, T: Sink + Drop, K: Keeper + Drop> {
     alloc: Global,
     name: Vec<u8>,
     config: Option<S>,
     events: Option<S>,
     sink: Option<T>,
+    keeper: Option<K>,
     periods: Vec<Period>,
     asked: Vec<Part>,
     failing: Vec<u64>,
     takes: u64,
     source_faults: u64,
     sink_faults: u64,
+    keeper_faults: u64,
 }
 
-impl<S: Source + Drop, T: Sink + Drop> MemoryWorld<S, T> {
-    /// A world that holds these parts.
-    pub fn new(
-        alloc: Global,
-        name: Vec<u8>,
-        config: S,
-        events: S,
-        sink: T,
-        failing: Vec<u64>,
-    ) -> Self
-        ensures name { result.name ≡ name }
-        ensures config { result.config ≡ Some config }
-        ensures events { result.events ≡ Some events }
-        ensures sink { result.sink ≡ Some sink }
-        ensures periods { result.periods.items ≡ [] }
-        ensures asked { result.asked.items ≡ [] }
-        ensures failing { (result.failing ≡ failing) × (result.takes ≡ 0) }
+impl<S: Source + Drop, T: Sink + Drop, K: Keeper + Drop> Model for MemoryWorld<S, T, K> {
+    ghost use Rattle.acct_prog.specs.Memory.{WorldInMemory};
+
+    ghost Value = { WorldInMemory S T K };
+
+    ghost view = { λ w. record {
+      name = w.name.items;
+      config = w.config;
+      events = w.events;
+      sink = w.sink;
+      keeper = w.keeper;
+      periods = w.periods.items;
+      asked = w.asked.items;
+      source_faults = w.source_faults;
+      sink_faults = w.sink_faults;
+      keeper_faults = w.keeper_faults;
+      takes = w.takes;
+      failing = w.failing.items;
+    } };
+}
+
+impl<S: Source + Drop, T: Sink + Drop, K: Keeper + Drop> MemoryWorld<S, T, K> {
+    /// A world that holds these parts, the configuration under this name.
+    pub fn new(alloc: Global, name: Vec<u8>, parts: MemoryParts<S, T, K>, failing: Vec<u64>) -> Self
+        ensures { result ≡ record {
+          name = name.items;
+          config = Some parts.config;
+          events = Some parts.events;
+          sink = Some parts.sink;
+          keeper = Some parts.keeper;
+          periods = [];
+          asked = [];
+          source_faults = 0;
+          sink_faults = 0;
+          keeper_faults = 0;
+          takes = 0;
+          failing = failing.items;
+        } }
     {
         MemoryWorld {
             alloc,
             name,
-            config: Some(config),
-            events: Some(events),
-            sink: Some(sink),
+            config: Some(parts.config),
+            events: Some(parts.events),
+            sink: Some(parts.sink),
+            keeper: Some(parts.keeper),
             periods: Vec::new(alloc),
             asked: Vec::new(alloc),
             failing,
             takes: 0,
             source_faults: 0,
             sink_faults: 0,
+            keeper_faults: 0,
         }
     }
 
@@ -89,59 +132,49 @@ impl<S: Source + Drop, T: Sink + Drop> MemoryWorld<S, T> {
         self.sink.as_ref()
     }
 
+    /// The keeper, if it is not out.
+    pub fn keeper(&self) -> Option<&K>
+        ensures { option_copied result ≡ self.now.keeper }
+    {
+        self.keeper.as_ref()
+    }
+
     /// The periods that it was given.
     pub fn periods(&self) -> &[Period]
-        ensures { result.now ≡ self.now.periods.items }
+        ensures { result.now ≡ self.now.periods }
     {
         &self.periods
     }
 
     /// The parts that it was asked for, in order.
     pub fn asked(&self) -> &[Part]
-        ensures { result.now ≡ self.now.asked.items }
+        ensures { result.now ≡ self.now.asked }
     {
         &self.asked
     }
 }
 
-impl<S: Source + Drop, T: Sink + Drop> World for MemoryWorld<S, T> {
+impl<S: Source + Drop, T: Sink + Drop, K: Keeper + Drop> World for MemoryWorld<S, T, K> {
     type S = S;
 
     type T = T;
 
-    ghost use Rattle.acct_prog.specs.Memory.{source_under, shown};
+    type K = K;
 
-    ghost seen = { λ w.
-        shown w.name.items w.config w.events w.sink w.periods.items w.asked.items w.source_faults w.sink_faults };
+    ghost seen = { λ w. shown w };
 
     fn take_source(&mut self, name: &str) -> Result<S, TakeError>
-        ensures takes { TakesSource (shown self.old.name.items self.old.config self.old.events self.old.sink
-            self.old.periods.items self.old.asked.items self.old.source_faults self.old.sink_faults)
-            (shown self.new.name.items self.new.config self.new.events self.new.sink self.new.periods.items
-            self.new.asked.items self.new.source_faults self.new.sink_faults) name.now result }
-        ensures fails { result ≢ Err NoMemory
-            → is_err result ≡ (is_among self.old.failing.items (one_more self.old.takes) || is_none
-            (source_under self.old.name.items self.old.config self.old.events name.now)) }
-        ensures number { result ≢ Err NoMemory → self.new.takes ≡ one_more self.old.takes }
-        ensures failing { self.new.failing ≡ self.old.failing }
+        ensures takes { TakesSource (shown self.old) (shown self.new) name.now result }
+        ensures counted { TakesInMemory self.old self.new
+            (source_under self.old.name self.old.config self.old.events name.now) result }
     {
         let part = Part::Source(Seq::copy_of(self.alloc, name.as_bytes())?);
-        if self.asked.push(part).is_err() {
-            return Err(TakeError::NoMemory);
-        }
-        self.takes = self.takes.saturating_add(1);
-        if self.failing.contains(&self.takes) {
-            self.source_faults = self.source_faults.saturating_add(1);
-            return Err(TakeError::Failed);
-        }
+        let fails = note(&mut self.asked, part, &self.failing, &mut self.takes)?;
         if is_same(name.as_bytes(), b"-") {
-            return given(self.events.take(), &mut self.source_faults);
+            return hand(&mut self.events, fails, &mut self.source_faults);
         }
-        if is_same(name.as_bytes(), &self.name) {
-            return given(self.config.take(), &mut self.source_faults);
-        }
-        self.source_faults = self.source_faults.saturating_add(1);
-        Err(TakeError::Failed)
+        let is_known = is_same(name.as_bytes(), &self.name);
+        hand(&mut self.config, fails | !is_known, &mut self.source_faults)
     }
 
     fn give_source(&mut self, name: &str, part: S) {
@@ -155,28 +188,31 @@ impl<S: Source + Drop, T: Sink + Drop> World for MemoryWorld<S, T> {
     }
 
     fn take_sink(&mut self) -> Result<T, TakeError>
-        ensures takes { TakesSink (shown self.old.name.items self.old.config self.old.events self.old.sink
-            self.old.periods.items self.old.asked.items self.old.source_faults self.old.sink_faults)
-            (shown self.new.name.items self.new.config self.new.events self.new.sink self.new.periods.items
-            self.new.asked.items self.new.source_faults self.new.sink_faults) result }
-        ensures fails { result ≢ Err NoMemory
-            → is_err result ≡ (is_among self.old.failing.items (one_more self.old.takes) || is_none self.old.sink) }
-        ensures number { result ≢ Err NoMemory → self.new.takes ≡ one_more self.old.takes }
-        ensures failing { self.new.failing ≡ self.old.failing }
+        ensures takes { TakesSink (shown self.old) (shown self.new) result }
+        ensures counted { TakesInMemory self.old self.new self.old.sink result }
     {
-        if self.asked.push(Part::Sink).is_err() {
-            return Err(TakeError::NoMemory);
-        }
-        self.takes = self.takes.saturating_add(1);
-        if self.failing.contains(&self.takes) {
-            self.sink_faults = self.sink_faults.saturating_add(1);
-            return Err(TakeError::Failed);
-        }
-        given(self.sink.take(), &mut self.sink_faults)
+        let fails = note(&mut self.asked, Part::Sink, &self.failing, &mut self.takes)?;
+        hand(&mut self.sink, fails, &mut self.sink_faults)
     }
 
     fn give_sink(&mut self, part: T) {
         self.sink = Some(part);
+    }
+
+    fn take_keeper(&mut self, name: &str) -> Result<K, TakeError>
+        ensures takes { TakesKeeper K.held (shown self.old) (shown self.new) name.now result }
+        ensures counted { TakesInMemory self.old self.new (keeper_under self.old.keeper name.now) result }
+    {
+        let part = Part::Keeper(Seq::copy_of(self.alloc, name.as_bytes())?);
+        let fails = note(&mut self.asked, part, &self.failing, &mut self.takes)?;
+        let is_known = is_same(name.as_bytes(), b"");
+        hand(&mut self.keeper, fails | !is_known, &mut self.keeper_faults)
+    }
+
+    fn give_keeper(&mut self, name: &str, part: K) {
+        if is_same(name.as_bytes(), b"") {
+            self.keeper = Some(part);
+        }
     }
 
     fn keep_period(&mut self, period: Period) -> Result<(), AllocError> {

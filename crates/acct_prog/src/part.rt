@@ -7,4 +7,6 @@ pub enum Part {
     /// The source under this name.
     Source(Seq<u8>),
     Sink,
+    /// The keeper under this name.
+    Keeper(Seq<u8>),
 }

@@ -14,7 +14,12 @@ pub struct Period {
     pub rows: Rows,
 }
 
-fn period_between(opening: Option<Rows>, history: Seq<Entry>, rows: Option<Rows>) -> Option<Period>
+/// The period of rows, if there are both, and a history.
+pub fn period_between(
+    opening: Option<Rows>,
+    history: Seq<Entry>,
+    rows: Option<Rows>,
+) -> Option<Period>
     ensures { result ≡ period_between opening history rows }
 {
     Some(Period {
@@ -24,17 +29,18 @@ fn period_between(opening: Option<Rows>, history: Seq<Entry>, rows: Option<Rows>
     })
 }
 
-/// How a replay ended, and the period that it leaves, if its machine was made.
-pub fn parted<K: Drop>(left: Replayed<K>) -> (Status, Option<Period>)
+/// How a replay ended, the period that it leaves, if its machine was made, and its keeper.
+pub fn parted<K: Drop>(left: Replayed<K>) -> (Status, Option<Period>, K)
     ensures status { result.0 ≡ left.status }
     ensures period { result.1 ≡ period_of left }
+    ensures keeper { result.2 ≡ left.keeper }
 {
     let Replayed {
         status,
         opening,
         history,
         rows,
-        keeper: _,
+        keeper,
     } = left;
-    (status, period_between(opening, history, rows))
+    (status, period_between(opening, history, rows), keeper)
 }

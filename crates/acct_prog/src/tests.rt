@@ -2,7 +2,9 @@
 // written given by the names of lines, and one function tells it.
 use crate::opened::Opened;
 use crate::words::text_of;
-use crate::{HostSink, HostSource, MemoryWorld, Part, account};
+use crate::{HostSink, HostSource, MemoryParts, MemoryWorld, Part, account};
+use acct_base::Seq;
+use acct_keeper::{Change, Keeper, MemoryKeeper, SteadyKeeper};
 use acct_machine::{Entry, Rows};
 use acct_server::{
     MemorySink, MemorySource, Sink, Source, Status, SteadySink, SteadySource, read_whole, write_all,
@@ -17,7 +19,11 @@ mod names;
 mod objects;
 mod rights;
 mod several;
+mod stores;
 mod tables;
+
+/// A world that tells what it holds.
+type Told = MemoryWorld<MemorySource, MemorySink, MemoryKeeper>;
 
 const CONFIG: &str =
     "[domain]\nname = \"CORP\"\nsid = \"S-1-5-21-1-2-3\"\n[[listener]]\nname = \"a\"\naddress = \
@@ -43,6 +49,7 @@ fn line_of(name: &str) -> &'static str {
         objects::LINES,
         rights::LINES,
         several::LINES,
+        stores::LINES,
         tables::LINES,
     ] {
         if let Some(text) = line_in(lines, name) {
@@ -100,13 +107,14 @@ fn config_of(alloc: Global, name: &str) -> Result<String, Fail> {
     }
 }
 
-/// How a run is made: which reads of the configuration and the events, which writes and which handings out fail, and
-/// how many bytes a read and a write take.
+/// How a run is made: which reads of the configuration and the events, which writes, which calls of the keeper and
+/// which handings out fail, and how many bytes a read and a write take.
 #[derive(Clone, Copy)]
 struct Making {
     config_failing: u64,
     events_failing: u64,
     writes_failing: u64,
+    keeper_failing: u64,
     takes_failing: u64,
     read_size: usize,
     write_size: usize,
@@ -118,6 +126,7 @@ fn making_of(words: &str) -> Making {
         config_failing: 0,
         events_failing: 0,
         writes_failing: 0,
+        keeper_failing: 0,
         takes_failing: 0,
         read_size: 4096,
         write_size: 4096,
@@ -131,6 +140,7 @@ fn making_of(words: &str) -> Making {
             Some(b'c') => making.config_failing = number as u64,
             Some(b'e') => making.events_failing = number as u64,
             Some(b'w') => making.writes_failing = number as u64,
+            Some(b'k') => making.keeper_failing = number as u64,
             Some(b't') => making.takes_failing = number as u64,
             Some(b'r') => making.read_size = number as usize,
             Some(b's') => making.write_size = number as usize,
@@ -153,18 +163,27 @@ fn sink_of(alloc: Global, making: Making) -> Result<MemorySink, Fail> {
     Ok(MemorySink::new(alloc, 65536, making.write_size.max(1), failing)?)
 }
 
-fn world_of(
+/// A world over what a keeper holds.
+fn world_over(
     alloc: Global,
+    stored: SteadyKeeper,
     config: String,
     events: String,
     making: Making,
-) -> Result<MemoryWorld<MemorySource, MemorySink>, Fail> {
+) -> Result<Told, Fail> {
     let name = b"first.toml".to_vec(alloc)?;
-    let config = source_of(alloc, config, making.read_size, making.config_failing)?;
-    let events = source_of(alloc, events, making.read_size, making.events_failing)?;
-    let sink = sink_of(alloc, making)?;
+    let parts = MemoryParts {
+        config: source_of(alloc, config, making.read_size, making.config_failing)?,
+        events: source_of(alloc, events, making.read_size, making.events_failing)?,
+        sink: sink_of(alloc, making)?,
+        keeper: MemoryKeeper::new(stored, numbered(alloc, making.keeper_failing)?),
+    };
     let failing = numbered(alloc, making.takes_failing)?;
-    Ok(MemoryWorld::new(alloc, name, config, events, sink, failing))
+    Ok(MemoryWorld::new(alloc, name, parts, failing))
+}
+
+fn world_of(alloc: Global, config: String, events: String, making: Making) -> Result<Told, Fail> {
+    world_over(alloc, SteadyKeeper::new(alloc), config, events, making)
 }
 
 fn words_of(alloc: Global, text: &str) -> Result<Vec<String>, Fail> {
@@ -192,10 +211,7 @@ fn entry_text(alloc: Global, entry: &Entry) -> Result<String, Fail> {
 }
 
 /// The histories of the periods in words, or that there is none.
-fn history_text(
-    alloc: Global,
-    world: &MemoryWorld<MemorySource, MemorySink>,
-) -> Result<String, Fail> {
+fn history_text(alloc: Global, world: &Told) -> Result<String, Fail> {
     let mut text = String::new(alloc);
     if world.periods().is_empty() {
         text.push_str("none")?;
@@ -209,7 +225,7 @@ fn history_text(
 }
 
 /// The bytes that were written.
-fn written<'a>(world: &'a MemoryWorld<MemorySource, MemorySink>) -> &'a [u8] {
+fn written(world: &Told) -> &[u8] {
     match world.sink() {
         Some(sink) => sink.as_slice(),
         None => b"the sink is out",
@@ -230,7 +246,7 @@ fn compare(
     alloc: Global,
     row: &str,
     status: Status,
-    world: &MemoryWorld<MemorySource, MemorySink>,
+    world: &Told,
     wanted: Wanted<'_>,
 ) -> Result<(), Fail> {
     assert_eq!(rt;
@@ -344,15 +360,17 @@ fn configurations_are_taken_or_refused(rt: HostRuntime) -> Result<(), Fail> {
 }
 
 #[test]
+fn faults_of_the_store(rt: HostRuntime) -> Result<(), Fail> {
+    tell_all(&rt, rt.alloc(), stores::FAULTS)
+}
+
+#[test]
 fn faults_of_the_outside(rt: HostRuntime) -> Result<(), Fail> {
     tell_all(&rt, rt.alloc(), tables::FAULTS)
 }
 
 /// The text that was written.
-fn written_text(
-    alloc: Global,
-    world: &MemoryWorld<MemorySource, MemorySink>,
-) -> Result<String, Fail> {
+fn written_text(alloc: Global, world: &Told) -> Result<String, Fail> {
     let text = std::str::from_utf8(written(world)).ok().unwrap_or("");
     Ok(String::from_str(alloc, text)?)
 }
@@ -386,6 +404,75 @@ fn a_period_has_the_rows_before_and_after(rt: HostRuntime) -> Result<(), Fail> {
         assert_eq!(rt; rows_text(alloc, &period.opening)?.as_str(), seeded);
         assert_eq!(rt; rows_text(alloc, &period.rows)?.as_str(), seeded);
     }
+    Ok(())
+}
+
+/// A keeper with the pairs that a world's keeper has after a run, but for the value of one key, if that is given.
+fn stored_by(
+    alloc: Global,
+    world: &Told,
+    changed: Option<(&[u8], &[u8])>,
+) -> Result<SteadyKeeper, Fail> {
+    let mut changes = Vec::new(alloc);
+    for pair in world.keeper().map_or(&[][..], |keeper| keeper.as_slice()) {
+        let value = match changed {
+            Some((key, value)) if pair.key.as_slice() == key => value,
+            _ => pair.value.as_slice(),
+        };
+        changes.push(Change {
+            key: Seq::copy_of(alloc, pair.key.as_slice())?,
+            value: Some(Seq::copy_of(alloc, value)?),
+        })?;
+    }
+    let mut stored = SteadyKeeper::new(alloc);
+    stored.commit(&changes)?;
+    Ok(stored)
+}
+
+#[test]
+fn a_replay_begins_from_what_the_last_one_stored(rt: HostRuntime) -> Result<(), Fail> {
+    let alloc = rt.alloc();
+    let words = words_of(alloc, "replay first.toml")?;
+    let (config, making) = (config_of(alloc, "")?, making_of(""));
+    let events = lines_of(alloc, "OPEN BIND CONNECT OPEN-CORP CREATE-ALICE")?;
+    let mut world = world_of(alloc, config, events, making)?;
+    assert!(rt; matches!(account(alloc, &words, &mut world), Status::Done));
+    let stored = stored_by(alloc, &world, None)?;
+    let events = lines_of(
+        alloc,
+        "OPEN BIND CONNECT OPEN-CORP CREATE-ALICE-AGAIN CREATE-BOB",
+    )?;
+    let mut next = world_over(alloc, stored, config_of(alloc, "")?, events, making)?;
+    assert!(rt; matches!(account(alloc, &words, &mut next), Status::Done));
+    let wanted = lines_of(
+        alloc,
+        "ACK CONNECTED DOMAIN-2 USER-EXISTS-9 BOB-3-1001 GONE",
+    )?;
+    assert_eq!(rt; written_text(alloc, &next)?.as_str(), wanted.as_str());
+    Ok(())
+}
+
+#[test]
+fn a_store_of_an_unknown_format(rt: HostRuntime) -> Result<(), Fail> {
+    let alloc = rt.alloc();
+    let words = words_of(alloc, "replay first.toml")?;
+    let making = making_of("");
+    let mut world = world_of(alloc, config_of(alloc, "")?, String::new(alloc), making)?;
+    assert!(rt; matches!(account(alloc, &words, &mut world), Status::Done));
+    let stored = stored_by(alloc, &world, Some((b"\x66", b"\x02")))?;
+    let mut next = world_over(
+        alloc,
+        stored,
+        config_of(alloc, "")?,
+        String::new(alloc),
+        making,
+    )?;
+    let status = account(alloc, &words, &mut next);
+    assert_eq!(rt;
+        format!(in alloc; "{status:?}")?.as_str(),
+        "StoredPair([102])"
+    );
+    assert_eq!(rt; history_text(alloc, &next)?.as_str(), "none");
     Ok(())
 }
 
@@ -483,9 +570,13 @@ fn first_run_over_steady_parts(rt: HostRuntime) -> Result<(), Fail> {
     let alloc = rt.alloc();
     let words = words_of(alloc, "replay first.toml")?;
     let name = b"first.toml".to_vec(alloc)?;
-    let config = SteadySource::new(config_of(alloc, "")?.into_bytes());
-    let events = SteadySource::new(lines_of(alloc, "OPEN BIND CONNECT CLOSE END")?.into_bytes());
-    let mut world = MemoryWorld::new(alloc, name, config, events, SteadySink, Vec::new(alloc));
+    let parts = MemoryParts {
+        config: SteadySource::new(config_of(alloc, "")?.into_bytes()),
+        events: SteadySource::new(lines_of(alloc, "OPEN BIND CONNECT CLOSE END")?.into_bytes()),
+        sink: SteadySink,
+        keeper: SteadyKeeper::new(alloc),
+    };
+    let mut world = MemoryWorld::new(alloc, name, parts, Vec::new(alloc));
     let status = account(alloc, &words, &mut world);
     assert!(rt; matches!(status, Status::Done));
     assert_eq!(rt; world.periods().len(), 1);
@@ -493,18 +584,16 @@ fn first_run_over_steady_parts(rt: HostRuntime) -> Result<(), Fail> {
 }
 
 /// What was asked for, in words.
-fn asked_text(
-    alloc: Global,
-    world: &MemoryWorld<MemorySource, MemorySink>,
-) -> Result<String, Fail> {
+fn asked_text(alloc: Global, world: &Told) -> Result<String, Fail> {
     let mut text = String::new(alloc);
     for part in world.asked() {
-        match part {
-            Part::Source(name) => {
-                text.push_str(std::str::from_utf8(name.as_slice()).ok().unwrap_or("?"))?
-            }
-            Part::Sink => text.push_str("sink")?,
-        }
+        let (kind, name) = match part {
+            Part::Source(name) => ("source ", name.as_slice()),
+            Part::Sink => ("sink", b"".as_slice()),
+            Part::Keeper(name) => ("keeper ", name.as_slice()),
+        };
+        text.push_str(kind)?;
+        text.push_str(std::str::from_utf8(name).ok().unwrap_or("?"))?;
         text.push(';')?;
     }
     Ok(text)
@@ -523,10 +612,11 @@ fn asked_by(alloc: Global, failing: &str) -> Result<String, Fail> {
 fn the_world_is_asked_in_order(rt: HostRuntime) -> Result<(), Fail> {
     let alloc = rt.alloc();
     for (failing, wanted) in [
-        ("", "first.toml;-;sink;"),
-        ("t3", "first.toml;-;sink;"),
-        ("t2", "first.toml;-;"),
-        ("t1", "first.toml;"),
+        ("", "source first.toml;source -;sink;keeper ;"),
+        ("t4", "source first.toml;source -;sink;keeper ;"),
+        ("t3", "source first.toml;source -;sink;"),
+        ("t2", "source first.toml;source -;"),
+        ("t1", "source first.toml;"),
     ] {
         assert_eq!(rt; asked_by(alloc, failing)?.as_str(), wanted);
     }

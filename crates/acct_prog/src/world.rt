@@ -1,20 +1,25 @@
 // The world, which hands out what a command needs and takes it back.
-ghost use Rattle.acct_prog.specs.World.{Seen, TakesSource, GivesSource, TakesSink, GivesSink, KeepsPeriod};
+ghost use Rattle.acct_prog.specs.World.{Seen, TakesSource, GivesSource, TakesSink, GivesSink, TakesKeeper, GivesKeeper};
+ghost use Rattle.acct_prog.specs.World.{KeepsPeriod};
 
 use crate::period::Period;
 use crate::take::TakeError;
+use acct_keeper::Keeper;
 use acct_server::{Sink, Source};
 use std::alloc::AllocError;
 
-/// What the program meets: sources by name, the sink, and a place for the period that it leaves. The source `-` is the
-/// standard input. A world in memory tells what it holds, the real one doesn't.
+/// What the program meets: sources and keepers by name, the sink, and a place for the period that it leaves. The source
+/// `-` is the standard input. The keeper with the empty name is one in memory, which holds no pair in the real world. A
+/// world in memory tells what it holds, the real one doesn't.
 pub trait World {
     type S: Source;
 
     type T: Sink;
 
+    type K: Keeper + Drop;
+
     /// What it shows.
-    ghost seen: { Self → Seen Self.S Self.T };
+    ghost seen: { Self → Seen Self.S Self.T Self.K };
 
     /// Hands out the source under a name.
     fn take_source(&mut self, name: &str) -> Result<Self::S, TakeError>
@@ -31,6 +36,14 @@ pub trait World {
     /// Has this sink from now on.
     fn give_sink(&mut self, part: Self::T)
         ensures gives { GivesSink (seen self.old) (seen self.new) part };
+
+    /// Hands out the keeper under a name.
+    fn take_keeper(&mut self, name: &str) -> Result<Self::K, TakeError>
+        ensures takes { TakesKeeper Self.K.held (seen self.old) (seen self.new) name.now result };
+
+    /// Has this keeper under a name from now on, if it has a place for that name.
+    fn give_keeper(&mut self, name: &str, part: Self::K)
+        ensures gives { GivesKeeper (seen self.old) (seen self.new) name.now part };
 
     /// Keeps what a replay left.
     fn keep_period(&mut self, period: Period) -> Result<(), AllocError>

@@ -1,22 +1,25 @@
 -- `MemoryWorldWorld::take_sink` meets its contract: what the search leaves open.
-use Rattle.acct_prog.specs.declared.part.Part.TheVariants as part
-use Rattle.acct_prog.proofs.Holding.{sink-taken, pushed}
+use Rattle.acct_prog.specs.Memory.{WorldInMemory}
+use Rattle.acct_prog.proofs.Holding.{sink-taken, seen-sink}
 use Rattle.acct_prog.proofs.memory.MemoryWorldWorld.take_sink.Goals as goal
 
 pub returns-clause-takes : goal.returns-clause-takes
 returns-clause-takes g c =
-    let s = c.args.self.now in
-    let e = c.given.ensures in
-    sink-taken s.name.items s.config s.events s.sink c.take.new.self c.take.result s.periods.items s.asked.items
-    c.push.new.self.items s.source_faults s.sink_faults c.given.new.faults c.given.result
-    (pushed s.asked.items c.push.new.self.items part.Sink c.push.result c.is_err.result c.is_err.ensures.value
-    c.if-is_err.false c.push.ensures.items)
-    (record {
-      taken = c.take.ensures.value;
-      none_left = c.take.ensures.after;
-      there = e.part;
-      missing = e.none;
-      counts =
-          e.faults;
-      later = e.later;
-    })
+    let s = c.self.inside in
+    let w : WorldInMemory g.row.S.Denot g.row.T.Denot g.row.K.Denot = record {
+      name = s.name.items;
+      config = s.config;
+      events = s.events;
+      sink = s.sink;
+      keeper = s.keeper;
+      periods = s.periods.items;
+      asked = s.asked.items;
+      source_faults = s.source_faults;
+      sink_faults = s.sink_faults;
+      keeper_faults = s.keeper_faults;
+      takes = s.takes;
+      failing = s.failing.items;
+    } in
+    seen-sink w c.args.self.now _ c.hand.result c.self.view_is
+    (sink-taken w c.hand.new.place c.note.new.asked.items c.hand.new.faults c.note.new.takes c.in_ok-fails.fails
+    c.hand.result c.in_ok-fails.ensures.noted c.hand.ensures)
