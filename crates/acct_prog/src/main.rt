@@ -19,6 +19,7 @@ mod take;
 mod words;
 mod world;
 
+use account_usage::usage;
 use acct_server::Status;
 pub use command::account;
 pub use host::{HostSink, HostSource, HostWorld};
@@ -84,14 +85,26 @@ fn run(rt: &HostRuntime) -> Status {
     }
 }
 
-/// It only prints and exits: where the line can't be printed, the code says it alone.
+/// Says on the standard error how the program ended, where its work wasn't done: the code and its word, and where the
+/// words have no form, those that have one. Where there is no memory for that it is left out.
+fn tell(rt: &HostRuntime, status: &Status) {
+    let code = code_of(status);
+    if code == 0 {
+        return;
+    }
+    let _ = eprintln!(rt; "account: {code} {}", word_of(status));
+    if code == 2 {
+        if let Ok(text) = usage(rt.alloc()) {
+            let _ = eprint!(rt; "{text}");
+        }
+    }
+}
+
+/// It only prints and exits: where a line can't be printed, the code says it alone.
 fn main(rt: HostRuntime) -> ExitCode {
     let status = run(&rt);
-    let code = code_of(&status);
-    if code != 0 {
-        let _ = eprintln!(rt; "account: {code} {}", word_of(&status));
-    }
-    ExitCode::from(code)
+    tell(&rt, &status);
+    ExitCode::from(code_of(&status))
 }
 
 #[cfg(test)]

@@ -1,0 +1,48 @@
+//! The usage text of the program: the forms of its words, what each command does, and examples, rendered by `clap`.
+//!
+//! It stands on the kit's `clap` alone. The program prints the text on the standard error where its words have no form;
+//! the words themselves are read elsewhere. No contract speaks of the text: a test has it whole.
+#![tactic(auto)]
+
+use clap::Command;
+use std::alloc::{AllocError, Global};
+
+const ABOUT: &str =
+    "An account server for the Windows account database, as its RPC interfaces show it.";
+
+const FORMS: &str = "account replay CONFIG";
+
+const REPLAY: &str = "Answer the events of the standard input under the configuration in a file";
+
+const MORE: &str = "Examples:
+  account replay examples/first.toml < examples/first.events";
+
+/// Want of memory, which is the only fault here.
+pub type NoMemory = AllocError;
+
+fn named<'a>(alloc: Global, name: &'a str, about: &'a str) -> Command<'a> {
+    Command::new(alloc, name).about(about)
+}
+
+fn account<'a>(alloc: Global) -> Result<Command<'a>, NoMemory> {
+    Ok(
+        named(alloc, "account", ABOUT)
+            .override_usage(FORMS)
+            .subcommand(named(alloc, "replay", REPLAY))?
+            .disable_help_flag(true)
+            .disable_help_subcommand(true)
+            .arg_required_else_help(true)
+            .after_help(MORE),
+    )
+}
+
+/// The usage text, as it is printed where there are no words.
+pub fn usage(alloc: Global) -> Result<String, NoMemory> {
+    match account(alloc)?.try_get_matches_from(&["account"]) {
+        Ok(_) => Ok(String::new(alloc)),
+        Err(shown) => format!(in alloc; "{shown}"),
+    }
+}
+
+#[cfg(test)]
+mod tests;

@@ -1,0 +1,22 @@
+// The usage text, whole.
+use crate::usage;
+use std::test::Fail;
+
+const USAGE: &str = "\
+An account server for the Windows account database, as its RPC interfaces show it.
+
+Usage: account replay CONFIG
+
+Commands:
+  replay  Answer the events of the standard input under the configuration in a file
+
+Examples:
+  account replay examples/first.toml < examples/first.events
+";
+
+#[test]
+fn the_text_names_each_command(rt: HostRuntime) -> Result<(), Fail> {
+    let text = usage(rt.alloc())?;
+    assert_eq!(rt; text.as_str(), USAGE);
+    Ok(())
+}
