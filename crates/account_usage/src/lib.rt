@@ -10,12 +10,17 @@ use std::alloc::{AllocError, Global};
 const ABOUT: &str =
     "An account server for the Windows account database, as its RPC interfaces show it.";
 
-const FORMS: &str = "account replay CONFIG";
+const FORMS: &str = "account replay CONFIG
+       account gen N";
 
 const REPLAY: &str = "Answer the events of the standard input under the configuration in a file";
 
+const GENERATE: &str =
+    "Make N users, from 1 to 10000, by a replay, and print the counts of what is there";
+
 const MORE: &str = "Examples:
-  account replay examples/first.toml < examples/first.events";
+  account replay examples/first.toml < examples/first.events
+  account gen 100";
 
 /// Want of memory, which is the only fault here.
 pub type NoMemory = AllocError;
@@ -29,6 +34,7 @@ fn account<'a>(alloc: Global) -> Result<Command<'a>, NoMemory> {
         named(alloc, "account", ABOUT)
             .override_usage(FORMS)
             .subcommand(named(alloc, "replay", REPLAY))?
+            .subcommand(named(alloc, "gen", GENERATE))?
             .disable_help_flag(true)
             .disable_help_subcommand(true)
             .arg_required_else_help(true)

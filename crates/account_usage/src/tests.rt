@@ -6,12 +6,15 @@ const USAGE: &str = "\
 An account server for the Windows account database, as its RPC interfaces show it.
 
 Usage: account replay CONFIG
+       account gen N
 
 Commands:
   replay  Answer the events of the standard input under the configuration in a file
+  gen     Make N users, from 1 to 10000, by a replay, and print the counts of what is there
 
 Examples:
   account replay examples/first.toml < examples/first.events
+  account gen 100
 ";
 
 #[test]

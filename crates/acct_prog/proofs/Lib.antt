@@ -1,3 +1,5 @@
 pub mod Worlds
 pub mod Usages
 pub mod Holding
+pub mod Chosen
+pub mod Generations

@@ -1,16 +1,44 @@
 -- The words of the program.
-use Rattle.std.specs.Prelude.{ℕ, ◌==◌, Bool, false, List, [], ◌∷◌, codes, Option, Some, None, if◌then◌else◌}
+use Rattle.std.specs.Prelude.{ℕ, ◌==◌, Bool, false, ◌&&◌, not, List, [], ◌∷◌, length, codes, Option, Some, None}
+use Rattle.std.specs.Prelude.{option_map, if◌then◌else◌, nat_le}
+use Rattle.std.specs.Option.{option_or}
 use Rattle.std.specs.Str.{bytes_eq}
+use Rattle.acct_base.specs.Words.{is_within, decimal_from}
+use Rattle.acct_generator.specs.Calls.{most_users}
+use Rattle.acct_server.specs.Events.{begins_with_zero}
+
+-- a command, with what its words name: the configuration of a replay, or how many users the generator makes
+pub data Form : Type 0 where
+  Replay : List ℕ → Form
+  Generate : ℕ → Form
 
 abbrev pub begins_with_dash : List ℕ → Bool
 begins_with_dash [] = false
 begins_with_dash (b ∷ word) = b == 45
 
--- the one form: `replay CONFIG`, whose second word doesn't begin with a dash; it gives the name of the configuration
-abbrev pub form_of : List (List ℕ) → Option (List ℕ)
-form_of (command ∷ name ∷ []) =
+-- `replay CONFIG`, whose second word doesn't begin with a dash: the name of the configuration
+abbrev pub replay_form : List (List ℕ) → Option (List ℕ)
+replay_form (command ∷ name ∷ []) =
     if bytes_eq command (codes "replay") then (if begins_with_dash name then None else Some name) else None
-form_of _ = None
+replay_form _ = None
+
+abbrev pub from_1_to_most : Option ℕ → Option ℕ
+from_1_to_most None = None
+from_1_to_most (Some n) = if is_within 1 most_users n then Some n else None
+
+-- a number of users in at most five decimal digits, without a leading zero
+unfoldable pub users_in : List ℕ → Option ℕ
+users_in word =
+    if nat_le (length word) 5 && not (begins_with_zero word) then from_1_to_most (decimal_from 0 word) else None
+
+-- `gen N`: the number of users
+abbrev pub gen_form : List (List ℕ) → Option ℕ
+gen_form (command ∷ number ∷ []) = if bytes_eq command (codes "gen") then users_in number else None
+gen_form _ = None
+
+-- the command that words are, if they have a form
+abbrev pub form_of : List (List ℕ) → Option Form
+form_of words = option_or (option_map Replay (replay_form words)) (option_map Generate (gen_form words))
 
 -- the character that no word of a command line has
 abbrev pub nul : ℕ

@@ -1,15 +1,20 @@
 // The program's commands, over a world.
-ghost use Rattle.std.specs.Prelude.{◌≡◌, ◌≢◌, ◌↔◌, ℕ, List, [], Some, None, map, MatchOption, MatchResult};
+ghost use Rattle.std.specs.Prelude.{◌≡◌, ◌≢◌, ◌≤◌, ◌↔◌, Some, None, map, MatchResult};
 ghost use Rattle.std.specs.String.{string_bytes};
 ghost use Rattle.acct_server.specs.declared.status.Status.TheVariants.{Usage, NoMemory};
-ghost use Rattle.acct_prog.specs.Words.{form_of};
+ghost use Rattle.acct_generator.specs.Calls.{most_users};
+ghost use Rattle.acct_prog.specs.Words.{Form, form_of};
 ghost use Rattle.acct_prog.specs.Commanded.{Commanded, Returned, KeepsAny, standard_input, read_status, write_status};
 ghost use Rattle.acct_prog.specs.Commanded.{store_status};
+ghost use Rattle.acct_prog.specs.Generates.{Generates};
+ghost use Rattle.acct_prog.specs.Does.{Does};
 
-use crate::period::{Period, parted};
+use crate::forms::{gen_users, replay_name};
+use crate::period::{Period, parted, period_between};
 use crate::take::TakeError;
 use crate::world::World;
 use acct_server::{Status, replay};
+use acct_summary::{Generation, generate};
 use std::alloc::{AllocError, Global};
 
 fn read_status(e: TakeError) -> Status
@@ -37,21 +42,6 @@ fn store_status(e: TakeError) -> Status
         TakeError::Failed => Status::StoreFault,
         TakeError::NoMemory => Status::NoMemory,
     }
-}
-
-// The configuration's name, of words that have the form.
-fn replay_name(words: &Vec<String>) -> Option<&str>
-    ensures { MatchOption result (form_of (map string_bytes words.now.items) ≡ None)
-        (λ name. form_of (map string_bytes words.now.items) ≡ Some name.now) }
-{
-    if words.len() != 2 {
-        return None;
-    }
-    let name = words[1].as_str();
-    if words[0].as_str() != "replay" || name.as_bytes().first() == Some(&b'-') {
-        return None;
-    }
-    Some(name)
 }
 
 // The status of a replay, once the world was asked to keep its period.
@@ -149,22 +139,47 @@ fn run_replay<W: World>(alloc: Global, name: &str, world: &mut W) -> Status
     run_parts(alloc, name, world, config, events, out, keeper)
 }
 
-/// Does all that the program does. The one form of the words is `replay CONFIG`; other words take no part of the world.
+// The command `gen`: it takes the sink alone.
+fn run_generator<W: World>(alloc: Global, users: u32, world: &mut W) -> Status
+    requires { users ≤ most_users }
+    ensures generated { Generates W.T.held W.T.faults users (W.seen world.old) (W.seen world.new) result }
+    ensures not_usage { result ≢ Usage }
+{
+    let mut out = match world.take_sink() {
+        Ok(out) => out,
+        Err(e) => return write_status(e),
+    };
+    let Generation {
+        ended,
+        opening,
+        history,
+        rows,
+    } = generate(alloc, users, &mut out);
+    let status = keep(world, period_between(opening, history, rows), ended);
+    world.give_sink(out);
+    status
+}
+
+/// Does all that the program does. The words are `replay CONFIG`, or `gen N` for the summary of a replay of events that
+/// make N users, 1 to 10,000. Other words take no part of the world.
 pub fn account<W: World>(alloc: Global, words: &Vec<String>, world: &mut W) -> Status
     ensures usage { result ≡ Usage ↔ form_of (map string_bytes words.now.items) ≡ None }
     ensures untouched { result ≡ Usage → world.new ≡ world.old }
-    ensures commanded { (name : List ℕ) → form_of (map string_bytes words.now.items) ≡ Some name →
-        Commanded (record {
+    ensures commanded { (form : Form) → form_of (map string_bytes words.now.items) ≡ Some form →
+        Does (record {
           left = W.S.left;
           read_faults = W.S.faults;
           held = W.T.held;
           write_faults = W.T.faults;
           pairs = W.K.held;
           store_faults = W.K.faults;
-        }) name (W.seen world.old) (W.seen world.new) result }
+        }) form (W.seen world.old) (W.seen world.new) result }
 {
     match replay_name(words) {
         Some(name) => run_replay(alloc, name, world),
-        None => Status::Usage,
+        None => match gen_users(words) {
+            Some(users) => run_generator(alloc, users, world),
+            None => Status::Usage,
+        },
     }
 }

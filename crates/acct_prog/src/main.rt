@@ -1,15 +1,17 @@
 //! The program `account`: its top call over a world that hands out sources, the sink and keepers, worlds in memory and
 //! the real one, and `main`, which makes the real world and calls `account`.
 //!
-//! It stands on `acct_server` and `acct_keeper`. What the program promises are the clauses of [`account`]: over a world
-//! that tells, the words without a form take no part, and a replay leaves the history, the lines and the status of its
-//! events, and the world's keeper with the pairs of the rows after them.
+//! It stands on `acct_server`, `acct_summary` and `acct_keeper`. What the program promises are the clauses of
+//! [`account`]: over a world that tells, the words without a form take no part; a replay leaves the history, the lines
+//! and the status of its events, and the world's keeper with the pairs of the rows after them; and the generator writes
+//! the summary of a replay of the events that it makes.
 #![tactic(auto)]
 
 ghost use Rattle.std.specs.Prelude.{◌≡◌};
 ghost use Rattle.acct_prog.specs.Statuses.{code_of, word_of};
 
 mod command;
+mod forms;
 mod host;
 mod memory;
 mod opened;

@@ -623,6 +623,58 @@ fn the_world_is_asked_in_order(rt: HostRuntime) -> Result<(), Fail> {
     Ok(())
 }
 
+/// What is printed for a number of users: counts that follow from the calls and from the rows of a new store.
+const SUMMARIES: [(&str, &str); 2] = [
+    (
+        "gen 1",
+        "calls 16\nusers 3\naliases 4\nmembers 1\nnext 1002\n",
+    ),
+    (
+        "gen 2",
+        "calls 19\nusers 4\naliases 4\nmembers 2\nnext 1003\n",
+    ),
+];
+
+/// A world whose events aren't read.
+fn world_without_events(alloc: Global, making: &str) -> Result<Told, Fail> {
+    world_of(
+        alloc,
+        String::new(alloc),
+        String::new(alloc),
+        making_of(making),
+    )
+}
+
+#[test]
+fn summaries_of_generated_events(rt: HostRuntime) -> Result<(), Fail> {
+    let alloc = rt.alloc();
+    for (words, summary) in SUMMARIES {
+        let mut world = world_without_events(alloc, "")?;
+        assert!(rt;
+            matches!(
+                account(alloc, &words_of(alloc, words)?, &mut world),
+                Status::Done
+            )
+        );
+        assert_eq!(rt; written_text(alloc, &world)?.as_str(), summary);
+        assert_eq!(rt; asked_text(alloc, &world)?.as_str(), "sink;");
+        assert_eq!(rt; world.periods().len(), 1);
+    }
+    Ok(())
+}
+
+#[test]
+fn a_summary_over_a_sink_that_fails(rt: HostRuntime) -> Result<(), Fail> {
+    let alloc = rt.alloc();
+    for (failing, front) in [("t1", ""), ("w1", ""), ("s4 w3", "calls 16")] {
+        let mut world = world_without_events(alloc, failing)?;
+        let status = account(alloc, &words_of(alloc, "gen 1")?, &mut world);
+        assert!(rt; matches!(status, Status::WriteFault));
+        assert_eq!(rt; written_text(alloc, &world)?.as_str(), front);
+    }
+    Ok(())
+}
+
 #[test]
 fn words_that_are_not_utf_8(rt: HostRuntime) -> Result<(), Fail> {
     let alloc = rt.alloc();

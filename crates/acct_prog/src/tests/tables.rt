@@ -138,7 +138,13 @@ pub const OTHER_WORDS: &str = "||||/0|Usage|none
 |replay||OPEN|/0|Usage|none
 |replay -||OPEN|/0|Usage|none
 |replay first.toml x||OPEN|/0|Usage|none
-|play first.toml||OPEN|/0|Usage|none";
+|play first.toml||OPEN|/0|Usage|none
+|gen||OPEN|/0|Usage|none
+|gen 0||OPEN|/0|Usage|none
+|gen 01||OPEN|/0|Usage|none
+|gen 10001||OPEN|/0|Usage|none
+|gen 1 1||OPEN|/0|Usage|none
+|gen 1a||OPEN|/0|Usage|none";
 
 /// Other configurations. `PART>TEXT` has a text in the place of a part; in the last rows the server has a descriptor.
 pub const CONFIGURATIONS: &str = "|replay first.toml|[domain]>[domain|OPEN|/0|Config(0)|none
