@@ -31,6 +31,6 @@ fn a_write_that_fails_is_told(rt: HostRuntime) -> Result<(), Fail> {
     let mut out = MemorySink::new(rt.alloc(), 100, 7, [3].to_vec(rt.alloc())?)?;
     let done = generate(rt.alloc(), 1, &mut out);
     assert!(rt; matches!(done.ended, Status::WriteFault));
-    assert!(rt; out.as_slice() == b"calls 16\nusers");
+    assert_eq!(rt; out.as_slice(), b"calls 16\nusers".as_slice());
     Ok(())
 }
