@@ -1,0 +1,6 @@
+pub mod Answering
+pub mod Asking
+pub mod Ending
+pub mod Hearing
+pub mod Moving
+pub mod Sending

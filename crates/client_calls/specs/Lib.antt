@@ -1,0 +1,4 @@
+pub mod Asks
+pub mod Calls
+pub mod Parts
+pub mod Talks
