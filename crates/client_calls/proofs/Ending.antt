@@ -1,11 +1,11 @@
 -- How a dialogue goes on and ends, by what the calls of a client promise.
-use Rattle.std.proofs.Common.{◌≡◌, ◌≢◌, ℕ, ◌+◌, ◌≤◌, ◌<◌, Bool, true, false, not, List, [], ◌++◌, length, Some, None, Option}
-use Rattle.std.proofs.Common.{refl, sym, ap, subst, ◌∙◌, append_assoc, arith, cond, ◌⊎◌, inl, inr}
+use Rattle.std.proofs.Common.{◌≡◌, ◌≢◌, ℕ, ◌+◌, ◌≤◌, ◌<◌, Bool, true, false, not, List, [], ◌++◌, length, Some, None}
+use Rattle.std.proofs.Common.{refl, sym, ap, subst, ◌∙◌, append_assoc, arith, inl, inr}
 use Rattle.std.proofs.lemmas.Bool.{true≢false}
 use Rattle.std.proofs.lemmas.List.{append-nil}
 use Rattle.rpc_pdu.specs.Laws.{IsStable}
 use Rattle.acct_streams.specs.Causes.{Rose}
-use Rattle.acct_links.specs.Links.{Told, LinkRose}
+use Rattle.acct_links.specs.Links.{Told}
 use Rattle.client_steps.specs.declared.command.Command.{Command}
 use Rattle.acct_client.specs.declared.dialogue.State.{State}
 use Rattle.acct_client.specs.declared.dialogue.State.TheVariants.{Binding, Calling, Ended, Failed}
@@ -335,7 +335,7 @@ heard-talks command end old now new t room room' cut piece lines s read less end
     (ends s.received s.bytes s.dialogue)
 
 -- a request was made, and what came early was heard
-pub record Asked (command : Command) (t u : Talk) (now new : Told) (cut cut' : Bool) (b : List ℕ) : Type 0 where
+pub record Asked (t u : Talk) (now new : Told) (cut cut' : Bool) (b : List ℕ) : Type 0 where
   pub idle : t.is_awaiting ≡ false
   pub sends : sent t.state ≡ Some b
   pub same : u ≡ asked t
@@ -345,13 +345,13 @@ pub record Asked (command : Command) (t u : Talk) (now new : Told) (cut cut' : B
       → SentSoFar cut' old new (before ++ b)
 
 pub asked-dialogue : IsStable → (command : Command) (old now new : Told) (t u : Talk) (room : ℕ) (cut cut' : Bool)
-    (b : List ℕ) (s : Stands command old now t room cut true) → Asked command t u now new cut cut' b
+    (b : List ℕ) (s : Stands command old now t room cut true) → Asked t u now new cut cut' b
     → TalkSoFar command u s.received (s.bytes ++ b)
 asked-dialogue stable command old now new t u room cut cut' b s a =
     asked-on stable command t u b s.received s.bytes a.idle s.dialogue a.sends a.same a.kept
 
 asked-link : (command : Command) (old now new : Told) (t u : Talk) (room : ℕ) (cut cut' : Bool) (b : List ℕ)
-    (s : Stands command old now t room cut true) → Asked command t u now new cut cut' b
+    (s : Stands command old now t room cut true) → Asked t u now new cut cut' b
     → LinkSoFar old new room cut' s.received (s.bytes ++ b)
 asked-link command old now new t u room cut cut' b s a =
     sends-request old now new room cut cut' s.received s.bytes b s.link a.unread
@@ -359,7 +359,7 @@ asked-link command old now new t u room cut cut' b s a =
 
 pub asked-stands : IsStable → (command : Command) (old now new : Told) (t u t' : Talk) (room : ℕ)
     (cut cut' whole : Bool) (b : List ℕ) → Stands command old now t room cut true
-    → Asked command t u now new cut cut' b
+    → Asked t u now new cut cut' b
     → ((received bytes : List ℕ) → TalkSoFar command u received bytes
     → TalkSoFar command t' (received ++ []) bytes)
     → ((received bytes : List ℕ) → TalkSoFar command u received bytes → whole ≡ false
@@ -378,7 +378,7 @@ asked-stands stable command old now new t u t' room cut cut' whole b s a heard w
 
 pub asked-talks : IsStable → (command : Command) (end : TalkEnd) (old now new : Told) (t u : Talk) (room : ℕ)
     (cut cut' : Bool) (b lines : List ℕ) → Stands command old now t room cut true
-    → Asked command t u now new cut cut' b
+    → Asked t u now new cut cut' b
     → ((received bytes : List ℕ) → TalkSoFar command u received bytes
     → TalkEnds command end (received ++ []) bytes lines)
     → Talks command end old new lines

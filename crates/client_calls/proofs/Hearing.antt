@@ -1,10 +1,9 @@
 -- What a dialogue still sends, where its peer's stream comes in pieces.
-use Rattle.std.proofs.Common.{◌≡◌, ℕ, Bool, true, false, not, List, [], ◌++◌, Some, None, Option}
-use Rattle.std.proofs.Common.{refl, sym, ap, subst, ◌∙◌, append_assoc, cond, inl, inr, ◌⊎◌}
-use Rattle.std.proofs.lemmas.Bool.{cases_Bool, true≢false}
+use Rattle.std.proofs.Common.{◌≡◌, ℕ, Bool, true, false, List, [], ◌++◌, Some, None}
+use Rattle.std.proofs.Common.{refl, sym, ap, ◌∙◌, cond}
+use Rattle.std.proofs.lemmas.Bool.{true≢false}
 use Rattle.std.proofs.lemmas.List.{append-nil}
 use Rattle.rpc_pdu.specs.Laws.{IsStable}
-use Rattle.acct_client.specs.declared.answers.Answer.{Answer}
 use Rattle.acct_client.specs.declared.dialogue.Progress.{Progress}
 use Rattle.acct_client.specs.declared.dialogue.State.{State}
 use Rattle.acct_client.specs.declared.dialogue.State.TheVariants.{Binding, Calling, Ended, Failed}
@@ -16,7 +15,7 @@ use Rattle.acct_client.specs.Dialogues.{answered, asked, awaited_of, awaits, is_
 use Rattle.acct_client.specs.Hearings.{hear, on, with_more, IsCutAnywhere}
 use Rattle.acct_client.specs.Runs.{more}
 use Rattle.client_calls.proofs.Answering.{answered_done, answered_on, heard_on, more_heard, more_is, progress_on}
-use Rattle.client_calls.specs.Asks.{asks, asks_on, bytes_of, request}
+use Rattle.client_calls.specs.Asks.{asks, asks_on, bytes_of}
 use Rattle.client_calls.specs.Parts.{to_send}
 use Rattle.client_calls.proofs.Asking.{asks_none, asks_step}
 use Rattle.client_calls.proofs.Moving.{took_is}

@@ -1,6 +1,6 @@
 -- A whole answer takes a byte and more, so that the place goes on and less is left to hear.
-use Rattle.std.proofs.Common.{◌≡◌, ℕ, zero, suc, ◌+◌, ◌≤◌, ◌<◌, Bool, true, false, not, List, [], ◌++◌, length, drop}
-use Rattle.std.proofs.Common.{refl, sym, ap, subst, ◌∙◌, arith, length-drop, Ok, Err, Result, ◌⊎◌, inl, inr, cond, Option}
+use Rattle.std.proofs.Common.{◌≡◌, ℕ, zero, suc, ◌+◌, ◌≤◌, ◌<◌, Bool, true, false, List, [], ◌++◌, length, drop}
+use Rattle.std.proofs.Common.{refl, sym, ap, subst, arith, length-drop, ◌⊎◌, inl, inr, cond, Option}
 use Rattle.std.proofs.lemmas.Bool.{true≢false}
 use Rattle.std.proofs.lemmas.List.{append-nil}
 use Rattle.rpc_pdu.specs.Laws.{IsStable}

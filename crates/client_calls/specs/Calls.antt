@@ -1,5 +1,5 @@
 -- What a call leaves: its link, and the lines that were written.
-use Rattle.std.specs.Prelude.{◌≡◌, ◌≢◌, ℕ, ◌≤◌, List, [], ◌++◌, take, Option, Some, None, Result, Ok, Err, OnOk, OnErr}
+use Rattle.std.specs.Prelude.{◌≡◌, ℕ, List, take, Option, Some, None, Result, Ok, OnOk, OnErr}
 use Rattle.std.specs.Io.KnownBytes.{Appends}
 use Rattle.acct_streams.specs.Causes.{Rose, HasCause}
 use Rattle.acct_links.specs.Callers.{with_address}

@@ -14,7 +14,7 @@ use Rattle.acct_client.specs.Runs.{more, spoken, IsSoFar}
 use Rattle.client_calls.specs.Asks.{asks, asks_on, requested}
 use Rattle.client_calls.specs.Talks.{HasEnded, LinesBy, most_read}
 use Rattle.client_calls.specs.declared.ends.TalkEnd.{TalkEnd}
-use Rattle.client_calls.specs.declared.ends.TalkEnd.TheVariants.{Done, NoMemory, PeerBytes, PeerFault, InputTooLong, Refused}
+use Rattle.client_calls.specs.declared.ends.TalkEnd.TheVariants.{NoMemory, PeerBytes, PeerFault, InputTooLong, Refused}
 
 -- ---- the link
 

@@ -1,6 +1,5 @@
 -- `ask` meets its contract: what the search leaves open.
-use Rattle.std.proofs.Common.{◌≡◌, ◌+◌, ◌<◌, ◌++◌, ℕ, List, true, arith, subst, sym}
-use Rattle.client_steps.specs.declared.command.Command.{Command}
+use Rattle.std.proofs.Common.{◌<◌, ◌++◌, ℕ, List, true, arith, subst, sym}
 use Rattle.client_calls.specs.Parts.{SentSoFar, Stands, steps_left}
 use Rattle.client_calls.proofs.Ending.{Asked, ask-less, asked-dialogue, asked-stands, asked-talks, talks-done, talks-lost}
 use Rattle.client_calls.proofs.conversing.ask.Goals as goal
@@ -24,8 +23,7 @@ returns-in-Ok-clause-ok g c =
     let cut = c.args.line.now.is_cut in
     let cut' = c.request.new.line.is_cut in
     let b : List ℕ = c.in-Ok-Some.bytes.items in
-    let asked : (command : Command) → Asked command c.args.asker.now c.next.new.self now new cut cut' b =
-    λ command. record {
+    let asked : Asked c.args.asker.now c.next.new.self now new cut cut' b = record {
       idle = c.requires.idle;
       sends = sym (rw c.in-Ok-Some.field-0-is at c.in-Ok-Some.ensures.bytes);
       same = c.in-Ok-Some.ensures.ok;
@@ -37,7 +35,7 @@ returns-in-Ok-clause-ok g c =
     λ command old s. subst (λ (room : ℕ). Stands command old new c.hear.new.asker room cut' c.in-Ok.whole)
     (sym c.request.ensures.room)
     (asked-stands c.front_is_stable.ensures command old now new c.args.asker.now c.next.new.self c.hear.new.asker
-    c.args.line.now.room cut cut' c.in-Ok.whole b s (asked command)
+    c.args.line.now.room cut cut' c.in-Ok.whole b s asked
     (λ received bytes so_far. c.in-Ok.ensures.ok command received bytes so_far)
     (λ received bytes so_far not_yet. c.in-Ok.ensures.waits command received bytes so_far not_yet))
 
@@ -48,8 +46,7 @@ returns-in-Ok-clause-less g c =
     let cut = c.args.line.now.is_cut in
     let cut' = c.request.new.line.is_cut in
     let b : List ℕ = c.in-Ok-Some.bytes.items in
-    let asked : (command : Command) → Asked command c.args.asker.now c.next.new.self now new cut cut' b =
-    λ command. record {
+    let asked : Asked c.args.asker.now c.next.new.self now new cut cut' b = record {
       idle = c.requires.idle;
       sends = sym (rw c.in-Ok-Some.field-0-is at c.in-Ok-Some.ensures.bytes);
       same = c.in-Ok-Some.ensures.ok;
@@ -64,7 +61,7 @@ returns-in-Ok-clause-less g c =
     c.in-Ok-Some.ensures.ok (omega (arith, c.requires.room))
     (c.in-Ok.ensures.moves command s.received (s.bytes ++ b)
     (asked-dialogue c.front_is_stable.ensures command old now new c.args.asker.now c.next.new.self
-    c.args.line.now.room cut cut' b s (asked command))))
+    c.args.line.now.room cut cut' b s asked)))
 
 pub returns-clause-err : goal.returns-clause-err
 returns-clause-err g c =
@@ -73,8 +70,7 @@ returns-clause-err g c =
     let cut = c.args.line.now.is_cut in
     let cut' = c.request.new.line.is_cut in
     let b : List ℕ = c.in-Ok-Some.bytes.items in
-    let asked : (command : Command) → Asked command c.args.asker.now c.next.new.self now new cut cut' b =
-    λ command. record {
+    let asked : Asked c.args.asker.now c.next.new.self now new cut cut' b = record {
       idle = c.requires.idle;
       sends = sym (rw c.in-Ok-Some.field-0-is at c.in-Ok-Some.ensures.bytes);
       same = c.in-Ok-Some.ensures.ok;
@@ -84,5 +80,5 @@ returns-clause-err g c =
           c.deref.ensures.value (c.request.ensures.sent old before le so_far);
     } in
     λ command old s. asked-talks c.front_is_stable.ensures command c.in-Err-hear.end old now new c.args.asker.now
-    c.next.new.self c.args.line.now.room cut cut' b c.hear.new.asker.lines s (asked command)
+    c.next.new.self c.args.line.now.room cut cut' b c.hear.new.asker.lines s asked
     (λ received bytes so_far. c.in-Err-hear.ensures.err command received bytes so_far)

@@ -1,5 +1,5 @@
 -- `listen` meets its contract: what the search leaves open.
-use Rattle.std.proofs.Common.{◌≡◌, ◌+◌, ℕ, Bool, List, arith, length, length-take, refl, subst, sym, take}
+use Rattle.std.proofs.Common.{◌≡◌, Bool, arith, length, length-take, refl, subst, sym, take}
 use Rattle.client_calls.specs.Parts.{Stands}
 use Rattle.client_calls.proofs.Ending.{heard-stands, heard-talks, listen-less, talks-unheard}
 use Rattle.client_calls.proofs.conversing.listen.Goals as goal
