@@ -8,8 +8,8 @@ use Rattle.acct_streams.specs.declared.memory.SteadySink.{SteadySink}
 use Rattle.acct_server.specs.declared.replays.Replayed.{Replayed}
 use Rattle.acct_server.specs.declared.status.Status.{Status}
 use Rattle.acct_server.specs.declared.status.Status.TheVariants.{Done, NoMemory, Usage, Config, ReadFault, WriteFault}
-use Rattle.acct_server.specs.declared.status.Status.TheVariants.{StoreFault, StoredPair, EventLine, HistoryFull}
-use Rattle.acct_server.specs.declared.status.Status.TheVariants.{InputTooLong}
+use Rattle.acct_server.specs.declared.status.Status.TheVariants.{StoreFault, StoredPair, EventLine, DoorFault}
+use Rattle.acct_server.specs.declared.status.Status.TheVariants.{HistoryFull, PeerBytes, PeerFault, InputTooLong, Refused}
 use Rattle.acct_server.specs.Leaves.{IsOfRun, ConfigCause, EventsCause, StoreCause}
 use Rattle.acct_server.specs.Replaying.{Telling, Parts, HasNotRun, IsReplay, lists_in}
 use Rattle.acct_generator.specs.Generated.{generated}
@@ -120,8 +120,12 @@ done-or-not WriteFault = inr (λ is. absurd cc)
 done-or-not StoreFault = inr (λ is. absurd cc)
 done-or-not (StoredPair key) = inr (λ is. absurd cc)
 done-or-not (EventLine n) = inr (λ is. absurd cc)
+done-or-not DoorFault = inr (λ is. absurd cc)
 done-or-not (HistoryFull count) = inr (λ is. absurd cc)
+done-or-not (PeerBytes place) = inr (λ is. absurd cc)
+done-or-not PeerFault = inr (λ is. absurd cc)
 done-or-not InputTooLong = inr (λ is. absurd cc)
+done-or-not (Refused number) = inr (λ is. absurd cc)
 
 written-not-usage : (text : List ℕ) (held now : Option (List ℕ)) (before after : ℕ) (ended : Status)
     → IsWritten text held now before after ended → ended ≢ Usage
