@@ -7,9 +7,7 @@ use Rattle.acct_streams.specs.Memory.{SteadyInMemory}
 use Rattle.acct_streams.specs.declared.memory.SteadySink.{SteadySink}
 use Rattle.acct_server.specs.declared.replays.Replayed.{Replayed}
 use Rattle.acct_server.specs.declared.status.Status.{Status}
-use Rattle.acct_server.specs.declared.status.Status.TheVariants.{Done, NoMemory, Usage, Config, ReadFault, WriteFault}
-use Rattle.acct_server.specs.declared.status.Status.TheVariants.{StoreFault, StoredPair, EventLine, DoorFault}
-use Rattle.acct_server.specs.declared.status.Status.TheVariants.{HistoryFull, PeerBytes, PeerFault, InputTooLong, Refused}
+use Rattle.acct_server.specs.declared.status.Status.TheVariants.{Done, NoMemory, Usage}
 use Rattle.acct_server.specs.Leaves.{IsOfRun, ConfigCause, EventsCause, StoreCause}
 use Rattle.acct_server.specs.Replaying.{Telling, Parts, HasNotRun, IsReplay, lists_in}
 use Rattle.acct_generator.specs.Generated.{generated}
@@ -110,23 +108,6 @@ left-not-usage users left by is = elim by.replayed.leaves [
   | inr runs ↦ subst IsOfRun is runs.runs.possible
 ]
 
-done-or-not : (s : Status) → (s ≡ Done) ⊎ (s ≢ Done)
-done-or-not Done = inl refl
-done-or-not NoMemory = inr (λ is. absurd cc)
-done-or-not Usage = inr (λ is. absurd cc)
-done-or-not (Config rule) = inr (λ is. absurd cc)
-done-or-not ReadFault = inr (λ is. absurd cc)
-done-or-not WriteFault = inr (λ is. absurd cc)
-done-or-not StoreFault = inr (λ is. absurd cc)
-done-or-not (StoredPair key) = inr (λ is. absurd cc)
-done-or-not (EventLine n) = inr (λ is. absurd cc)
-done-or-not DoorFault = inr (λ is. absurd cc)
-done-or-not (HistoryFull count) = inr (λ is. absurd cc)
-done-or-not (PeerBytes place) = inr (λ is. absurd cc)
-done-or-not PeerFault = inr (λ is. absurd cc)
-done-or-not InputTooLong = inr (λ is. absurd cc)
-done-or-not (Refused number) = inr (λ is. absurd cc)
-
 written-not-usage : (text : List ℕ) (held now : Option (List ℕ)) (before after : ℕ) (ended : Status)
     → IsWritten text held now before after ended → ended ≢ Usage
 written-not-usage text held now before after ended written is =
@@ -136,7 +117,7 @@ written-not-usage text held now before after ended written is =
 pub told-not-usage : (users : ℕ) (left : Replayed (List Pair)) (held now : Option (List ℕ)) (before after : ℕ)
     (ended : Status) → LeftByReplay users left
     → Tells left.status left.history left.rows held now before after ended → ended ≢ Usage
-told-not-usage users left held now before after ended by tells is = elim (done-or-not left.status) [
-  | inl done ↦ written-not-usage _ held now before after ended (tells.done done).written is
-  | inr other ↦ left-not-usage users left by (sym (tells.others other).0 ∙ is)
-]
+told-not-usage users left held now before after ended by tells is =
+    let undone : left.status ≢ Done =
+    λ done. written-not-usage _ held now before after ended (tells.done done).written is in
+    left-not-usage users left by (sym (tells.others undone).0 ∙ is)
