@@ -17,12 +17,14 @@ use Rattle.acct_client.specs.Dialogues.{asked, awaits, is_failed, progress, sent
 use Rattle.acct_client.specs.Hearings.{IsCutAnywhere}
 use Rattle.acct_client.specs.Runs.{Comes, IsHeard, IsKept, more, spoken}
 use Rattle.client_calls.specs.Asks.{requested}
-use Rattle.client_calls.specs.Parts.{AsksBy, HeardEnd, IsPieceRead, IsUnread, LinkSoFar, Moves, NoPiece, SentSoFar, Stands}
+use Rattle.client_calls.specs.Parts.{AsksBy, HeardEnd, IsPieceRead, IsUnread, LinkSoFar, Moves, NoPiece, SentSoFar}
+use Rattle.client_calls.specs.Parts.{Stands}
 use Rattle.client_calls.specs.Parts.{TalkEnds, TalkSoFar, Waits, end_of, steps_left, to_send}
 use Rattle.client_calls.specs.Talks.{EndsBy, IsBegun, LinesBy, Talks, most_read}
 use Rattle.client_calls.specs.declared.ends.TalkEnd.{TalkEnd}
 use Rattle.client_calls.specs.declared.ends.TalkEnd.TheVariants as ends
-use Rattle.client_calls.proofs.Hearing.{next_sends, none_sends, sends_none, sends_some, took_awaits, took_sends, waits_sends}
+use Rattle.client_calls.proofs.Hearing.{next_sends, none_sends, sends_none, sends_some, took_awaits, took_sends}
+use Rattle.client_calls.proofs.Hearing.{waits_sends}
 use Rattle.client_calls.proofs.Moving.{moves_progress, took_is}
 use Rattle.client_calls.proofs.Sending.{Appends-none, Consumes-none, reads-piece, sends-by, sends-request}
 

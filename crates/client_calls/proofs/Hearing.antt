@@ -11,7 +11,8 @@ use Rattle.acct_client.specs.declared.dialogue.Talk.{Talk}
 use Rattle.acct_client.specs.declared.hearing.Heard.{Heard}
 use Rattle.acct_client.specs.declared.hearing.Heard.TheVariants.{Waits, Answered, NoAnswer}
 use Rattle.acct_client.specs.declared.hearing.Listening.{Listening}
-use Rattle.acct_client.specs.Dialogues.{answered, asked, awaited_of, awaits, is_failed, joined, progress, sent, told, took}
+use Rattle.acct_client.specs.Dialogues.{answered, asked, awaited_of, awaits, is_failed, joined, progress, sent}
+use Rattle.acct_client.specs.Dialogues.{told, took}
 use Rattle.acct_client.specs.Hearings.{hear, on, with_more, IsCutAnywhere}
 use Rattle.acct_client.specs.Runs.{more}
 use Rattle.client_calls.proofs.Answering.{answered_done, answered_on, heard_on, more_heard, more_is, progress_on}
@@ -152,7 +153,8 @@ waits_sends t b waiting e still =
     ∙ ap (λ (q : Progress). asks_on v q asks) (progress_at_once t.state t.left b)
     ∙ ap (λ (w : Bool). cond w [] (asks (joined v p))) on_it
 
-awaits_told : (s : State) (h : Heard) → awaits s ≡ true → (told s h).is_awaiting ≡ true → awaits (told s h).state ≡ true
+pub awaits_told : (s : State) (h : Heard) → awaits s ≡ true → (told s h).is_awaiting ≡ true
+    → awaits (told s h).state ≡ true
 unfolding told
 awaits_told s (Waits l) e still = e
 awaits_told s (NoAnswer at) e still = absurd (true≢false (sym still))

@@ -1,5 +1,6 @@
 pub mod Answering
 pub mod Asking
+pub mod Completing
 pub mod Ending
 pub mod Hearing
 pub mod Moving

@@ -16,7 +16,8 @@ use Rattle.acct_client.specs.declared.hearing.Next.{Next}
 use Rattle.acct_client.specs.declared.hearing.Next.TheVariants as next
 use Rattle.acct_client.specs.Dialogues.{answered, awaits, awaited_of, is_failed, joined, progress, told, took}
 use Rattle.acct_client.specs.Hearings.{hear, hear_in, heard_next, on, on_next}
-use Rattle.client_calls.proofs.Answering.{HearsWhole, IsWhole, answered_kept, answered_leaves, goes_unfailed, hears_whole}
+use Rattle.client_calls.proofs.Answering.{HearsWhole, IsWhole, answered_kept, answered_leaves, goes_unfailed}
+use Rattle.client_calls.proofs.Answering.{hears_whole}
 
 -- ---- what is heard of some bytes from a place on
 

@@ -1,6 +1,7 @@
 -- What was read and sent over a link so far.
 use Rattle.std.proofs.Common.{◌≡◌, ℕ, zero, suc, ◌+◌, ◌≤◌, Bool, true, false, List, [], ◌∷◌, ◌++◌, length, take}
-use Rattle.std.proofs.Common.{Option, Some, None, refl, sym, ap, subst, ◌∙◌, append_assoc, arith, length-append, min, inl, inr}
+use Rattle.std.proofs.Common.{Option, Some, None, refl, sym, ap, subst, ◌∙◌, append_assoc, arith, length-append}
+use Rattle.std.proofs.Common.{min, inl, inr}
 use Rattle.std.proofs.lemmas.Bool.{true≢false}
 use Rattle.std.proofs.lemmas.List.{append-nil, take-append-le, take_all}
 use Rattle.std.specs.Io.KnownBytes.{Appends, Consumes}
@@ -9,7 +10,8 @@ use Rattle.acct_links.specs.Links.{Told, Sends, SendsFront}
 use Rattle.client_calls.specs.Parts.{AsksBy, IsPieceRead, IsUnread, LinkSoFar, SentSoFar}
 use Rattle.client_calls.specs.Talks.{SendsBy}
 use Rattle.client_calls.specs.declared.ends.TalkEnd.{TalkEnd}
-use Rattle.client_calls.specs.declared.ends.TalkEnd.TheVariants.{Done, NoMemory, PeerBytes, PeerFault, InputTooLong, Refused}
+use Rattle.client_calls.specs.declared.ends.TalkEnd.TheVariants.{Done, NoMemory, PeerBytes, PeerFault, InputTooLong}
+use Rattle.client_calls.specs.declared.ends.TalkEnd.TheVariants.{Refused}
 
 pub Appends-none : (a : Option (List ℕ)) → Appends a a []
 Appends-none None = tt

@@ -117,7 +117,8 @@ pub record Stands (command : Command) (old now : Told) (t : Talk) (left_room : �
     pub link : LinkSoFar old now left_room is_cut received bytes
     pub waits : is_whole ≡ false → Waits command t received bytes
 
--- It falls with each step: a piece takes room, a whole answer takes a place, and else an answer is awaited from then on.
+-- It falls with each step: a piece takes room, a whole answer takes a place, and else an answer is awaited from then
+-- on.
 abbrev pub steps_left : ℕ → Talk → Bool → ℕ
 steps_left left_room t is_whole =
     2 * left_room + 2 * (most_read + 1 - t.left.place) + (if is_whole then 1 else 0)

@@ -1,7 +1,7 @@
 -- What a dialogue over a link comes to.
-use Rattle.std.specs.Prelude.{◌≡◌, ℕ, ◌≤◌, ◌<◌, ◌⊎◌, true, List, length, take}
+use Rattle.std.specs.Prelude.{◌≡◌, ℕ, ◌≤◌, ◌<◌, ◌⊎◌, true, List, length, take, Some}
 use Rattle.std.specs.Io.KnownBytes.{Appends, Consumes, IsAtEnd}
-use Rattle.acct_streams.specs.Causes.{Rose}
+use Rattle.acct_streams.specs.Causes.{NotRisen, Rose}
 use Rattle.acct_links.specs.Links.{Told, LinkRose}
 use Rattle.client_steps.specs.declared.command.Command.{Command}
 use Rattle.acct_client.specs.declared.dialogue.State.TheVariants.{Ended, Failed}
@@ -11,7 +11,8 @@ use Rattle.acct_client.specs.Dialogues.{begun}
 use Rattle.acct_client.specs.Runs.{spoken}
 use Rattle.client_calls.specs.Asks.{requested}
 use Rattle.client_calls.specs.declared.ends.TalkEnd.{TalkEnd}
-use Rattle.client_calls.specs.declared.ends.TalkEnd.TheVariants.{Done, NoMemory, PeerBytes, PeerFault, InputTooLong, Refused}
+use Rattle.client_calls.specs.declared.ends.TalkEnd.TheVariants.{Done, NoMemory, PeerBytes, PeerFault, InputTooLong}
+use Rattle.client_calls.specs.declared.ends.TalkEnd.TheVariants.{Refused}
 
 -- how many bytes are read of a peer at most
 abbrev pub most_read : ℕ
@@ -35,8 +36,8 @@ pub record HasEnded (link : Told) : Type 0 where
   pub ended : link.ended ≡ true
   pub none_left : IsAtEnd link.left
 
--- Each end has its cause in the dialogue of all that was read, but for want of memory. Where the answer isn't whole it is
--- that so many bytes were read, or that a call of the link failed or its end came.
+-- Each end has its cause in the dialogue of all that was read, but for want of memory. Where the answer isn't whole it
+-- is that so many bytes were read, or that a call of the link failed or its end came.
 abbrev pub EndsBy : TalkEnd → Talk → ℕ → Told → Told → Type 0
 EndsBy Done t count old new = t.state ≡ Ended
 EndsBy NoMemory t count old new = Unit {0}
@@ -67,3 +68,23 @@ pub record Talks (command : Command) (end : TalkEnd) (old new : Told) (printed :
   pub sent : SendsBy end old new (requested command received)
   pub lines : LinesBy end printed (spoken command received).lines
   pub ends : EndsBy end (spoken command received) (length received) old new
+
+-- ---- a peer that sends all answers
+
+-- A link tells its peer's bytes, which bring all answers of a command within the limit, and no call of it has failed.
+pub record BringsAll (command : Command) (old new : Told) (peer : List ℕ) : Type 0 where
+  pub tells : old.left ≡ Some peer
+  pub within : length peer ≤ most_read
+  pub spells : (spoken command peer).state ≡ Ended
+  pub reads : NotRisen old.read_faults new.read_faults
+  pub writes : NotRisen old.write_faults new.write_faults
+
+abbrev pub IsDoneOrLost : TalkEnd → Type 0
+IsDoneOrLost Done = Unit {0}
+IsDoneOrLost NoMemory = Unit {0}
+IsDoneOrLost end = ⊥
+
+-- a dialogue over such a link comes to its last answer, but for want of memory
+abbrev pub ComesToItsEnd : Type 0
+ComesToItsEnd = (command : Command) (end : TalkEnd) (old new : Told) (printed peer : List ℕ)
+    → Talks command end old new printed → BringsAll command old new peer → IsDoneOrLost end

@@ -1,5 +1,5 @@
 // Calls over links in memory: the command `domains`.
-ghost use Rattle.std.specs.Prelude.{IfOk, None, false};
+ghost use Rattle.std.specs.Prelude.{◌≤◌, IfOk, None, false, vec_len};
 ghost use Rattle.client_calls.specs.Talks.{IsBegun};
 
 use crate::{Called, TalkEnd, call};
@@ -74,7 +74,9 @@ struct TurnTaker {
 
 impl TurnTaker {
     // How many bytes it has answered or can answer now.
-    fn answered(&self) -> usize {
+    fn answered(&self) -> usize
+        ensures { result ≤ vec_len self.now.answers }
+    {
         let mut end = 0;
         for (request, answer) in TURNS {
             if request <= self.sent {

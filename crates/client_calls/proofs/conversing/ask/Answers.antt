@@ -1,7 +1,8 @@
 -- `ask` meets its contract: what the search leaves open.
 use Rattle.std.proofs.Common.{◌<◌, ◌++◌, ℕ, List, true, arith, subst, sym}
 use Rattle.client_calls.specs.Parts.{SentSoFar, Stands, steps_left}
-use Rattle.client_calls.proofs.Ending.{Asked, ask-less, asked-dialogue, asked-stands, asked-talks, talks-done, talks-lost}
+use Rattle.client_calls.proofs.Ending.{Asked, ask-less, asked-dialogue, asked-stands, asked-talks, talks-done}
+use Rattle.client_calls.proofs.Ending.{talks-lost}
 use Rattle.client_calls.proofs.conversing.ask.Goals as goal
 
 pub returns-in-Err-clause-err : goal.returns-in-Err-clause-err
