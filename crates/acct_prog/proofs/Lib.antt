@@ -1,5 +1,4 @@
 pub mod Worlds
 pub mod Usages
 pub mod Holding
-pub mod Chosen
 pub mod Generations

@@ -470,7 +470,7 @@ fn a_store_of_an_unknown_format(rt: HostRuntime) -> Result<(), Fail> {
     let status = account(alloc, &words, &mut next);
     assert_eq!(rt;
         format!(in alloc; "{status:?}")?.as_str(),
-        "StoredPair([102])"
+        "StoredPair(Seq { values: [102] })"
     );
     assert_eq!(rt; history_text(alloc, &next)?.as_str(), "none");
     Ok(())
