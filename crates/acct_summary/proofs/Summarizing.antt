@@ -51,8 +51,8 @@ left-by-replay users old after left config events keeper kept replayed = record 
   after = after;
   keeper = kept;
   replayed = subst (λ (k : List Pair). IsReplay steady
-      (record { config = source configuration; events = source (generated users); out = old.out; keeper = k }) after left)
-      keeper
+      (record { config = source configuration; events = source (generated users); out = old.out; keeper = k })
+      after left) keeper
       (subst (λ (e : SteadyInMemory). IsReplay steady
       (record { config = source configuration; events = e; out = old.out; keeper = old.keeper }) after left) events
       (subst (λ (d : SteadyInMemory). IsReplay steady

@@ -2,8 +2,8 @@
 //! each reply to the lines that are printed and the next call.
 //!
 //! It stands on `acct_layouts` for the bounds of operations and the statuses that refuse, on `acct_calls` and
-//! `dtyp_sid` for values, and on `acct_codes` for numbers. The layer above uses that [`command_of`] gives the command of
-//! the table exactly where there is one, that [`call_of`] is the call of a step, which can be written
+//! `dtyp_sid` for values, and on `acct_codes` for numbers. The layer above uses that [`command_of`] gives the command
+//! of the table exactly where there is one, that [`call_of`] is the call of a step, which can be written
 //! ([`fit_steps_are_spelled`]), and that [`after`] gives the lines that are printed of a reply and the next step.
 #![tactic(auto)]
 

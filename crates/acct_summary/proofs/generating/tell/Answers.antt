@@ -5,7 +5,11 @@ use Rattle.acct_summary.proofs.generating.tell.Goals as goal
 
 pub returns-in-Some : goal.returns-in-Some
 returns-in-Some g c = record {
-  done = λ is. record { rows = c.in-Some.rows.lists; there = ap lists_in c.in-Some.is; written = c.write_summary.ensures.written };
+  done = λ is. record {
+    rows = c.in-Some.rows.lists;
+    there = ap lists_in c.in-Some.is;
+    written = c.write_summary.ensures.written;
+  };
   others = λ other. absurd (other c.in-Done.is);
   later = c.write_summary.ensures.later;
 }

@@ -8,5 +8,6 @@ use Rattle.acct_summary.proofs.summary.call_count.Goals as goal
 pub returns : goal.returns
 returns c =
     count_from_yields_List _ _ c.count.ensures.ran
-    (YieldsList-from_filter _ is_call (YieldsList-at c.filter.ensures.source (YieldsList-from_slice c.args.history.now (cc)))
+    (YieldsList-from_filter _ is_call
+    (YieldsList-at c.filter.ensures.source (YieldsList-from_slice c.args.history.now (cc)))
     c.filter.ensures.closure (λ x r q k. search (rules, tests)))
