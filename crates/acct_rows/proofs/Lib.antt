@@ -6,6 +6,7 @@ pub mod Places
 pub mod Changed
 pub mod Fitting
 pub mod FoldOrder
+pub mod Found
 pub mod Halving
 pub mod Holding
 pub mod Indexed
