@@ -1,4 +1,5 @@
 pub mod Again
+pub mod Between
 pub mod Shuffled
 pub mod Tables
 pub mod Translated

@@ -6,6 +6,7 @@ pub mod Loading
 pub mod Objects
 pub mod PairRules
 pub mod PairsOf
+pub mod Ranges
 pub mod Rows
 pub mod Seed
 pub mod Sound

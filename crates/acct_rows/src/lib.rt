@@ -20,6 +20,7 @@ mod names;
 mod object;
 pub mod pairs;
 mod plan;
+mod ranges;
 mod row;
 mod rows;
 mod seed;

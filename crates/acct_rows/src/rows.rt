@@ -8,7 +8,8 @@ ghost use Rattle.acct_rows.specs.Keyed.{is_ascending};
 ghost use Rattle.acct_rows.specs.Loading.{no_lists};
 ghost use Rattle.acct_rows.specs.Rows.{members_of, aliases_of, HasRoom, domain_key, account_key, member_key, alias_key};
 ghost use Rattle.acct_rows.specs.Rows.{lsa_key, domain_at};
-ghost use Rattle.acct_rows.specs.Rows.{alias_row_at};
+ghost use Rattle.acct_rows.specs.Ranges.{accounts_behind};
+ghost use Rattle.acct_rows.specs.Rows.{alias_members_of, alias_row_at};
 ghost use Rattle.acct_rows.specs.Rows.{account_at, member_at, lsa_at, find_name, put_row, remove_row};
 ghost use Rattle.acct_rows.specs.Rows.{removed, with_puts, after};
 
@@ -183,6 +184,13 @@ impl Rows {
         self.accounts.find_name(domain, name)
     }
 
+    /// The accounts of a domain behind a RID, by ascending RID.
+    pub fn accounts_behind(&self, domain: u8, rid: u32) -> &[AccountRow]
+        ensures { result.now ≡ accounts_behind self.now.lists domain rid }
+    {
+        self.accounts.behind(domain, rid)
+    }
+
     /// A user's row as a member of a group.
     pub fn member(&self, group: u32, user: u32) -> Option<&MemberRow>
         ensures { option_copied result ≡ member_at self.now.lists group user }
@@ -190,11 +198,18 @@ impl Rows {
         self.members.find(&(group, user))
     }
 
+    /// The members of a group by ascending user, where they stand.
+    pub fn group_members(&self, group: u32) -> &[MemberRow]
+        ensures { result.now ≡ members_of self.now.lists group }
+    {
+        members_among(self.members.rows(), group)
+    }
+
     /// The members of a group by ascending user.
     pub fn members(&self, alloc: Global, group: u32) -> Result<Vec<MemberRow>, NoMemory>
         ensures { IfOk result (λ members. members.items ≡ members_of self.now.lists group) }
     {
-        Ok(members_among(self.members.rows(), group).to_vec(alloc)?)
+        Ok(self.group_members(group).to_vec(alloc)?)
     }
 
     /// A SID's row as a member of an alias of a domain.
@@ -202,6 +217,13 @@ impl Rows {
         ensures { option_copied result ≡ alias_row_at self.now.lists domain alias member.now }
     {
         self.aliases.find(&(domain, alias, *member))
+    }
+
+    /// The members of an alias by ascending SID.
+    pub fn alias_members(&self, domain: u8, alias: u32) -> &[AliasRow]
+        ensures { result.now ≡ alias_members_of self.now.lists domain alias }
+    {
+        self.aliases.members(domain, alias)
     }
 
     /// The RIDs of the aliases of a domain that have one of the SIDs as a member, ascending, each once.

@@ -120,9 +120,9 @@ pub fn remove_group_member(
 fn members_shown(alloc: Global, rows: &Rows, group: u32) -> Result<RidBitsList, NoMemory>
     ensures { IfOk result (λ shown. shown ≡ members_shown rows.now.lists group) }
 {
-    let members = rows.members(alloc, group)?;
+    let members = rows.group_members(group);
     let mut shown = Seq::new(alloc);
-    for member in &members {
+    for member in members {
         shown.push(RidBits {
             rid: member.user,
             bits: member.attributes,
