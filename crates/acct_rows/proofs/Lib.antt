@@ -36,3 +36,4 @@ pub mod Runs
 pub mod Without
 pub mod Unbroken
 pub mod Undoing
+pub mod Users

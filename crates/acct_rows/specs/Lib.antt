@@ -12,3 +12,4 @@ pub mod Seed
 pub mod Sound
 pub mod Spelled
 pub mod Stored
+pub mod Users

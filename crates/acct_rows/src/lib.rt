@@ -12,6 +12,7 @@ mod accounts;
 mod aliases;
 mod copies;
 mod folding;
+mod groups;
 mod keyed;
 mod keys;
 pub mod laws;
@@ -25,6 +26,7 @@ mod row;
 mod rows;
 mod seed;
 
+pub use groups::ByUser;
 pub use object::Object;
 pub use pairs::PairsError;
 pub use plan::Plan;
