@@ -17,7 +17,8 @@ use Rattle.acct_rows.specs.declared.groups.ByUser.{ByUser}
 use Rattle.acct_rows.specs.declared.row.MemberRow.{MemberRow}
 use Rattle.acct_rows.proofs.FoldOrder.{alone}
 use Rattle.acct_rows.proofs.Halving.{rises}
-use Rattle.acct_rows.proofs.Indexed.{index_ascends, index_put, index_put_over, index_without, without_none, put_over, absent}
+use Rattle.acct_rows.proofs.Indexed.{index_ascends, index_put, index_put_over, index_without}
+use Rattle.acct_rows.proofs.Indexed.{without_none, put_over, absent}
 use Rattle.acct_rows.proofs.Indexed.{in_index}
 use Rattle.acct_rows.proofs.Lookups.{tested, there_or_not, key_found}
 use Rattle.acct_rows.proofs.Members.{In, below_in}
