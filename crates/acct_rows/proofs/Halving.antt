@@ -24,7 +24,7 @@ index_rises a b q lt =
     ] refl
 
 module _ {A : Type 0} (key : A → List ℕ) where
-  below_at : (k : List ℕ) (xs : List A) (i : ℕ) (d : A) → below_all key k xs ≡ true → i < length xs
+  pub below_at : (k : List ℕ) (xs : List A) (i : ℕ) (d : A) → below_all key k xs ≡ true → i < length xs
       → compare k (key (get_or xs i d)) ≡ Less
   below_at k [] i d h lt = absurd (omega arith)
   below_at k (x ∷ xs) zero d h lt = less _ (first_so _ _ h)

@@ -1,5 +1,5 @@
 -- The members of aliases by SID: the rows of one SID in a domain, and the aliases that these name
-use Rattle.std.proofs.Common.{◌≡◌, ◌≢◌, ℕ, suc, ◌+◌, ◌<◌, ◌==◌, Bool, true, false, ◌||◌, cond, List, [], ◌∷◌, map}
+use Rattle.std.proofs.Common.{◌≡◌, ◌≢◌, ℕ, suc, ◌+◌, ◌<◌, ◌==◌, Bool, true, false, cond, List, [], ◌∷◌, map}
 use Rattle.std.proofs.Common.{length, get_or, drop, refl, sym, ap, subst, ◌∙◌, inl, inr, arith}
 use Rattle.std.proofs.lemmas.Bool.{eq-eqb}
 use Rattle.std.proofs.Math.Seq.{drop-cons, drop-length}
@@ -28,6 +28,7 @@ use Rattle.acct_rows.proofs.Indexed.{index_ascends, index_put, index_put_over, i
 use Rattle.acct_rows.proofs.Indexed.{in_index, index_in, same_members}
 use Rattle.acct_rows.proofs.Lookups.{tested, there_or_not, key_found}
 use Rattle.acct_rows.proofs.Members.{In, in_map, map_in, in_left, in_right, in_either, contains_in, in_contains}
+use Rattle.acct_rows.proofs.Members.{any_in, in_any}
 use Rattle.acct_rows.proofs.Moves.{equal_is}
 use Rattle.acct_rows.proofs.Rising.{number_key, number_less, aliases_rise}
 use Rattle.acct_rows.proofs.Runs.{spot, leading, run}
@@ -287,20 +288,6 @@ flat_in f b a (x ∷ xs) (inl e) i =
     subst (In b) (sym (flat_map-cons f x xs)) (in_left b (f x) (flat_map f xs) (subst (λ y. In b (f y)) e i))
 flat_in f b a (x ∷ xs) (inr e) i =
     subst (In b) (sym (flat_map-cons f x xs)) (in_right b (f x) (flat_map f xs) (flat_in f b a xs e i))
-
-any_in : (p : SidValue → Bool) (sids : List SidValue) → list_any p sids ≡ true
-    → (s : SidValue) × In s sids × (p s ≡ true)
-any_in p [] t = absurd cc
-any_in p (s ∷ sids) t =
-    elim (tested (p s)) [
-      | inl u ↦ (s, inl refl, u)
-      | inr f ↦ let rest = any_in p sids (sym (ap (λ b. b || list_any p sids) f) ∙ t) in (rest.0, inr rest.1, rest.2)
-    ]
-
-in_any : (p : SidValue → Bool) (s : SidValue) (sids : List SidValue) → In s sids → p s ≡ true → list_any p sids ≡ true
-in_any p s [] e t = absurd e
-in_any p s (x ∷ xs) (inl e) t = ap (λ b. b || list_any p xs) (ap p (sym e) ∙ t)
-in_any p s (x ∷ xs) (inr e) t = elim (p x) as (λ b. (b || list_any p xs) ≡ true) [ true ↦ refl | false ↦ in_any p s xs e t ]
 
 module _ (d : ℕ) (sids : List SidValue) (aliases : List AliasRow) (h : is_ascending alias_key aliases ≡ true) where
   abbrev rids : List ℕ

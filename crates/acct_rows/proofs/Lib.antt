@@ -1,4 +1,5 @@
 pub mod Again
+pub mod Between
 pub mod Shuffled
 pub mod Tables
 pub mod Translated
@@ -6,6 +7,7 @@ pub mod Places
 pub mod Changed
 pub mod Fitting
 pub mod FoldOrder
+pub mod Found
 pub mod Halving
 pub mod Holding
 pub mod Indexed
@@ -34,3 +36,4 @@ pub mod Runs
 pub mod Without
 pub mod Unbroken
 pub mod Undoing
+pub mod Users

@@ -1,7 +1,7 @@
 -- The smallest broken key, and the rows that are loaded of pairs of which none is broken.
 use Rattle.std.proofs.Common.{◌≡◌, ◌≢◌, ℕ, zero, suc, ◌<◌, Bool, true, false, ◌&&◌, ◌||◌, cond, List, [], ◌∷◌}
 use Rattle.std.proofs.Common.{length, get_or, map, All, Option, Some, None, refl, sym, ap, subst, ◌∙◌, arith, inl, inr, ◌⊎◌}
-use Rattle.std.proofs.Common.{Ok}
+use Rattle.std.proofs.Common.{Ok, ◌+◌, ◌≤◌, drop, nat_lt}
 use Rattle.std.specs.Prelude.{is_some, option_map, not}
 use Rattle.std.specs.List.{list_any, find, AllByRecursion}
 use Rattle.std.specs.Str.{bytes_eq}
@@ -10,6 +10,8 @@ use Rattle.std.specs.Cmp.Lexicographic.{nat_list_cmp_total}
 use Rattle.std.specs.Ordering.{is_lt, is_eq, ordering_reverse}
 use Rattle.std.specs.declared.cmp.Ordering.{Ordering}
 use Rattle.std.specs.declared.cmp.Ordering.TheVariants.{Less, Equal, Greater}
+use Rattle.std.proofs.lemmas.Bool.Decides.{nat_tests}
+use Rattle.std.proofs.lemmas.List.{get_or_default, drop_more}
 use Rattle.std.proofs.lemmas.Slice.Eq.{bytes_eq-Decides}
 use Rattle.std.proofs.lemmas.List.Elements.{recursion_from_All}
 use Rattle.dtyp_sid.specs.Bytes.{WrittenBytesAreRead, WrittenBytesHaveLengths, ReadBytesAreWritten}
@@ -17,7 +19,7 @@ use Rattle.dtyp_sid.specs.Order.{EqualSidsAreOne}
 use Rattle.acct_keeper.specs.declared.pairs.Pair.{Pair}
 use Rattle.acct_rows.specs.Changes.{row_at, is_put, same_row_key}
 use Rattle.acct_rows.specs.Keyed.{compare, same_key, place, below_all, is_ascending}
-use Rattle.acct_rows.specs.Loading.{IsReadWell, no_lists, somes, smaller, first_missing, smallest_broken}
+use Rattle.acct_rows.specs.Loading.{IsReadWell, no_lists, somes, loaded, smaller, first_missing, smallest_broken}
 use Rattle.acct_rows.specs.PairRules.{pair_key, pair_at, is_format, breaks_rule, is_broken_pair, needed, is_broken_at}
 use Rattle.acct_rows.specs.PairRules.{is_broken, AreUnbroken, IsSmallestBroken}
 use Rattle.acct_rows.specs.PairsOf.{AreTables, IsRowOf, HoldPairs}
@@ -44,35 +46,11 @@ nth [] i lt = absurd (omega arith)
 nth (x ∷ xs) zero lt = (x, refl)
 nth (x ∷ xs) (suc i) lt = nth xs i (omega arith)
 
-mapped_at : {A B : Type 0} (f : A → B) (xs : List A) (i : ℕ) (x : A) (r : B) → i < length xs → x ≡ get_or xs i x
-    → r ≡ get_or (map f xs) i r → r ≡ f x
-mapped_at f [] i x r lt e u = absurd (omega arith)
-mapped_at f (y ∷ ys) zero x r lt e u = u ∙ ap f (sym e)
-mapped_at f (y ∷ ys) (suc i) x r lt e u = mapped_at f ys i x r (omega arith) e u
-
-pub row_of_place : (pairs : List Pair) (rows : List (Option Row)) (i : ℕ) (p : Pair) (r : Option Row)
-    → rows ≡ map row_of pairs → i < length pairs → p ≡ get_or pairs i p → r ≡ get_or rows i r → r ≡ row_of p
-row_of_place pairs rows i p r same lt at_p at_r =
-    mapped_at row_of pairs i p r lt at_p (at_r ∙ ap (λ xs. get_or xs i r) same)
-
-pub found_placed : (pairs : List Pair) (key : List ℕ) (i : ℕ) (r : Option Row) → is_ascending pair_key pairs ≡ true
-    → Ok i ≡ place pair_key key pairs → i < length pairs → r ≡ get_or (map row_of pairs) i r
-    → Some r ≡ option_map row_of (pair_at key pairs)
-found_placed pairs key i r up placed lt is =
-    let p = nth pairs i lt in
-    ap (λ o. Some o) (mapped_at row_of pairs i p.0 r lt p.1 is)
-    ∙ ap (option_map row_of) (at-placed pair_key key pairs i p.0 up placed p.1)
-
 pub placed_there : (pairs : List Pair) (key : List ℕ) (i : ℕ) → is_ascending pair_key pairs ≡ true
     → Ok i ≡ place pair_key key pairs → i < length pairs → is_some (pair_at key pairs) ≡ true
 placed_there pairs key i up placed lt =
     let p = nth pairs i lt in
     ap is_some (sym (at-placed pair_key key pairs i p.0 up placed p.1))
-
-pub any_mapped : {A B : Type 0} (p : B → Bool) (f : A → B) (xs : List A)
-    → list_any p (map f xs) ≡ list_any (λ x. p (f x)) xs
-any_mapped p f [] = refl
-any_mapped p f (x ∷ xs) = ap (λ b. p (f x) || b) (any_mapped p f xs)
 
 -- ---- the first that passes a test
 
@@ -387,6 +365,38 @@ loaded_tables puts =
     tables_puts puts no_lists
     (record { domains = refl; accounts = refl; members = refl; aliases = refl; lsa = refl })
 
+one_loaded : (o : Option Row) (os : List (Option Row)) (lists : Lists)
+    → with_puts (somes os) (with_puts (somes (o ∷ [])) lists) ≡ with_puts (somes (o ∷ os)) lists
+one_loaded None os lists = refl
+one_loaded (Some row) os lists = refl
+
+-- pairs are loaded one by one
+pub next_loaded : (pairs : List Pair) (i : ℕ) (p : Pair) (lists : Lists) → i < length pairs → p ≡ get_or pairs i p
+    → with_puts (somes (map row_of (drop (i + 1) pairs))) (with_puts (somes (row_of p ∷ [])) lists)
+    ≡ with_puts (somes (map row_of (drop i pairs))) lists
+next_loaded pairs i p lists lt is =
+    one_loaded (row_of p) (map row_of (drop (i + 1) pairs)) lists
+    ∙ ap (λ (x : Pair). with_puts (somes (row_of x ∷ map row_of (drop (i + 1) pairs))) lists) is
+    ∙ ap (λ (ps : List Pair). with_puts (somes (map row_of ps)) lists) (sym (drop_more pairs i p lt))
+
+pub all_loaded : (pairs : List Pair) (i : ℕ) (lists : Lists) → length pairs ≤ i
+    → with_puts (somes (map row_of (drop i pairs))) lists ≡ lists
+all_loaded [] zero lists le = refl
+all_loaded [] (suc i) lists le = refl
+all_loaded (p ∷ ps) zero lists le = absurd (omega arith)
+all_loaded (p ∷ ps) (suc i) lists le = all_loaded ps i lists (omega arith)
+
+pub next_read : (pairs : List Pair) (i : ℕ) (p : Pair) → i < length pairs → p ≡ get_or pairs i p → IsReadWell p
+    → ((k : ℕ) (d : Pair) → k < i → IsReadWell (get_or pairs k d))
+    → (k : ℕ) (d : Pair) → k < i + 1 → IsReadWell (get_or pairs k d)
+next_read pairs i p lt is well below k d under =
+    elim (tested (nat_lt k i)) [
+      | inl t ↦ below k d (grind (arith, nat_tests))
+      | inr f ↦
+          let here : i ≡ k = grind (arith, nat_tests) in
+          subst IsReadWell (is ∙ get_or_default pairs i p d lt ∙ ap (λ n. get_or pairs n d) here) well
+    ]
+
 nothing_there : (key : RowKey) → row_at no_lists key ≡ None
 nothing_there (keys.Domain n) = refl
 nothing_there (keys.Account n i) = refl
@@ -454,14 +464,14 @@ both_parts false b e = absurd cc
 
 module _ (back : WrittenBytesAreRead) (sizes : WrittenBytesHaveLengths) (only : ReadBytesAreWritten)
     (equal_sids : EqualSidsAreOne) (pairs : List Pair) (up : is_ascending pair_key pairs ≡ true)
-    (well : All IsReadWell pairs) (unbroken : AreUnbroken pairs) where
+    (well : All IsReadWell pairs) where
   abbrev read : List Row
   read = somes (map row_of pairs)
 
   abbrev lists : Lists
-  lists = with_puts read no_lists
+  lists = loaded pairs
 
-  spelled : (p : Pair) → In p pairs → (row : Row) → row_of p ≡ Some row → IsSpelled p row
+  pub spelled : (p : Pair) → In p pairs → (row : Row) → row_of p ≡ Some row → IsSpelled p row
   spelled p i row e = each_in IsReadWell p pairs (recursion_from_All IsReadWell pairs well) i row e
 
   read_in : (row : Row) → In row read → (p : Pair) × In p pairs × (row_of p ≡ Some row)
@@ -469,12 +479,16 @@ module _ (back : WrittenBytesAreRead) (sizes : WrittenBytesHaveLengths) (only : 
       let found = map_in row_of (Some row) pairs (somes_in (map row_of pairs) row i) in
       (found.0, found.1, sym found.2)
 
-  pub loaded_fits : (row : Row) → IsRowOf lists row → Fits row
-  loaded_fits row e =
+  -- one of the rows was read of a pair
+  pub source : (row : Row) → IsRowOf lists row → (p : Pair) × In p pairs × (row_of p ≡ Some row) × IsSpelled p row
+  source row e =
       elim (puts_cases equal_sids read no_lists (key_of row) row (is_row_at lists row e)) [
-        | inl i ↦ let p = read_in row i in (spelled p.0 p.1 row p.2).fits
+        | inl i ↦ let p = read_in row i in (p.0, p.1, p.2, spelled p.0 p.1 row p.2)
         | inr f ↦ absurd (let none = nothing_there (key_of row) in cc (f, none))
       ]
+
+  pub loaded_fits : (row : Row) → IsRowOf lists row → Fits row
+  loaded_fits row e = (source row e).3.fits
 
   one : (row : Row) → In row read → (q : Row) → In q read → key_of q ≡ key_of row → q ≡ row
   one row i q j same =
@@ -493,72 +507,71 @@ module _ (back : WrittenBytesAreRead) (sizes : WrittenBytesHaveLengths) (only : 
   row_loaded row i =
       (at_is_row lists (key_of row) row (one_found equal_sids read no_lists row i (one row i))).0
 
-  -- a pair that is there is the format's, or that of a row
-  format_is : (p : Pair) → is_format p ≡ true → p ≡ format_pair
-  format_is p e =
-      let parts = both_parts (bytes_eq p.key format_key) (bytes_eq p.value format_value) e in
-      let key : p.key ≡ format_key = (bytes_eq-Decides p.key format_key).0 parts.0 in
-      let value : p.value ≡ format_value = (bytes_eq-Decides p.value format_value).0 parts.1 in
-      λ i. record { key = key i; value = value i }
+  -- what is read of a pair is one of the rows
+  pub read_is_row : (p : Pair) → In p pairs → (row : Row) → row_of p ≡ Some row → IsRowOf lists row
+  read_is_row p i row e =
+      row_loaded row (in_somes (map row_of pairs) row (in_mapped row_of p (Some row) pairs i (sym e)))
 
-  kinds : (p : Pair) → In p pairs → (p ≡ format_pair) ⊎ ((row : Row) × (row_of p ≡ Some row) × (p ≡ pair_of row))
-  kinds p i =
-      elim (tested (is_format p)) [
-        | inl t ↦ inl (format_is p t)
-        | inr t ↦
-            let whole : is_broken_pair pairs p ≡ false =
-            sym (ap (is_broken_at pairs p.key) (in_at pair_key p pairs up i)) ∙ unbroken p.key in
-            let rule : breaks_rule pairs (row_of p) ≡ false =
-            sym (ap (λ b. not b && breaks_rule pairs (row_of p)) t) ∙ whole in
-            elim (there_or_not (row_of p)) [
-              | inl found ↦ inr (found.0, found.1, (spelled p i found.0 found.1).spelled)
-              | inr none ↦ absurd (let broken : breaks_rule pairs (row_of p) ≡ true = ap (breaks_rule pairs) none in
-                  cc (broken, rule))
-            ]
-      ]
+  module _ (unbroken : AreUnbroken pairs) where
+    -- a pair that is there is the format's, or that of a row
+    format_is : (p : Pair) → is_format p ≡ true → p ≡ format_pair
+    format_is p e =
+        let parts = both_parts (bytes_eq p.key format_key) (bytes_eq p.value format_value) e in
+        let key : p.key ≡ format_key = (bytes_eq-Decides p.key format_key).0 parts.0 in
+        let value : p.value ≡ format_value = (bytes_eq-Decides p.value format_value).0 parts.1 in
+        λ i. record { key = key i; value = value i }
 
-  needed_pair : (k : List ℕ) → In k needed → (p : Pair) × (pair_at k pairs ≡ Some p)
-  needed_pair k i =
-      elim (there_or_not (pair_at k pairs)) [
-        | inl found ↦ found
-        | inr none ↦ absurd (
-            let broken : is_broken pairs k ≡ true = ap (is_broken_at pairs k) none ∙ in_any k needed i in
-            let whole = unbroken k in
-            cc (broken, whole))
-      ]
+    kinds : (p : Pair) → In p pairs → (p ≡ format_pair) ⊎ ((row : Row) × (row_of p ≡ Some row) × (p ≡ pair_of row))
+    kinds p i =
+        elim (tested (is_format p)) [
+          | inl t ↦ inl (format_is p t)
+          | inr t ↦
+              let whole : is_broken_pair pairs p ≡ false =
+              sym (ap (is_broken_at pairs p.key) (in_at pair_key p pairs up i)) ∙ unbroken p.key in
+              let rule : breaks_rule pairs (row_of p) ≡ false =
+              sym (ap (λ b. not b && breaks_rule pairs (row_of p)) t) ∙ whole in
+              elim (there_or_not (row_of p)) [
+                | inl found ↦ inr (found.0, found.1, (spelled p i found.0 found.1).spelled)
+                | inr none ↦ absurd (let broken : breaks_rule pairs (row_of p) ≡ true = ap (breaks_rule pairs) none in
+                    cc (broken, rule))
+              ]
+        ]
 
-  format_there : pair_at format_key pairs ≡ Some format_pair
-  format_there =
-      let found = needed_pair format_key (inr (inr (inr (inl refl)))) in
-      let key : found.0.key ≡ format_key = key_found pair_key format_key pairs found.0 found.1 in
-      let within : In found.0 pairs = at_in pair_key format_key found.0 pairs found.1 in
-      elim (kinds found.0 within) [
-        | inl is ↦ found.1 ∙ ap (λ p. Some p) is
-        | inr r ↦ absurd (not_format back sizes only (key_of r.0)
-            (fits_key back sizes only r.0 (spelled found.0 within r.0 r.1).fits)
-            (sym (ap pair_key r.2) ∙ key))
-      ]
+    needed_pair : (k : List ℕ) → In k needed → (p : Pair) × (pair_at k pairs ≡ Some p)
+    needed_pair k i =
+        elim (there_or_not (pair_at k pairs)) [
+          | inl found ↦ found
+          | inr none ↦ absurd (
+              let broken : is_broken pairs k ≡ true = ap (is_broken_at pairs k) none ∙ in_any k needed i in
+              let whole = unbroken k in
+              cc (broken, whole))
+        ]
 
-  pub loaded_held : HoldPairs lists pairs
-  loaded_held p = (
-    (λ e.
-        let within : In p pairs = at_in pair_key p.key p pairs e in
-        elim (kinds p within) [
-          | inl is ↦ inl is
-          | inr r ↦ inr (
-            r.0,
-            row_loaded r.0 (in_somes (map row_of pairs) r.0 (in_mapped row_of p (Some r.0) pairs within (sym r.1))),
-            r.2,
-          )
-        ]),
-    (λ e. elim e [
-      | inl is ↦ subst (λ q. pair_at q.key pairs ≡ Some q) (sym is) format_there
-      | inr r ↦ elim (puts_cases equal_sids read no_lists (key_of r.0) r.0 (is_row_at lists r.0 r.1)) [
-        | inr f ↦ absurd (let none = nothing_there (key_of r.0) in cc (f, none))
-        | inl i ↦
-            let q = read_in r.0 i in
-            let is : q.0 ≡ p = (spelled q.0 q.1 r.0 q.2).spelled ∙ sym r.2 in
+    format_there : pair_at format_key pairs ≡ Some format_pair
+    format_there =
+        let found = needed_pair format_key (inr (inr (inr (inl refl)))) in
+        let key : found.0.key ≡ format_key = key_found pair_key format_key pairs found.0 found.1 in
+        let within : In found.0 pairs = at_in pair_key format_key found.0 pairs found.1 in
+        elim (kinds found.0 within) [
+          | inl is ↦ found.1 ∙ ap (λ p. Some p) is
+          | inr r ↦ absurd (not_format back sizes only (key_of r.0)
+              (fits_key back sizes only r.0 (spelled found.0 within r.0 r.1).fits)
+              (sym (ap pair_key r.2) ∙ key))
+        ]
+
+    pub loaded_held : HoldPairs lists pairs
+    loaded_held p = (
+      (λ e.
+          let within : In p pairs = at_in pair_key p.key p pairs e in
+          elim (kinds p within) [
+            | inl is ↦ inl is
+            | inr r ↦ inr (r.0, read_is_row p within r.0 r.1, r.2)
+          ]),
+      (λ e. elim e [
+        | inl is ↦ subst (λ q. pair_at q.key pairs ≡ Some q) (sym is) format_there
+        | inr r ↦
+            let q = source r.0 r.1 in
+            let is : q.0 ≡ p = q.3.spelled ∙ sym r.2 in
             subst (λ x. pair_at x.key pairs ≡ Some x) is (in_at pair_key q.0 pairs up q.1)
-      ]
-    ]),
-  )
+      ]),
+    )

@@ -1,8 +1,9 @@
 -- Which values stand in a list, by key, and pairs that are sorted.
-use Rattle.std.proofs.Common.{◌≡◌, ℕ, zero, suc, ◌+◌, ◌<◌, ◌≤◌, Bool, true, false, ◌&&◌, cond, List, [], ◌∷◌, ◌++◌}
+use Rattle.std.proofs.Common.{◌≡◌, ℕ, zero, suc, ◌+◌, ◌<◌, ◌≤◌, Bool, true, false, ◌&&◌, ◌||◌, cond, List}
+use Rattle.std.proofs.Common.{[], ◌∷◌, ◌++◌}
 use Rattle.std.proofs.Common.{length, get_or, map, Some, refl, sym, ap, subst, ◌∙◌, arith, inl, inr, ◌⊎◌}
 use Rattle.std.specs.Prelude.{slice_index_or}
-use Rattle.std.specs.List.{Contains}
+use Rattle.std.specs.List.{Contains, list_any}
 use Rattle.std.specs.List.Sorted.{IsPermutation, IsSortedBy}
 use Rattle.std.specs.Cmp.{tied_itself, first_so, second_so}
 use Rattle.std.specs.Cmp.Lexicographic.{nat_list_cmp_total}
@@ -64,6 +65,20 @@ in_contains a (x ∷ xs) (inr e) =
 
 pub in_permutation : {A : Type 0} (a : A) (xs ys : List A) → IsPermutation xs ys → In a xs → In a ys
 in_permutation a xs ys p e = contains_in a ys (Contains-permutation xs ys a p (in_contains a xs e))
+
+-- a test that some value passes
+pub any_in : {A : Type 0} (p : A → Bool) (xs : List A) → list_any p xs ≡ true → (x : A) × In x xs × (p x ≡ true)
+any_in p [] t = absurd cc
+any_in p (x ∷ xs) t =
+    elim (tested (p x)) [
+      | inl u ↦ (x, inl refl, u)
+      | inr f ↦ let rest = any_in p xs (sym (ap (λ b. b || list_any p xs) f) ∙ t) in (rest.0, inr rest.1, rest.2)
+    ]
+
+pub in_any : {A : Type 0} (p : A → Bool) (a : A) (xs : List A) → In a xs → p a ≡ true → list_any p xs ≡ true
+in_any p a [] e t = absurd e
+in_any p a (x ∷ xs) (inl e) t = ap (λ b. b || list_any p xs) (ap p (sym e) ∙ t)
+in_any p a (x ∷ xs) (inr e) t = elim (p x) as (λ b. (b || list_any p xs) ≡ true) [ true ↦ refl | false ↦ in_any p a xs e t ]
 
 module _ {A : Type 0} (key : A → List ℕ) where
   -- what is found at a key stands in the list, and what stands in one that ascends is found at its key

@@ -6,8 +6,10 @@ pub mod Loading
 pub mod Objects
 pub mod PairRules
 pub mod PairsOf
+pub mod Ranges
 pub mod Rows
 pub mod Seed
 pub mod Sound
 pub mod Spelled
 pub mod Stored
+pub mod Users

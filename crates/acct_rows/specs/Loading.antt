@@ -1,16 +1,20 @@
 -- Which pairs are loaded, and as which rows
-use Rattle.std.specs.Prelude.{◌≡◌, ℕ, not, List, [], ◌∷◌, Option, Some, None, is_some, option_map, find}
-use Rattle.std.specs.Prelude.{if◌then◌else◌}
+use Rattle.std.specs.Prelude.{◌≡◌, ℕ, ◌^◌, ◌<◌, nat_lt, Bool, true, false, not, List, [], ◌∷◌, map, All, find}
+use Rattle.std.specs.Prelude.{Option, Some, None, is_some, option_map, if◌then◌else◌}
 use Rattle.std.specs.Ordering.{is_lt}
 use Rattle.acct_keeper.specs.declared.pairs.Pair.{Pair}
 use Rattle.acct_keeper.specs.Pairs.{compare}
-use Rattle.acct_rows.specs.PairRules.{pair_at, is_broken_pair, needed, IsSmallestBroken}
-use Rattle.acct_rows.specs.Rows.{Lists}
+use Rattle.acct_rows.specs.Keyed.{is_ascending}
+use Rattle.acct_rows.specs.PairRules.{pair_key, pair_at, domain_in, account_in, has_taken_name, is_broken_pair, needed}
+use Rattle.acct_rows.specs.PairRules.{IsSmallestBroken}
+use Rattle.acct_rows.specs.Rows.{Lists, domain_at, account_at, find_name, with_puts}
 use Rattle.acct_rows.specs.Spelled.{IsSpelled}
 use Rattle.acct_rows.specs.Stored.{row_of}
 use Rattle.acct_rows.specs.declared.pairs.loading.PairsError.{PairsError}
 use Rattle.acct_rows.specs.declared.pairs.loading.PairsError.TheVariants.{BadPair, Memory}
+use Rattle.acct_rows.specs.declared.row.AccountRow.{AccountRow}
 use Rattle.acct_rows.specs.declared.row.Row.{Row}
+use Rattle.acct_rows.specs.declared.row.Row.TheVariants as rows
 
 -- why pairs are no rows: the smallest broken key, or want of memory, which has no cause in the pairs
 abbrev pub BadPairs : List Pair → PairsError → Type 0
@@ -30,6 +34,30 @@ abbrev pub somes : List (Option Row) → List Row
 somes [] = []
 somes (None ∷ os) = somes os
 somes (Some row ∷ os) = row ∷ somes os
+
+-- the rows that are loaded of pairs
+abbrev pub loaded : List Pair → Lists
+loaded pairs = with_puts (somes (map row_of pairs)) no_lists
+
+-- the pairs ascend, each is read well, and the rows are those that are loaded of them
+pub record IsLoaded (pairs : List Pair) (lists : Lists) : Type 0 where
+  pub ascending : is_ascending pair_key pairs ≡ true
+  pub read_well : All IsReadWell pairs
+  pub rows : lists ≡ loaded pairs
+
+-- an account that is found has a smaller RID
+abbrev pub is_smaller : ℕ → Option AccountRow → Bool
+is_smaller rid None = false
+is_smaller rid (Some a) = nat_lt a.rid rid
+
+-- what is looked up among the pairs is found among the rows that are loaded of them: an account of a name at once
+pub record LoadedRowsAreFound : Type 0 where
+  pub domains : (pairs : List Pair) (lists : Lists) (number : ℕ) → IsLoaded pairs lists
+      → domain_in pairs number ≡ domain_at lists number
+  pub accounts : (pairs : List Pair) (lists : Lists) (domain rid : ℕ) → IsLoaded pairs lists → rid < 2 ^ 32
+      → account_in pairs domain rid ≡ account_at lists domain rid
+  pub names : (pairs : List Pair) (lists : Lists) (a : AccountRow) → IsLoaded pairs lists
+      → has_taken_name pairs (rows.Account a) ≡ is_smaller a.rid (find_name lists a.domain a.name)
 
 -- the smaller of two keys that may be there
 abbrev pub smaller : Option (List ℕ) → Option (List ℕ) → Option (List ℕ)

@@ -1,12 +1,15 @@
 // The accounts, by key and by name.
 ghost use Rattle.std.specs.Prelude.{◌≡◌, ◌+◌, ◌^◌, ◌<◌, ◌≤◌, true, [], ◌∷◌, IfOk, OnOk, length, vec_len, find};
+ghost use Rattle.std.specs.List.{filter};
 ghost use Rattle.std.specs.Option.{option_copied};
 ghost use Rattle.acct_rows.specs.Keyed.{at, put, without, is_ascending};
+ghost use Rattle.acct_rows.specs.Ranges.{is_behind};
 ghost use Rattle.acct_rows.specs.Rows.{account_key, has_name};
 
 use crate::copies::copy_accounts;
 use crate::keyed::Table;
 use crate::names::Names;
+use crate::ranges::accounts_behind;
 use crate::row::AccountRow;
 use acct_calls::{Name, NoMemory};
 use std::alloc::Global;
@@ -93,6 +96,13 @@ impl Accounts {
         ensures { option_copied result ≡ find (has_name domain name.now) self.now.0 }
     {
         self.names.find(self.rows.rows(), domain, name)
+    }
+
+    /// The accounts of a domain behind a RID.
+    pub fn behind(&self, domain: u8, rid: u32) -> &[AccountRow]
+        ensures { result.now ≡ filter (is_behind domain rid) self.now.0 }
+    {
+        accounts_behind(self.rows.rows(), domain, rid)
     }
 
     /// Makes room for more accounts.

@@ -3,10 +3,11 @@ ghost use Rattle.std.specs.Prelude.{◌≡◌, ◌+◌, ◌^◌, ◌<◌, ◌≤
 ghost use Rattle.std.specs.List.{filter};
 ghost use Rattle.std.specs.Option.{option_copied};
 ghost use Rattle.acct_rows.specs.Keyed.{at, put, without, is_ascending};
-ghost use Rattle.acct_rows.specs.Rows.{alias_key, sid_key, has_one, each_once};
+ghost use Rattle.acct_rows.specs.Rows.{alias_key, sid_key, is_in_alias, has_one, each_once};
 
 use crate::keyed::Table;
 use crate::membership::{Membership, aliases_among, membership_of, memberships_of};
+use crate::ranges::alias_members_among;
 use crate::row::AliasRow;
 use acct_calls::{NoMemory, Rids};
 use dtyp_sid::Sid;
@@ -87,6 +88,13 @@ impl Aliases {
         ensures { option_copied result ≡ at alias_key (key.now.0 ∷ key.now.1 ∷ sid_key key.now.2) self.now.0 }
     {
         self.rows.find(key)
+    }
+
+    /// The members of an alias.
+    pub fn members(&self, domain: u8, alias: u32) -> &[AliasRow]
+        ensures { result.now ≡ filter (is_in_alias domain alias) self.now.0 }
+    {
+        alias_members_among(self.rows.rows(), domain, alias)
     }
 
     /// The RIDs of the aliases of a domain that have one of the SIDs as a member, ascending, each once.

@@ -1,5 +1,6 @@
 // The order of names after simple case folding.
 ghost use Rattle.std.specs.Prelude.{◌≡◌, ◌≤◌};
+ghost use Rattle.std.specs.Ordering.{nat_cmp};
 ghost use Rattle.acct_calls.specs.Folding.{folded_point, folded_points};
 ghost use Rattle.acct_rows.specs.Keyed.{compare};
 
@@ -18,6 +19,18 @@ fn fold_point(point: u32) -> u32
     }
 }
 
+// Most code points that are compared are equal, and so are these folded.
+fn point_order(left: u32, right: u32) -> Ordering
+    requires left { left ≤ 0x10_FFFF }
+    requires right { right ≤ 0x10_FFFF }
+    ensures { result ≡ nat_cmp (folded_point left) (folded_point right) }
+{
+    if left == right {
+        return Ordering::Equal;
+    }
+    fold_point(left).cmp(&fold_point(right))
+}
+
 // The order of the folded code points. It folds as it compares, so it takes no memory.
 pub fn fold_order(left: &[u16], right: &[u16]) -> Ordering
     ensures { result ≡ compare (folded_points left.now) (folded_points right.now) }
@@ -28,7 +41,7 @@ pub fn fold_order(left: &[u16], right: &[u16]) -> Ordering
         let Some(their_first) = first_point(theirs) else {
             return Ordering::Greater;
         };
-        let order = fold_point(our_first.point).cmp(&fold_point(their_first.point));
+        let order = point_order(our_first.point, their_first.point);
         if order != Ordering::Equal {
             return order;
         }

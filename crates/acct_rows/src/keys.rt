@@ -2,7 +2,9 @@
 ghost use Rattle.std.specs.Prelude.{[], ◌∷◌};
 ghost use Rattle.acct_rows.specs.Rows.{domain_key, account_key, member_key, alias_key, lsa_key, sid_key};
 ghost use Rattle.acct_rows.specs.Indexes.{held, membership_key};
+ghost use Rattle.acct_rows.specs.Users.{user_key};
 
+use crate::groups::ByUser;
 use crate::keyed::Keyed;
 use crate::membership::Membership;
 use crate::row::{AccountRow, AliasRow, DomainRow, LsaRow, MemberRow};
@@ -108,5 +110,21 @@ impl Keyed for Membership {
             .cmp(&key.0)
             .then(row.domain.cmp(&key.1))
             .then(row.alias.cmp(&key.2))
+    }
+}
+
+impl Keyed for ByUser {
+    type Key = (u32, u32);
+
+    ghost key_of = { user_key };
+
+    ghost path = { λ key. key.0 ∷ key.1 ∷ [] };
+
+    fn key(&self) -> (u32, u32) {
+        (self.row.user, self.row.group)
+    }
+
+    fn order(row: &Self, key: &(u32, u32)) -> Ordering {
+        row.row.user.cmp(&key.0).then(row.row.group.cmp(&key.1))
     }
 }

@@ -1,5 +1,5 @@
 // The rows.
-ghost use Rattle.std.specs.Prelude.{◌≡◌, ◌+◌, ◌<◌, ◌≤◌, true, [], ◌∷◌, IfOk, OnOk, OnErr, length};
+ghost use Rattle.std.specs.Prelude.{◌≡◌, ◌+◌, ◌<◌, ◌≤◌, true, [], ◌∷◌, IfOk, OnOk, OnErr, length, map};
 ghost use Rattle.acct_calls.specs.Domains.{is_domain_name, is_domain_sid};
 ghost use Rattle.acct_rows.specs.Sound.{IsSoundRows};
 ghost use Rattle.acct_rows.specs.Seed.{seed_lists};
@@ -8,15 +8,17 @@ ghost use Rattle.acct_rows.specs.Keyed.{is_ascending};
 ghost use Rattle.acct_rows.specs.Loading.{no_lists};
 ghost use Rattle.acct_rows.specs.Rows.{members_of, aliases_of, HasRoom, domain_key, account_key, member_key, alias_key};
 ghost use Rattle.acct_rows.specs.Rows.{lsa_key, domain_at};
-ghost use Rattle.acct_rows.specs.Rows.{alias_row_at};
+ghost use Rattle.acct_rows.specs.Ranges.{accounts_behind};
+ghost use Rattle.acct_rows.specs.Users.{row_of};
+ghost use Rattle.acct_rows.specs.Rows.{groups_of, alias_members_of, alias_row_at};
 ghost use Rattle.acct_rows.specs.Rows.{account_at, member_at, lsa_at, find_name, put_row, remove_row};
 ghost use Rattle.acct_rows.specs.Rows.{removed, with_puts, after};
 
 use crate::accounts::Accounts;
 use crate::aliases::Aliases;
 use crate::copies::{copy_domains, copy_lsa};
+use crate::groups::{ByUser, Members};
 use crate::keyed::Table;
-use crate::membership::members_among;
 use crate::plan::Plan;
 use crate::row::{AccountRow, AliasRow, DomainRow, LsaRow, MemberRow, Row, RowKey};
 use crate::seed::{seed_accounts, seed_aliases, seed_domains, seed_members};
@@ -31,7 +33,7 @@ use std::marker::Model;
 pub struct Rows {
     domains: Table<DomainRow>,
     accounts: Accounts,
-    members: Table<MemberRow>,
+    members: Members,
     aliases: Aliases,
     lsa: Table<LsaRow>,
     spare: usize,
@@ -69,7 +71,7 @@ impl Rows {
         Rows {
             domains: Table::new(alloc),
             accounts: Accounts::new(alloc),
-            members: Table::new(alloc),
+            members: Members::new(alloc),
             aliases: Aliases::new(alloc),
             lsa: Table::new(alloc),
             spare: 0,
@@ -88,7 +90,7 @@ impl Rows {
         Ok(Rows {
             domains: Table::from_rows(seed_domains(alloc, name, sid)?),
             accounts: Accounts::from_rows(alloc, seed_accounts(alloc)?)?,
-            members: Table::from_rows(seed_members(alloc)?),
+            members: Members::from_rows(alloc, seed_members(alloc)?)?,
             aliases: Aliases::from_rows(alloc, seed_aliases(alloc, sid)?)?,
             lsa: Table::new(alloc),
             spare: 0,
@@ -102,7 +104,7 @@ impl Rows {
         Ok(Rows {
             domains: Table::from_rows(copy_domains(alloc, self.domains.rows())?),
             accounts: self.accounts.copy(alloc)?,
-            members: Table::from_rows(self.members.rows().to_vec(alloc)?),
+            members: self.members.copy(alloc)?,
             aliases: self.aliases.copy(alloc)?,
             lsa: Table::from_rows(copy_lsa(alloc, self.lsa.rows())?),
             spare: 0,
@@ -183,6 +185,13 @@ impl Rows {
         self.accounts.find_name(domain, name)
     }
 
+    /// The accounts of a domain behind a RID, by ascending RID.
+    pub fn accounts_behind(&self, domain: u8, rid: u32) -> &[AccountRow]
+        ensures { result.now ≡ accounts_behind self.now.lists domain rid }
+    {
+        self.accounts.behind(domain, rid)
+    }
+
     /// A user's row as a member of a group.
     pub fn member(&self, group: u32, user: u32) -> Option<&MemberRow>
         ensures { option_copied result ≡ member_at self.now.lists group user }
@@ -190,11 +199,25 @@ impl Rows {
         self.members.find(&(group, user))
     }
 
+    /// The members of a group by ascending user, where they stand.
+    pub fn group_members(&self, group: u32) -> &[MemberRow]
+        ensures { result.now ≡ members_of self.now.lists group }
+    {
+        self.members.members(group)
+    }
+
     /// The members of a group by ascending user.
     pub fn members(&self, alloc: Global, group: u32) -> Result<Vec<MemberRow>, NoMemory>
         ensures { IfOk result (λ members. members.items ≡ members_of self.now.lists group) }
     {
-        Ok(members_among(self.members.rows(), group).to_vec(alloc)?)
+        Ok(self.group_members(group).to_vec(alloc)?)
+    }
+
+    /// The groups of a user by ascending group.
+    pub fn user_groups(&self, user: u32) -> &[ByUser]
+        ensures { map row_of result.now ≡ groups_of self.now.lists user }
+    {
+        self.members.groups(user)
     }
 
     /// A SID's row as a member of an alias of a domain.
@@ -202,6 +225,13 @@ impl Rows {
         ensures { option_copied result ≡ alias_row_at self.now.lists domain alias member.now }
     {
         self.aliases.find(&(domain, alias, *member))
+    }
+
+    /// The members of an alias by ascending SID.
+    pub fn alias_members(&self, domain: u8, alias: u32) -> &[AliasRow]
+        ensures { result.now ≡ alias_members_of self.now.lists domain alias }
+    {
+        self.aliases.members(domain, alias)
     }
 
     /// The RIDs of the aliases of a domain that have one of the SIDs as a member, ascending, each once.

@@ -1,6 +1,6 @@
 // The operations on the members of aliases.
 ghost use Rattle.std.specs.Prelude.{◌≡◌, true, IfOk, OnErr};
-ghost use Rattle.acct_rows.specs.Rows.{is_in_alias, aliases_of};
+ghost use Rattle.acct_rows.specs.Rows.{aliases_of};
 ghost use Rattle.acct_rules.specs.Asked.{asked_sid};
 ghost use Rattle.acct_rules.specs.Planned.{decision, none_fails};
 ghost use Rattle.samr_members.specs.Aliases.{is_alias_member, added_rows, removed_keys, sids_shown, asked_sids};
@@ -86,23 +86,14 @@ pub fn remove_alias_member(
     Ok(removes(alloc, removed))
 }
 
-fn is_in_alias(row: &AliasRow, domain: u8, alias: u32) -> bool
-    ensures { result ≡ is_in_alias domain alias row.now }
-{
-    row.domain == domain && row.alias == alias
-}
-
 // The SIDs that are members of an alias.
 fn sids_shown(alloc: Global, rows: &Rows, alias: &Object) -> Result<Sids, NoMemory>
     ensures { IfOk result (λ sids. sids ≡ sids_shown rows.now.lists alias.now) }
 {
-    let domain = alias.domain();
-    let rid = alias.rid();
+    let members = rows.alias_members(alias.domain(), alias.rid());
     let mut sids = Seq::new(alloc);
-    for row in rows.alias_rows() {
-        if is_in_alias(row, domain, rid) {
-            sids.push(row.member)?;
-        }
+    for row in members {
+        sids.push(row.member)?;
     }
     Ok(sids)
 }

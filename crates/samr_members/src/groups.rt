@@ -120,9 +120,9 @@ pub fn remove_group_member(
 fn members_shown(alloc: Global, rows: &Rows, group: u32) -> Result<RidBitsList, NoMemory>
     ensures { IfOk result (λ shown. shown ≡ members_shown rows.now.lists group) }
 {
-    let members = rows.members(alloc, group)?;
+    let members = rows.group_members(group);
     let mut shown = Seq::new(alloc);
-    for member in &members {
+    for member in members {
         shown.push(RidBits {
             rid: member.user,
             bits: member.attributes,
@@ -135,14 +135,13 @@ fn members_shown(alloc: Global, rows: &Rows, group: u32) -> Result<RidBitsList, 
 fn groups_shown(alloc: Global, rows: &Rows, user: u32) -> Result<RidBitsList, NoMemory>
     ensures { IfOk result (λ shown. shown ≡ groups_shown rows.now.lists user) }
 {
+    let groups = rows.user_groups(user);
     let mut shown = Seq::new(alloc);
-    for member in rows.member_rows() {
-        if member.user == user {
-            shown.push(RidBits {
-                rid: member.group,
-                bits: member.attributes,
-            })?;
-        }
+    for group in groups {
+        shown.push(RidBits {
+            rid: group.row.group,
+            bits: group.row.attributes,
+        })?;
     }
     Ok(shown)
 }

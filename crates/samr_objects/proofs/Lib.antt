@@ -9,3 +9,4 @@ pub mod Querying
 pub mod Setting
 pub mod Shaping
 pub mod Showing
+pub mod Wanting

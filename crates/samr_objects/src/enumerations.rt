@@ -73,6 +73,13 @@ fn last_rid(entries: &[RidName], before: u32) -> u32
     }
 }
 
+// The accounts among which are all that are wanted: those that stand before them aren't walked.
+fn accounts_left<'a>(rows: &'a Rows, wanted: &Wanted) -> &'a [AccountRow]
+    ensures { filter (is_wanted wanted.now) result.now ≡ filter (is_wanted wanted.now) rows.now.lists.accounts }
+{
+    rows.accounts_behind(wanted.domain, wanted.behind)
+}
+
 fn list_accounts(
     alloc: Global,
     rows: &Rows,
@@ -82,7 +89,8 @@ fn list_accounts(
     ensures { IfOk result (λ p. p ≡ decision (list_accounts wanted preferred rows.now.lists)) }
 {
     let mut page = Page::new(alloc, preferred);
-    let more = give_accounts(alloc, &mut page, rows.accounts(), wanted)?;
+    let accounts = accounts_left(rows, &wanted);
+    let more = give_accounts(alloc, &mut page, accounts, wanted)?;
     let context = last_rid(page.entries.as_slice(), wanted.behind);
     let page = Outs::Page {
         context,

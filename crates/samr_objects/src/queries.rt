@@ -2,7 +2,6 @@
 ghost use Rattle.std.specs.Prelude.{◌≡◌, true, IfOk, OnErr, length, is_some};
 ghost use Rattle.std.specs.Option.{option_copied};
 ghost use Rattle.acct_rules.specs.Planned.{decision, none_fails};
-ghost use Rattle.acct_rows.specs.Rows.{is_in_alias};
 ghost use Rattle.samr_objects.specs.Queries.{member_count, alias_member_count, value_of, domain_classes};
 ghost use Rattle.samr_objects.specs.Queries.{group_classes, alias_classes, user_classes, shown_by, shows, account_of};
 ghost use Rattle.samr_objects.specs.Queries.{query_domain, query_group, query_alias, query_user};
@@ -17,7 +16,7 @@ use acct_codes::info_class::{
     USER_PRIMARY_GROUP_INFORMATION,
 };
 use acct_codes::status::{STATUS_INVALID_INFO_CLASS, STATUS_SUCCESS};
-use acct_rows::{AccountRow, AliasRow, DomainRow, Object, Rows};
+use acct_rows::{AccountRow, DomainRow, Object, Rows};
 use acct_rules::{NoMemory, Planned, answers, class_of, refusal};
 use std::alloc::Global;
 
@@ -37,8 +36,7 @@ fn member_count(rows: &Rows, group: u32) -> u32
     ensures { result ≡ member_count rows.now.lists group }
 {
     rows.has_few_rows();
-    let members = rows.member_rows().iter();
-    members.filter(|row| row.group == group).count() as u32
+    rows.group_members(group).len() as u32
 }
 
 fn group_shows(
@@ -64,21 +62,12 @@ fn group_shows(
     }))
 }
 
-fn is_in_alias(row: &AliasRow, domain: u8, alias: u32) -> bool
-    ensures { result ≡ is_in_alias domain alias row.now }
-{
-    row.domain == domain && row.alias == alias
-}
-
 // How many members an alias has.
 fn alias_member_count(rows: &Rows, domain: u8, alias: u32) -> u32
     ensures { result ≡ alias_member_count rows.now.lists domain alias }
 {
     rows.has_few_rows();
-    let members = rows.alias_rows().iter();
-    members
-        .filter(|row| is_in_alias(row, domain, alias))
-        .count() as u32
+    rows.alias_members(domain, alias).len() as u32
 }
 
 fn alias_shows(

@@ -1,12 +1,13 @@
 // Pairs as rows.
-ghost use Rattle.std.specs.Prelude.{◌≡◌, ◌^◌, ◌<◌, true, All, find, map, option_map, IfOk, IfErr, OnOk};
+ghost use Rattle.std.specs.Prelude.{◌≡◌, ◌+◌, ◌^◌, ◌<◌, ◌≤◌, true, [], ◌∷◌, All, find, option_map};
+ghost use Rattle.std.specs.Prelude.{IfOk, IfErr, OnOk};
 ghost use Rattle.acct_keeper.specs.Pairs.{same_key};
 ghost use Rattle.std.specs.List.{list_any};
 ghost use Rattle.std.specs.List.Sorted.{IsPermutation};
 ghost use Rattle.std.specs.Option.{option_copied};
 ghost use Rattle.acct_rows.specs.declared.pairs.loading.PairsError.TheVariants.{Memory};
 ghost use Rattle.acct_rows.specs.Keyed.{is_ascending};
-ghost use Rattle.acct_rows.specs.Loading.{BadPairs, IsReadWell, no_lists, somes, smaller, first_missing};
+ghost use Rattle.acct_rows.specs.Loading.{BadPairs, IsReadWell, IsLoaded, somes, loaded, smaller, first_missing};
 ghost use Rattle.acct_rows.specs.Loading.{smallest_broken};
 ghost use Rattle.acct_rows.specs.PairRules.{pair_key, is_format, is_broken_pair, AreUnbroken};
 ghost use Rattle.acct_rows.specs.PairsOf.{HoldPairs, keys_differ};
@@ -73,15 +74,31 @@ fn read_one(alloc: Global, pair: &Pair) -> Result<Option<Row>, NoMemory>
     }
 }
 
-// The row that each pair spells, where it spells one.
-fn read_rows(alloc: Global, pairs: &[Pair]) -> Result<Vec<Option<Row>>, NoMemory>
-    ensures rows { IfOk result (λ rows. rows.items ≡ map row_of pairs.now) }
+// The rows with the one that a pair spells, where it spells one, put in its place.
+fn put_read(alloc: Global, rows: &mut Rows, pair: &Pair) -> Result<(), NoMemory>
+    requires { 0 < rows.old.spare }
+    ensures rows { OnOk result (rows.new.lists ≡ with_puts (somes (row_of pair.now ∷ [])) rows.old.lists) }
+    ensures spare { rows.old.spare ≤ rows.new.spare + 1 }
+    ensures spelled { OnOk result (IsReadWell pair.now) }
+{
+    match read_one(alloc, pair)? {
+        Some(row) => {
+            rows.put(row);
+            Ok(())
+        }
+        None => Ok(()),
+    }
+}
+
+// The rows that the pairs spell, each put in its place.
+fn load(alloc: Global, pairs: &[Pair]) -> Result<Rows, NoMemory>
+    ensures rows { IfOk result (λ rows. rows.lists ≡ loaded pairs.now) }
     ensures spelled { OnOk result (All IsReadWell pairs.now) }
 {
-    let mut rows = Vec::new(alloc);
+    let mut rows = Rows::empty(alloc);
+    rows.reserve(pairs.len())?;
     for pair in pairs {
-        let row = read_one(alloc, pair)?;
-        rows.push(row)?;
+        put_read(alloc, &mut rows, pair)?;
     }
     Ok(rows)
 }
@@ -92,38 +109,29 @@ fn is_format(pair: &Pair) -> bool
     is_same(pair.key.as_slice(), b"f") && is_same(pair.value.as_slice(), &[1])
 }
 
-fn is_broken(
-    alloc: Global,
-    store: &Store<'_>,
-    pair: &Pair,
-    row: &Option<Row>,
-) -> Result<bool, NoMemory>
-    requires { row.now ≡ row_of pair.now }
+fn is_broken(alloc: Global, store: &Store<'_>, pair: &Pair) -> Result<bool, NoMemory>
     ensures { IfOk result (λ broken. broken ≡ is_broken_pair store.now pair.now) }
 {
     if is_format(pair) {
         return Ok(false);
     }
-    match row {
+    match read_one(alloc, pair)? {
         None => Ok(true),
-        Some(row) => Ok(breaks_alone(alloc, row)? || store.breaks_among(alloc, row)?),
+        Some(row) => Ok(breaks_alone(alloc, &row)? || store.breaks_among(alloc, &row)?),
     }
 }
 
 // The first pair that breaks a rule.
 fn first_broken<'a>(
     alloc: Global,
+    store: &Store<'_>,
     pairs: &'a [Pair],
-    rows: &[Option<Row>],
 ) -> Result<Option<&'a Pair>, NoMemory>
-    requires rows { rows.now ≡ map row_of pairs.now }
-    requires ascending { is_ascending pair_key pairs.now ≡ true }
-    ensures { IfOk result (λ found. option_copied found ≡ find (is_broken_pair pairs.now) pairs.now) }
+    ensures { IfOk result (λ found. option_copied found ≡ find (is_broken_pair store.now) pairs.now) }
 {
-    let store = Store::new(pairs, rows);
-    for i in 0..pairs.len() {
-        if is_broken(alloc, &store, &pairs[i], &rows[i])? {
-            return Ok(Some(&pairs[i]));
+    for pair in pairs {
+        if is_broken(alloc, store, pair)? {
+            return Ok(Some(pair));
         }
     }
     Ok(None)
@@ -183,33 +191,15 @@ fn smaller(first: Option<Seq<u8>>, second: Option<Seq<u8>>) -> Option<Seq<u8>>
 }
 
 #[tactic(auto, unfolding(crate::specs::Loading::smallest_broken))]
-fn smallest_broken(
-    alloc: Global,
-    pairs: &[Pair],
-    rows: &[Option<Row>],
-) -> Result<Option<Seq<u8>>, NoMemory>
-    requires rows { rows.now ≡ map row_of pairs.now }
-    requires ascending { is_ascending pair_key pairs.now ≡ true }
+fn smallest_broken(alloc: Global, pairs: &[Pair], rows: &Rows) -> Result<Option<Seq<u8>>, NoMemory>
+    requires { IsLoaded pairs.now rows.now.lists }
     ensures { IfOk result (λ key. key ≡ smallest_broken pairs.now) }
 {
-    let broken = first_broken(alloc, pairs, rows)?;
+    let store = Store::new(pairs, rows);
+    let broken = first_broken(alloc, &store, pairs)?;
     let broken = key_of(alloc, broken)?;
-    let missing = first_missing(alloc, &Store::new(pairs, rows))?;
+    let missing = first_missing(alloc, &store)?;
     Ok(smaller(broken, missing))
-}
-
-// The rows that are there, each put in its place.
-fn load(alloc: Global, stored: Vec<Option<Row>>) -> Result<Rows, NoMemory>
-    ensures { IfOk result (λ rows. rows.lists ≡ with_puts (somes stored.items) no_lists) }
-{
-    let mut rows = Rows::empty(alloc);
-    rows.reserve(stored.len())?;
-    for row in stored {
-        if let Some(row) = row {
-            rows.put(row);
-        }
-    }
-    Ok(rows)
 }
 
 // The rows of pairs by ascending key.
@@ -225,11 +215,10 @@ fn read_ascending(alloc: Global, pairs: &[Pair]) -> Result<Rows, PairsError>
     read_bytes_are_written();
     equal_sids_are_one();
     same_is_equivalence();
-    let stored = read_rows(alloc, pairs)?;
-    if let Some(key) = smallest_broken(alloc, pairs, &stored)? {
+    let rows = load(alloc, pairs)?;
+    if let Some(key) = smallest_broken(alloc, pairs, &rows)? {
         return Err(PairsError::BadPair(key));
     }
-    let rows = load(alloc, stored)?;
     Ok(rows)
 }
 

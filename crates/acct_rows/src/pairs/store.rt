@@ -1,42 +1,52 @@
-// Pairs by ascending key with the rows that they spell, and the rules that a row breaks among them.
-ghost use Rattle.std.specs.Prelude.{◌≡◌, ◌<◌, ◌≤◌, true, map, length, is_some, option_map, IfOk, MatchResult};
+// Pairs by ascending key with the rows that are loaded of them, and the rules that a row breaks among them.
+ghost use Rattle.std.specs.Prelude.{◌≡◌, ◌<◌, ◌≤◌, true, length, is_some, IfOk, MatchResult};
 ghost use Rattle.std.specs.Option.{option_copied};
-ghost use Rattle.std.specs.List.{list_any};
 ghost use Rattle.acct_rows.specs.declared.row.Row.TheVariants as rows;
 ghost use Rattle.acct_rows.specs.Keyed.{place, is_ascending};
-ghost use Rattle.acct_rows.specs.Spelled.{stored_key};
-ghost use Rattle.acct_rows.specs.Stored.{row_of};
-ghost use Rattle.acct_rows.specs.PairRules.{pair_key, pair_at, is_there, is_missing, is_past_next, is_earlier};
-ghost use Rattle.acct_rows.specs.PairRules.{has_taken_name, lacks_group_or_user, lacks_primary, lacks_alias, breaks_among};
+ghost use Rattle.acct_rows.specs.Loading.{IsLoaded, LoadedRowsAreFound, is_smaller};
+ghost use Rattle.acct_rows.specs.PairRules.{pair_key, pair_at, is_there, domain_in, account_in, is_missing};
+ghost use Rattle.acct_rows.specs.PairRules.{is_past_next, has_taken_name};
+ghost use Rattle.acct_rows.specs.PairRules.{lacks_group_or_user, lacks_primary, lacks_alias, breaks_among};
 
 use super::writing::key_bytes;
-use crate::row::{ACCOUNT_DOMAIN, AccountRow, Row, RowKey};
+use crate::row::{ACCOUNT_DOMAIN, AccountRow, DomainRow, Row, RowKey};
+use crate::rows::Rows;
 use acct_calls::NoMemory;
 use acct_codes::Kind;
 use acct_keeper::Pair;
+use dtyp_sid::laws::{
+    equal_sids_are_one, read_bytes_are_written, written_bytes_are_read, written_bytes_have_lengths,
+};
 use std::alloc::Global;
 use std::marker::Model;
 
-/// Pairs by ascending key, each with the row that it spells. A contract sees the pairs.
+/// Pairs by ascending key, with the rows that are loaded of them. A contract sees the pairs.
 #[derive(Drop)]
 pub struct Store<'a> {
     pairs: &'a [Pair],
-    rows: &'a [Option<Row>],
+    rows: &'a Rows,
 }
 
 impl<'a> Model for Store<'a> {
-    ghost use Rattle.std.specs.Prelude.{◌≡◌, List, map, true};
+    ghost use Rattle.std.specs.Prelude.{List};
     ghost use Rattle.acct_keeper.specs.declared.pairs.Pair.{Pair as Kept};
-    ghost use Rattle.acct_rows.specs.Keyed.{is_ascending};
-    ghost use Rattle.acct_rows.specs.Stored.{row_of};
-    ghost use Rattle.acct_rows.specs.PairRules.{pair_key};
+    ghost use Rattle.acct_rows.specs.Loading.{IsLoaded};
 
     ghost Value = { List Kept };
 
     ghost view = { λ store. store.pairs.now };
 
-    ghost invariant = { λ store. (store.rows.now ≡ map row_of store.pairs.now)
-        × (is_ascending pair_key store.pairs.now ≡ true) };
+    ghost invariant = { λ store. IsLoaded store.pairs.now store.rows.now.lists };
+}
+
+// A law: what is looked up among pairs is found among the rows that are loaded of them.
+fn loaded_rows_are_found()
+    ensures { LoadedRowsAreFound }
+{
+    written_bytes_are_read();
+    written_bytes_have_lengths();
+    read_bytes_are_written();
+    equal_sids_are_one();
 }
 
 // Where the key stands in pairs that ascend, or where it would go.
@@ -46,18 +56,6 @@ fn place(pairs: &[Pair], key: &[u8]) -> Result<usize, usize>
     ensures within { MatchResult result (λ i. i < length pairs.now) (λ i. i ≤ length pairs.now) }
 {
     pairs.binary_search_by(|pair| pair.key.as_slice().cmp(key))
-}
-
-// What the pair with the key spells, where there is one.
-fn find<'a>(pairs: &[Pair], rows: &'a [Option<Row>], key: &[u8]) -> Option<&'a Option<Row>>
-    requires rows { rows.now ≡ map row_of pairs.now }
-    requires ascending { is_ascending pair_key pairs.now ≡ true }
-    ensures { option_copied result ≡ option_map row_of (pair_at key.now pairs.now) }
-{
-    match place(pairs, key) {
-        Ok(i) => Some(&rows[i]),
-        Err(_) => None,
-    }
 }
 
 fn has(pairs: &[Pair], key: &[u8]) -> bool
@@ -70,46 +68,22 @@ fn has(pairs: &[Pair], key: &[u8]) -> bool
     }
 }
 
-// Whether the row is an account of the same domain that has a smaller RID and the name.
-fn is_earlier(account: &AccountRow, row: &Option<Row>) -> bool
-    ensures { result ≡ is_earlier account.now row.now }
+// Whether there is an account, and with a smaller RID.
+fn is_smaller(found: Option<&AccountRow>, rid: u32) -> bool
+    ensures { result ≡ is_smaller rid (option_copied found.entry) }
 {
-    match row {
-        Some(Row::Account(other)) => {
-            other.domain == account.domain
-                && other.rid < account.rid
-                && other.name.same(&account.name)
-        }
-        _ => false,
+    match found {
+        Some(account) => account.rid < rid,
+        None => false,
     }
-}
-
-fn has_taken_name(rows: &[Option<Row>], account: &AccountRow) -> bool
-    ensures { result ≡ list_any (is_earlier account.now) rows.now }
-{
-    for row in rows {
-        if is_earlier(account, row) {
-            return true;
-        }
-    }
-    false
 }
 
 impl<'a> Store<'a> {
-    pub fn new(pairs: &'a [Pair], rows: &'a [Option<Row>]) -> Store<'a>
-        requires rows { rows.now ≡ map row_of pairs.now }
-        requires ascending { is_ascending pair_key pairs.now ≡ true }
+    pub fn new(pairs: &'a [Pair], rows: &'a Rows) -> Store<'a>
+        requires { IsLoaded pairs.now rows.now.lists }
         ensures { result ≡ pairs.now }
     {
         Store { pairs, rows }
-    }
-
-    fn find(&self, alloc: Global, key: &RowKey) -> Result<Option<&Option<Row>>, NoMemory>
-        ensures { IfOk result (λ found. option_copied found
-            ≡ option_map row_of (pair_at (stored_key key.now) self.now)) }
-    {
-        let key = key_bytes(alloc, key)?;
-        Ok(find(self.pairs, self.rows, key.as_slice()))
     }
 
     /// Whether there is a pair with the key.
@@ -119,31 +93,56 @@ impl<'a> Store<'a> {
         has(self.pairs, key)
     }
 
+    // Whether there is a pair with the key of a row, exactly spelled or not.
+    fn is_there(&self, alloc: Global, key: &RowKey) -> Result<bool, NoMemory>
+        ensures { IfOk result (λ there. there ≡ is_there self.now key.now) }
+    {
+        let key = key_bytes(alloc, key)?;
+        Ok(self.has(key.as_slice()))
+    }
+
+    // The account that is exactly spelled at its key.
+    fn account(&self, domain: u8, rid: u32) -> Option<&AccountRow>
+        ensures { option_copied result ≡ account_in self.now domain rid }
+    {
+        loaded_rows_are_found();
+        self.rows.find_rid(domain, rid)
+    }
+
+    // The domain that is exactly spelled at its key.
+    fn domain(&self, number: u8) -> Option<&DomainRow>
+        ensures { option_copied result ≡ domain_in self.now number }
+    {
+        loaded_rows_are_found();
+        self.rows.domain(number)
+    }
+
     // Whether the account isn't there, or is exactly spelled and of another kind.
     fn is_missing(&self, alloc: Global, kind: Kind, domain: u8, rid: u32) -> Result<bool, NoMemory>
         ensures { IfOk result (λ missing. missing ≡ is_missing kind self.now domain rid) }
     {
-        match self.find(alloc, &RowKey::Account { domain, rid })? {
-            None => Ok(true),
-            Some(Some(Row::Account(account))) => Ok(account.kind != kind),
-            Some(_) => Ok(false),
+        match self.account(domain, rid) {
+            Some(account) => Ok(account.kind != kind),
+            None => Ok(!self.is_there(alloc, &RowKey::Account { domain, rid })?),
         }
     }
 
-    fn is_past_next(&self, alloc: Global, account: &AccountRow) -> Result<bool, NoMemory>
-        ensures { IfOk result (λ past. past ≡ is_past_next self.now (rows.Account account.now)) }
+    fn is_past_next(&self, account: &AccountRow) -> bool
+        ensures { result ≡ is_past_next self.now (rows.Account account.now) }
     {
-        match self.find(alloc, &RowKey::Domain(account.domain))? {
-            Some(Some(Row::Domain(domain))) => Ok(domain.next_rid <= account.rid),
-            _ => Ok(false),
+        match self.domain(account.domain) {
+            Some(domain) => domain.next_rid <= account.rid,
+            None => false,
         }
     }
 
-    // Whether an account of the domain with a smaller RID has the name.
+    // Whether an account of the domain with a smaller RID has the name: the one that is found has the smallest.
     fn has_taken_name(&self, account: &AccountRow) -> bool
         ensures { result ≡ has_taken_name self.now (rows.Account account.now) }
     {
-        has_taken_name(self.rows, account)
+        loaded_rows_are_found();
+        let found = self.rows.find_name(account.domain, &account.name);
+        is_smaller(found, account.rid)
     }
 
     fn lacks_primary(&self, alloc: Global, account: &AccountRow) -> Result<bool, NoMemory>
@@ -159,7 +158,7 @@ impl<'a> Store<'a> {
             group: account.primary,
             user: account.rid,
         };
-        Ok(self.find(alloc, &key)?.is_none())
+        Ok(!self.is_there(alloc, &key)?)
     }
 
     /// Whether a row breaks a rule among the pairs.
@@ -168,7 +167,7 @@ impl<'a> Store<'a> {
     {
         match row {
             Row::Account(account) => Ok(
-                self.is_past_next(alloc, account)?
+                self.is_past_next(account)
                     || self.has_taken_name(account)
                     || self.lacks_primary(alloc, account)?,
             ),

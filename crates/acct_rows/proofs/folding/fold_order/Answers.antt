@@ -18,13 +18,13 @@ pub returns-then-ne : goal.returns-then-ne
 returns-then-ne c =
     let ours = c.in-Some.our_first in
     let theirs = c.in-Some-first_point.their_first in
-    let is : c.cmp-order.result ≡ nat_cmp (folded_point ours.point) (folded_point theirs.point) = search rules in
-    let differ : c.cmp-order.result ≢ Equal = search rules in
+    let is : c.point_order-order.result ≡ nat_cmp (folded_point ours.point) (folded_point theirs.point) = search rules in
+    let differ : c.point_order-order.result ≢ Equal = search rules in
     sym (sym c.loop-our_first.invariant
     ∙ order_first c.loop-our_first.ours.now c.loop-our_first.theirs.now ours.rest.now theirs.rest.now ours.point
     theirs.point c.in-Some.ensures.points c.in-Some-first_point.ensures.points
     ∙ ap (λ o. ordering_then o (compare (folded_points ours.rest.now) (folded_points theirs.rest.now))) (sym is)
-    ∙ decides c.cmp-order.result _ differ)
+    ∙ decides c.point_order-order.result _ differ)
 
 pub loop-our_first-preserved : goal.loop-our_first-preserved
 loop-our_first-preserved c =

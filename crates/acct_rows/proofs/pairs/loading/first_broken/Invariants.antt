@@ -4,5 +4,5 @@ use Rattle.std.specs.List.{find}
 use Rattle.acct_rows.specs.PairRules.{is_broken_pair}
 use Rattle.acct_rows.proofs.pairs.loading.first_broken.Given as goal
 
-abbrev pub invariant-loop-i : goal.invariant-loop-i
-invariant-loop-i l = find (is_broken_pair l.pairs) (drop l.i l.pairs) ≡ find (is_broken_pair l.pairs) l.pairs
+abbrev pub invariant-loop-pair : goal.invariant-loop-pair
+invariant-loop-pair l = find (is_broken_pair l.store) (drop l.pair-index l.pairs) ≡ find (is_broken_pair l.store) l.pairs

@@ -1,12 +1,14 @@
 -- What the loop of `load` keeps.
-use Rattle.std.proofs.Common.{◌≡◌, ◌≤◌, length}
-use Rattle.std.specs.Vec.Iter.{into_iter_items}
-use Rattle.acct_rows.specs.Loading.{no_lists, somes}
+use Rattle.std.proofs.Common.{◌≡◌, ℕ, ◌+◌, ◌<◌, ◌≤◌, drop, length, map, get_or}
+use Rattle.acct_keeper.specs.declared.pairs.Pair.{Pair}
+use Rattle.acct_rows.specs.Loading.{IsReadWell, loaded, somes}
 use Rattle.acct_rows.specs.Rows.{with_puts}
+use Rattle.acct_rows.specs.Stored.{row_of}
 use Rattle.acct_rows.proofs.pairs.loading.load.Given as goal
 
-abbrev pub invariant-loop-row : goal.invariant-loop-row
-invariant-loop-row l = record {
-  rest : with_puts (somes (into_iter_items l.row-iterator)) l.rows.lists ≡ with_puts (somes l.fn.stored.items) no_lists;
-  room : length (into_iter_items l.row-iterator) ≤ l.rows.spare;
+abbrev pub invariant-loop-pair : goal.invariant-loop-pair
+invariant-loop-pair l = record {
+  rest : with_puts (somes (map row_of (drop l.pair-index l.pairs))) l.rows.lists ≡ loaded l.pairs;
+  spelled : (k : ℕ) (d : Pair) → k < l.pair-index → IsReadWell (get_or l.pairs k d);
+  room : length l.pairs ≤ l.rows.spare + l.pair-index;
 }

@@ -1,18 +1,21 @@
 -- `read_ascending` meets its contract: the smallest broken key, or the rows of pairs of which none is broken.
-use Rattle.std.proofs.Common.{◌≡◌, None, sym, subst, ap, ◌∙◌, rules}
-use Rattle.acct_rows.specs.Loading.{no_lists, somes, smallest_broken}
+use Rattle.std.proofs.Common.{◌≡◌, None, sym, subst, map, rules}
+use Rattle.acct_rows.specs.Loading.{loaded, somes, smallest_broken}
 use Rattle.acct_rows.specs.PairsOf.{HoldPairs}
-use Rattle.acct_rows.specs.Rows.{Lists, with_puts}
+use Rattle.acct_rows.specs.Rows.{Lists}
 use Rattle.acct_rows.specs.Sound.{IsSoundRows}
 use Rattle.acct_rows.specs.Stored.{row_of}
 use Rattle.acct_rows.proofs.Loaded.{smallest_is, none_is_unbroken, loaded_tables, loaded_fits, loaded_held}
 use Rattle.acct_rows.proofs.Unbroken.{unbroken_is_sound}
-use Rattle.std.proofs.Common.{map}
 use Rattle.acct_rows.proofs.pairs.loading.read_ascending.Goals as goal
 
+pub smallest_broken-requires : goal.smallest_broken-requires
+smallest_broken-requires c =
+    let ok = c.in_ok-rows.ensures in
+    record { ascending = c.requires; read_well = ok.spelled; rows = ok.rows }
+
 pub returns-in-Some-clause-broken : goal.returns-in-Some-clause-broken
-returns-in-Some-clause-broken c =
-    smallest_is c.args.pairs.now c.requires c.in-Some.key (search rules)
+returns-in-Some-clause-broken c = smallest_is c.args.pairs.now c.requires c.in-Some.key (search rules)
 
 pub returns-clause-unbroken : goal.returns-clause-unbroken
 returns-clause-unbroken c =
@@ -23,29 +26,24 @@ pub returns-clause-pairs : goal.returns-clause-pairs
 returns-clause-pairs c =
     let pairs = c.args.pairs.now in
     let none : smallest_broken pairs ≡ None = search rules in
-    let loaded : c.in_ok-rows.rows.lists ≡ with_puts (somes (map row_of pairs)) no_lists =
-    c.in_ok-rows.ensures ∙ ap (λ os. with_puts (somes os) no_lists) c.in_ok-stored.ensures.rows in
-    subst (λ (lists : Lists). HoldPairs lists pairs) (sym loaded)
+    subst (λ (lists : Lists). HoldPairs lists pairs) (sym c.in_ok-rows.ensures.rows)
     (loaded_held c.written_bytes_are_read.ensures c.written_bytes_have_lengths.ensures c.read_bytes_are_written.ensures
-    c.equal_sids_are_one.ensures pairs c.requires c.in_ok-stored.ensures.spelled
+    c.equal_sids_are_one.ensures pairs c.requires c.in_ok-rows.ensures.spelled
     (none_is_unbroken pairs c.requires none))
 
 pub returns-clause-sound : goal.returns-clause-sound
 returns-clause-sound c =
     let pairs = c.args.pairs.now in
     let none : smallest_broken pairs ≡ None = search rules in
-    let loaded : c.in_ok-rows.rows.lists ≡ with_puts (somes (map row_of pairs)) no_lists =
-    c.in_ok-rows.ensures ∙ ap (λ os. with_puts (somes os) no_lists) c.in_ok-stored.ensures.rows in
-    let lists = with_puts (somes (map row_of pairs)) no_lists in
     let unbroken = none_is_unbroken pairs c.requires none in
     let back = c.written_bytes_are_read.ensures in
     let sizes = c.written_bytes_have_lengths.ensures in
     let only = c.read_bytes_are_written.ensures in
     let sids = c.equal_sids_are_one.ensures in
-    let well = c.in_ok-stored.ensures.spelled in
+    let well = c.in_ok-rows.ensures.spelled in
     let up = loaded_tables (somes (map row_of pairs)) in
-    subst (λ (lists : Lists). IsSoundRows lists) (sym loaded)
-    (unbroken_is_sound back sizes only sids c.same_is_equivalence.ensures lists pairs
-    (loaded_fits back sizes only sids pairs c.requires well unbroken)
+    subst (λ (lists : Lists). IsSoundRows lists) (sym c.in_ok-rows.ensures.rows)
+    (unbroken_is_sound back sizes only sids c.same_is_equivalence.ensures (loaded pairs) pairs
+    (loaded_fits back sizes only sids pairs c.requires well)
     (loaded_held back sizes only sids pairs c.requires well unbroken) unbroken
     up.domains up.accounts up.members up.aliases up.lsa)

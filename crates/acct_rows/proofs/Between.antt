@@ -1,0 +1,294 @@
+-- Rows whose keys are a range stand together: the members of an alias, and the accounts of a domain behind a RID
+use Rattle.std.proofs.Common.{◌≡◌, ℕ, suc, zero, ◌+◌, ◌-◌, ◌<◌, ◌≤◌, ◌==◌, leb, nat_lt, Bool, true, false, ◌&&◌, cond}
+use Rattle.std.proofs.Common.{List, [], ◌∷◌, length, get_or, take, drop, refl, sym, ap, ◌∙◌, inl, inr, arith}
+use Rattle.std.specs.Prelude.{not}
+use Rattle.std.specs.List.{filter}
+use Rattle.std.specs.List.Sorted.{IsPartitionPoint, IsPartitionedBy}
+use Rattle.std.specs.Cmp.{first_so, second_so}
+use Rattle.std.specs.Cmp.Lexicographic.{nat_list_cmp_total}
+use Rattle.std.specs.Ordering.{nat_cmp, is_lt, is_le, ordering_then, ordering_reverse}
+use Rattle.std.specs.declared.cmp.Ordering.{Ordering}
+use Rattle.std.specs.declared.cmp.Ordering.TheVariants.{Less, Equal, Greater}
+use Rattle.std.proofs.lemmas.Bool.Decides.{nat_tests}
+use Rattle.std.proofs.lemmas.Cmp.{ranked}
+use Rattle.acct_rows.specs.Keyed.{compare, is_ascending}
+use Rattle.acct_rows.specs.Ranges.{is_behind}
+use Rattle.acct_rows.specs.Rows.{account_key, alias_key, sid_key, is_in_alias}
+use Rattle.acct_rows.specs.declared.row.AccountRow.{AccountRow}
+use Rattle.acct_rows.specs.declared.row.AliasRow.{AliasRow}
+use Rattle.acct_rows.proofs.Halving.{below_at}
+use Rattle.acct_rows.proofs.Lookups.{tested}
+use Rattle.acct_rows.proofs.Tables.{tied-is}
+
+-- the place up to which a test passes, and from which on it doesn't
+abbrev pub TurnsAt : {A : Type 0} → (A → Bool) → List A → ℕ → Type 0
+TurnsAt p xs i = IsPartitionPoint (λ y. p y ≡ true) (λ y. p y ≡ false) xs i
+
+-- a test that passes a row passes those with lower keys
+module _ {A : Type 0} (key : A → List ℕ) (p : A → Bool)
+    (down : (x y : A) → compare (key x) (key y) ≡ Less → p y ≡ true → p x ≡ true) where
+  pub turns : (xs : List A) → is_ascending key xs ≡ true → IsPartitionedBy p xs
+  turns [] h i j d le lt e = absurd (omega arith)
+  turns (x ∷ xs) h zero zero d le lt e = e
+  turns (x ∷ xs) h zero (suc j) d le lt e =
+      down x (get_or xs j d) (below_at key (key x) xs j d (first_so _ _ h) (omega arith)) e
+  turns (x ∷ xs) h (suc i) zero d le lt e = absurd (omega arith)
+  turns (x ∷ xs) h (suc i) (suc j) d le lt e = turns xs (second_so _ _ h) i j d (omega arith) (omega arith) e
+
+alike : {A : Type 0} (p q : A → Bool) → ((x : A) → p x ≡ q x) → (xs : List A) → filter p xs ≡ filter q xs
+alike p q same [] = refl
+alike p q same (x ∷ xs) =
+    ap (λ b. cond b (x ∷ filter p xs) (filter p xs)) (same x)
+    ∙ ap (λ ys. cond (q x) (x ∷ ys) ys) (alike p q same xs)
+
+and_false : (a b : Bool) → b ≡ false → (a && b) ≡ false
+and_false true b e = e
+and_false false b e = refl
+
+and_true : (b : Bool) → (b && true) ≡ b
+and_true true = refl
+and_true false = refl
+
+-- rows that aren't below, and not above
+module _ {A : Type 0} (below upto : A → Bool) where
+  abbrev pub between : A → Bool
+  between x = not (below x) && upto x
+
+  parted : (xs : List A) (i m : ℕ) → i + m ≤ length xs
+      → ((k : ℕ) (d : A) → k < i → below (get_or xs k d) ≡ true)
+      → ((k : ℕ) (d : A) → i ≤ k → k < i + m → between (get_or xs k d) ≡ true)
+      → ((k : ℕ) (d : A) → i + m ≤ k → k < length xs → upto (get_or xs k d) ≡ false)
+      → take m (drop i xs) ≡ filter between xs
+  parted [] i m fits low mid high =
+      let first : i ≡ 0 = omega arith in
+      let none : m ≡ 0 = omega arith in
+      rw (first, none) refl
+  parted (x ∷ xs) (suc i) m fits low mid high =
+      let other : between x ≡ false = ap (λ b. not b && upto x) (low 0 x (omega arith)) in
+      parted xs i m (omega arith) (λ k d lt. low (suc k) d (omega arith))
+      (λ k d ge lt. mid (suc k) d (omega arith) (omega arith)) (λ k d ge lt. high (suc k) d (omega arith) (omega arith))
+      ∙ ap (λ b. cond b (x ∷ filter between xs) (filter between xs)) (sym other)
+  parted (x ∷ xs) zero (suc m) fits low mid high =
+      let here : between x ≡ true = mid 0 x (omega arith) (omega arith) in
+      ap (λ ys. x ∷ ys) (parted xs zero m (omega arith) (λ k d lt. absurd (omega arith))
+      (λ k d ge lt. mid (suc k) d (omega arith) (omega arith))
+      (λ k d ge lt. high (suc k) d (omega arith) (omega arith)))
+      ∙ ap (λ b. cond b (x ∷ filter between xs) (filter between xs)) (sym here)
+  parted (x ∷ xs) zero zero fits low mid high =
+      let other : between x ≡ false = and_false (not (below x)) (upto x) (high 0 x (omega arith) (omega arith)) in
+      parted xs zero zero (omega arith) (λ k d lt. absurd (omega arith))
+      (λ k d ge lt. absurd (omega arith)) (λ k d ge lt. high (suc k) d (omega arith) (omega arith))
+      ∙ ap (λ b. cond b (x ∷ filter between xs) (filter between xs)) (sym other)
+
+  pub in_order : ((x : A) → below x ≡ true → upto x ≡ true) → (xs : List A) (i j : ℕ) → i ≤ length xs
+      → TurnsAt below xs i → TurnsAt upto xs j → i ≤ j
+  in_order inner [] i j starts low high = omega arith
+  in_order inner (d ∷ ds) i j starts low high =
+      elim (tested (nat_lt j i)) [
+        | inl t ↦ absurd (
+            let lt : j < i = grind (arith, nat_tests) in
+            let up : upto (get_or (d ∷ ds) j d) ≡ true = inner (get_or (d ∷ ds) j d) (low.0 j d (omega arith) lt) in
+            let over : upto (get_or (d ∷ ds) j d) ≡ false = high.1 j d (omega arith) (omega arith) in
+            cc (up, over))
+        | inr t ↦ grind (arith, nat_tests)
+      ]
+
+  pub together : (p : A → Bool) → ((x : A) → between x ≡ p x) → ((x : A) → below x ≡ true → upto x ≡ true)
+      → (xs : List A) (i j : ℕ) → i ≤ length xs → j ≤ length xs → TurnsAt below xs i → TurnsAt upto xs j
+      → take (j - i) (drop i xs) ≡ filter p xs
+  together p same inner xs i j starts ends low high =
+      let le : i ≤ j = in_order inner xs i j starts low high in
+      parted xs i (j - i) (omega arith) (λ k d lt. low.0 k d (omega arith) lt)
+      (λ k d ge lt.
+      let over : below (get_or xs k d) ≡ false = low.1 k d ge (omega arith) in
+      let under : upto (get_or xs k d) ≡ true = high.0 k d (omega arith) (omega arith) in
+      ap (λ b. not b && upto (get_or xs k d)) over ∙ under)
+      (λ k d ge lt. high.1 k d (omega arith) lt)
+      ∙ alike between p same xs
+
+-- ---- keys
+
+-- what is below a key that isn't above another isn't above it either
+pub still_le : (j k q : List ℕ) → compare j k ≡ Less → is_le (compare k q) ≡ true → is_le (compare j q) ≡ true
+still_le j k q lt e =
+    elim (compare k q) as (λ r. compare k q ≡ r → is_le r ≡ true → is_le (compare j q) ≡ true) [
+      | Less ↦ λ is t. ap is_le (nat_list_cmp_total.trans j k q lt is)
+      | Equal ↦ λ is t. ap is_le (ap (compare j) (sym (tied-is k q is)) ∙ lt)
+      | Greater ↦ λ is t. cc
+    ] refl e
+
+first_le : (m n : ℕ) (js ks : List ℕ) → is_le (compare (m ∷ js) (n ∷ ks)) ≡ true → m ≤ n
+first_le m n js ks e =
+    elim (nat_cmp m n) as (λ r. r ≡ nat_cmp m n → is_le (ordering_then r (compare js ks)) ≡ true → m ≤ n) [
+      | Less ↦ λ is t. let lt = ranked m n Less is in omega arith
+      | Equal ↦ λ is t. let same = ranked m n Equal is in omega arith
+      | Greater ↦ λ is t. cc
+    ] refl e
+
+le_true : (m n : ℕ) → m ≤ n → leb m n ≡ true
+le_true m n le = grind (arith, nat_tests)
+
+true_le : (m n : ℕ) → leb m n ≡ true → m ≤ n
+true_le m n t = grind (arith, nat_tests)
+
+-- ---- the accounts of a domain behind a RID
+
+module _ (domain rid : ℕ) where
+  abbrev pub not_behind : AccountRow → Bool
+  not_behind a = is_le (compare (account_key a) (domain ∷ rid ∷ []))
+
+  abbrev pub up_to_domain : AccountRow → Bool
+  up_to_domain a = leb a.domain domain
+
+  pub not_behind_turns : (xs : List AccountRow) → is_ascending account_key xs ≡ true → IsPartitionedBy not_behind xs
+  not_behind_turns =
+      turns account_key not_behind (λ x y lt e. still_le (account_key x) (account_key y) (domain ∷ rid ∷ []) lt e)
+
+  pub domain_turns : (xs : List AccountRow) → is_ascending account_key xs ≡ true → IsPartitionedBy up_to_domain xs
+  domain_turns =
+      turns account_key up_to_domain
+      (λ x y lt e.
+      let lower : x.domain ≤ y.domain = first_le x.domain y.domain (x.rid ∷ []) (y.rid ∷ []) (ap is_le lt) in
+      let upper : y.domain ≤ domain = true_le y.domain domain e in
+      le_true x.domain domain (omega arith))
+
+  pub domain_later : (a : AccountRow) → not_behind a ≡ true → up_to_domain a ≡ true
+  domain_later a e = le_true a.domain domain (first_le a.domain domain (a.rid ∷ []) (rid ∷ []) e)
+
+  behind_of_one : (a : AccountRow) (r : Ordering) → r ≡ nat_cmp a.rid rid
+      → not (is_le (ordering_then r Equal)) ≡ nat_lt rid a.rid
+  behind_of_one a Less is =
+      let lt = ranked a.rid rid Less is in
+      let other : nat_lt rid a.rid ≡ false = grind (arith, nat_tests) in
+      sym other
+  behind_of_one a Equal is =
+      let same = ranked a.rid rid Equal is in
+      let other : nat_lt rid a.rid ≡ false = grind (arith, nat_tests) in
+      sym other
+  behind_of_one a Greater is =
+      let gt = ranked a.rid rid Greater is in
+      let behind : nat_lt rid a.rid ≡ true = grind (arith, nat_tests) in
+      sym behind
+
+  behind_of : (a : AccountRow) (r : Ordering) → r ≡ nat_cmp a.domain domain
+      → (not (is_le (ordering_then r (ordering_then (nat_cmp a.rid rid) Equal))) && leb a.domain domain)
+      ≡ ((a.domain == domain) && nat_lt rid a.rid)
+  behind_of a Less is =
+      let lt = ranked a.domain domain Less is in
+      let other : (a.domain == domain) ≡ false = grind (arith, nat_tests) in
+      sym (ap (λ b. b && nat_lt rid a.rid) other)
+  behind_of a Equal is =
+      let same = ranked a.domain domain Equal is in
+      let equal : (a.domain == domain) ≡ true = grind (arith, nat_tests) in
+      let up : leb a.domain domain ≡ true = grind (arith, nat_tests) in
+      ap (λ b. b && leb a.domain domain) (behind_of_one a (nat_cmp a.rid rid) refl)
+      ∙ ap (λ b. nat_lt rid a.rid && b) up ∙ and_true (nat_lt rid a.rid)
+      ∙ sym (ap (λ b. b && nat_lt rid a.rid) equal)
+  behind_of a Greater is =
+      let gt = ranked a.domain domain Greater is in
+      let other : (a.domain == domain) ≡ false = grind (arith, nat_tests) in
+      let over : leb a.domain domain ≡ false = grind (arith, nat_tests) in
+      over ∙ sym (ap (λ b. b && nat_lt rid a.rid) other)
+
+  pub behind_is : (a : AccountRow) → between not_behind up_to_domain a ≡ is_behind domain rid a
+  behind_is a = behind_of a (nat_cmp a.domain domain) refl
+
+-- ---- the members of an alias
+
+abbrev pub front : AliasRow → List ℕ
+front a = a.domain ∷ a.alias ∷ []
+
+-- the keys' fronts don't fall
+fronts : (x y : AliasRow) → compare (alias_key x) (alias_key y) ≡ Less → is_le (compare (front x) (front y)) ≡ true
+fronts x y lt = by_domain (nat_cmp x.domain y.domain) lt
+  where
+    by_alias : (r : Ordering) → ordering_then r (compare (sid_key x.member) (sid_key y.member)) ≡ Less
+        → is_le (ordering_then r Equal) ≡ true
+    by_alias Less e = refl
+    by_alias Equal e = refl
+    by_alias Greater e = cc
+
+    by_domain : (r : Ordering)
+        → ordering_then r (ordering_then (nat_cmp x.alias y.alias) (compare (sid_key x.member) (sid_key y.member))) ≡ Less
+        → is_le (ordering_then r (ordering_then (nat_cmp x.alias y.alias) Equal)) ≡ true
+    by_domain Less e = refl
+    by_domain Equal e = by_alias (nat_cmp x.alias y.alias) e
+    by_domain Greater e = cc
+
+le_then_le : (j k q : List ℕ) → is_le (compare j k) ≡ true → is_le (compare k q) ≡ true → is_le (compare j q) ≡ true
+le_then_le j k q le e =
+    elim (compare j k) as (λ r. compare j k ≡ r → is_le r ≡ true → is_le (compare j q) ≡ true) [
+      | Less ↦ λ is t. still_le j k q is e
+      | Equal ↦ λ is t. ap (λ i. is_le (compare i q)) (tied-is j k is) ∙ e
+      | Greater ↦ λ is t. cc
+    ] refl le
+
+le_then_lt : (j k q : List ℕ) → is_le (compare j k) ≡ true → is_lt (compare k q) ≡ true → is_lt (compare j q) ≡ true
+le_then_lt j k q le e =
+    elim (compare j k) as (λ r. compare j k ≡ r → is_le r ≡ true → is_lt (compare j q) ≡ true) [
+      | Less ↦ λ is t. elim (compare k q) as (λ r. compare k q ≡ r → is_lt r ≡ true → is_lt (compare j q) ≡ true) [
+        | Less ↦ λ lt u. ap is_lt (nat_list_cmp_total.trans j k q is lt)
+        | Equal ↦ λ lt u. cc
+        | Greater ↦ λ lt u. cc
+      ] refl e
+      | Equal ↦ λ is t. ap (λ i. is_lt (compare i q)) (tied-is j k is) ∙ e
+      | Greater ↦ λ is t. cc
+    ] refl le
+
+module _ (domain alias : ℕ) where
+  abbrev pub below_alias : AliasRow → Bool
+  below_alias a = is_lt (compare (front a) (domain ∷ alias ∷ []))
+
+  abbrev pub up_to_alias : AliasRow → Bool
+  up_to_alias a = is_le (compare (front a) (domain ∷ alias ∷ []))
+
+  pub below_alias_turns : (xs : List AliasRow) → is_ascending alias_key xs ≡ true → IsPartitionedBy below_alias xs
+  below_alias_turns =
+      turns alias_key below_alias (λ x y lt e. le_then_lt (front x) (front y) (domain ∷ alias ∷ []) (fronts x y lt) e)
+
+  pub up_to_alias_turns : (xs : List AliasRow) → is_ascending alias_key xs ≡ true → IsPartitionedBy up_to_alias xs
+  up_to_alias_turns =
+      turns alias_key up_to_alias (λ x y lt e. le_then_le (front x) (front y) (domain ∷ alias ∷ []) (fronts x y lt) e)
+
+  pub alias_later : (a : AliasRow) → below_alias a ≡ true → up_to_alias a ≡ true
+  alias_later a e = by_order (compare (front a) (domain ∷ alias ∷ [])) e
+    where
+      by_order : (r : Ordering) → is_lt r ≡ true → is_le r ≡ true
+      by_order Less t = refl
+      by_order Equal t = cc
+      by_order Greater t = cc
+
+  one_alias : (a : AliasRow) (r : Ordering) → r ≡ nat_cmp a.alias alias
+      → (not (is_lt (ordering_then r Equal)) && is_le (ordering_then r Equal)) ≡ (a.alias == alias)
+  one_alias a Less is =
+      let lt = ranked a.alias alias Less is in
+      let other : (a.alias == alias) ≡ false = grind (arith, nat_tests) in
+      sym other
+  one_alias a Equal is =
+      let same = ranked a.alias alias Equal is in
+      let equal : (a.alias == alias) ≡ true = grind (arith, nat_tests) in
+      sym equal
+  one_alias a Greater is =
+      let gt = ranked a.alias alias Greater is in
+      let other : (a.alias == alias) ≡ false = grind (arith, nat_tests) in
+      sym other
+
+  one_domain : (a : AliasRow) (r : Ordering) → r ≡ nat_cmp a.domain domain
+      → (not (is_lt (ordering_then r (ordering_then (nat_cmp a.alias alias) Equal)))
+      && is_le (ordering_then r (ordering_then (nat_cmp a.alias alias) Equal)))
+      ≡ ((a.domain == domain) && (a.alias == alias))
+  one_domain a Less is =
+      let lt = ranked a.domain domain Less is in
+      let other : (a.domain == domain) ≡ false = grind (arith, nat_tests) in
+      sym (ap (λ b. b && (a.alias == alias)) other)
+  one_domain a Equal is =
+      let same = ranked a.domain domain Equal is in
+      let equal : (a.domain == domain) ≡ true = grind (arith, nat_tests) in
+      one_alias a (nat_cmp a.alias alias) refl ∙ sym (ap (λ b. b && (a.alias == alias)) equal)
+  one_domain a Greater is =
+      let gt = ranked a.domain domain Greater is in
+      let other : (a.domain == domain) ≡ false = grind (arith, nat_tests) in
+      sym (ap (λ b. b && (a.alias == alias)) other)
+
+  pub in_alias_is : (a : AliasRow) → between below_alias up_to_alias a ≡ is_in_alias domain alias a
+  in_alias_is a = one_domain a (nat_cmp a.domain domain) refl

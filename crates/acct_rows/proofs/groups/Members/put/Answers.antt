@@ -1,0 +1,16 @@
+-- `Members::put` meets its contract: what the search leaves open.
+use Rattle.std.proofs.Common.{◌≡◌, true, sym, ap, ◌∙◌, rules}
+use Rattle.acct_rows.specs.Keyed.{put, is_ascending}
+use Rattle.acct_rows.specs.Rows.{member_key}
+use Rattle.acct_rows.specs.Users.{user_key, by_user, users_of}
+use Rattle.acct_rows.proofs.Users.{users_put}
+use Rattle.acct_rows.proofs.groups.Members.put.Goals as goal
+
+pub invariant_of-self : goal.invariant_of-self
+invariant_of-self c =
+    let h : is_ascending member_key c.self.inside.rows.0 ≡ true = search rules in (
+      c.put.ensures.rows ∙ ap (put user_key (by_user c.args.row)) c.self.invariant.0
+          ∙ users_put c.self.inside.rows.0 h c.args.row ∙ ap users_of (sym c.put-2.ensures.rows),
+      search rules,
+      search rules,
+    )

@@ -1,0 +1,55 @@
+// Rows whose keys are a range: they stand together, and halving finds the first and the last of them.
+ghost use Rattle.std.specs.Prelude.{◌≡◌, true, [], ◌∷◌};
+ghost use Rattle.std.specs.List.{filter};
+ghost use Rattle.std.specs.Ordering.{is_lt, is_le};
+ghost use Rattle.acct_rows.specs.Keyed.{compare, is_ascending};
+ghost use Rattle.acct_rows.specs.Ranges.{is_behind};
+ghost use Rattle.acct_rows.specs.Rows.{account_key, alias_key, is_in_alias};
+
+use crate::keyed::Keyed;
+use crate::row::{AccountRow, AliasRow};
+use std::cmp::Ordering;
+
+fn is_up_to(row: &AccountRow, domain: u8, rid: u32) -> bool
+    ensures { result ≡ is_le (compare (account_key row.now) (domain ∷ rid ∷ [])) }
+{
+    AccountRow::order(row, &(domain, rid)).is_le()
+}
+
+/// The accounts of a domain behind a RID.
+pub fn accounts_behind(rows: &[AccountRow], domain: u8, rid: u32) -> &[AccountRow]
+    requires { is_ascending account_key rows.now ≡ true }
+    ensures { result.now ≡ filter (is_behind domain rid) rows.now }
+{
+    let first = rows.partition_point(|row| is_up_to(row, domain, rid));
+    let last = rows.partition_point(|row| row.domain <= domain);
+    &rows[first..last]
+}
+
+fn alias_order(row: &AliasRow, domain: u8, alias: u32) -> Ordering
+    ensures { result ≡ compare (row.now.domain ∷ row.now.alias ∷ []) (domain ∷ alias ∷ []) }
+{
+    row.domain.cmp(&domain).then(row.alias.cmp(&alias))
+}
+
+fn is_below_alias(row: &AliasRow, domain: u8, alias: u32) -> bool
+    ensures { result ≡ is_lt (compare (row.now.domain ∷ row.now.alias ∷ []) (domain ∷ alias ∷ [])) }
+{
+    alias_order(row, domain, alias).is_lt()
+}
+
+fn is_up_to_alias(row: &AliasRow, domain: u8, alias: u32) -> bool
+    ensures { result ≡ is_le (compare (row.now.domain ∷ row.now.alias ∷ []) (domain ∷ alias ∷ [])) }
+{
+    alias_order(row, domain, alias).is_le()
+}
+
+/// The members of an alias.
+pub fn alias_members_among(rows: &[AliasRow], domain: u8, alias: u32) -> &[AliasRow]
+    requires { is_ascending alias_key rows.now ≡ true }
+    ensures { result.now ≡ filter (is_in_alias domain alias) rows.now }
+{
+    let first = rows.partition_point(|row| is_below_alias(row, domain, alias));
+    let last = rows.partition_point(|row| is_up_to_alias(row, domain, alias));
+    &rows[first..last]
+}

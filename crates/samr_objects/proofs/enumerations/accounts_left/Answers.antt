@@ -1,0 +1,11 @@
+-- `accounts_left` meets its contract: what is wanted stands behind the RID.
+use Rattle.std.proofs.Common.{ap, ◌∙◌}
+use Rattle.std.specs.List.{filter}
+use Rattle.samr_objects.specs.Enumerations.{is_wanted}
+use Rattle.samr_objects.proofs.Wanting.{wanted_behind}
+use Rattle.samr_objects.proofs.enumerations.accounts_left.Goals as goal
+
+pub returns : goal.returns
+returns c =
+    ap (filter (is_wanted c.args.wanted.now)) c.accounts_behind.ensures
+    ∙ wanted_behind c.args.wanted.now c.args.rows.now.lists.accounts
