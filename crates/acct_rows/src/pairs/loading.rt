@@ -234,7 +234,8 @@ fn has_key(pairs: &[Pair], key: &[u8]) -> bool
     false
 }
 
-/// Whether no key stands twice. It takes time as the square of how many pairs there are: pairs that ascend need no test.
+/// Whether no key stands twice. It takes time as the square of how many pairs there are: pairs that ascend need no
+/// test.
 pub fn keys_differ(pairs: &[Pair]) -> bool
     ensures { result ≡ keys_differ pairs.now }
 {
