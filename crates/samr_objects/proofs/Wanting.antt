@@ -2,8 +2,9 @@
 use Rattle.std.proofs.Common.{◌≡◌, ◌==◌, nat_lt, Bool, true, false, ◌&&◌, cond, List, [], ◌∷◌, refl, sym, ap, ◌∙◌}
 use Rattle.std.specs.List.{filter}
 use Rattle.acct_rows.specs.Ranges.{is_behind}
+use Rattle.acct_rows.specs.Rows.{same_kind}
 use Rattle.acct_rows.specs.declared.row.AccountRow.{AccountRow}
-use Rattle.samr_objects.specs.Enumerations.{is_wanted}
+use Rattle.samr_objects.specs.Enumerations.{has_one_of, is_wanted}
 use Rattle.samr_objects.specs.declared.enumerations.Wanted.{Wanted}
 
 -- what fails two of four tests fails all
@@ -20,10 +21,13 @@ wanted_behind w [] = refl
 wanted_behind w (x ∷ xs) =
     elim (is_behind w.domain w.behind x) as
     (λ b. is_behind w.domain w.behind x ≡ b
-    → filter (is_wanted w) (cond b (x ∷ filter (is_behind w.domain w.behind) xs) (filter (is_behind w.domain w.behind) xs))
+    → filter (is_wanted w)
+    (cond b (x ∷ filter (is_behind w.domain w.behind) xs) (filter (is_behind w.domain w.behind) xs))
     ≡ cond (is_wanted w x) (x ∷ filter (is_wanted w) xs) (filter (is_wanted w) xs)) [
       | true ↦ λ e. ap (λ ys. cond (is_wanted w x) (x ∷ ys) ys) (wanted_behind w xs)
       | false ↦ λ e.
-          let not : is_wanted w x ≡ false = some_fails _ _ _ _ e in
+          let not : is_wanted w x ≡ false =
+          some_fails (x.domain == w.domain) (same_kind w.kind x.kind) (nat_lt w.behind x.rid)
+          (has_one_of w.filter x.bits) e in
           wanted_behind w xs ∙ sym (ap (λ b. cond b (x ∷ filter (is_wanted w) xs) (filter (is_wanted w) xs)) not)
     ] refl
