@@ -1,0 +1,4 @@
+pub mod Passing
+pub mod Opened
+pub mod Entering
+pub mod Doing
