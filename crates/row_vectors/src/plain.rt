@@ -1,0 +1,69 @@
+// Look-ups by name and by SID as plain programs of their definitions: each looks at every row.
+ghost use Rattle.std.specs.Prelude.{◌≡◌, IfOk, find, map};
+ghost use Rattle.std.specs.List.{filter, list_any};
+ghost use Rattle.std.specs.Option.{option_copied};
+ghost use Rattle.dtyp_sid.specs.Order.{sid_eq};
+ghost use Rattle.acct_rows.specs.Rows.{has_name, has_one, each_once};
+
+use acct_base::Seq;
+use acct_calls::{Name, NoMemory, Rids};
+use acct_rows::{AccountRow, AliasRow};
+use dtyp_sid::Sid;
+use std::alloc::Global;
+
+fn has_name(account: &AccountRow, domain: u8, name: &Name) -> bool
+    ensures { result ≡ has_name domain name.now account.now }
+{
+    account.domain == domain && account.name.same(name)
+}
+
+/// The account of a domain with that name, the first of them.
+pub fn find_name<'a>(accounts: &'a [AccountRow], domain: u8, name: &Name) -> Option<&'a AccountRow>
+    ensures { option_copied result ≡ find (has_name domain name.now) accounts.now }
+{
+    for account in accounts {
+        if has_name(account, domain, name) {
+            return Some(account);
+        }
+    }
+    None
+}
+
+fn is_among(sids: &[Sid], sid: &Sid) -> bool
+    ensures { result ≡ list_any (sid_eq sid.now) sids.now }
+{
+    for other in sids {
+        if sid == other {
+            return true;
+        }
+    }
+    false
+}
+
+fn has_one(row: &AliasRow, domain: u8, sids: &[Sid]) -> bool
+    ensures { result ≡ has_one domain sids.now row.now }
+{
+    row.domain == domain && is_among(sids, &row.member)
+}
+
+/// The aliases of a domain that have one of the SIDs as a member. The rows stand by ascending alias, so the last one
+/// given tells whether the alias was given before.
+pub fn aliases_of(
+    alloc: Global,
+    rows: &[AliasRow],
+    domain: u8,
+    sids: &[Sid],
+) -> Result<Rids, NoMemory>
+    ensures { IfOk result (λ rids.
+        rids ≡ each_once (map (λ row. row.alias) (filter (has_one domain sids.now) rows.now))) }
+{
+    let mut rids = Seq::new(alloc);
+    let mut last = None;
+    for row in rows {
+        if has_one(row, domain, sids) && last != Some(row.alias) {
+            rids.push(row.alias)?;
+            last = Some(row.alias);
+        }
+    }
+    Ok(rids)
+}

@@ -1,0 +1,81 @@
+// Rows in words: what is done to those of a new database, what is asked, and what is answered.
+use super::answers::push_answer;
+use super::changes::{change, seeded};
+use super::tables;
+use super::words::column;
+use acct_codes::Kind;
+use acct_rows::{Object, Rows};
+use dtyp_sid::parse_text;
+use std::alloc::Global;
+use std::process::Abort;
+use std::test::Fail;
+
+/// What rows answer after some steps.
+fn told(alloc: Global, rows: &mut Rows, steps: &str, question: &str) -> Result<String, Fail> {
+    change(alloc, rows, steps)?;
+    let mut text = String::new(alloc);
+    push_answer(alloc, &mut text, rows, question)?;
+    Ok(text)
+}
+
+/// Tells a row: the steps, the question, and the answer.
+fn tell(rt: &impl Abort, alloc: Global, row: &str) -> Result<(), Fail> {
+    let (steps, rest) = column(row);
+    let (question, wanted) = column(rest);
+    let mut rows = seeded(rt, alloc)?;
+    let told = told(alloc, &mut rows, steps, question);
+    drop(rows);
+    assert_eq!(rt; told?.as_str().trim(), wanted.trim(), "{row}");
+    Ok(())
+}
+
+fn tell_all(rt: &impl Abort, alloc: Global, table: &str) -> Result<(), Fail> {
+    for row in table.lines() {
+        tell(rt, alloc, row)?;
+    }
+    Ok(())
+}
+
+#[test]
+fn rows_are_found_and_changed(rt: HostRuntime) -> Result<(), Fail> {
+    for table in [
+        tables::SEED,
+        tables::NAMES,
+        tables::CHANGES,
+        tables::MEMBERS,
+        tables::PLANS,
+    ] {
+        tell_all(&rt, rt.alloc(), table)?;
+    }
+    Ok(())
+}
+
+#[test]
+fn lists_stay_below_2_to_the_32(rt: HostRuntime) -> Result<(), Fail> {
+    let mut rows = seeded(&rt, rt.alloc())?;
+    assert!(rt; rows.reserve(100).is_ok());
+    assert!(rt; rows.reserve(1 << 32).is_err());
+    assert!(rt; rows.reserve((1 << 32) - 8).is_err());
+    Ok(())
+}
+
+#[test]
+fn objects_have_kinds(rt: HostRuntime) -> Result<(), Fail> {
+    let everyone = parse_text("S-1-1-0")?;
+    assert!(rt; Object::Server.kind() == Kind::Server);
+    assert!(rt; Object::Domain(1).kind() == Kind::Domain);
+    assert!(rt; Object::Group(513).kind() == Kind::Group);
+    assert!(rt; Object::Alias(1, 544).kind() == Kind::Alias);
+    assert!(rt; Object::User(500).kind() == Kind::User);
+    assert!(rt; Object::Policy.kind() == Kind::Policy);
+    assert!(rt; Object::Account(everyone).kind() == Kind::Account);
+    Ok(())
+}
+
+#[test]
+fn objects_are_told_apart(rt: HostRuntime) {
+    assert!(rt; Object::Alias(1, 544).domain() == 1);
+    assert!(rt; Object::Alias(1, 544).rid() == 544);
+    assert!(rt; Object::Group(513).same(Object::Group(513)));
+    assert!(rt; !Object::Group(513).same(Object::User(513)));
+}
