@@ -11,15 +11,31 @@ const ABOUT: &str =
     "An account server for the Windows account database, as its RPC interfaces show it.";
 
 const FORMS: &str = "account replay CONFIG
+       account call ADDRESS WORD..
        account gen N";
 
 const REPLAY: &str = "Answer the events of the standard input under the configuration in a file";
 
+const CALL: &str = "Ask the server at an address, tcp:HOST:PORT or unix:PATH, and print its answer";
+
 const GENERATE: &str =
     "Make N users, from 1 to 10000, by a replay, and print the counts of what is there";
 
-const MORE: &str = "Examples:
+const MORE: &str = "Words of call:
+  domains                       the names of the domains
+  users DOMAIN                  RID and name of each user
+  create-user DOMAIN NAME       a new user's RID
+  delete-user DOMAIN NAME       the RID of the user that is gone
+  members DOMAIN GROUP          RID and attributes of each member
+  add-member DOMAIN GROUP USER  the RID of the new member
+  names NAME..                  each name with its use, RID and domain's index
+  sids SID..                    each SID with its use, name and domain's index
+  rights SID                    the rights of an account
+  grant SID RIGHT..             gives rights to an account
+
+Examples:
   account replay examples/first.toml < examples/first.events
+  account call tcp:127.0.0.1:4045 users CORP
   account gen 100";
 
 /// Want of memory, which is the only fault here.
@@ -34,6 +50,7 @@ fn account<'a>(alloc: Global) -> Result<Command<'a>, NoMemory> {
         named(alloc, "account", ABOUT)
             .override_usage(FORMS)
             .subcommand(named(alloc, "replay", REPLAY))?
+            .subcommand(named(alloc, "call", CALL))?
             .subcommand(named(alloc, "gen", GENERATE))?
             .disable_help_flag(true)
             .disable_help_subcommand(true)

@@ -2,3 +2,4 @@ pub mod Worlds
 pub mod Usages
 pub mod Holding
 pub mod Generations
+pub mod Callings

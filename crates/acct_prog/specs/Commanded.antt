@@ -5,11 +5,11 @@ use Rattle.acct_machine.specs.declared.entry.Entry.{Entry}
 use Rattle.acct_rows.specs.Rows.{Shown}
 use Rattle.acct_streams.specs.Causes.{Rose}
 use Rattle.acct_server.specs.declared.replays.Replayed.{Replayed}
-use Rattle.acct_server.specs.declared.status.Status.{Status}
-use Rattle.acct_server.specs.declared.status.Status.TheVariants.{ReadFault, WriteFault, StoreFault, NoMemory}
 use Rattle.acct_server.specs.Replaying.{Telling, Parts, IsReplay}
-use Rattle.acct_prog.specs.declared.take.TakeError.{TakeError}
-use Rattle.acct_prog.specs.declared.take.TakeError.TheVariants.{Failed, NoMemory as NoMemoryTaken}
+use Rattle.acct_server.specs.declared.status.Status.{Status}
+use Rattle.acct_server.specs.declared.status.Status.TheVariants.{ReadFault, WriteFault, StoreFault, PeerFault, NoMemory}
+use Rattle.acct_links.specs.declared.callers.TakeError.{TakeError}
+use Rattle.acct_links.specs.declared.callers.TakeError.TheVariants.{Failed, NoMemory as NoMemoryTaken}
 use Rattle.acct_prog.specs.declared.period.Period.{Period}
 use Rattle.acct_prog.specs.declared.part.Part.{Part}
 use Rattle.acct_prog.specs.declared.part.Part.TheVariants.{Source, Sink, Keeper}
@@ -35,19 +35,22 @@ pub record AsksFront (parts old new : List Part) : Type 0 where
   pub asked : new ≡ old ++ done
 
 -- why a part wasn't handed out
-abbrev pub TakeCause : {S T K : Type 0} → Seen S T K → Seen S T K → Status → Type 0
+abbrev pub TakeCause : {S T K C L : Type 0} → Seen S T K C L → Seen S T K C L → Status → Type 0
 TakeCause old new ReadFault = Rose old.source_faults new.source_faults
 TakeCause old new WriteFault = Rose old.sink_faults new.sink_faults
 TakeCause old new StoreFault = Rose old.keeper_faults new.keeper_faults
+TakeCause old new PeerFault = Rose old.caller_faults new.caller_faults
 TakeCause old new NoMemory = Unit {0}
 TakeCause old new _ = ⊥
 
 -- One of these parts wasn't handed out: those before it were asked for, and the world has what it had.
-pub record NotHandedOut {S T K : Type 0} (parts : List Part) (old new : Seen S T K) (status : Status) : Type 0 where
+pub record NotHandedOut {S T K C L : Type 0} (parts : List Part) (old new : Seen S T K C L)
+    (status : Status) : Type 0 where
   pub cause : TakeCause old new status
   pub sources : old.tells ≡ true → (name : List ℕ) → new.source name ≡ old.source name
   pub sink : old.tells ≡ true → new.sink ≡ old.sink
   pub keepers : old.tells ≡ true → (name : List ℕ) → new.keeper name ≡ old.keeper name
+  pub caller : old.tells ≡ true → new.caller ≡ old.caller
   pub periods : new.periods ≡ old.periods
   pub tells : new.tells ≡ old.tells
   pub knows : new.knows ≡ old.knows
@@ -66,20 +69,22 @@ period_of left = period_between left.opening left.history left.rows
 
 -- The world keeps the period, and what is answered is how it ended; or it found no memory to keep it. Where there is no
 -- period, it is asked to keep none.
-abbrev pub Keeps : {S T K : Type 0} → Seen S T K → Seen S T K → Option Period → Status → Status → Type 0
+abbrev pub Keeps : {S T K C L : Type 0} → Seen S T K C L → Seen S T K C L → Option Period → Status → Status → Type 0
 Keeps old new period ended status =
     MatchOption period ((status ≡ ended) × (new.periods ≡ old.periods))
     (λ kept. ((status ≡ ended) × (old.tells ≡ true → new.periods ≡ old.periods ++ kept ∷ []))
     ⊎ ((status ≡ NoMemory) × (new.periods ≡ old.periods)))
 
 -- A world was asked to keep a period, if there is one, and nothing else of it has changed.
-pub record KeepsAny {S T K : Type 0} (old new : Seen S T K) (period : Option Period) (ended status : Status) : Type 0
+pub record KeepsAny {S T K C L : Type 0} (old new : Seen S T K C L) (period : Option Period)
+    (ended status : Status) : Type 0
   where
     pub periods : Keeps old new period ended status
     pub others : new ≡ record old { periods = new.periods }
 
 -- All parts were handed out: a replay ran over them, the world keeps the period that it left, and has the parts again.
-pub record HasRun {S T K : Type 0} (told : Telling S T K) (name : List ℕ) (old new : Seen S T K) (status : Status)
+pub record HasRun {S T K C L : Type 0} (told : Telling S T K) (name : List ℕ) (old new : Seen S T K C L)
+    (status : Status)
     : Type 0 where
   pub before : Parts S T K
   pub after : Parts S T K
@@ -98,12 +103,13 @@ pub record HasRun {S T K : Type 0} (told : Telling S T K) (name : List ℕ) (old
   -- and no other source or keeper has changed
   pub sources : (other : List ℕ) → other ≢ name → other ≢ standard_input → new.source other ≡ old.source other
   pub keepers : (other : List ℕ) → other ≢ no_name → new.keeper other ≡ old.keeper other
+  pub caller : new.caller ≡ old.caller
   pub asked : old.tells ≡ true → new.asked ≡ old.asked ++ wanted name
   pub keeps : Keeps old new (period_of left) left.status status
 
 -- A replay ran over parts that were out: the world keeps the period that it left, and has the parts again.
-pub record Returned {S T K : Type 0} (told : Telling S T K) (name : List ℕ) (before : Parts S T K)
-    (old new : Seen S T K) (status : Status) : Type 0 where
+pub record Returned {S T K C L : Type 0} (told : Telling S T K) (name : List ℕ) (before : Parts S T K)
+    (old new : Seen S T K C L) (status : Status) : Type 0 where
   pub after : Parts S T K
   pub left : Replayed K
   pub replayed : IsReplay told before after left
@@ -113,10 +119,11 @@ pub record Returned {S T K : Type 0} (told : Telling S T K) (name : List ℕ) (b
   pub gave_keeper : old.tells ≡ true → old.stores no_name ≡ true → new.keeper no_name ≡ Some after.keeper
   pub sources : (other : List ℕ) → other ≢ name → other ≢ standard_input → new.source other ≡ old.source other
   pub keepers : (other : List ℕ) → other ≢ no_name → new.keeper other ≡ old.keeper other
+  pub caller : new.caller ≡ old.caller
   pub asked : new.asked ≡ old.asked
   pub keeps : Keeps old new (period_of left) left.status status
 
-abbrev pub Commanded : {S T K : Type 0} → Telling S T K → List ℕ → Seen S T K → Seen S T K → Status → Type 0
+abbrev pub Commanded : {S T K C L : Type 0} → Telling S T K → List ℕ → Seen S T K C L → Seen S T K C L → Status → Type 0
 Commanded told name old new status = NotHandedOut (wanted name) old new status ⊎ HasRun told name old new status
 
 abbrev pub read_status : TakeError → Status
@@ -126,6 +133,10 @@ read_status NoMemoryTaken = NoMemory
 abbrev pub write_status : TakeError → Status
 write_status Failed = WriteFault
 write_status NoMemoryTaken = NoMemory
+
+abbrev pub link_status : TakeError → Status
+link_status Failed = PeerFault
+link_status NoMemoryTaken = NoMemory
 
 abbrev pub store_status : TakeError → Status
 store_status Failed = StoreFault

@@ -3,6 +3,7 @@ pub mod World
 pub mod Memory
 pub mod Commanded
 pub mod Generates
+pub mod Calling
 pub mod Does
 pub mod Statuses
 pub mod Host

@@ -1,16 +1,27 @@
 -- The words of the program.
 use Rattle.std.specs.Prelude.{ℕ, ◌==◌, Bool, false, ◌&&◌, not, List, [], ◌∷◌, length, codes, Option, Some, None}
-use Rattle.std.specs.Prelude.{option_map, if◌then◌else◌, nat_le}
+use Rattle.std.specs.Prelude.{option_map, if◌then◌else◌, nat_le, get_or, drop}
+use Rattle.std.specs.List.{list_any}
 use Rattle.std.specs.Option.{option_or}
 use Rattle.std.specs.Str.{bytes_eq}
 use Rattle.acct_base.specs.Words.{is_within, decimal_from}
 use Rattle.acct_generator.specs.Calls.{most_users}
+use Rattle.acct_config.specs.Address.{is_address}
 use Rattle.acct_server.specs.Events.{begins_with_zero}
+use Rattle.client_steps.specs.declared.command.Command.{Command}
+use Rattle.client_steps.specs.Words.{command_of}
 
--- a command, with what its words name: the configuration of a replay, or how many users the generator makes
+-- an address, and a command of the client
+pub record Calling : Type 0 where
+  pub address : List ℕ
+  pub command : Command
+
+-- what the words ask for, with what they name: the configuration of a replay, how many users the generator makes, or
+-- what is asked for at which address
 pub data Form : Type 0 where
   Replay : List ℕ → Form
   Generate : ℕ → Form
+  Call : Calling → Form
 
 abbrev pub begins_with_dash : List ℕ → Bool
 begins_with_dash [] = false
@@ -36,9 +47,26 @@ abbrev pub gen_form : List (List ℕ) → Option ℕ
 gen_form (command ∷ number ∷ []) = if bytes_eq command (codes "gen") then users_in number else None
 gen_form _ = None
 
--- the command that words are, if they have a form
+-- the command of the client that words are, at an address
+abbrev pub calling : List ℕ → Command → Calling
+calling address command = record { address = address; command = command }
+
+abbrev pub calling_at : List ℕ → List (List ℕ) → Option Calling
+calling_at address words = option_map (λ (c : Command). calling address c) (command_of words)
+
+-- `call ADDRESS WORD` with one or more words, of which none begins with a dash
+abbrev pub is_call : List (List ℕ) → Bool
+is_call (command ∷ address ∷ word ∷ words) =
+    bytes_eq command (codes "call") && is_address address && not (list_any begins_with_dash (word ∷ words))
+is_call _ = false
+
+abbrev pub call_form : List (List ℕ) → Option Calling
+call_form words = if is_call words then calling_at (get_or words 1 []) (drop 2 words) else None
+
+-- what the words ask for, if they have a form
 abbrev pub form_of : List (List ℕ) → Option Form
-form_of words = option_or (option_map Replay (replay_form words)) (option_map Generate (gen_form words))
+form_of words = option_or (option_map Replay (replay_form words))
+    (option_or (option_map Generate (gen_form words)) (option_map Call (call_form words)))
 
 -- the character that no word of a command line has
 abbrev pub nul : ℕ

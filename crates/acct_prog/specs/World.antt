@@ -6,27 +6,30 @@ use Rattle.std.specs.declared.result.Result.{Result}
 use Rattle.acct_keeper.specs.declared.pairs.Pair.{Pair}
 use Rattle.acct_streams.specs.Causes.{Rose}
 use Rattle.acct_prog.specs.declared.period.Period.{Period}
-use Rattle.acct_prog.specs.declared.take.TakeError.{TakeError}
-use Rattle.acct_prog.specs.declared.take.TakeError.TheVariants.{Failed, NoMemory}
+use Rattle.acct_links.specs.declared.callers.TakeError.{TakeError}
+use Rattle.acct_links.specs.declared.callers.TakeError.TheVariants.{Failed, NoMemory}
 use Rattle.acct_prog.specs.declared.part.Part.{Part}
-use Rattle.acct_prog.specs.declared.part.Part.TheVariants.{Source, Sink, Keeper}
+use Rattle.acct_prog.specs.declared.part.Part.TheVariants.{Source, Sink, Keeper, Caller}
 
 -- Whether it tells what it holds; the names under which it has a place for a source, and the source under each name;
--- the sink; the names under which it has a place for a keeper, and the keeper under each name; the periods that it
--- was given; the parts that it was asked for, in order; and how often handing out a source, the sink or a keeper has
--- failed.
-pub record Seen (S T K : Type 0) : Type 0 where
+-- the sink; the names under which it has a place for a keeper, and the keeper under each name; the caller, and the link
+-- that was given back with it; the periods that it was given; the parts that it was asked for, in order; and how often
+-- handing out a source, the sink, a keeper or the caller has failed.
+pub record Seen (S T K C L : Type 0) : Type 0 where
   pub tells : Bool
   pub knows : List ℕ → Bool
   pub source : List ℕ → Option S
   pub sink : Option T
   pub stores : List ℕ → Bool
   pub keeper : List ℕ → Option K
+  pub caller : Option C
+  pub talked : Option L
   pub periods : List Period
   pub asked : List Part
   pub source_faults : ℕ
   pub sink_faults : ℕ
   pub keeper_faults : ℕ
+  pub caller_faults : ℕ
 
 -- The part is the last that was asked for; where memory was wanted, it may be left out.
 abbrev pub Asks : {P : Type 0} → Part → List Part → List Part → Result P TakeError → Type 0
@@ -35,7 +38,8 @@ Asks part old new answer = (new ≡ old ++ part ∷ []) ⊎ ((answer ≡ Err NoM
 -- ---- sources
 
 -- A source is handed out, or those that it holds stay. Of all else only the count of failed handings out changes.
-pub record TakesSource {S T K : Type 0} (old new : Seen S T K) (name : List ℕ) (answer : Result S TakeError) : Type 0
+pub record TakesSource {S T K C L : Type 0} (old new : Seen S T K C L) (name : List ℕ)
+    (answer : Result S TakeError) : Type 0
   where
     pub part : IfOk answer (λ part. old.tells ≡ true → (old.source name ≡ Some part) × (old.knows name ≡ true))
     pub kept : OnErr answer (new.source ≡ old.source)
@@ -46,14 +50,14 @@ pub record TakesSource {S T K : Type 0} (old new : Seen S T K) (name : List ℕ)
     pub later : old.source_faults ≤ new.source_faults
 
 -- The source that is given back is from then on the one under its name, if there is a place for it.
-pub record GivesSource {S T K : Type 0} (old new : Seen S T K) (name : List ℕ) (part : S) : Type 0 where
+pub record GivesSource {S T K C L : Type 0} (old new : Seen S T K C L) (name : List ℕ) (part : S) : Type 0 where
   pub holds : old.tells ≡ true → old.knows name ≡ true → new.source name ≡ Some part
   pub sources : (other : List ℕ) → other ≢ name → new.source other ≡ old.source other
   pub others : new ≡ record old { source = new.source }
 
 -- ---- the sink
 
-pub record TakesSink {S T K : Type 0} (old new : Seen S T K) (answer : Result T TakeError) : Type 0 where
+pub record TakesSink {S T K C L : Type 0} (old new : Seen S T K C L) (answer : Result T TakeError) : Type 0 where
   pub part : IfOk answer (λ part. old.tells ≡ true → old.sink ≡ Some part)
   pub kept : OnErr answer (new.sink ≡ old.sink)
   pub others : new ≡ record old { sink = new.sink; asked = new.asked; sink_faults = new.sink_faults }
@@ -61,14 +65,14 @@ pub record TakesSink {S T K : Type 0} (old new : Seen S T K) (answer : Result T 
   pub cause : answer ≡ Err Failed → Rose old.sink_faults new.sink_faults
   pub later : old.sink_faults ≤ new.sink_faults
 
-pub record GivesSink {S T K : Type 0} (old new : Seen S T K) (part : T) : Type 0 where
+pub record GivesSink {S T K C L : Type 0} (old new : Seen S T K C L) (part : T) : Type 0 where
   pub holds : old.tells ≡ true → new.sink ≡ Some part
   pub others : new ≡ record old { sink = new.sink }
 
 -- ---- keepers
 
 -- As a source is. The keeper with the empty name holds no pair, where the world doesn't tell which one it has there.
-pub record TakesKeeper {S T K : Type 0} (pairs : K → Option (List Pair)) (old new : Seen S T K) (name : List ℕ)
+pub record TakesKeeper {S T K C L : Type 0} (pairs : K → Option (List Pair)) (old new : Seen S T K C L) (name : List ℕ)
     (answer : Result K TakeError) : Type 0 where
   pub part : IfOk answer (λ part. old.tells ≡ true → (old.keeper name ≡ Some part) × (old.stores name ≡ true))
   pub empty : IfOk answer (λ part. old.tells ≡ false → name ≡ [] → pairs part ≡ Some [])
@@ -79,15 +83,32 @@ pub record TakesKeeper {S T K : Type 0} (pairs : K → Option (List Pair)) (old 
   pub cause : answer ≡ Err Failed → Rose old.keeper_faults new.keeper_faults
   pub later : old.keeper_faults ≤ new.keeper_faults
 
-pub record GivesKeeper {S T K : Type 0} (old new : Seen S T K) (name : List ℕ) (part : K) : Type 0 where
+pub record GivesKeeper {S T K C L : Type 0} (old new : Seen S T K C L) (name : List ℕ) (part : K) : Type 0 where
   pub holds : old.tells ≡ true → old.stores name ≡ true → new.keeper name ≡ Some part
   pub keepers : (other : List ℕ) → other ≢ name → new.keeper other ≡ old.keeper other
   pub others : new ≡ record old { keeper = new.keeper }
 
+-- ---- the caller
+
+pub record TakesCaller {S T K C L : Type 0} (old new : Seen S T K C L) (answer : Result C TakeError) : Type 0 where
+  pub part : IfOk answer (λ part. old.tells ≡ true → old.caller ≡ Some part)
+  pub kept : OnErr answer (new.caller ≡ old.caller)
+  pub others : new ≡ record old { caller = new.caller; asked = new.asked; caller_faults = new.caller_faults }
+  pub asked : old.tells ≡ true → Asks Caller old.asked new.asked answer
+  pub cause : answer ≡ Err Failed → Rose old.caller_faults new.caller_faults
+  pub later : old.caller_faults ≤ new.caller_faults
+
+-- The caller is given back with its link, if it gave one.
+pub record GivesCaller {S T K C L : Type 0} (old new : Seen S T K C L) (part : C) (link : Option L) : Type 0 where
+  pub holds : old.tells ≡ true → new.caller ≡ Some part
+  pub talked : old.tells ≡ true → new.talked ≡ link
+  pub others : new ≡ record old { caller = new.caller; talked = new.talked }
+
 -- ---- periods
 
 -- the period is the last of those that were given, or none was added
-pub record KeepsPeriod {S T K E : Type 0} (old new : Seen S T K) (period : Period) (answer : Result (Unit {0}) E)
+pub record KeepsPeriod {S T K C L E : Type 0} (old new : Seen S T K C L) (period : Period)
+    (answer : Result (Unit {0}) E)
     : Type 0 where
   pub kept : OnOk answer (old.tells ≡ true → new.periods ≡ old.periods ++ period ∷ [])
   pub none : OnErr answer (new.periods ≡ old.periods)

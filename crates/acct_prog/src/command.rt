@@ -1,20 +1,26 @@
 // The program's commands, over a world.
-ghost use Rattle.std.specs.Prelude.{◌≡◌, ◌≢◌, ◌≤◌, ◌↔◌, Some, None, map, MatchResult};
+ghost use Rattle.std.specs.Prelude.{◌≡◌, ◌≢◌, ◌≤◌, Some, None, true, length, map, MatchResult};
 ghost use Rattle.std.specs.String.{string_bytes};
-ghost use Rattle.acct_server.specs.declared.status.Status.TheVariants.{Usage, NoMemory};
 ghost use Rattle.acct_generator.specs.Calls.{most_users};
-ghost use Rattle.acct_prog.specs.Words.{Form, form_of};
+ghost use Rattle.client_calls.specs.Talks.{IsBegun};
+ghost use Rattle.client_steps.specs.declared.command.Command.{Command};
+ghost use Rattle.acct_server.specs.declared.status.Status.TheVariants.{Usage, NoMemory};
+ghost use Rattle.acct_prog.specs.Words.{Form, Calling, form_of, is_call, call_form};
 ghost use Rattle.acct_prog.specs.Commanded.{Commanded, Returned, KeepsAny, standard_input, read_status, write_status};
-ghost use Rattle.acct_prog.specs.Commanded.{store_status};
+ghost use Rattle.acct_prog.specs.Commanded.{link_status, store_status};
+ghost use Rattle.acct_prog.specs.Calling.{Calls};
 ghost use Rattle.acct_prog.specs.Generates.{Generates};
-ghost use Rattle.acct_prog.specs.Does.{Does};
+ghost use Rattle.acct_prog.specs.Statuses.{talk_status};
+ghost use Rattle.acct_prog.specs.Does.{Does, IsFormless};
 
-use crate::forms::{gen_users, replay_name};
+use crate::forms::{behind_two, gen_users, is_call, replay_name};
 use crate::period::{Period, parted, period_between};
-use crate::take::TakeError;
 use crate::world::World;
-use acct_server::{Status, replay};
+use acct_client::{AskError, Asker};
+use acct_links::TakeError;
+use acct_server::{Failed, Status, replay};
 use acct_summary::{Generation, generate};
+use client_calls::{Called, TalkEnd, call, dialogues_come_to_their_ends};
 use std::alloc::{AllocError, Global};
 
 fn read_status(e: TakeError) -> Status
@@ -35,12 +41,38 @@ fn write_status(e: TakeError) -> Status
     }
 }
 
+fn link_status(e: TakeError) -> Status
+    ensures { result ≡ link_status e }
+{
+    match e {
+        TakeError::Failed => Status::PeerFault,
+        TakeError::NoMemory => Status::NoMemory,
+    }
+}
+
 fn store_status(e: TakeError) -> Status
     ensures { result ≡ store_status e }
 {
     match e {
         TakeError::Failed => Status::StoreFault,
         TakeError::NoMemory => Status::NoMemory,
+    }
+}
+
+// The status of how a dialogue ended; a failed write of its lines comes first.
+fn talk_status(end: TalkEnd, printing: Result<(), Failed>) -> Status
+    ensures { result ≡ talk_status end printing }
+{
+    if printing.is_err() {
+        return Status::WriteFault;
+    }
+    match end {
+        TalkEnd::Done => Status::Done,
+        TalkEnd::NoMemory => Status::NoMemory,
+        TalkEnd::PeerBytes(place) => Status::PeerBytes(place),
+        TalkEnd::PeerFault => Status::PeerFault,
+        TalkEnd::InputTooLong => Status::InputTooLong,
+        TalkEnd::Refused(status) => Status::Refused(status),
     }
 }
 
@@ -160,11 +192,76 @@ fn run_generator<W: World>(alloc: Global, users: u32, world: &mut W) -> Status
     status
 }
 
-/// Does all that the program does. The words are `replay CONFIG`, or `gen N` for the summary of a replay of events that
-/// make N users, 1 to 10,000. Other words take no part of the world.
+// The command `call`: it takes the caller and the sink, in this order, and asks the caller for one link, to the
+// address.
+fn run_call<W: World>(alloc: Global, asker: Asker, address: &str, world: &mut W) -> Status
+    requires { (command : Command) × IsBegun command asker }
+    ensures calls { (command : Command) → IsBegun command asker → Calls (record {
+      sunk = λ out. record { held = W.T.held out; faults = W.T.faults out };
+      called = W.C.called;
+      call_faults = W.C.faults;
+      link = W.C.L.told;
+    }) (record { address = address.now; command = command }) (W.seen world.old) (W.seen world.new) result }
+    ensures not_usage { result ≢ Usage }
+{
+    let mut caller = match world.take_caller() {
+        Ok(caller) => caller,
+        Err(e) => {
+            drop(asker);
+            return link_status(e);
+        }
+    };
+    let mut out = match world.take_sink() {
+        Ok(out) => out,
+        Err(e) => {
+            drop(asker);
+            world.give_caller(caller, None);
+            return write_status(e);
+        }
+    };
+    let Called {
+        end,
+        printing,
+        link,
+    } = call(alloc, asker, address, &mut caller, &mut out);
+    world.give_sink(out);
+    world.give_caller(caller, link);
+    dialogues_come_to_their_ends();
+    talk_status(end, printing)
+}
+
+// The command `call`, where the words may be one: it reads which command of the client they are before any part is
+// taken.
+fn run_client<W: World>(alloc: Global, words: &Vec<String>, world: &mut W) -> Status
+    requires call { is_call (map string_bytes words.now.items) ≡ true }
+    requires some { 3 ≤ length words.now.items }
+    ensures calls { (calling : Calling) → call_form (map string_bytes words.now.items) ≡ Some calling →
+        Calls (record {
+          sunk = λ out. record { held = W.T.held out; faults = W.T.faults out };
+          called = W.C.called;
+          call_faults = W.C.faults;
+          link = W.C.L.told;
+        }) calling (W.seen world.old) (W.seen world.new) result }
+    ensures usage { result ≡ Usage → call_form (map string_bytes words.now.items) ≡ None }
+    ensures none { call_form (map string_bytes words.now.items) ≡ None →
+        IsFormless (map string_bytes words.now.items) result }
+    ensures untouched { call_form (map string_bytes words.now.items) ≡ None → world.new ≡ world.old }
+{
+    match Asker::new(alloc, behind_two(words)) {
+        Ok(asker) => run_call(alloc, asker, words[1].as_str(), world),
+        Err(AskError::Usage) => Status::Usage,
+        Err(_) => Status::NoMemory,
+    }
+}
+
+/// Does all that the program does. The words are `replay CONFIG`; or `gen N` for the summary of a replay of events that
+/// make N users, 1 to 10,000; or `call ADDRESS WORD..` for a command of the client. Other words take no part of the
+/// world, and are answered by usage; or by want of memory, where they may be a command of the client.
 pub fn account<W: World>(alloc: Global, words: &Vec<String>, world: &mut W) -> Status
-    ensures usage { result ≡ Usage ↔ form_of (map string_bytes words.now.items) ≡ None }
-    ensures untouched { result ≡ Usage → world.new ≡ world.old }
+    ensures usage { result ≡ Usage → form_of (map string_bytes words.now.items) ≡ None }
+    ensures formless { form_of (map string_bytes words.now.items) ≡ None →
+        IsFormless (map string_bytes words.now.items) result }
+    ensures untouched { form_of (map string_bytes words.now.items) ≡ None → world.new ≡ world.old }
     ensures commanded { (form : Form) → form_of (map string_bytes words.now.items) ≡ Some form →
         Does (record {
           left = W.S.left;
@@ -173,13 +270,21 @@ pub fn account<W: World>(alloc: Global, words: &Vec<String>, world: &mut W) -> S
           write_faults = W.T.faults;
           pairs = W.K.held;
           store_faults = W.K.faults;
+        }) (record {
+          sunk = λ out. record { held = W.T.held out; faults = W.T.faults out };
+          called = W.C.called;
+          call_faults = W.C.faults;
+          link = W.C.L.told;
         }) form (W.seen world.old) (W.seen world.new) result }
 {
-    match replay_name(words) {
-        Some(name) => run_replay(alloc, name, world),
-        None => match gen_users(words) {
-            Some(users) => run_generator(alloc, users, world),
-            None => Status::Usage,
-        },
+    if let Some(name) = replay_name(words) {
+        return run_replay(alloc, name, world);
     }
+    if let Some(users) = gen_users(words) {
+        return run_generator(alloc, users, world);
+    }
+    if is_call(words) {
+        return run_client(alloc, words, world);
+    }
+    Status::Usage
 }

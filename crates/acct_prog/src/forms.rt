@@ -1,10 +1,12 @@
 // The forms of the words: which command they are.
-ghost use Rattle.std.specs.Prelude.{◌≡◌, ◌≤◌, None, Some, map, MatchOption, IfSome};
+ghost use Rattle.std.specs.Prelude.{◌≡◌, ◌≤◌, None, Some, length, drop, map, MatchOption, IfSome, IsTrue};
+ghost use Rattle.std.specs.List.{list_any};
 ghost use Rattle.std.specs.String.{string_bytes};
-ghost use Rattle.acct_prog.specs.Words.{replay_form, gen_form, users_in};
+ghost use Rattle.acct_prog.specs.Words.{replay_form, gen_form, users_in, is_call, begins_with_dash};
 ghost use Rattle.acct_generator.specs.Calls.{most_users};
 
 use acct_base::decimal;
+use acct_config::is_address;
 use acct_generator::MOST_USERS;
 
 /// The configuration's name, of the words `replay CONFIG`.
@@ -47,4 +49,36 @@ pub fn gen_users(words: &Vec<String>) -> Option<u32>
         return None;
     }
     users_in(words[1].as_bytes())
+}
+
+fn begins_with_dash(word: &str) -> bool
+    ensures { result ≡ begins_with_dash word.now }
+{
+    word.as_bytes().first() == Some(&b'-')
+}
+
+// Whether one of the words begins with a dash.
+fn has_dash(words: &[String]) -> bool
+    ensures { result ≡ list_any begins_with_dash (map string_bytes words.now) }
+{
+    words.iter().any(|word| begins_with_dash(word.as_str()))
+}
+
+/// The words behind the first two.
+pub fn behind_two(words: &Vec<String>) -> &[String]
+    requires { 2 ≤ length words.now.items }
+    ensures { result.now ≡ drop 2 words.now.items }
+{
+    &words[2..]
+}
+
+/// Whether the words are `call`, an address, and one word or more, of which none begins with a dash.
+pub fn is_call(words: &Vec<String>) -> bool
+    ensures value { result ≡ is_call (map string_bytes words.now.items) }
+    ensures some { IsTrue result → 3 ≤ length words.now.items }
+{
+    if words.len() < 3 {
+        return false;
+    }
+    words[0].as_str() == "call" && is_address(words[1].as_str()) && !has_dash(behind_two(words))
 }

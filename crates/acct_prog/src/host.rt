@@ -1,15 +1,21 @@
 // The real world: files, the standard streams, and no word on what they hold.
-ghost use Rattle.std.specs.Prelude.{◌≡◌, None, false, []};
+ghost use Rattle.std.specs.Prelude.{◌≡◌, Some, None, false, [], unwrap_or, option_copied, MatchOption};
+ghost use Rattle.acct_prog.specs.Host.{trouble_of};
+ghost use Rattle.acct_prog.specs.declared.stranger.Stranger.TheVariants.{Other};
 
+use crate::host_link::{HostCaller, HostLink};
 use crate::opened::Opened;
 use crate::period::Period;
-use crate::take::TakeError;
+use crate::stranger::Stranger;
+use crate::trouble::Trouble;
 use crate::world::World;
 use acct_keeper::SteadyKeeper;
+use acct_links::TakeError;
 use acct_server::{Failed, Sink, Source};
 use std::alloc::{AllocError, Global};
 use std::fs::File;
 use std::io::{self, Input, Print, Printer, Read, Write};
+use std::net::Net;
 use std::rt::Files;
 
 /// The standard input or a file. It tells what is left where its reader tells it: over the system's it doesn't.
@@ -100,36 +106,59 @@ impl<W: Write + Drop> Sink for HostSink<W> {
 }
 
 /// The real world. The name `-` is the standard input, each other name of a source a file's path. The keeper with the
-/// empty name is a new one in memory each time, and there is no other. It keeps no period.
+/// empty name is a new one in memory each time, and there is no other. It keeps no period, but what went wrong with the
+/// last link or caller that was given back, and what answered over it.
 #[derive(Drop)]
-pub struct HostWorld<'a, R: Files<File = File> + Input + Print> {
+pub struct HostWorld<'a, R: Files<File = File> + Input + Print + Net> {
     rt: &'a R,
     alloc: Global,
     source_faults: u64,
     keeper_faults: u64,
+    trouble: Option<Trouble>,
+    stranger: Option<Stranger>,
 }
 
-impl<'a, R: Files<File = File> + Input + Print> HostWorld<'a, R> {
+impl<'a, R: Files<File = File> + Input + Print + Net> HostWorld<'a, R> {
     /// The real world of a runtime.
     pub fn new(rt: &'a R, alloc: Global) -> Self
         ensures source { result.source_faults ≡ 0 }
         ensures keeper { result.keeper_faults ≡ 0 }
+        ensures trouble { result.trouble ≡ None }
+        ensures stranger { result.stranger ≡ None }
     {
         HostWorld {
             rt,
             alloc,
             source_faults: 0,
             keeper_faults: 0,
+            trouble: None,
+            stranger: None,
         }
+    }
+
+    /// What went wrong with the last link, or else the caller, that was given back.
+    pub fn trouble(&self) -> Option<&Trouble>
+        ensures { option_copied result ≡ self.now.trouble }
+    {
+        self.trouble.as_ref()
+    }
+
+    /// What answered over the last link that was given back.
+    pub fn stranger(&self) -> Option<Stranger>
+        ensures { result ≡ self.now.stranger }
+    {
+        self.stranger
     }
 }
 
-impl<'a, R: Files<File = File> + Input + Print> World for HostWorld<'a, R> {
+impl<'a, R: Files<File = File> + Input + Print + Net> World for HostWorld<'a, R> {
     type S = HostSource<R::Reader>;
 
     type T = HostSink<Printer<'a, R>>;
 
     type K = SteadyKeeper;
+
+    type C = HostCaller<'a, R>;
 
     ghost seen = { λ w. record {
       tells = false;
@@ -138,11 +167,14 @@ impl<'a, R: Files<File = File> + Input + Print> World for HostWorld<'a, R> {
       sink = None;
       stores = λ _. false;
       keeper = λ _. None;
+      caller = None;
+      talked = None;
       periods = [];
       asked = [];
       source_faults = w.source_faults;
       sink_faults = 0;
       keeper_faults = w.keeper_faults;
+      caller_faults = 0;
     } };
 
     fn take_source(&mut self, name: &str) -> Result<HostSource<R::Reader>, TakeError> {
@@ -182,6 +214,27 @@ impl<'a, R: Files<File = File> + Input + Print> World for HostWorld<'a, R> {
 
     fn give_keeper(&mut self, _name: &str, part: SteadyKeeper) {
         drop(part);
+    }
+
+    fn take_caller(&mut self) -> Result<HostCaller<'a, R>, TakeError> {
+        Ok(HostCaller::new(self.rt))
+    }
+
+    fn give_caller(&mut self, part: HostCaller<'a, R>, link: Option<HostLink<R::Stream>>)
+        ensures kept { self.new ≡ record self.old { trouble = self.new.trouble; stranger = self.new.stranger } }
+        ensures trouble { MatchOption link (self.new.trouble ≡ part.entry.trouble)
+            (λ given. self.new.trouble ≡ trouble_of given.has_ended given.trouble) }
+        ensures stranger { MatchOption link (self.new.stranger ≡ self.old.stranger)
+            (λ given. self.new.stranger ≡ Some (unwrap_or given.stranger Other)) }
+    {
+        match link {
+            Some(link) => {
+                self.stranger = Some(link.stranger());
+                self.trouble = link.into_trouble();
+                drop(part);
+            }
+            None => self.trouble = part.into_trouble(),
+        }
     }
 
     fn keep_period(&mut self, period: Period) -> Result<(), AllocError> {

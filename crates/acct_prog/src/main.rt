@@ -1,35 +1,42 @@
-//! The program `account`: its top call over a world that hands out sources, the sink and keepers, worlds in memory and
-//! the real one, and `main`, which makes the real world and calls `account`.
+//! The program `account`: its top call over a world that hands out sources, the sink, keepers and the caller, worlds in
+//! memory and the real one, and `main`, which makes the real world and calls `account`.
 //!
-//! It stands on `acct_server`, `acct_summary` and `acct_keeper`. What the program promises are the clauses of
-//! [`account`]: over a world that tells, the words without a form take no part; a replay leaves the history, the lines
-//! and the status of its events, and the world's keeper with the pairs of the rows after them; and the generator writes
-//! the summary of a replay of the events that it makes.
+//! It stands on `acct_server`, `acct_summary`, `client_calls` and `acct_keeper`. What the program promises are the
+//! clauses of [`account`]: over a world that tells, the words without a form take no part; a replay leaves the history,
+//! the lines and the status of its events, and the world's keeper with the pairs of the rows after them; the generator
+//! writes the summary of a replay of the events that it makes; and a call holds the dialogue of its command over one
+//! link, and writes its lines.
 #![tactic(auto)]
 
 ghost use Rattle.std.specs.Prelude.{◌≡◌};
 ghost use Rattle.acct_prog.specs.Statuses.{code_of, word_of};
 
+mod channel;
 mod command;
 mod forms;
 mod host;
+mod host_link;
 mod memory;
 mod opened;
 mod part;
 mod period;
-mod take;
+mod stranger;
+mod trouble;
 mod words;
 mod world;
 
 use account_usage::usage;
+pub use acct_links::TakeError;
 use acct_server::Status;
 pub use command::account;
 pub use host::{HostSink, HostSource, HostWorld};
+pub use host_link::{HostCaller, HostLink};
 pub use memory::{MemoryParts, MemoryWorld};
 pub use part::Part;
 pub use period::Period;
 use std::process::ExitCode;
-pub use take::TakeError;
+pub use stranger::Stranger;
+pub use trouble::Trouble;
 use words::words;
 pub use world::World;
 
@@ -79,11 +86,20 @@ fn word_of(status: &Status) -> &'static str
     }
 }
 
-/// The status of the words of the command line, over the real world.
-fn run(rt: &HostRuntime) -> Status {
-    match words(rt, rt.alloc()) {
-        Ok(words) => account(rt.alloc(), &words, &mut HostWorld::new(rt, rt.alloc())),
-        Err(_) => Status::NoMemory,
+/// Says what went wrong at the address that was called, and what to do about it. Where the link ended and what answered
+/// over it is known to be no account server, it says that.
+fn tell_peer(rt: &HostRuntime, status: &Status, address: &str, world: &HostWorld<HostRuntime>) {
+    let is_link = matches!(status, Status::PeerFault);
+    if let Some(stranger) = world.stranger() {
+        if matches!(status, Status::PeerBytes(_)) || (is_link && stranger.is_known()) {
+            let _ = eprintln!(rt; "account: {address}: {stranger}");
+            return;
+        }
+    }
+    if is_link {
+        if let Some(trouble) = world.trouble() {
+            let _ = eprintln!(rt; "account: {address}: {trouble}");
+        }
     }
 }
 
@@ -102,11 +118,24 @@ fn tell(rt: &HostRuntime, status: &Status) {
     }
 }
 
+/// The status of the words of the command line, over the real world, and what went wrong there told.
+fn run(rt: &HostRuntime) -> Status {
+    let Ok(words) = words(rt, rt.alloc()) else {
+        tell(rt, &Status::NoMemory);
+        return Status::NoMemory;
+    };
+    let mut world = HostWorld::new(rt, rt.alloc());
+    let status = account(rt.alloc(), &words, &mut world);
+    tell(rt, &status);
+    if let Some(address) = words.get(1) {
+        tell_peer(rt, &status, address.as_str(), &world);
+    }
+    status
+}
+
 /// It only prints and exits: where a line can't be printed, the code says it alone.
 fn main(rt: HostRuntime) -> ExitCode {
-    let status = run(&rt);
-    tell(&rt, &status);
-    ExitCode::from(code_of(&status))
+    ExitCode::from(code_of(&run(&rt)))
 }
 
 #[cfg(test)]

@@ -1,14 +1,14 @@
 // A world in memory.
-ghost use Rattle.std.specs.Prelude.{◌≡◌, [], Some, option_copied};
-ghost use Rattle.acct_prog.specs.World.{TakesSource, TakesSink, TakesKeeper};
+ghost use Rattle.std.specs.Prelude.{◌≡◌, [], Some, None, option_copied};
+ghost use Rattle.acct_prog.specs.World.{TakesSource, TakesSink, TakesKeeper, TakesCaller, GivesCaller};
 ghost use Rattle.acct_prog.specs.Memory.{shown, source_under, keeper_under, Notes, Hands, TakesInMemory};
 
 use crate::part::Part;
 use crate::period::Period;
-use crate::take::TakeError;
 use crate::world::World;
 use acct_base::{Seq, is_same};
 use acct_keeper::Keeper;
+use acct_links::{Caller, TakeError};
 use acct_server::{Sink, Source};
 use std::alloc::{AllocError, Global};
 use std::marker::Model;
@@ -40,26 +40,34 @@ fn hand<P>(place: &mut Option<P>, to_fail: bool, faults: &mut u64) -> Result<P, 
     Err(TakeError::Failed)
 }
 
-/// What a world in memory has to hand out: the configuration, the events, the sink, and the keeper with the empty name.
+/// What a world in memory has to hand out: the configuration, the events, the sink, the keeper with the empty name, and
+/// the caller.
 #[derive(Drop)]
-pub struct MemoryParts<S: Drop, T: Drop, K: Drop> {
+pub struct MemoryParts<S: Drop, T: Drop, K: Drop, C: Drop> {
     pub config: S,
     pub events: S,
     pub sink: T,
     pub keeper: K,
+    pub caller: C,
 }
 
-/// A world with one configuration under its name, the events, a sink, one keeper, under the empty name, and the periods
-/// that it was given. Its handings out are numbered from 1, and those of the given numbers fail; so does one of a part
-/// that isn't there. It tells what it holds, and what it was asked for.
+/// A world with one configuration under its name, the events, a sink, one keeper, under the empty name, a caller, the
+/// link that was given back with it, and the periods that it was given. Its handings out are numbered from 1, and
+/// those of the given numbers fail; so does one of a part that isn't there. It tells what it holds, and what it was
+/// asked for.
 #[derive(Drop)]
-pub struct MemoryWorld<S: Source + Drop, T: Sink + Drop, K: Keeper + Drop> {
+pub struct MemoryWorld<S: Source + Drop, T: Sink + Drop, K: Keeper + Drop, C: Caller + Drop>
+where
+    C::L: Drop,
+{
     alloc: Global,
     name: Vec<u8>,
     config: Option<S>,
     events: Option<S>,
     sink: Option<T>,
     keeper: Option<K>,
+    caller: Option<C>,
+    talked: Option<C::L>,
     periods: Vec<Period>,
     asked: Vec<Part>,
     failing: Vec<u64>,
@@ -67,12 +75,17 @@ pub struct MemoryWorld<S: Source + Drop, T: Sink + Drop, K: Keeper + Drop> {
     source_faults: u64,
     sink_faults: u64,
     keeper_faults: u64,
+    caller_faults: u64,
 }
 
-impl<S: Source + Drop, T: Sink + Drop, K: Keeper + Drop> Model for MemoryWorld<S, T, K> {
+impl<S: Source + Drop, T: Sink + Drop, K: Keeper + Drop, C: Caller + Drop> Model
+    for MemoryWorld<S, T, K, C>
+where
+    C::L: Drop,
+{
     ghost use Rattle.acct_prog.specs.Memory.{WorldInMemory};
 
-    ghost Value = { WorldInMemory S T K };
+    ghost Value = { WorldInMemory S T K C C.L };
 
     ghost view = { λ w. record {
       name = w.name.items;
@@ -80,30 +93,44 @@ impl<S: Source + Drop, T: Sink + Drop, K: Keeper + Drop> Model for MemoryWorld<S
       events = w.events;
       sink = w.sink;
       keeper = w.keeper;
+      caller = w.caller;
+      talked = w.talked;
       periods = w.periods.items;
       asked = w.asked.items;
       source_faults = w.source_faults;
       sink_faults = w.sink_faults;
       keeper_faults = w.keeper_faults;
+      caller_faults = w.caller_faults;
       takes = w.takes;
       failing = w.failing.items;
     } };
 }
 
-impl<S: Source + Drop, T: Sink + Drop, K: Keeper + Drop> MemoryWorld<S, T, K> {
+impl<S: Source + Drop, T: Sink + Drop, K: Keeper + Drop, C: Caller + Drop> MemoryWorld<S, T, K, C>
+where
+    C::L: Drop,
+{
     /// A world that holds these parts, the configuration under this name.
-    pub fn new(alloc: Global, name: Vec<u8>, parts: MemoryParts<S, T, K>, failing: Vec<u64>) -> Self
+    pub fn new(
+        alloc: Global,
+        name: Vec<u8>,
+        parts: MemoryParts<S, T, K, C>,
+        failing: Vec<u64>,
+    ) -> Self
         ensures { result ≡ record {
           name = name.items;
           config = Some parts.config;
           events = Some parts.events;
           sink = Some parts.sink;
           keeper = Some parts.keeper;
+          caller = Some parts.caller;
+          talked = None;
           periods = [];
           asked = [];
           source_faults = 0;
           sink_faults = 0;
           keeper_faults = 0;
+          caller_faults = 0;
           takes = 0;
           failing = failing.items;
         } }
@@ -115,6 +142,8 @@ impl<S: Source + Drop, T: Sink + Drop, K: Keeper + Drop> MemoryWorld<S, T, K> {
             events: Some(parts.events),
             sink: Some(parts.sink),
             keeper: Some(parts.keeper),
+            caller: Some(parts.caller),
+            talked: None,
             periods: Vec::new(alloc),
             asked: Vec::new(alloc),
             failing,
@@ -122,6 +151,7 @@ impl<S: Source + Drop, T: Sink + Drop, K: Keeper + Drop> MemoryWorld<S, T, K> {
             source_faults: 0,
             sink_faults: 0,
             keeper_faults: 0,
+            caller_faults: 0,
         }
     }
 
@@ -139,6 +169,20 @@ impl<S: Source + Drop, T: Sink + Drop, K: Keeper + Drop> MemoryWorld<S, T, K> {
         self.keeper.as_ref()
     }
 
+    /// The caller, if it is not out.
+    pub fn caller(&self) -> Option<&C>
+        ensures { option_copied result ≡ self.now.caller }
+    {
+        self.caller.as_ref()
+    }
+
+    /// The link that was given back with the caller, if one was.
+    pub fn talked(&self) -> Option<&C::L>
+        ensures { option_copied result ≡ self.now.talked }
+    {
+        self.talked.as_ref()
+    }
+
     /// The periods that it was given.
     pub fn periods(&self) -> &[Period]
         ensures { result.now ≡ self.now.periods }
@@ -154,12 +198,18 @@ impl<S: Source + Drop, T: Sink + Drop, K: Keeper + Drop> MemoryWorld<S, T, K> {
     }
 }
 
-impl<S: Source + Drop, T: Sink + Drop, K: Keeper + Drop> World for MemoryWorld<S, T, K> {
+impl<S: Source + Drop, T: Sink + Drop, K: Keeper + Drop, C: Caller + Drop> World
+    for MemoryWorld<S, T, K, C>
+where
+    C::L: Drop,
+{
     type S = S;
 
     type T = T;
 
     type K = K;
+
+    type C = C;
 
     ghost seen = { λ w. shown w };
 
@@ -213,6 +263,26 @@ impl<S: Source + Drop, T: Sink + Drop, K: Keeper + Drop> World for MemoryWorld<S
         if is_same(name.as_bytes(), b"") {
             self.keeper = Some(part);
         }
+    }
+
+    fn take_caller(&mut self) -> Result<C, TakeError>
+        ensures takes { TakesCaller (shown self.old) (shown self.new) result }
+        ensures counted { TakesInMemory self.old self.new self.old.caller result }
+    {
+        let fails = note(
+            &mut self.asked,
+            Part::Caller,
+            &self.failing,
+            &mut self.takes,
+        )?;
+        hand(&mut self.caller, fails, &mut self.caller_faults)
+    }
+
+    fn give_caller(&mut self, part: C, link: Option<C::L>)
+        ensures gives { GivesCaller (shown self.old) (shown self.new) part link }
+    {
+        self.caller = Some(part);
+        self.talked = link;
     }
 
     fn keep_period(&mut self, period: Period) -> Result<(), AllocError> {

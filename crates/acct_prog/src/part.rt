@@ -9,4 +9,5 @@ pub enum Part {
     Sink,
     /// The keeper under this name.
     Keeper(Seq<u8>),
+    Caller,
 }

@@ -5,6 +5,7 @@ use crate::words::text_of;
 use crate::{HostSink, HostSource, MemoryParts, MemoryWorld, Part, account};
 use acct_base::Seq;
 use acct_keeper::{Change, Keeper, MemoryKeeper, SteadyKeeper};
+use acct_links::{MemoryCaller, MemoryLink, SteadyCaller, SteadyLink};
 use acct_machine::{Entry, Rows};
 use acct_server::{
     MemorySink, MemorySource, Sink, Source, Status, SteadySink, SteadySource, read_whole, write_all,
@@ -14,7 +15,9 @@ use std::process::Abort;
 use std::test::Fail;
 
 mod accounts;
+mod calls;
 mod limits;
+mod links;
 mod names;
 mod objects;
 mod rights;
@@ -23,7 +26,7 @@ mod stores;
 mod tables;
 
 /// A world that tells what it holds.
-type Told = MemoryWorld<MemorySource, MemorySink, MemoryKeeper>;
+type Told = MemoryWorld<MemorySource, MemorySink, MemoryKeeper, MemoryCaller<MemoryLink>>;
 
 const CONFIG: &str =
     "[domain]\nname = \"CORP\"\nsid = \"S-1-5-21-1-2-3\"\n[[listener]]\nname = \"a\"\naddress = \
@@ -44,6 +47,7 @@ fn line_in(lines: &'static str, name: &str) -> Option<&'static str> {
 fn line_of(name: &str) -> &'static str {
     for lines in [
         accounts::LINES,
+        calls::LINES,
         limits::LINES,
         names::LINES,
         objects::LINES,
@@ -108,13 +112,14 @@ fn config_of(alloc: Global, name: &str) -> Result<String, Fail> {
 }
 
 /// How a run is made: which reads of the configuration and the events, which writes, which calls of the keeper and
-/// which handings out fail, and how many bytes a read and a write take.
+/// of the link and which handings out fail, and how many bytes a read and a write take.
 #[derive(Clone, Copy)]
 struct Making {
     config_failing: u64,
     events_failing: u64,
     writes_failing: u64,
     keeper_failing: u64,
+    link_failing: u64,
     takes_failing: u64,
     read_size: usize,
     write_size: usize,
@@ -127,6 +132,7 @@ fn making_of(words: &str) -> Making {
         events_failing: 0,
         writes_failing: 0,
         keeper_failing: 0,
+        link_failing: 0,
         takes_failing: 0,
         read_size: 4096,
         write_size: 4096,
@@ -141,6 +147,7 @@ fn making_of(words: &str) -> Making {
             Some(b'e') => making.events_failing = number as u64,
             Some(b'w') => making.writes_failing = number as u64,
             Some(b'k') => making.keeper_failing = number as u64,
+            Some(b'l') => making.link_failing = number as u64,
             Some(b't') => making.takes_failing = number as u64,
             Some(b'r') => making.read_size = number as usize,
             Some(b's') => making.write_size = number as usize,
@@ -163,27 +170,60 @@ fn sink_of(alloc: Global, making: Making) -> Result<MemorySink, Fail> {
     Ok(MemorySink::new(alloc, 65536, making.write_size.max(1), failing)?)
 }
 
-/// A world over what a keeper holds.
+/// The bytes of lines of these names.
+fn bytes_of(alloc: Global, names: &str) -> Result<Vec<u8>, Fail> {
+    let mut bytes = Vec::new(alloc);
+    for name in names.split(' ') {
+        if !name.is_empty() {
+            bytes.extend_from_slice(&hex::decode(alloc, line_of(name))?)?;
+        }
+    }
+    Ok(bytes)
+}
+
+/// A caller that has one link, whose peer sends the bytes of these lines.
+fn caller_of(
+    alloc: Global,
+    answers: &str,
+    making: Making,
+) -> Result<MemoryCaller<MemoryLink>, Fail> {
+    let input = SteadyLink::new(bytes_of(alloc, answers)?, 4096);
+    let failing = numbered(alloc, making.link_failing)?;
+    let link = MemoryLink::new(alloc, input, 1024, 4096, failing)?;
+    let mut links = Vec::new(alloc);
+    links.push(link)?;
+    Ok(MemoryCaller::new(alloc, links, Vec::new(alloc)))
+}
+
+/// A world over what a keeper holds and what a caller gives.
 fn world_over(
     alloc: Global,
     stored: SteadyKeeper,
-    config: String,
-    events: String,
+    caller: MemoryCaller<MemoryLink>,
+    texts: (String, String),
     making: Making,
 ) -> Result<Told, Fail> {
     let name = b"first.toml".to_vec(alloc)?;
+    let (config, events) = texts;
     let parts = MemoryParts {
         config: source_of(alloc, config, making.read_size, making.config_failing)?,
         events: source_of(alloc, events, making.read_size, making.events_failing)?,
         sink: sink_of(alloc, making)?,
         keeper: MemoryKeeper::new(stored, numbered(alloc, making.keeper_failing)?),
+        caller,
     };
     let failing = numbered(alloc, making.takes_failing)?;
     Ok(MemoryWorld::new(alloc, name, parts, failing))
 }
 
+/// A caller that has no link.
+fn nobody(alloc: Global) -> MemoryCaller<MemoryLink> {
+    MemoryCaller::new(alloc, Vec::new(alloc), Vec::new(alloc))
+}
+
 fn world_of(alloc: Global, config: String, events: String, making: Making) -> Result<Told, Fail> {
-    world_over(alloc, SteadyKeeper::new(alloc), config, events, making)
+    let stored = SteadyKeeper::new(alloc);
+    world_over(alloc, stored, nobody(alloc), (config, events), making)
 }
 
 fn words_of(alloc: Global, text: &str) -> Result<Vec<String>, Fail> {
@@ -442,7 +482,13 @@ fn a_replay_begins_from_what_the_last_one_stored(rt: HostRuntime) -> Result<(), 
         alloc,
         "OPEN BIND CONNECT OPEN-CORP CREATE-ALICE-AGAIN CREATE-BOB",
     )?;
-    let mut next = world_over(alloc, stored, config_of(alloc, "")?, events, making)?;
+    let mut next = world_over(
+        alloc,
+        stored,
+        nobody(alloc),
+        (config_of(alloc, "")?, events),
+        making,
+    )?;
     assert!(rt; matches!(account(alloc, &words, &mut next), Status::Done));
     let wanted = lines_of(
         alloc,
@@ -460,13 +506,8 @@ fn a_store_of_an_unknown_format(rt: HostRuntime) -> Result<(), Fail> {
     let mut world = world_of(alloc, config_of(alloc, "")?, String::new(alloc), making)?;
     assert!(rt; matches!(account(alloc, &words, &mut world), Status::Done));
     let stored = stored_by(alloc, &world, Some((b"\x66", b"\x02")))?;
-    let mut next = world_over(
-        alloc,
-        stored,
-        config_of(alloc, "")?,
-        String::new(alloc),
-        making,
-    )?;
+    let texts = (config_of(alloc, "")?, String::new(alloc));
+    let mut next = world_over(alloc, stored, nobody(alloc), texts, making)?;
     let status = account(alloc, &words, &mut next);
     assert_eq!(rt;
         format!(in alloc; "{status:?}")?.as_str(),
@@ -575,6 +616,7 @@ fn first_run_over_steady_parts(rt: HostRuntime) -> Result<(), Fail> {
         events: SteadySource::new(lines_of(alloc, "OPEN BIND CONNECT CLOSE END")?.into_bytes()),
         sink: SteadySink,
         keeper: SteadyKeeper::new(alloc),
+        caller: SteadyCaller::new(alloc, Vec::new(alloc), 1),
     };
     let mut world = MemoryWorld::new(alloc, name, parts, Vec::new(alloc));
     let status = account(alloc, &words, &mut world);
@@ -591,6 +633,7 @@ fn asked_text(alloc: Global, world: &Told) -> Result<String, Fail> {
             Part::Source(name) => ("source ", name.as_slice()),
             Part::Sink => ("sink", b"".as_slice()),
             Part::Keeper(name) => ("keeper ", name.as_slice()),
+            Part::Caller => ("caller", b"".as_slice()),
         };
         text.push_str(kind)?;
         text.push_str(std::str::from_utf8(name).ok().unwrap_or("?"))?;
@@ -672,6 +715,53 @@ fn a_summary_over_a_sink_that_fails(rt: HostRuntime) -> Result<(), Fail> {
         assert!(rt; matches!(status, Status::WriteFault));
         assert_eq!(rt; written_text(alloc, &world)?.as_str(), front);
     }
+    Ok(())
+}
+
+/// Tells a row of a call: how it is made, the words, the peer's answers, the lines printed, and the status.
+fn tell_call(rt: &impl Abort, alloc: Global, row: &str) -> Result<(), Fail> {
+    let (making, rest) = column(row);
+    let (words, rest) = column(rest);
+    let (answers, rest) = column(rest);
+    let (lines, rest) = column(rest);
+    let (status, _) = column(rest);
+    let making = making_of(making);
+    let caller = caller_of(alloc, answers, making)?;
+    let texts = (String::new(alloc), String::new(alloc));
+    let mut world = world_over(alloc, SteadyKeeper::new(alloc), caller, texts, making)?;
+    let ended = account(alloc, &words_of(alloc, words)?, &mut world);
+    assert_eq!(rt; format!(in alloc; "{ended:?}")?.as_str(), status, "{row}");
+    assert_eq!(rt;
+        written(&world),
+        lines_of(alloc, lines)?.as_bytes(),
+        "{row}"
+    );
+    assert!(rt; world.periods().is_empty(), "{row}");
+    Ok(())
+}
+
+#[test]
+fn commands_of_the_client(rt: HostRuntime) -> Result<(), Fail> {
+    for row in calls::CALLS.lines() {
+        tell_call(&rt, rt.alloc(), row)?;
+    }
+    Ok(())
+}
+
+#[test]
+fn a_call_takes_the_caller_and_then_the_sink(rt: HostRuntime) -> Result<(), Fail> {
+    let alloc = rt.alloc();
+    let making = making_of("");
+    let caller = caller_of(alloc, calls::DOMAINS, making)?;
+    let texts = (String::new(alloc), String::new(alloc));
+    let mut world = world_over(alloc, SteadyKeeper::new(alloc), caller, texts, making)?;
+    let words = words_of(alloc, "call tcp:127.0.0.1:4045 domains")?;
+    assert!(rt; matches!(account(alloc, &words, &mut world), Status::Done));
+    assert_eq!(rt; asked_text(alloc, &world)?.as_str(), "caller;sink;");
+    let called = world.caller().map_or(0, |caller| caller.addresses().len());
+    assert_eq!(rt; called, 1);
+    let sent = world.talked().map_or(&b""[..], |link| link.as_slice());
+    assert_eq!(rt; sent, bytes_of(alloc, calls::REQUESTS)?.as_slice());
     Ok(())
 }
 

@@ -1,16 +1,16 @@
 // The world, which hands out what a command needs and takes it back.
 ghost use Rattle.acct_prog.specs.World.{Seen, TakesSource, GivesSource, TakesSink, GivesSink, TakesKeeper, GivesKeeper};
-ghost use Rattle.acct_prog.specs.World.{KeepsPeriod};
+ghost use Rattle.acct_prog.specs.World.{TakesCaller, GivesCaller, KeepsPeriod};
 
 use crate::period::Period;
-use crate::take::TakeError;
 use acct_keeper::Keeper;
+use acct_links::{Caller, TakeError};
 use acct_server::{Sink, Source};
 use std::alloc::AllocError;
 
-/// What the program meets: sources and keepers by name, the sink, and a place for the period that it leaves. The source
-/// `-` is the standard input. The keeper with the empty name is one in memory, which holds no pair in the real world. A
-/// world in memory tells what it holds, the real one doesn't.
+/// What the program meets: sources and keepers by name, the sink, the caller, and a place for the period that it
+/// leaves. The source `-` is the standard input. The keeper with the empty name is one in memory, which holds no pair
+/// in the real world. A world in memory tells what it holds, the real one doesn't.
 pub trait World {
     type S: Source;
 
@@ -18,8 +18,10 @@ pub trait World {
 
     type K: Keeper + Drop;
 
+    type C: Caller;
+
     /// What it shows.
-    ghost seen: { Self → Seen Self.S Self.T Self.K };
+    ghost seen: { Self → Seen Self.S Self.T Self.K Self.C Self.C.L };
 
     /// Hands out the source under a name.
     fn take_source(&mut self, name: &str) -> Result<Self::S, TakeError>
@@ -44,6 +46,14 @@ pub trait World {
     /// Has this keeper under a name from now on, if it has a place for that name.
     fn give_keeper(&mut self, name: &str, part: Self::K)
         ensures gives { GivesKeeper (seen self.old) (seen self.new) name.now part };
+
+    /// Hands out the caller.
+    fn take_caller(&mut self) -> Result<Self::C, TakeError>
+        ensures takes { TakesCaller (seen self.old) (seen self.new) result };
+
+    /// Has this caller from now on, and the link that it gave, if it gave one.
+    fn give_caller(&mut self, part: Self::C, link: Option<<Self::C as Caller>::L>)
+        ensures gives { GivesCaller (seen self.old) (seen self.new) part link };
 
     /// Keeps what a replay left.
     fn keep_period(&mut self, period: Period) -> Result<(), AllocError>

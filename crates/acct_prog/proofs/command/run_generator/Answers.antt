@@ -25,6 +25,6 @@ returns g c =
           c.generate-ended.new.out done c.keep-status.result c.in-Ok.ensures.takes c.generate-ended.ensures.is kept
           c.give_sink.ensures.gives);
       not_usage = kept-not-usage (w.seen c.take_sink.new.self) (w.seen c.keep-status.new.world)
-          (period_between done.opening done.history done.rows) done.ended c.keep-status.result kept.periods
-          c.generate-ended.ensures.not_usage;
+          (period_between done.opening done.history done.rows) done.ended c.keep-status.result
+          kept.periods c.generate-ended.ensures.not_usage;
     }

@@ -10,17 +10,20 @@ pub returns-clause-takes : goal.returns-clause-takes
 returns-clause-takes g c =
     let s = c.self.inside in
     let n = c.args.name.now in
-    let w : WorldInMemory g.row.S.Denot g.row.T.Denot g.row.K.Denot = record {
+    let w : WorldInMemory g.row.S.Denot g.row.T.Denot g.row.K.Denot g.row.C.Denot g.row.C-L.Denot = record {
       name = s.name.items;
       config = s.config;
       events = s.events;
       sink = s.sink;
       keeper = s.keeper;
+      caller = s.caller;
+      talked = s.talked;
       periods = s.periods.items;
       asked = s.asked.items;
       source_faults = s.source_faults;
       sink_faults = s.sink_faults;
       keeper_faults = s.keeper_faults;
+      caller_faults = s.caller_faults;
       takes = s.takes;
       failing = s.failing.items;
     } in

@@ -1,0 +1,29 @@
+-- `account` meets its contract: what the search leaves open.
+use Rattle.std.proofs.Common.{◌≡◌, List, ℕ, None, map, sym}
+use Rattle.std.specs.String.{string_bytes}
+use Rattle.acct_prog.specs.Words.{gen_form}
+use Rattle.acct_prog.proofs.Callings.{does-call}
+use Rattle.acct_prog.proofs.command.account.Goals as goal
+
+pub returns-then-is_call-clause-commanded : goal.returns-then-is_call-clause-commanded
+returns-then-is_call-clause-commanded g c =
+    let s = g.W.S.Source in
+    let t = g.W.T.Sink in
+    let k = g.W.K.Keeper in
+    let w = g.W.World in
+    let words : List (List ℕ) = map string_bytes c.args.words.now.items in
+    let no_gen : gen_form words ≡ None = sym c.in_default-gen_users.ensures.value in
+    does-call (record {
+      left = s.left;
+      read_faults = s.faults;
+      held = t.held;
+      write_faults = t.faults;
+      pairs = k.held;
+      store_faults = k.faults;
+    }) (record {
+      sunk = λ out. record { held = t.held out; faults = t.faults out };
+      called = g.W.C.Caller.called;
+      call_faults = g.W.C.Caller.faults;
+      link = g.W.C.L.Link.told;
+    }) words (w.seen c.args.world.now) (w.seen c.run_client.new.world) c.run_client.result c.in_default.ensures no_gen
+    c.run_client.ensures.calls
