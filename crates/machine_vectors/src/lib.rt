@@ -1,0 +1,9 @@
+//! Test tables of the machine: what connections ask and each call is answered, what openings grant, the check of a
+//! handle of each kind at each operation, commits that fail, and stores.
+//!
+//! It has tests alone, which call `acct_machine` and the table of `acct_operations` as the layer above does, so these
+//! crates themselves are proved without tests.
+#![tactic(auto)]
+
+#[cfg(test)]
+mod tests;

@@ -1,0 +1,87 @@
+// Stores that are opened, again or not at all.
+ghost use Rattle.acct_config.specs.Right.{IsRight};
+
+use super::configs::{PLAIN, configured};
+use super::scripts::keeper_with;
+use acct_base::Seq;
+use acct_keeper::{Change, Keeper, MemoryKeeper};
+use acct_machine::{Config, OpenError, Rows, open_store};
+use std::alloc::Global;
+use std::test::Fail;
+
+fn push_opening(text: &mut String, opening: &Result<Rows, OpenError>) -> Result<(), Fail> {
+    match opening {
+        Ok(rows) => write!(text, "{} accounts", rows.accounts().len())?,
+        Err(OpenError::StoredPair(key)) => write!(text, "bad pair {:?}", key.as_slice())?,
+        Err(error) => write!(text, "{error:?}")?,
+    }
+    Ok(())
+}
+
+/// What an opening of a store answers: how many accounts there are, or why it isn't opened; and how many pairs are
+/// kept.
+fn opened(alloc: Global, config: &Config, keeper: &mut MemoryKeeper) -> Result<String, Fail>
+    requires { IsRight config.now }
+{
+    let opening = open_store(alloc, config, keeper);
+    let mut text = String::new(alloc);
+    let pushed = push_opening(&mut text, &opening);
+    drop(opening);
+    pushed?;
+    write!(text, ", {} pairs", keeper.as_slice().len())?;
+    Ok(text)
+}
+
+/// What the opening of a keeper without a pair answers whose calls of these numbers fail.
+fn opened_first(alloc: Global, config: &Config, failing: &[u64]) -> Result<String, Fail>
+    requires { IsRight config.now }
+{
+    let mut keeper = keeper_with(alloc, failing)?;
+    opened(alloc, config, &mut keeper)
+}
+
+#[test]
+fn stores_that_fail_are_not_opened(rt: HostRuntime) -> Result<(), Fail> {
+    let config = configured(&rt, rt.alloc(), PLAIN)?;
+    // A load that fails, and a seeding that does: no pair is kept.
+    for (failing, wanted) in [
+        (1, "StoreFault, 0 pairs"),
+        (2, "StoreFault, 0 pairs"),
+        (3, "8 accounts, 19 pairs"),
+    ] {
+        let told = opened_first(rt.alloc(), &config, &[failing])?;
+        assert_eq!(rt; told.as_str(), wanted, "{failing}");
+    }
+    Ok(())
+}
+
+/// Removes the pair of the store's format, whose key is then the one that is broken.
+fn break_store(alloc: Global, keeper: &mut MemoryKeeper) -> Result<(), Fail> {
+    let gone = Change {
+        key: Seq::copy_of(alloc, b"f")?,
+        value: None,
+    };
+    keeper.commit(&[gone])?;
+    Ok(())
+}
+
+#[test]
+fn stores_are_opened_again_as_they_were_left(rt: HostRuntime) -> Result<(), Fail> {
+    let alloc = rt.alloc();
+    let config = configured(&rt, alloc, PLAIN)?;
+    let mut keeper = keeper_with(alloc, &[])?;
+    assert_eq!(rt;
+        opened(alloc, &config, &mut keeper)?.as_str(),
+        "8 accounts, 19 pairs"
+    );
+    assert_eq!(rt;
+        opened(alloc, &config, &mut keeper)?.as_str(),
+        "8 accounts, 19 pairs"
+    );
+    break_store(alloc, &mut keeper)?;
+    assert_eq!(rt;
+        opened(alloc, &config, &mut keeper)?.as_str(),
+        "bad pair [102], 18 pairs"
+    );
+    Ok(())
+}
