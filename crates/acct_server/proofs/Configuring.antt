@@ -1,6 +1,6 @@
 -- A replay under the configuration that its document spells.
 use Rattle.std.proofs.Common.{◌≡◌, ℕ, ◌<◌, ◌≤◌, inl, inr, Bool, true, false, cond, List, [], length, Option, Some, None}
-use Rattle.std.proofs.Common.{refl, ◌∙◌, ap, subst, arith, IfSome}
+use Rattle.std.proofs.Common.{refl, ◌∙◌, ap, subst, arith, IfSome, ◌≢◌, ◌∷◌}
 use Rattle.std.proofs.lemmas.Bool.Decides.{nat_tests}
 use Rattle.std.specs.Prelude.{nat_lt}
 use Rattle.acct_config.specs.declared.config.Config.{Config}
@@ -25,11 +25,12 @@ use Rattle.acct_machine.specs.declared.opened.OpenError.{OpenError}
 use Rattle.acct_machine.specs.declared.opened.OpenError.TheVariants as unopened
 use Rattle.acct_machine.specs.Opened.{OpensRows, OpenCause}
 use Rattle.acct_machine.specs.State.{Start}
-use Rattle.acct_machine.specs.Storing.{AreUpTo}
+use Rattle.acct_machine.specs.Storing.{HoldsRows, AreUpTo}
+use Rattle.acct_rows.specs.Rows.{Lists}
 use Rattle.acct_server.specs.Begun.{IsBegun}
 use Rattle.acct_server.specs.Configured.{BreaksNone, IsConfigured, refused_status, spelled}
 use Rattle.acct_server.specs.Leaves.{IsRunThrough, IsOfRun, ConfigCause, EventsCause, unread_status, unless_broken}
-use Rattle.acct_server.specs.Leaves.{StoreCause, asked_before, IsAsked, unopened_status}
+use Rattle.acct_server.specs.Leaves.{StoreCause, StoreKept, asked_before, IsAsked, unopened_status}
 use Rattle.acct_server.specs.Replaying.{Telling, Parts, RunsLines, HasRunLines, StopsAtStore, AsksFor, IsReplay}
 use Rattle.acct_server.specs.Replayed.{replayed}
 use Rattle.acct_server.specs.declared.replays.Replayed.{Replayed}
@@ -127,6 +128,15 @@ pub store-unopened : (held : Option (List Pair)) (before now : ℕ) (e : OpenErr
 store-unopened held before now unopened.StoreFault cause = cause
 store-unopened held before now (unopened.StoredPair key) cause = cause
 store-unopened held before now unopened.Memory cause = tt
+
+-- what the keeper holds where memory was wanted for the machine, once the store was opened
+pub kept-before-machine : (config : Config) (held now : Option (List Pair)) (rows : Lists)
+    → IfSome held (λ pairs. OpensRows config pairs rows) → IfSome held (λ pairs. pairs ≢ [] → now ≡ Some pairs)
+    → HoldsRows now rows → StoreKept config held now NoMemory
+kept-before-machine config None now rows opened kept stored = inr (refl, tt)
+kept-before-machine config (Some []) now rows opened kept stored =
+    inr (refl, (refl, subst (λ (r : Lists). HoldsRows now r) opened stored))
+kept-before-machine config (Some (pair ∷ pairs)) now rows opened kept stored = inl (kept (λ none. absurd cc))
 
 pub config-rule : (left : Option (List ℕ)) (before now : ℕ) (whole given : List ℕ) (error : ConfigError)
     → IfSome left (λ bytes. whole ≡ bytes) → length whole ≤ most_bytes → given ≡ whole
@@ -357,8 +367,8 @@ store-not-opened told old new left none out stops config_later events_later keep
   keeper_later = keeper_later;
 }
 
--- the keeper's count doesn't fall while lines are run
-up-to-first : (now : ℕ) (start : Start) (history : List Entry) (faults : ℕ) → AreUpTo now start history
+-- the keeper's count doesn't fall along a history
+pub up-to-first : (now : ℕ) (start : Start) (history : List Entry) (faults : ℕ) → AreUpTo now start history
     → faults ≤ start.faults → faults ≤ now
 up-to-first now start history faults up le =
     let first : start.faults ≤ now = up 0 start.faults (omega arith) in omega (arith, first, le)

@@ -16,7 +16,10 @@ use Rattle.acct_streams.specs.Whole.{most_bytes}
 use Rattle.acct_keeper.specs.declared.pairs.Pair.{Pair}
 use Rattle.acct_machine.specs.declared.opened.OpenError.{OpenError}
 use Rattle.acct_machine.specs.declared.opened.OpenError.TheVariants as unopened
+use Rattle.acct_machine.specs.Storing.{HoldsRows}
+use Rattle.acct_config.specs.declared.config.Config.{Config}
 use Rattle.acct_rows.specs.PairRules.{IsSmallestBroken}
+use Rattle.acct_rows.specs.Seed.{seed_lists}
 use Rattle.acct_server.specs.Begun.{IsBegun}
 use Rattle.acct_server.specs.Configured.{spelled}
 use Rattle.acct_server.specs.Replayed.{Effect, replayed, ending, entries_of, output_of, line_bytes}
@@ -104,6 +107,13 @@ StoreCause held before now StoreFault = Rose before now
 StoreCause held before now (StoredPair key) = IfSome held (λ pairs. (pairs ≢ []) × IsSmallestBroken pairs key)
 StoreCause held before now NoMemory = Unit {0}
 StoreCause held before now _ = ⊥
+
+-- What the keeper holds where no machine was made: what it held. Only where that was no pair and memory was wanted, it
+-- may have the pairs of the seed rows.
+abbrev pub StoreKept : Config → Option (List Pair) → Option (List Pair) → Status → Type 0
+StoreKept config held now status =
+    (now ≡ held) ⊎ ((status ≡ NoMemory)
+    × IfSome held (λ pairs. (pairs ≡ []) × HoldsRows now (seed_lists config.name config.sid)))
 
 -- a status, or that of a rule that is broken
 abbrev pub unless_broken : Option ℕ → Option Status → Option Status

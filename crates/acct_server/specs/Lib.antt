@@ -7,3 +7,4 @@ pub mod Leaves
 pub mod Denied
 pub mod Connections
 pub mod Replaying
+pub mod Serving

@@ -19,7 +19,7 @@ use Rattle.acct_machine.specs.Storing.{HoldsRows, AreUpTo}
 use Rattle.acct_server.specs.Begun.{IsBegun}
 use Rattle.acct_server.specs.Configured.{BreaksNone, IsConfigured}
 use Rattle.acct_server.specs.Leaves.{Leaves, Breaks, Stops, IsRunThrough, IsOfRun, ConfigCause, EventsCause}
-use Rattle.acct_server.specs.Leaves.{StoreCause, IsAsked}
+use Rattle.acct_server.specs.Leaves.{StoreCause, StoreKept, IsAsked}
 use Rattle.acct_requests.specs.Transcribed.{IsTranscribed}
 use Rattle.acct_server.specs.Connections.{found_full, received, sent}
 use Rattle.acct_server.specs.Replayed.{replayed}
@@ -59,13 +59,16 @@ pub record StopsAtEvents {S T K : Type 0} (told : Telling S T K) (old new : Part
     pub cause : EventsCause (told.left old.events) (told.read_faults old.events) (told.read_faults new.events) status
     pub keeper : new.keeper ≡ old.keeper
 
--- Both were, and the store wasn't opened.
+-- Both were, and the store wasn't opened: the keeper holds what it held, but for the seed rows where memory was wanted.
 pub record StopsAtStore {S T K : Type 0} (told : Telling S T K) (old new : Parts S T K) (status : Status) : Type 0
   where
     pub taken : BreaksNone (told.left old.config)
     pub short : IfSome (told.left old.config) (λ document. length document ≤ most_bytes)
     pub read : IfSome (told.left old.events) (λ events. length events ≤ most_bytes)
     pub cause : StoreCause (told.pairs old.keeper) (told.store_faults old.keeper) (told.store_faults new.keeper) status
+    pub config : Config
+    pub configured : IsConfigured (told.left old.config) config
+    pub kept : StoreKept config (told.pairs old.keeper) (told.pairs new.keeper) status
 
 -- The lines weren't run: no machine was made, nothing has happened and nothing was written.
 pub record HasNotRun {S T K : Type 0} (told : Telling S T K) (old new : Parts S T K) (left : Replayed K) : Type 0 where

@@ -1,4 +1,4 @@
-//! Replays of the account server: event lines in, and the bytes that the server sends out.
+//! The account server: replays of event lines, and serving over links, both on one machine over a keeper of its rows.
 //!
 //! It stands on `acct_machine` for the history and the rows to begin with, on `acct_requests` for the connections and
 //! for requests over a gate, on `rpc_session` for the acts of a stream, on `acct_streams` and on the kit's `hex`;
@@ -9,26 +9,35 @@
 //! opening's check lacks a bit; and every status has its cause, that of a configuration its first broken rule, with
 //! the events untouched.
 //!
-//! In rooms: `running` does what a line says, `replays` the whole.
+//! Of [`serve`] the contract is `IsServe`: the doors are served side by side; what was written on each link is the
+//! transcript of the acts of what was read, with the replies of its calls in the one history; each link goes back to its
+//! door; and every end and status has its cause. The configuration of either is read by [`read_configuration`].
+//!
+//! In rooms: `beginning` opens the store, `running` does what a line says, `replays` a whole replay, `serving` serves.
 //!
 //! The way of a line: [`Event`] says what it asks for, the connection's stream which acts its bytes complete, the
 //! stubs which call a request is, the machine enters it and replies, the replies are cut into responses and printed.
 #![tactic(auto)]
 
+mod beginning;
 mod events;
 mod laws;
 mod lines;
 mod printing;
 mod replays;
 mod running;
+mod serving;
 mod status;
 
 pub use acct_requests::{Answer, Asked, Gate, Peer, read_request, request};
+pub use acct_serving::Ended;
+pub use acct_sessions::{SessionEnd, session};
 pub use acct_streams::{
     Failed, MemorySink, MemorySource, Sink, Source, SteadySink, SteadySource, WholeError,
     read_whole, write_all,
 };
 pub use events::{Event, LineError};
 pub use laws::cuts_change_nothing;
-pub use replays::{Replayed, replay};
+pub use replays::{Replayed, read_configuration, replay};
+pub use serving::{Served, serve};
 pub use status::Status;

@@ -3,23 +3,21 @@ ghost use Rattle.std.specs.Prelude.{◌≡◌, ◌<◌, ◌≤◌, ◌^◌, [], 
 ghost use Rattle.acct_server.specs.declared.status.Status.TheVariants.{NoMemory, WriteFault};
 ghost use Rattle.acct_streams.specs.Causes.{Rose};
 ghost use Rattle.acct_streams.specs.Whole.{most_bytes};
-ghost use Rattle.acct_config.specs.Right.{IsRight};
 ghost use Rattle.acct_machine.specs.Step.{state_at};
 ghost use Rattle.acct_machine.specs.Storing.{HoldsRows, AreUpTo};
-ghost use Rattle.acct_server.specs.Begun.{IsBegun};
 ghost use Rattle.acct_server.specs.Configured.{IsConfigured, refused_status};
 ghost use Rattle.acct_server.specs.Leaves.{Leaves, ConfigCause, unread_status, Breaks, Stops, Finishes, FinishBreaks};
-ghost use Rattle.acct_server.specs.Leaves.{IsRunThrough, IsOfRun, StoreCause, unopened_status};
+ghost use Rattle.acct_server.specs.Leaves.{IsRunThrough, IsOfRun};
 ghost use Rattle.acct_server.specs.Replaying.{IsReplay, RunsLines};
 
+use crate::beginning::begin;
 use crate::events::LineError;
 use crate::lines::next_line;
 use crate::running::Run;
 use crate::{Sink, Source, Status, WholeError, read_whole, write_all};
 use acct_base::Seq;
 use acct_machine::{
-    Config, ConfigError, Entry, Keeper, OpenError, Rows, access_is_denied_exactly, open_store,
-    read_config,
+    Config, ConfigError, Entry, Keeper, Rows, access_is_denied_exactly, read_config,
 };
 use rpc_session::streams_are_cut_anywhere;
 use std::alloc::Global;
@@ -54,18 +52,8 @@ fn refused(error: ConfigError) -> Status
     }
 }
 
-fn unopened(e: OpenError) -> Status
-    ensures { result ≡ unopened_status e }
-{
-    match e {
-        OpenError::StoreFault => Status::StoreFault,
-        OpenError::StoredPair(key) => Status::StoredPair(key),
-        OpenError::Memory => Status::NoMemory,
-    }
-}
-
-// The configuration that a source's document spells.
-fn read_configuration<S: Source>(alloc: Global, source: &mut S) -> Result<Config, Status>
+/// The configuration that a source's document spells.
+pub fn read_configuration<S: Source>(alloc: Global, source: &mut S) -> Result<Config, Status>
     ensures configured { IfOk result (IsConfigured (S.left source.old)) }
     ensures short { OnOk result (IfSome (S.left source.old) (λ document. length document ≤ most_bytes)) }
     ensures cause { IfErr result (ConfigCause (S.left source.old) (S.faults source.old) (S.faults source.new)) }
@@ -196,45 +184,6 @@ fn run_events<K: Keeper + Drop, T: Sink>(
     }
 }
 
-// Why no machine was made, with the keeper.
-#[derive(Drop)]
-struct NoRun<K: Drop> {
-    status: Status,
-    keeper: K,
-}
-
-// A run to which nothing has happened, from the rows with which the store is opened.
-fn begin<K: Keeper + Drop>(
-    alloc: Global,
-    config: &Config,
-    mut keeper: K,
-) -> Result<Run<K>, NoRun<K>>
-    requires { IsRight config.now }
-    ensures begun { IfOk result (λ run. IsBegun config.now (K.held keeper) (K.faults keeper) run.machine.start) }
-    ensures history { IfOk result (λ run. run.machine.history ≡ []) }
-    ensures peers { IfOk result (λ run. run.peers ≡ []) }
-    ensures cause { IfErr result (λ none.
-        StoreCause (K.held keeper) (K.faults keeper) (K.faults none.keeper) none.status) }
-    ensures later { IfErr result (λ none. K.faults keeper ≤ K.faults none.keeper) }
-{
-    let rows = match open_store(alloc, config, &mut keeper) {
-        Ok(rows) => rows,
-        Err(e) => {
-            return Err(NoRun {
-                status: unopened(e),
-                keeper,
-            });
-        }
-    };
-    match Run::new(alloc, config, rows, keeper) {
-        Ok(run) => Ok(run),
-        Err(none) => Err(NoRun {
-            status: Status::NoMemory,
-            keeper: none.keeper,
-        }),
-    }
-}
-
 /// Replays the lines of an event file on one machine, over a keeper of its rows, and writes what each of them prints
 /// after it has run. It always returns. The configuration is read and checked first, then the events are read whole,
 /// then the store is opened, then the lines are run.
@@ -265,7 +214,7 @@ pub fn replay<S: Source, T: Sink, K: Keeper + Drop>(
         Err(e) => return not_run(alloc, unread(e), keeper),
     };
     match begin(alloc, &configuration, keeper) {
-        Ok(run) => run_events(alloc, run, &bytes, out),
+        Ok(machine) => run_events(alloc, Run::new(alloc, machine), &bytes, out),
         Err(none) => not_run(alloc, none.status, none.keeper),
     }
 }

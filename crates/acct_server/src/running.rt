@@ -4,8 +4,6 @@ ghost use Rattle.std.specs.Prelude.{length, take, Some, None, Ok, Err, OnOk, OnE
 ghost use Rattle.std.specs.Prelude.{slice_get, slice_set, map, All, option_map};
 ghost use Rattle.std.specs.List.{flat_map};
 ghost use Rattle.acct_codes.specs.Limits.{least_fragment, most_fragment, most_stub};
-ghost use Rattle.acct_config.specs.Right.{IsRight};
-ghost use Rattle.acct_rows.specs.Sound.{IsSoundRows};
 ghost use Rattle.acct_machine.specs.Storing.{HoldsRows, AreUpTo};
 ghost use Rattle.acct_machine.specs.State.{is_live};
 ghost use Rattle.acct_machine.specs.Machine.{state_of, with_entry};
@@ -31,7 +29,7 @@ use crate::events::{Event, LineError, event_of};
 use crate::printing::{closed_line, full_line, gone_line, out_line};
 use acct_base::is_same;
 use acct_codes::fault::NCA_S_SERVER_TOO_BUSY;
-use acct_machine::{Config, Entry, Keeper, Listener, Machine, NoMachine, Opened, Rows};
+use acct_machine::{Entry, Keeper, Listener, Machine, Opened, Rows};
 use acct_requests::{Answer, Asked, Gate, Peer, heard, is_served, new_peer, request};
 use rpc_session::{
     Act, calls_fit, fault_bytes, refusals_are_last, room_by_length, streams_are_cut_anywhere,
@@ -137,31 +135,15 @@ impl<K: Keeper + Drop> Model for Run<K> {
 }
 
 impl<K: Keeper + Drop> Run<K> {
-    /// A run to which nothing has happened, from these rows, over a keeper that holds their pairs, if it tells. Where
-    /// there is no memory the keeper comes back.
-    pub fn new(
-        alloc: Global,
-        config: &Config,
-        rows: Rows,
-        keeper: K,
-    ) -> Result<Run<K>, NoMachine<K>>
-        requires right { IsRight config.now }
-        requires sound { IsSoundRows rows.lists }
-        requires stored { HoldsRows (K.held keeper) rows.lists }
-        ensures made { IfOk result (λ run. run
-            ≡ record {
-              machine = record {
-                start = record { config = config.now; rows = rows.lists; faults = K.faults keeper };
-                history = [];
-              };
-              peers = [];
-            }) }
-        ensures back { IfErr result (λ none. none.keeper ≡ keeper) }
+    /// A run on a machine to which nothing has happened.
+    pub fn new(alloc: Global, machine: Machine<K>) -> Run<K>
+        requires { machine.past.history ≡ [] }
+        ensures { result ≡ record { machine = machine.past; peers = [] } }
     {
-        Ok(Run {
-            machine: Machine::new(alloc, config, rows, keeper)?,
+        Run {
+            machine,
             peers: Vec::new(alloc),
-        })
+        }
     }
 
     /// The rows from which the machine's history began, the history, the rows of the state after it, and the keeper,

@@ -2,7 +2,9 @@
 use Rattle.std.proofs.Common.{refl, ◌≤◌, ◌∙◌, sym, subst, List, ℕ}
 use Rattle.acct_streams.specs.Whole.{IsWhole}
 use Rattle.acct_server.specs.declared.status.Status.{Status}
-use Rattle.acct_server.specs.Leaves.{ConfigCause, EventsCause, StoreCause}
+use Rattle.acct_server.specs.Begun.{IsBegun}
+use Rattle.acct_server.specs.Running.{Running}
+use Rattle.acct_server.specs.Leaves.{ConfigCause, EventsCause, StoreCause, StoreKept}
 use Rattle.acct_server.proofs.Configuring.{breaks_none, events-whole, made-none, config-not-taken, told-short}
 use Rattle.acct_server.proofs.Configuring.{events-not-taken, store-not-opened, lines-run}
 use Rattle.acct_server.proofs.replays.replay.Goals as goal
@@ -88,6 +90,12 @@ returns g c =
           (sym ends.ensures.status)
           (subst (λ kept. StoreCause (k.held a.keeper) (k.faults a.keeper) (k.faults kept) none.none.status)
           (sym ends.ensures.keeper) none.ensures.cause);
+      config = c.in-Ok.configuration;
+      configured = c.in-Ok.ensures.configured;
+      kept = subst (λ (x : Status). StoreKept c.in-Ok.configuration (k.held a.keeper) (k.held ends.result.keeper) x)
+          (sym ends.ensures.status)
+          (subst (λ kept. StoreKept c.in-Ok.configuration (k.held a.keeper) (k.held kept) none.none.status)
+          (sym ends.ensures.keeper) none.ensures.kept);
     })
     c.in-Ok.ensures.later c.in-Ok-read_whole.ensures.later
     (subst (λ kept. k.faults a.keeper ≤ k.faults kept) (sym ends.ensures.keeper) none.ensures.later)
@@ -118,12 +126,13 @@ returns-in-Ok-begin g c =
     (record {
       config = c.in-Ok.configuration;
       events = c.deref.result.now;
-      start = c.in-Ok-begin.run'.machine.start;
+      start = c.new.result.machine.start;
       configured = c.in-Ok.ensures.configured;
       short = c.in-Ok.ensures.short;
       whole = subst (λ (bs : List ℕ). IsWhole (s.left a.events.now) bs) (sym c.deref.ensures.value)
           c.in-Ok-read_whole.ensures.whole;
-      begun = c.in-Ok-begin.ensures.begun;
+      begun = subst (λ (r : Running). IsBegun c.in-Ok.configuration (k.held a.keeper) (k.faults a.keeper) r.machine.start)
+          (sym c.new.ensures) c.in-Ok-begin.ensures.begun;
       runs = run.ensures.runs;
       stored = run.ensures.stored;
       counts = run.ensures.counts;

@@ -1,0 +1,69 @@
+-- The contract of serving, by the doors and the keeper before and after it, and what it leaves.
+use Rattle.std.specs.Prelude.{◌≡◌, ℕ, ◌≤◌, ◌⊎◌, List, [], Option, Some, None}
+use Rattle.acct_config.specs.declared.config.Config.{Config}
+use Rattle.acct_keeper.specs.declared.pairs.Pair.{Pair}
+use Rattle.acct_links.specs.Links.{Told}
+use Rattle.acct_links.specs.declared.doors.Door.{Ghosts}
+use Rattle.acct_machine.specs.State.{Start}
+use Rattle.acct_machine.specs.Step.{state_at}
+use Rattle.acct_machine.specs.Storing.{HoldsRows, AreUpTo}
+use Rattle.acct_serving.specs.Doors.{IsServed}
+use Rattle.acct_serving.specs.declared.outcome.Outcome.{Outcome}
+use Rattle.acct_serving.specs.declared.outcome.Outcome.TheVariants as outcome
+use Rattle.acct_server.specs.Begun.{IsBegun}
+use Rattle.acct_server.specs.Denied.{DeniesExactlyIn}
+use Rattle.acct_server.specs.Leaves.{StoreCause, StoreKept}
+use Rattle.acct_server.specs.Replaying.{lists_in}
+use Rattle.acct_server.specs.declared.serving.Served.{Served}
+use Rattle.acct_server.specs.declared.status.Status.{Status}
+use Rattle.acct_server.specs.declared.status.Status.TheVariants.{Done, NoMemory, DoorFault, HistoryFull}
+
+-- the status of serving, by how it ended
+abbrev pub served_status : Outcome → Status
+served_status outcome.Done = Done
+served_status outcome.Failed = DoorFault
+served_status (outcome.Full n) = HistoryFull n
+served_status outcome.NoMemory = NoMemory
+
+-- what doors, their links and the keeper tell
+pub record Telling (D L K : Type 0) : Type 1 where
+  pub door : Ghosts D L
+  pub told : L → Told
+  pub pairs : K → Option (List Pair)
+  pub faults : K → ℕ
+
+-- The store wasn't opened, or no machine was made: no link was taken, nothing has happened, and the keeper holds what it
+-- held, but for the seed rows where memory was wanted.
+pub record HasNotServed {D L K : Type 0} (telling : Telling D L K) (config : Config) (before now : List D) (keeper : K)
+    (left : Served K) : Type 0 where
+  pub opening : left.opening ≡ None
+  pub nothing : left.history ≡ []
+  pub rows : left.rows ≡ None
+  pub ends : left.ends ≡ []
+  pub doors : now ≡ before
+  pub cause : StoreCause (telling.pairs keeper) (telling.faults keeper) (telling.faults left.keeper) left.status
+  pub kept : StoreKept config (telling.pairs keeper) (telling.pairs left.keeper) left.status
+
+-- The doors were served, on a machine under the configuration, from the rows whose pairs the keeper held, or the seed
+-- rows where it held none. The history is legal, and access is denied there exactly where a grant or an opening's check
+-- lacks a bit. The keeper holds the pairs of the rows after it, and no count at a commit that failed lies above its
+-- count.
+pub record HasServed {D L K : Type 0} (telling : Telling D L K) (config : Config) (before now : List D) (keeper : K)
+    (left : Served K) : Type 0 where
+  pub start : Start
+  pub begun : IsBegun config (telling.pairs keeper) (telling.faults keeper) start
+  pub outcome : Outcome
+  pub status : left.status ≡ served_status outcome
+  pub served : IsServed telling.door telling.told start config.limits.max_read before now left.history outcome
+      left.ends
+  pub opening : lists_in left.opening ≡ Some start.rows
+  pub rows : lists_in left.rows ≡ Some (state_at start left.history).rows
+  pub denies : DeniesExactlyIn start left.history
+  pub stored : HoldsRows (telling.pairs left.keeper) (state_at start left.history).rows
+  pub counts : AreUpTo (telling.faults left.keeper) start left.history
+
+pub record IsServe {D L K : Type 0} (telling : Telling D L K) (config : Config) (before now : List D) (keeper : K)
+    (left : Served K) : Type 0 where
+  pub leaves : HasNotServed telling config before now keeper left
+      ⊎ HasServed telling config before now keeper left
+  pub later : telling.faults keeper ≤ telling.faults left.keeper

@@ -1,0 +1,182 @@
+// Two links that wait for each other: only doors that are served side by side bring both to their end.
+ghost use Rattle.std.specs.Prelude.{◌≡◌, ◌<◌, ◌≤◌, All, false, length, vec_len, IfOk};
+ghost use Rattle.acct_config.specs.Right.{IsRight};
+ghost use Rattle.acct_links.specs.Links.{IsNew, Told};
+ghost use Rattle.acct_links.specs.Memory.{told_by, LinkInMemory};
+ghost use Rattle.acct_links.specs.MemoryDoors.{SteadyDoorInMemory};
+
+use super::words::{configured, digits_of_all, link_of};
+use acct_keeper::SteadyKeeper;
+use acct_links::{Failed, Link, MemoryLink, SteadyDoor};
+use acct_machine::Config;
+use acct_server::{Served, serve};
+use std::alloc::Global;
+use std::process::Abort;
+use std::sync::atomic::{AtomicU64, Ordering};
+use std::sync::{Arc, Wait};
+use std::test::Fail;
+use std::thread::Threads;
+
+/// How often a link looks for the other one.
+const LOOKS: u32 = 1_000_000;
+
+/// A link that raises its flag at its first read, and gives its bytes once the other flag is raised. Where that isn't so
+/// within the looks, each read fails.
+#[derive(Drop)]
+struct MeetingLink {
+    link: MemoryLink,
+    mine: Arc<AtomicU64, Global>,
+    other: Arc<AtomicU64, Global>,
+    has_looked: bool,
+    has_met: bool,
+    faults: u64,
+}
+
+// Whether a flag is raised within the looks.
+fn is_raised(flag: &AtomicU64) -> bool {
+    for _ in 0..LOOKS {
+        if flag.load(Ordering::SeqCst) == 1 {
+            return true;
+        }
+    }
+    false
+}
+
+impl MeetingLink {
+    fn fail(&mut self) -> Failed
+        ensures link { self.new.link ≡ self.old.link }
+        ensures rose { self.new.faults ≡ min (self.old.faults + 1) (2 ^ 64 - 1) }
+    {
+        self.faults = self.faults.saturating_add(1);
+        Failed
+    }
+
+    fn meet(&mut self)
+        ensures { (self.new.link ≡ self.old.link) × (self.new.faults ≡ self.old.faults) }
+    {
+        if self.has_looked {
+            return;
+        }
+        self.has_looked = true;
+        self.mine.store(1, Ordering::SeqCst);
+        self.has_met = is_raised(&self.other);
+    }
+}
+
+impl Link for MeetingLink {
+    ghost use Rattle.acct_links.specs.Memory.{told_by};
+
+    ghost told = { λ it. record {
+      received = (told_by it.link).received;
+      left = (told_by it.link).left;
+      sent = (told_by it.link).sent;
+      ended = (told_by it.link).ended;
+      read_faults = it.faults;
+      write_faults = (told_by it.link).write_faults;
+    } };
+
+    fn read(&mut self, buf: &mut [u8]) -> Result<usize, Failed> {
+        self.meet();
+        if !self.has_met {
+            return Err(self.fail());
+        }
+        match self.link.read(buf) {
+            Ok(count) => Ok(count),
+            Err(_) => Err(self.fail()),
+        }
+    }
+
+    fn write(&mut self, bytes: &[u8]) -> Result<usize, Failed> {
+        self.link.write(bytes)
+    }
+}
+
+/// A door of the first listener with one such link.
+fn door_of(
+    alloc: Global,
+    mine: &Arc<AtomicU64, Global>,
+    other: &Arc<AtomicU64, Global>,
+) -> Result<SteadyDoor<MeetingLink>, Fail>
+    ensures { IfOk result (λ door. door.listener ≡ 0) }
+{
+    let mut links = Vec::new(alloc);
+    links.push(MeetingLink {
+        link: link_of(alloc, "BIND CONNECT")?,
+        mine: mine.clone()?,
+        other: other.clone()?,
+        has_looked: false,
+        has_met: false,
+        faults: 0,
+    })?;
+    Ok(SteadyDoor::new(alloc, 0, links)?)
+}
+
+/// Two doors whose links wait for each other.
+fn doors_of(alloc: Global) -> Result<Vec<SteadyDoor<MeetingLink>>, Fail>
+    ensures { IfOk result (λ doors. (vec_len doors ≤ 1024) × All (λ door. door.listener ≡ 0) doors.items) }
+{
+    let one = Arc::new(alloc, AtomicU64::new(0))?;
+    let two = Arc::new(alloc, AtomicU64::new(0))?;
+    let mut doors = Vec::new(alloc);
+    doors.push(door_of(alloc, &one, &two)?)?;
+    doors.push(door_of(alloc, &two, &one)?)?;
+    Ok(doors)
+}
+
+/// How serving ended and each session, and what was written on each link, in words.
+fn push_told(
+    text: &mut String,
+    alloc: Global,
+    served: &Served<SteadyKeeper>,
+    doors: &[SteadyDoor<MeetingLink>],
+) -> Result<(), Fail> {
+    write!(text, "{:?}|", served.status)?;
+    for ended in served.ends.as_slice() {
+        write!(text, "{:?},", ended.end)?;
+    }
+    for door in doors {
+        for (conn, link) in door.as_slice() {
+            let digits = hex::encode(alloc, link.link.as_slice())?;
+            write!(text, "|{conn} {}", digits.as_str())?;
+        }
+    }
+    Ok(())
+}
+
+fn told<R: Threads + Wait + Sync>(rt: &R, alloc: Global, config: &Config) -> Result<String, Fail>
+    requires right { IsRight config.now }
+    requires listener { 0 < length config.now.listeners }
+{
+    let mut doors = doors_of(alloc)?;
+    let served = serve(rt, alloc, config, &mut doors, SteadyKeeper::new(alloc));
+    let mut text = String::new(alloc);
+    push_told(&mut text, alloc, &served, &doors)?;
+    Ok(text)
+}
+
+/// What is told where the first door's link has the one connection, and the second door's the other.
+fn wanted(alloc: Global, one: &str, other: &str) -> Result<String, Fail> {
+    let mut text = String::from_str(alloc, "Done|End,End,")?;
+    for names in [one, other] {
+        let (conn, names) = names.split_once(' ').unwrap_or((names, ""));
+        let digits = digits_of_all(alloc, names)?;
+        write!(text, "|{conn} {}", digits.as_str())?;
+    }
+    Ok(text)
+}
+
+#[test]
+fn two_doors_are_served_at_once(rt: HostRuntime) -> Result<(), Fail> {
+    let alloc = rt.alloc();
+    let config = configured(alloc, "")?;
+    if config.listeners.as_slice().is_empty() {
+        panic!(&rt; "there is no listener")
+    }
+    let text = told(&rt, alloc, &config)?;
+    let first = wanted(alloc, "1 ACK1 FIRST1", "2 ACK2 FIRST2")?;
+    let second = wanted(alloc, "2 ACK2 FIRST2", "1 ACK1 FIRST1")?;
+    if text.as_str() != second.as_str() {
+        assert_eq!(&rt; text.as_str(), first.as_str());
+    }
+    Ok(())
+}
