@@ -19,8 +19,7 @@ use std::thread::Threads;
 /// fails, reads and writes counted together from 1; which call of the door fails, and which of the keeper; how serving
 /// ends; what was finished, each link by its connection and what was written on it; the ends by connection; and what was
 /// entered.
-const ROWS: &str =
-    "||0|0|Done|||
+const ROWS: &str = "||0|0|Done|||
 |BIND CONNECT|0|0|Done|1 ACK1 FIRST1,|1 0 End,|opened 1;called 57;gone 1;
 |BIND CONNECT,BIND CONNECT CONNECT|0|0|Done|1 ACK1 FIRST1,2 ACK2 FIRST2 SECOND2,|1 0 End,2 0 End,|opened 1;called 57;\
     gone 1;opened 2;called 57;called 57;gone 2;
@@ -101,7 +100,11 @@ fn push_served(text: &mut String, served: &Served<MemoryKeeper>) -> Result<(), F
 }
 
 /// What was finished, each link by its connection and the digits of what was written on it.
-fn push_finished(text: &mut String, alloc: Global, door: &MemoryDoor<MemoryLink>) -> Result<(), Fail> {
+fn push_finished(
+    text: &mut String,
+    alloc: Global,
+    door: &MemoryDoor<MemoryLink>,
+) -> Result<(), Fail> {
     for (conn, link) in door.as_slice() {
         let digits = hex::encode(alloc, link.as_slice())?;
         write!(text, "{conn} {},", digits.as_str())?;
