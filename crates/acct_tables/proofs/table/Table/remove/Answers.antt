@@ -1,0 +1,6 @@
+-- `Table::remove` meets its contract: what the search leaves open.
+use Rattle.acct_tables.proofs.Ascending.{is_ascending-filter}
+use Rattle.acct_tables.proofs.table.Table.remove.Goals as goal
+
+pub invariant_of-self : goal.invariant_of-self
+invariant_of-self g c = rw c.remove.ensures.values (is_ascending-filter g.O.Order.key_of _ _ c.self.invariant)

@@ -1,0 +1,7 @@
+-- `keep` meets its contract: what the search leaves open.
+use Rattle.std.proofs.Common.{rules}
+use Rattle.std.proofs.lemmas.Fn.{filter_same}
+use Rattle.acct_tables.proofs.table.keep.Goals as goal
+
+pub returns-clause-values : goal.returns-clause-values
+returns-clause-values g c = filter_same _ _ _ (λ x b f' k. search rules) _ _ c.retain.ensures.filtered
