@@ -1,0 +1,16 @@
+-- What holds of each door that was given, and of what was asked for, where nothing is told of that.
+use Rattle.std.proofs.Common.{◌≡◌, refl, List, Result, Ok, Err, IfOk, None, All}
+use Rattle.std.proofs.lemmas.List.Elements.{All-weaker}
+use Rattle.acct_keeper.specs.declared.keeper.KeepError.{KeepError}
+use Rattle.acct_links.specs.declared.asking.Asking.{Asking}
+use Rattle.acct_links.specs.Doors.{asked_after}
+
+-- what follows for one door follows for each
+pub each-weaker : {V D E : Type 0} (items : V → List D) (P Q : D → Type 0) → ((door : D) → P door → Q door)
+    → (result : Result V E) → IfOk result (λ doors. All P (items doors)) → IfOk result (λ doors. All Q (items doors))
+each-weaker items P Q follows (Ok doors) all = All-weaker P Q follows (items doors) all
+each-weaker items P Q follows (Err e) all = tt
+
+pub untold : {V : Type 0} (asking : Asking) (result : Result V KeepError) → None ≡ asked_after None asking result
+untold asking (Ok doors) = refl
+untold asking (Err e) = refl

@@ -1,0 +1,166 @@
+// The entrance of the system.
+ghost use Rattle.std.specs.Prelude.{◌≡◌, ◌≤◌, None, true, All, IsSome, IfSome, IfOk, IfErr, MatchOption, length};
+ghost use Rattle.std.specs.Prelude.{string_bytes};
+ghost use Rattle.std.specs.IoError.{error_kind, raw_os_error};
+ghost use Rattle.acct_keeper.specs.Causes.{KeepCause};
+ghost use Rattle.acct_keeper.specs.Memory.{is_fault};
+ghost use Rattle.acct_links.specs.Memory.{faults_after};
+ghost use Rattle.host_doors.specs.Doors.{IsDoor};
+ghost use Rattle.host_doors.specs.Troubles.{advice_of, answered};
+
+use crate::binding::listen;
+use crate::doors::HostDoor;
+use crate::sockets::Socket;
+use crate::troubles::{DoorTrouble, advice_of};
+use acct_keeper::KeepError;
+use acct_links::Entrance;
+use std::alloc::Global;
+use std::fs::Files;
+use std::io;
+use std::net::{Net, OpenListener};
+use std::sync::Arc;
+
+// The doors of a listener, which share its socket.
+fn share<T: OpenListener + Drop>(
+    alloc: Global,
+    socket: &Arc<Socket<T>, Global>,
+    listener: u32,
+    workers: u32,
+    links: u64,
+) -> io::Result<Vec<HostDoor<T>>>
+    ensures count { IfOk result (λ doors. length doors.items ≡ workers) }
+    ensures doors { IfOk result (λ doors. All (λ door. IsDoor listener links door) doors.items) }
+{
+    let mut doors = Vec::new(alloc);
+    for _i in 0..workers {
+        doors.push(HostDoor::new(Arc::try_clone(socket)?, listener, links))?;
+    }
+    Ok(doors)
+}
+
+/// Gives the doors of listeners at addresses of the forms `tcp:HOST:PORT` and `unix:PATH`. It tells nothing of what it
+/// was asked, and keeps where the last listener listens and what went wrong last.
+#[derive(Drop)]
+pub struct HostEntrance<'a, R: Net + Files> {
+    rt: &'a R,
+    alloc: Global,
+    fault_count: u64,
+    place: Option<String>,
+    trouble: Option<DoorTrouble>,
+}
+
+impl<'a, R: Net + Files> HostEntrance<'a, R> {
+    /// An entrance of which nothing was asked.
+    pub fn new(rt: &'a R, alloc: Global) -> Self
+        ensures count { result.fault_count ≡ 0 }
+        ensures place { result.place ≡ None }
+        ensures trouble { result.trouble ≡ None }
+    {
+        HostEntrance {
+            rt,
+            alloc,
+            fault_count: 0,
+            place: None,
+            trouble: None,
+        }
+    }
+
+    /// The address at which the last listener listens, by TCP with the port that the system gave it.
+    pub fn place(&self) -> Option<&str>
+        ensures { MatchOption result (self.now.place ≡ None)
+            (λ text. IfSome self.now.place (λ place. text.now ≡ string_bytes place)) }
+    {
+        match &self.place {
+            Some(place) => Some(place.as_str()),
+            None => None,
+        }
+    }
+
+    /// Why the last listener that has no doors has none.
+    pub fn into_trouble(self) -> Option<DoorTrouble>
+        ensures { result ≡ self.entry.trouble }
+    {
+        self.trouble
+    }
+}
+
+// The doors of a listener, and the address at which it listens.
+fn open<R: Net + Files>(
+    rt: &R,
+    alloc: Global,
+    listener: u32,
+    address: &str,
+    workers: u32,
+    links: u64,
+) -> io::Result<(String, Vec<HostDoor<R::Listener>>)>
+    ensures count { IfOk result (λ opened. length opened.1.items ≡ workers) }
+    ensures doors { IfOk result (λ opened. All (λ door. IsDoor listener links door) opened.1.items) }
+{
+    let socket = listen(rt, address)?;
+    let place = socket.address(alloc, address)?;
+    let socket = Arc::new(alloc, socket)?;
+    let doors = share(alloc, &socket, listener, workers, links)?;
+    Ok((place, doors))
+}
+
+impl<'a, R: Net + Files> HostEntrance<'a, R> {
+    // What is answered where a listener has its doors, or none by the system's reason.
+    fn answer(
+        &mut self,
+        address: String,
+        opened: io::Result<(String, Vec<HostDoor<R::Listener>>)>,
+    ) -> Result<Vec<HostDoor<R::Listener>>, KeepError>
+        ensures doors { result ≡ answered opened }
+        ensures place { IfOk opened (λ given. self.new.place ≡ Some given.0) }
+        ensures count { self.new.fault_count ≡ faults_after (is_fault result) self.old.fault_count }
+        ensures cause { IfErr result (KeepCause self.old.fault_count self.new.fault_count) }
+        ensures later { self.old.fault_count ≤ self.new.fault_count }
+        ensures trouble { IfErr opened (λ error. is_fault result ≡ true → self.new.trouble
+            ≡ Some (DoorTrouble.NotBound address error (advice_of (error_kind error) (raw_os_error error)))) }
+    {
+        match opened {
+            Ok((place, doors)) => {
+                self.place = Some(place);
+                Ok(doors)
+            }
+            Err(error) if error.kind() == io::ErrorKind::OutOfMemory => Err(KeepError::NoMemory),
+            Err(error) => {
+                self.fault_count = self.fault_count.saturating_add(1);
+                self.trouble = Some(DoorTrouble::NotBound {
+                    address,
+                    error,
+                    advice: advice_of(error),
+                });
+                Err(KeepError::Failed)
+            }
+        }
+    }
+}
+
+impl<'a, R: Net + Files> Entrance for HostEntrance<'a, R> {
+    type D = HostDoor<R::Listener>;
+
+    ghost asked = { λ _. None };
+
+    ghost faults = { λ entrance. entrance.fault_count };
+
+    fn doors(
+        &mut self,
+        listener: u32,
+        address: &str,
+        workers: u32,
+        links: u64,
+    ) -> Result<Vec<HostDoor<R::Listener>>, KeepError>
+        ensures count { IfOk result (λ doors. length doors.items ≡ workers) }
+        ensures doors { IfOk result (λ doors. All (λ door. IsDoor listener links door) doors.items) }
+        ensures place { IfOk result (λ doors. IsSome self.new.place) }
+        ensures faults { self.new.fault_count ≡ faults_after (is_fault result) self.old.fault_count }
+        ensures cause { IfErr result (KeepCause self.old.fault_count self.new.fault_count) }
+        ensures later { self.old.fault_count ≤ self.new.fault_count }
+        ensures trouble { is_fault result ≡ true → IsSome self.new.trouble }
+    {
+        let asked = String::from_str(self.alloc, address)?;
+        let opened = open(self.rt, self.alloc, listener, address, workers, links);
+        self.answer(asked, opened)
+    }
+}

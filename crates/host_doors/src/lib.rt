@@ -1,0 +1,28 @@
+//! Doors of the system: listeners by TCP and in files, and the connections that they give.
+//!
+//! It stands on `acct_links` for the traits of a link, a door and an entrance, and on `acct_keeper` for the errors of
+//! what is opened. The layers above use that a fault is answered only where the object's count of faults rose, that an
+//! entrance gives so many doors for its listener, each of which gives so many links and is then closed, and that a link
+//! notes its end. What a socket gives or takes is told by no clause.
+//!
+//! In rooms: `channels` says what a connection goes over, `sockets` what listens, `links`, `doors` and `entrances` have
+//! the real parts, `binding` gives a socket its address, `troubles` says what went wrong and what to do about it.
+#![tactic(auto)]
+
+mod binding;
+mod channels;
+mod doors;
+mod entrances;
+mod links;
+mod sockets;
+mod troubles;
+
+pub use channels::Channel;
+pub use doors::HostDoor;
+pub use entrances::HostEntrance;
+pub use links::{HostLink, LinkTrouble};
+pub use sockets::Socket;
+pub use troubles::{Advice, DoorTrouble};
+
+#[cfg(test)]
+mod tests;

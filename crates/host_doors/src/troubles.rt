@@ -1,0 +1,57 @@
+// What went wrong with a listener, and what to do about it.
+ghost use Rattle.std.specs.Prelude.{◌≡◌};
+ghost use Rattle.std.specs.IoError.{error_kind, raw_os_error};
+ghost use Rattle.host_doors.specs.Troubles.{advice_of};
+
+use std::io;
+use thiserror::Error;
+
+/// What to do about a listener that can't have its address.
+#[derive(Clone, Copy, Debug, PartialEq, Eq, Error)]
+pub enum Advice {
+    #[error("a program listens there, so stop it, or configure another address")]
+    InUse,
+    #[error("what is there is no socket, so move it away, or configure another path")]
+    Occupied,
+    #[error("make the folder for its socket, or configure another path")]
+    NoFolder,
+    #[error("start the server as a user who may listen there, or configure another address")]
+    NotAllowed,
+    #[error("no interface of this machine has that address, so configure one that is its own")]
+    NotHere,
+    #[error("configure an address tcp:HOST:PORT, or unix:PATH with a path of 1 to 107 bytes")]
+    Malformed,
+    #[error("the host isn't known here, so configure another, or an IP address")]
+    UnknownHost,
+    #[error("mend that, or configure another address")]
+    Other,
+}
+
+/// What to do, by the system's reason.
+pub(crate) fn advice_of(error: io::Error) -> Advice
+    ensures { result ≡ advice_of (error_kind error) (raw_os_error error) }
+{
+    match error.kind() {
+        io::ErrorKind::AddrInUse => Advice::InUse,
+        io::ErrorKind::AlreadyExists => Advice::Occupied,
+        io::ErrorKind::NotFound | io::ErrorKind::NotADirectory => Advice::NoFolder,
+        io::ErrorKind::PermissionDenied => Advice::NotAllowed,
+        io::ErrorKind::AddrNotAvailable => Advice::NotHere,
+        io::ErrorKind::InvalidInput => Advice::Malformed,
+        io::ErrorKind::Uncategorized if error.raw_os_error().is_none() => Advice::UnknownHost,
+        _ => Advice::Other,
+    }
+}
+
+/// Why a listener has no doors, or a door gave no connection, and what to do about it.
+#[derive(Debug, Drop, Error)]
+pub enum DoorTrouble {
+    #[error("no listener at {address} ({error}); {advice}")]
+    NotBound {
+        address: String,
+        error: io::Error,
+        advice: Advice,
+    },
+    #[error("no connection was taken ({0}); raise the limit of open files if that was reached, and start again")]
+    NotAccepted(io::Error),
+}
