@@ -1,9 +1,8 @@
 // Two links that wait for each other: only doors that are served side by side bring both to their end.
-ghost use Rattle.std.specs.Prelude.{◌≡◌, ◌<◌, ◌≤◌, All, false, length, vec_len, IfOk};
+ghost use Rattle.std.specs.Prelude.{◌≡◌, ◌+◌, ◌-◌, ◌^◌, ◌<◌, ◌≤◌, All, length, min, vec_len, IfOk};
 ghost use Rattle.acct_config.specs.Right.{IsRight};
-ghost use Rattle.acct_links.specs.Links.{IsNew, Told};
-ghost use Rattle.acct_links.specs.Memory.{told_by, LinkInMemory};
-ghost use Rattle.acct_links.specs.MemoryDoors.{SteadyDoorInMemory};
+ghost use Rattle.acct_links.specs.Links.{IsNew};
+ghost use Rattle.acct_links.specs.Memory.{told_by};
 
 use super::words::{configured, digits_of_all, link_of};
 use acct_keeper::SteadyKeeper;
@@ -20,8 +19,8 @@ use std::thread::Threads;
 /// How often a link looks for the other one.
 const LOOKS: u32 = 1_000_000;
 
-/// A link that raises its flag at its first read, and gives its bytes once the other flag is raised. Where that isn't so
-/// within the looks, each read fails.
+/// A link that raises its flag at its first read, and gives its bytes once the other flag is raised. Where that isn't
+/// so within the looks, each read fails.
 #[derive(Drop)]
 struct MeetingLink {
     link: MemoryLink,
@@ -46,6 +45,7 @@ impl MeetingLink {
     fn fail(&mut self) -> Failed
         ensures link { self.new.link ≡ self.old.link }
         ensures rose { self.new.faults ≡ min (self.old.faults + 1) (2 ^ 64 - 1) }
+        ensures later { self.old.faults ≤ self.new.faults }
     {
         self.faults = self.faults.saturating_add(1);
         Failed
@@ -91,6 +91,37 @@ impl Link for MeetingLink {
     }
 }
 
+/// Such a link, of which nothing was read or written.
+fn meeting_link(
+    alloc: Global,
+    mine: &Arc<AtomicU64, Global>,
+    other: &Arc<AtomicU64, Global>,
+) -> Result<MeetingLink, Fail>
+    ensures { IfOk result (λ it. IsNew (told_by it.link)) }
+{
+    let mine = mine.clone()?;
+    let other = other.clone()?;
+    let link = link_of(alloc, "BIND CONNECT")?;
+    Ok(MeetingLink {
+        link,
+        mine,
+        other,
+        has_looked: false,
+        has_met: false,
+        faults: 0,
+    })
+}
+
+/// The link alone.
+fn alone(alloc: Global, link: MeetingLink) -> Result<Vec<MeetingLink>, Fail>
+    requires { IsNew (told_by link.link) }
+    ensures { IfOk result (λ links. All (λ it. IsNew (told_by it.link)) links.items) }
+{
+    let mut links = Vec::new(alloc);
+    links.push(link)?;
+    Ok(links)
+}
+
 /// A door of the first listener with one such link.
 fn door_of(
     alloc: Global,
@@ -99,16 +130,23 @@ fn door_of(
 ) -> Result<SteadyDoor<MeetingLink>, Fail>
     ensures { IfOk result (λ door. door.listener ≡ 0) }
 {
-    let mut links = Vec::new(alloc);
-    links.push(MeetingLink {
-        link: link_of(alloc, "BIND CONNECT")?,
-        mine: mine.clone()?,
-        other: other.clone()?,
-        has_looked: false,
-        has_met: false,
-        faults: 0,
-    })?;
+    let links = alone(alloc, meeting_link(alloc, mine, other)?)?;
     Ok(SteadyDoor::new(alloc, 0, links)?)
+}
+
+/// Puts such a door behind the others.
+fn push_door(
+    doors: &mut Vec<SteadyDoor<MeetingLink>>,
+    alloc: Global,
+    mine: &Arc<AtomicU64, Global>,
+    other: &Arc<AtomicU64, Global>,
+) -> Result<(), Fail>
+    requires { All (λ door. door.listener ≡ 0) doors.old.items }
+    ensures first { All (λ door. door.listener ≡ 0) doors.new.items }
+    ensures few { vec_len doors.new ≤ vec_len doors.old + 1 }
+{
+    doors.push(door_of(alloc, mine, other)?)?;
+    Ok(())
 }
 
 /// Two doors whose links wait for each other.
@@ -118,29 +156,45 @@ fn doors_of(alloc: Global) -> Result<Vec<SteadyDoor<MeetingLink>>, Fail>
     let one = Arc::new(alloc, AtomicU64::new(0))?;
     let two = Arc::new(alloc, AtomicU64::new(0))?;
     let mut doors = Vec::new(alloc);
-    doors.push(door_of(alloc, &one, &two)?)?;
-    doors.push(door_of(alloc, &two, &one)?)?;
+    push_door(&mut doors, alloc, &one, &two)?;
+    push_door(&mut doors, alloc, &two, &one)?;
     Ok(doors)
 }
 
-/// How serving ended and each session, and what was written on each link, in words.
-fn push_told(
-    text: &mut String,
-    alloc: Global,
-    served: &Served<SteadyKeeper>,
-    doors: &[SteadyDoor<MeetingLink>],
-) -> Result<(), Fail> {
+/// How serving ended and each session.
+fn push_ends(text: &mut String, served: &Served<SteadyKeeper>) -> Result<(), Fail> {
     write!(text, "{:?}|", served.status)?;
     for ended in served.ends.as_slice() {
         write!(text, "{:?},", ended.end)?;
     }
-    for door in doors {
-        for (conn, link) in door.as_slice() {
-            let digits = hex::encode(alloc, link.link.as_slice())?;
-            write!(text, "|{conn} {}", digits.as_str())?;
-        }
+    Ok(())
+}
+
+/// What was written on each link of a door.
+fn push_written(
+    text: &mut String,
+    alloc: Global,
+    door: &SteadyDoor<MeetingLink>,
+) -> Result<(), Fail> {
+    for (conn, link) in door.as_slice() {
+        let digits = hex::encode(alloc, link.link.as_slice())?;
+        write!(text, "|{conn} {}", digits.as_str())?;
     }
     Ok(())
+}
+
+/// Both, in words.
+fn left(
+    alloc: Global,
+    served: &Served<SteadyKeeper>,
+    doors: &[SteadyDoor<MeetingLink>],
+) -> Result<String, Fail> {
+    let mut text = String::new(alloc);
+    push_ends(&mut text, served)?;
+    for door in doors {
+        push_written(&mut text, alloc, door)?;
+    }
+    Ok(text)
 }
 
 fn told<R: Threads + Wait + Sync>(rt: &R, alloc: Global, config: &Config) -> Result<String, Fail>
@@ -149,19 +203,22 @@ fn told<R: Threads + Wait + Sync>(rt: &R, alloc: Global, config: &Config) -> Res
 {
     let mut doors = doors_of(alloc)?;
     let served = serve(rt, alloc, config, &mut doors, SteadyKeeper::new(alloc));
-    let mut text = String::new(alloc);
-    push_told(&mut text, alloc, &served, &doors)?;
-    Ok(text)
+    left(alloc, &served, &doors)
+}
+
+/// What is written on a link, by its connection and the names of what it is.
+fn push_wanted(text: &mut String, alloc: Global, words: &str) -> Result<(), Fail> {
+    let (conn, names) = words.split_once(' ').unwrap_or((words, ""));
+    let digits = digits_of_all(alloc, names)?;
+    write!(text, "|{conn} {}", digits.as_str())?;
+    Ok(())
 }
 
 /// What is told where the first door's link has the one connection, and the second door's the other.
 fn wanted(alloc: Global, one: &str, other: &str) -> Result<String, Fail> {
     let mut text = String::from_str(alloc, "Done|End,End,")?;
-    for names in [one, other] {
-        let (conn, names) = names.split_once(' ').unwrap_or((names, ""));
-        let digits = digits_of_all(alloc, names)?;
-        write!(text, "|{conn} {}", digits.as_str())?;
-    }
+    push_wanted(&mut text, alloc, one)?;
+    push_wanted(&mut text, alloc, other)?;
     Ok(text)
 }
 

@@ -1,10 +1,10 @@
 // Doors in memory, of which only the first brings links, so that connections have their numbers by their order.
-ghost use Rattle.std.specs.Prelude.{◌≡◌, ◌<◌, ◌≤◌, All, false, length, slice_index_or, vec_len, IfOk};
+ghost use Rattle.std.specs.Prelude.{◌≡◌, ◌+◌, ◌<◌, ◌≤◌, All, length, vec_len, IfOk};
 ghost use Rattle.acct_config.specs.Right.{IsRight};
 ghost use Rattle.acct_links.specs.Links.{IsNew};
 ghost use Rattle.acct_links.specs.Memory.{told_by};
 
-use super::words::{column, configured, digits_of_all, link_of};
+use super::words::{column, configured, digits_of_all, link_of, word};
 use acct_keeper::{MemoryKeeper, SteadyKeeper};
 use acct_links::{MemoryDoor, MemoryLink, SteadyDoor};
 use acct_machine::{Config, Entry};
@@ -17,8 +17,8 @@ use std::thread::Threads;
 
 /// Each row: the limits; the links of the first door, each by what it brings, and in front with `!` which of its calls
 /// fails, reads and writes counted together from 1; which call of the door fails, and which of the keeper; how serving
-/// ends; what was finished, each link by its connection and what was written on it; the ends by connection; and what was
-/// entered.
+/// ends; what was finished, each link by its connection and what was written on it; the ends by connection; and what
+/// was entered.
 const ROWS: &str = "||0|0|Done|||
 |BIND CONNECT|0|0|Done|1 ACK1 FIRST1,|1 0 End,|opened 1;called 57;gone 1;
 |BIND CONNECT,BIND CONNECT CONNECT|0|0|Done|1 ACK1 FIRST1,2 ACK2 FIRST2 SECOND2,|1 0 End,2 0 End,|opened 1;called 57;\
@@ -30,22 +30,34 @@ const ROWS: &str = "||0|0|Done|||
 |BIND,BIND|2|0|DoorFault|1 ACK1,|1 0 End,|opened 1;gone 1;
 |BIND,BIND|1|0|DoorFault|||
 max_calls = 1|BIND CONNECT CONNECT,BIND|0|0|HistoryFull(1)|1 ACK1 FIRST1 BUSY,|1 0 Full(1),|opened 1;called 57;gone 1;
-max_bytes = 15|BIND CONNECT CONNECT,BIND|0|0|HistoryFull(16)|1 ACK1 FIRST1 BUSY,|1 0 Full(16),|opened 1;called 57;gone 1;
+max_bytes = 15|BIND CONNECT CONNECT,BIND|0|0|HistoryFull(16)|1 ACK1 FIRST1 BUSY,|1 0 Full(16),|opened 1;called 57;\
+    gone 1;
 max_conns = 1|BIND,BIND|0|0|HistoryFull(1)|1 ACK1,0 ,|1 0 End,|opened 1;gone 1;
 max_read = 72|BIND CONNECT|0|0|Done|1 ACK1,|1 0 ByteLimit(72),|opened 1;gone 1;
 |BIND|0|1|StoreFault|||";
 
-/// The links that bring what the words say.
-fn links_of(alloc: Global, words: &str) -> Result<Vec<MemoryLink>, Fail>
-    ensures { IfOk result (λ links. All (λ link. link.input.ended ≡ false) links.items) }
+/// Puts a link that brings what the word says behind the others, where there is a word.
+fn push_link(links: &mut Vec<MemoryLink>, alloc: Global, word: &str) -> Result<(), Fail>
+    requires { All (λ link. IsNew (told_by link)) links.old.items }
+    ensures { All (λ link. IsNew (told_by link)) links.new.items }
 {
+    if word.is_empty() {
+        return Ok(());
+    }
+    links.push(link_of(alloc, word)?)?;
+    Ok(())
+}
+
+/// The links that bring what the words say, at most three.
+fn links_of(alloc: Global, words: &str) -> Result<Vec<MemoryLink>, Fail>
+    ensures { IfOk result (λ links. All (λ link. IsNew (told_by link)) links.items) }
+{
+    let (first, rest) = word(words);
+    let (second, third) = word(rest);
     let mut links = Vec::new(alloc);
-    if words.is_empty() {
-        return Ok(links);
-    }
-    for word in words.split(',') {
-        links.push(link_of(alloc, word)?)?;
-    }
+    push_link(&mut links, alloc, first)?;
+    push_link(&mut links, alloc, second)?;
+    push_link(&mut links, alloc, third)?;
     Ok(links)
 }
 
@@ -62,13 +74,28 @@ fn door_of(alloc: Global, words: &str, failing: &str) -> Result<MemoryDoor<Memor
     Ok(MemoryDoor::new(SteadyDoor::new(alloc, 0, links)?, failing))
 }
 
-/// That door, and one behind it that brings no link.
+/// Puts such a door behind the others.
+fn push_door(
+    doors: &mut Vec<MemoryDoor<MemoryLink>>,
+    alloc: Global,
+    words: &str,
+    failing: &str,
+) -> Result<(), Fail>
+    requires { All (λ door. door.door.listener ≡ 0) doors.old.items }
+    ensures first { All (λ door. door.door.listener ≡ 0) doors.new.items }
+    ensures few { vec_len doors.new ≤ vec_len doors.old + 1 }
+{
+    doors.push(door_of(alloc, words, failing)?)?;
+    Ok(())
+}
+
+/// Such a door, and one behind it that brings no link.
 fn doors_of(alloc: Global, words: &str, failing: &str) -> Result<Vec<MemoryDoor<MemoryLink>>, Fail>
     ensures { IfOk result (λ doors. (vec_len doors ≤ 1024) × All (λ door. door.door.listener ≡ 0) doors.items) }
 {
     let mut doors = Vec::new(alloc);
-    doors.push(door_of(alloc, words, failing)?)?;
-    doors.push(door_of(alloc, "", "0")?)?;
+    push_door(&mut doors, alloc, words, failing)?;
+    push_door(&mut doors, alloc, "", "0")?;
     Ok(doors)
 }
 
@@ -112,7 +139,22 @@ fn push_finished(
     Ok(())
 }
 
-/// What serving leaves, in words: how it ended, the ends, what was entered, what was finished.
+/// What serving left, in words: how it ended, the ends, what was entered, what was finished.
+fn left(
+    alloc: Global,
+    served: &Served<MemoryKeeper>,
+    doors: &[MemoryDoor<MemoryLink>],
+) -> Result<String, Fail> {
+    let mut text = String::new(alloc);
+    push_served(&mut text, served)?;
+    write!(text, "|")?;
+    for door in doors {
+        push_finished(&mut text, alloc, door)?;
+    }
+    Ok(text)
+}
+
+/// What serving leaves, in words.
 fn told<R: Threads + Wait + Sync>(
     rt: &R,
     alloc: Global,
@@ -126,13 +168,7 @@ fn told<R: Threads + Wait + Sync>(
     requires listener { 0 < length config.now.listeners }
 {
     let served = serve(rt, alloc, config, &mut doors, keeper);
-    let mut text = String::new(alloc);
-    push_served(&mut text, &served)?;
-    write!(text, "|")?;
-    for door in &doors {
-        push_finished(&mut text, alloc, door)?;
-    }
-    Ok(text)
+    left(alloc, &served, &doors)
 }
 
 /// What was finished, by the names of a row.
@@ -164,17 +200,22 @@ fn told_by<R: Threads + Wait + Sync>(
     told(rt, alloc, &config, doors, keeper)
 }
 
+/// What is to be told, by the columns of a row behind the one of the keeper.
+fn wanted(alloc: Global, columns: &str) -> Result<String, Fail> {
+    let (status, rest) = column(columns);
+    let (words, rest) = column(rest);
+    let finished = finished(alloc, words)?;
+    Ok(format!(in alloc; "{status}|{rest}|{}", finished.as_str())?)
+}
+
 fn tell<R: Abort + Threads + Wait + Sync>(rt: &R, alloc: Global, row: &str) -> Result<(), Fail> {
     let (limits, rest) = column(row);
     let (links, rest) = column(rest);
     let (failing, rest) = column(rest);
     let (store, rest) = column(rest);
-    let (status, rest) = column(rest);
-    let (words, rest) = column(rest);
     let doors = doors_of(alloc, links, failing)?;
     let told = told_by(rt, alloc, limits, doors, keeper_of(alloc, store)?)?;
-    let finished = finished(alloc, words)?;
-    let wanted = format!(in alloc; "{status}|{rest}|{}", finished.as_str())?;
+    let wanted = wanted(alloc, rest)?;
     assert_eq!(rt; told.as_str(), wanted.as_str(), "{row}");
     Ok(())
 }

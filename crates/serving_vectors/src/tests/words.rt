@@ -1,6 +1,8 @@
 // The words of a row, and what they name.
-ghost use Rattle.std.specs.Prelude.{false, ◌≡◌, IfOk};
+ghost use Rattle.std.specs.Prelude.{IfOk};
 ghost use Rattle.acct_config.specs.Right.{IsRight};
+ghost use Rattle.acct_links.specs.Links.{IsNew};
+ghost use Rattle.acct_links.specs.Memory.{told_by};
 
 use acct_links::{MemoryLink, SteadyLink};
 use acct_machine::{Config, read_config};
@@ -54,7 +56,7 @@ pub fn digits_of_all(alloc: Global, names: &str) -> Result<String, Fail> {
 
 /// A link that brings what the names say. Its call of the number in front, if one stands there, fails.
 pub fn link_of(alloc: Global, words: &str) -> Result<MemoryLink, Fail>
-    ensures { IfOk result (λ link. link.input.ended ≡ false) }
+    ensures { IfOk result (λ link. IsNew (told_by link)) }
 {
     let (failing, names) = words.split_once('!').unwrap_or(("0", words));
     let number = failing.trim().parse::<u32>().ok().unwrap_or(0) as u64;
@@ -79,4 +81,9 @@ pub fn configured(alloc: Global, limits: &str) -> Result<Config, Fail>
 /// The first column, and those behind it.
 pub fn column(row: &str) -> (&str, &str) {
     row.split_once('|').unwrap_or((row, ""))
+}
+
+/// The first word before a comma, and the words behind it.
+pub fn word(words: &str) -> (&str, &str) {
+    words.split_once(',').unwrap_or((words, ""))
 }
