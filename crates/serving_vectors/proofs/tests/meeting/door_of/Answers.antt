@@ -1,8 +1,7 @@
-use Rattle.std.proofs.Common.{rules}
 use Rattle.serving_vectors.proofs.tests.meeting.door_of.Goals as goal
 
--- src/tests/meeting.rt: the link is new, by its own fields
+-- The link of the door is new.
 pub new-requires : goal.new-requires
 new-requires c k d lt =
-    let new = c.in_ok-alone.ensures k d lt in
+    let new = c.in_ok-links.ensures k d lt in
     record { received = new.received; sent = new.sent; going = new.going }
