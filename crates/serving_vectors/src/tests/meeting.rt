@@ -14,9 +14,10 @@ use std::process::Abort;
 use std::sync::atomic::{AtomicU64, Ordering};
 use std::sync::{Arc, Wait};
 use std::test::Fail;
+use std::thread;
 use std::thread::Threads;
 
-/// How often a link looks for the other one.
+/// How often a link looks for the other one, and lets other threads run.
 const LOOKS: u32 = 1_000_000;
 
 /// A link that raises its flag at its first read, and gives its bytes once the other flag is raised. Where that isn't
@@ -37,6 +38,7 @@ fn is_raised(flag: &AtomicU64) -> bool {
         if flag.load(Ordering::SeqCst) == 1 {
             return true;
         }
+        thread::yield_now();
     }
     false
 }
