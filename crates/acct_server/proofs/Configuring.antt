@@ -68,6 +68,7 @@ begun-spelled : (document : List ℕ) (config : Config) (pairs : List Pair) (fau
 begun-spelled document config pairs faults start spells begun = record {
   under = begun.under ∙ spells.value;
   rows = subst (λ (c : Config). OpensRows c pairs start.rows) spells.value begun.rows;
+  sound = begun.sound;
   later = omega arith;
 }
 
