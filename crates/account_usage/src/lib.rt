@@ -11,10 +11,14 @@ const ABOUT: &str =
     "An account server for the Windows account database, as its RPC interfaces show it.";
 
 const FORMS: &str = "account replay CONFIG
+       account serve CONFIG STORE
        account call ADDRESS WORD..
        account gen N";
 
 const REPLAY: &str = "Answer the events of the standard input under the configuration in a file";
+
+const SERVE: &str =
+    "Listen under the configuration in a file, with the accounts in a store, and answer clients";
 
 const CALL: &str = "Ask the server at an address, tcp:HOST:PORT or unix:PATH, and print its answer";
 
@@ -35,6 +39,7 @@ const MORE: &str = "Words of call:
 
 Examples:
   account replay examples/first.toml < examples/first.events
+  account serve examples/first.toml accounts.db
   account call tcp:127.0.0.1:4045 users CORP
   account gen 100";
 
@@ -50,6 +55,7 @@ fn account<'a>(alloc: Global) -> Result<Command<'a>, NoMemory> {
         named(alloc, "account", ABOUT)
             .override_usage(FORMS)
             .subcommand(named(alloc, "replay", REPLAY))?
+            .subcommand(named(alloc, "serve", SERVE))?
             .subcommand(named(alloc, "call", CALL))?
             .subcommand(named(alloc, "gen", GENERATE))?
             .disable_help_flag(true)

@@ -6,11 +6,13 @@ const USAGE: &str = "\
 An account server for the Windows account database, as its RPC interfaces show it.
 
 Usage: account replay CONFIG
+       account serve CONFIG STORE
        account call ADDRESS WORD..
        account gen N
 
 Commands:
   replay  Answer the events of the standard input under the configuration in a file
+  serve   Listen under the configuration in a file, with the accounts in a store, and answer clients
   call    Ask the server at an address, tcp:HOST:PORT or unix:PATH, and print its answer
   gen     Make N users, from 1 to 10000, by a replay, and print the counts of what is there
 
@@ -28,6 +30,7 @@ Words of call:
 
 Examples:
   account replay examples/first.toml < examples/first.events
+  account serve examples/first.toml accounts.db
   account call tcp:127.0.0.1:4045 users CORP
   account gen 100
 ";
