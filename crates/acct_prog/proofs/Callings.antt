@@ -11,10 +11,9 @@ use Rattle.client_calls.specs.declared.ends.TalkEnd.{TalkEnd}
 use Rattle.client_calls.specs.declared.ends.TalkEnd.TheVariants as talk
 use Rattle.acct_prog.specs.declared.part.Part.TheVariants as part
 use Rattle.acct_server.specs.declared.status.Status.{Status}
-use Rattle.acct_server.specs.Replaying.{Telling}
 use Rattle.acct_prog.specs.Statuses.{talk_status}
-use Rattle.acct_prog.specs.Words.{Form, Replay, Generate, Call, Calling, calling, calling_at, call_form, is_call}
-use Rattle.acct_prog.specs.Words.{replay_form, gen_form, form_of}
+use Rattle.acct_prog.specs.Words.{Form, Replay, Generate, Serve, Call, Calling, ServeNames, calling, calling_at}
+use Rattle.acct_prog.specs.Words.{call_form, is_call, replay_form, gen_form, serve_form, form_of}
 use Rattle.acct_client.specs.declared.dialogue.Talk.{Talk}
 use Rattle.acct_client.specs.Dialogues.{begun}
 use Rattle.client_calls.specs.Talks.{IsBegun}
@@ -22,7 +21,7 @@ use Rattle.client_steps.specs.declared.command.Command.{Command}
 use Rattle.client_steps.specs.Words.{command_of}
 use Rattle.acct_prog.specs.World.{Seen, TakesSink, GivesSink, TakesCaller, GivesCaller}
 use Rattle.acct_prog.specs.Calling.{TellingCall, IsDoneOrLost, HasTalked, HasCalled, Calls}
-use Rattle.acct_prog.specs.Does.{Does}
+use Rattle.acct_prog.specs.Does.{TellingAll, Does}
 use Rattle.acct_prog.proofs.Worlds.{asked-ok, asked-more}
 
 -- ---- a dialogue in which nothing failed
@@ -69,7 +68,8 @@ have-talked told command end printing status old new None law is talks = tt
 
 -- ---- the command
 
-pub has-called : {S T K C L : Type 0} (told : TellingCall T C L) (calling : Calling) (w0 w1 w2 w3 w4 : Seen S T K C L)
+pub has-called : {S T K E D C L : Type 0} (told : TellingCall T C L) (calling : Calling)
+    (w0 w1 w2 w3 w4 : Seen S T K E D C L)
     (caller caller_after : C) (sink sink_after : T) (end : TalkEnd) (printing : Result (Unit {0}) Failed)
     (link : Option L) (status : Status) → ComesToItsEnd → status ≡ talk_status end printing
     → TakesCaller w0 w1 (Ok caller) → TakesSink w1 w2 (Ok sink)
@@ -82,9 +82,9 @@ pub has-called : {S T K C L : Type 0} (told : TellingCall T C L) (calling : Call
     → GivesCaller w3 w4 caller_after link → HasCalled told calling w0 w4 status
 has-called told calling w0 w1 w2 w3 w4 caller caller_after sink sink_after end printing link status law is takes taken
     talks none called later gives given =
-    let tells1 : w1.tells ≡ w0.tells = ap (λ (s : Seen _ _ _ _ _). s.tells) takes.others in
-    let tells2 : w2.tells ≡ w0.tells = ap (λ (s : Seen _ _ _ _ _). s.tells) taken.others ∙ tells1 in
-    let tells3 : w3.tells ≡ w0.tells = ap (λ (s : Seen _ _ _ _ _). s.tells) gives.others ∙ tells2 in
+    let tells1 : w1.tells ≡ w0.tells = ap (λ (s : Seen _ _ _ _ _ _ _). s.tells) takes.others in
+    let tells2 : w2.tells ≡ w0.tells = ap (λ (s : Seen _ _ _ _ _ _ _). s.tells) taken.others ∙ tells1 in
+    let tells3 : w3.tells ≡ w0.tells = ap (λ (s : Seen _ _ _ _ _ _ _). s.tells) gives.others ∙ tells2 in
     record {
       caller = caller;
       caller_after = caller_after;
@@ -100,24 +100,28 @@ has-called told calling w0 w1 w2 w3 w4 caller caller_after sink sink_after end p
       called = called;
       later = later;
       took_caller = λ tells. takes.part tells;
-      took_sink = λ tells. sym (ap (λ (s : Seen _ _ _ _ _). s.sink) takes.others) ∙ taken.part (tells1 ∙ tells);
+      took_sink = λ tells. sym (ap (λ (s : Seen _ _ _ _ _ _ _). s.sink) takes.others) ∙ taken.part (tells1 ∙ tells);
       gave_caller = λ tells. given.holds (tells3 ∙ tells);
-      gave_sink = λ tells. ap (λ (s : Seen _ _ _ _ _). s.sink) given.others ∙ gives.holds (tells2 ∙ tells);
+      gave_sink = λ tells. ap (λ (s : Seen _ _ _ _ _ _ _). s.sink) given.others ∙ gives.holds (tells2 ∙ tells);
       talked = λ tells. given.talked (tells3 ∙ tells);
-      sources = λ name. ap (λ (s : Seen _ _ _ _ _). s.source name) given.others
-          ∙ ap (λ (s : Seen _ _ _ _ _). s.source name) gives.others
-          ∙ ap (λ (s : Seen _ _ _ _ _). s.source name) taken.others
-          ∙ ap (λ (s : Seen _ _ _ _ _). s.source name) takes.others;
-      keepers = λ name. ap (λ (s : Seen _ _ _ _ _). s.keeper name) given.others
-          ∙ ap (λ (s : Seen _ _ _ _ _). s.keeper name) gives.others
-          ∙ ap (λ (s : Seen _ _ _ _ _). s.keeper name) taken.others
-          ∙ ap (λ (s : Seen _ _ _ _ _). s.keeper name) takes.others;
-      periods = ap (λ (s : Seen _ _ _ _ _). s.periods) given.others
-          ∙ ap (λ (s : Seen _ _ _ _ _). s.periods) gives.others
-          ∙ ap (λ (s : Seen _ _ _ _ _). s.periods) taken.others
-          ∙ ap (λ (s : Seen _ _ _ _ _). s.periods) takes.others;
-      asked = λ tells. ap (λ (s : Seen _ _ _ _ _). s.asked) given.others
-          ∙ ap (λ (s : Seen _ _ _ _ _). s.asked) gives.others
+      sources = λ name. ap (λ (s : Seen _ _ _ _ _ _ _). s.source name) given.others
+          ∙ ap (λ (s : Seen _ _ _ _ _ _ _). s.source name) gives.others
+          ∙ ap (λ (s : Seen _ _ _ _ _ _ _). s.source name) taken.others
+          ∙ ap (λ (s : Seen _ _ _ _ _ _ _). s.source name) takes.others;
+      keepers = λ name. ap (λ (s : Seen _ _ _ _ _ _ _). s.keeper name) given.others
+          ∙ ap (λ (s : Seen _ _ _ _ _ _ _). s.keeper name) gives.others
+          ∙ ap (λ (s : Seen _ _ _ _ _ _ _). s.keeper name) taken.others
+          ∙ ap (λ (s : Seen _ _ _ _ _ _ _). s.keeper name) takes.others;
+      entrance = ap (λ (s : Seen _ _ _ _ _ _ _). s.entrance) given.others
+          ∙ ap (λ (s : Seen _ _ _ _ _ _ _). s.entrance) gives.others
+          ∙ ap (λ (s : Seen _ _ _ _ _ _ _). s.entrance) taken.others
+          ∙ ap (λ (s : Seen _ _ _ _ _ _ _). s.entrance) takes.others;
+      periods = ap (λ (s : Seen _ _ _ _ _ _ _). s.periods) given.others
+          ∙ ap (λ (s : Seen _ _ _ _ _ _ _). s.periods) gives.others
+          ∙ ap (λ (s : Seen _ _ _ _ _ _ _). s.periods) taken.others
+          ∙ ap (λ (s : Seen _ _ _ _ _ _ _). s.periods) takes.others;
+      asked = λ tells. ap (λ (s : Seen _ _ _ _ _ _ _). s.asked) given.others
+          ∙ ap (λ (s : Seen _ _ _ _ _ _ _). s.asked) gives.others
           ∙ asked-more w0.asked w1.asked w2.asked (part.Caller ∷ []) part.Sink
           (asked-ok part.Caller w0.asked w1.asked caller (Ok caller) refl (takes.asked tells))
           (asked-ok part.Sink w1.asked w2.asked sink (Ok sink) refl (taken.asked (tells1 ∙ tells)));
@@ -167,24 +171,28 @@ no-call-form words rest address is here behind none =
 -- ---- the words of no other command
 
 call-alone : (words : List (List ℕ)) (form : Form) → replay_form words ≡ None → gen_form words ≡ None
-    → form_of words ≡ Some form → option_map Call (call_form words) ≡ Some form
-call-alone words form no_replay no_gen is =
+    → serve_form words ≡ None → form_of words ≡ Some form → option_map Call (call_form words) ≡ Some form
+call-alone words form no_replay no_gen no_serve is =
+    let called : Option Form = option_map Call (call_form words) in
+    let behind : Option Form = option_or (option_map Serve (serve_form words)) called in
     sym (ap (λ (o : Option (List ℕ)). option_or (option_map Replay o)
-    (option_or (option_map Generate (gen_form words)) (option_map Call (call_form words)))) no_replay
-    ∙ ap (λ (o : Option ℕ). option_or (option_map Generate o) (option_map Call (call_form words))) no_gen) ∙ is
+    (option_or (option_map Generate (gen_form words)) behind)) no_replay
+    ∙ ap (λ (o : Option ℕ). option_or (option_map Generate o) behind) no_gen
+    ∙ ap (λ (o : Option ServeNames). option_or (option_map Serve o) called) no_serve) ∙ is
 
-does-of : {S T K C L : Type 0} (told : Telling S T K) (call : TellingCall T C L) (old new : Seen S T K C L)
+does-of : {S T K E D F C L : Type 0} (told : TellingAll S T K E D F C L) (old new : Seen S T K E D C L)
     (status : Status) (o : Option Calling) (form : Form) → option_map Call o ≡ Some form
-    → ((calling : Calling) → o ≡ Some calling → Calls call calling old new status)
-    → Does told call form old new status
-does-of told call old new status None form is calls = absurd cc
-does-of told call old new status (Some calling) form is calls =
-    let e : Call calling ≡ form = cc in subst (λ (f : Form). Does told call f old new status) e (calls calling refl)
+    → ((calling : Calling) → o ≡ Some calling → Calls told.call calling old new status)
+    → Does told form old new status
+does-of told old new status None form is calls = absurd cc
+does-of told old new status (Some calling) form is calls =
+    let e : Call calling ≡ form = cc in subst (λ (f : Form). Does told f old new status) e (calls calling refl)
 
 -- what a call does is what the words that have no other form ask for
-pub does-call : {S T K C L : Type 0} (told : Telling S T K) (call : TellingCall T C L) (words : List (List ℕ))
-    (old new : Seen S T K C L) (status : Status) → replay_form words ≡ None → gen_form words ≡ None
-    → ((calling : Calling) → call_form words ≡ Some calling → Calls call calling old new status) → (form : Form)
-    → form_of words ≡ Some form → Does told call form old new status
-does-call told call words old new status no_replay no_gen calls form is =
-    does-of told call old new status (call_form words) form (call-alone words form no_replay no_gen is) calls
+pub does-call : {S T K E D F C L : Type 0} (told : TellingAll S T K E D F C L) (words : List (List ℕ))
+    (old new : Seen S T K E D C L) (status : Status) → replay_form words ≡ None → gen_form words ≡ None
+    → serve_form words ≡ None
+    → ((calling : Calling) → call_form words ≡ Some calling → Calls told.call calling old new status) → (form : Form)
+    → form_of words ≡ Some form → Does told form old new status
+does-call told words old new status no_replay no_gen no_serve calls form is =
+    does-of told old new status (call_form words) form (call-alone words form no_replay no_gen no_serve is) calls

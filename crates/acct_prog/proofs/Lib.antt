@@ -3,3 +3,6 @@ pub mod Usages
 pub mod Holding
 pub mod Generations
 pub mod Callings
+pub mod Servings
+pub mod Periods
+pub mod GoingOn

@@ -4,6 +4,8 @@ pub mod Memory
 pub mod Commanded
 pub mod Generates
 pub mod Calling
+pub mod Serving
+pub mod Rounds
 pub mod Does
 pub mod Statuses
 pub mod Host

@@ -23,15 +23,18 @@ is_empty_name name = bytes_eq name []
 abbrev pub keeper_under : {K : Type 0} → Option K → List ℕ → Option K
 keeper_under keeper name = if is_empty_name name then keeper else None
 
--- The name of the configuration, the parts that it has, the link that was given back with the caller, the periods that
--- it was given, the parts that it was asked for, how often handing out a source, the sink, a keeper or the caller has
--- failed, how many handings out were asked for, and the numbers of those that fail.
-pub record WorldInMemory (S T K C L : Type 0) : Type 0 where
+-- The name of the configuration, the parts that it has, the doors that were given back with the entrance and the link
+-- that was given back with the caller, the periods that it was given, the parts that it was asked for, how often
+-- handing out a source, the sink, a keeper, the entrance or the caller has failed, how many handings out were asked
+-- for, and the numbers of those that fail.
+pub record WorldInMemory (S T K E D C L : Type 0) : Type 0 where
   pub name : List ℕ
   pub config : Option S
   pub events : Option S
   pub sink : Option T
   pub keeper : Option K
+  pub entrance : Option E
+  pub doors : List D
   pub caller : Option C
   pub talked : Option L
   pub periods : List Period
@@ -39,11 +42,12 @@ pub record WorldInMemory (S T K C L : Type 0) : Type 0 where
   pub source_faults : ℕ
   pub sink_faults : ℕ
   pub keeper_faults : ℕ
+  pub entrance_faults : ℕ
   pub caller_faults : ℕ
   pub takes : ℕ
   pub failing : List ℕ
 
-abbrev pub shown : {S T K C L : Type 0} → WorldInMemory S T K C L → Seen S T K C L
+abbrev pub shown : {S T K E D C L : Type 0} → WorldInMemory S T K E D C L → Seen S T K E D C L
 shown world = record {
   tells = true;
   knows = known_name world.name;
@@ -51,6 +55,8 @@ shown world = record {
   sink = world.sink;
   stores = is_empty_name;
   keeper = keeper_under world.keeper;
+  entrance = world.entrance;
+  doors = world.doors;
   caller = world.caller;
   talked = world.talked;
   periods = world.periods;
@@ -58,6 +64,7 @@ shown world = record {
   source_faults = world.source_faults;
   sink_faults = world.sink_faults;
   keeper_faults = world.keeper_faults;
+  entrance_faults = world.entrance_faults;
   caller_faults = world.caller_faults;
 }
 
@@ -83,7 +90,7 @@ pub record Hands {P : Type 0} (to_fail : Bool) (old new : Option P) (faults coun
 
 -- A handing out from a place has the next number. It fails exactly where that is one of those that fail or nothing is
 -- there, unless memory is wanted.
-pub record TakesInMemory {S T K C L P : Type 0} (old new : WorldInMemory S T K C L) (place : Option P)
+pub record TakesInMemory {S T K E D C L P : Type 0} (old new : WorldInMemory S T K E D C L) (place : Option P)
     (answer : Result P TakeError) : Type 0 where
   pub fails : answer ≢ Err NoMemory → is_err answer ≡ (is_among old.failing (one_more old.takes) || is_none place)
   pub number : answer ≢ Err NoMemory → new.takes ≡ one_more old.takes

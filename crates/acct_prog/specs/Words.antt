@@ -1,5 +1,5 @@
 -- The words of the program.
-use Rattle.std.specs.Prelude.{ℕ, ◌==◌, Bool, false, ◌&&◌, not, List, [], ◌∷◌, length, codes, Option, Some, None}
+use Rattle.std.specs.Prelude.{ℕ, ◌==◌, Bool, false, ◌&&◌, ◌||◌, not, List, [], ◌∷◌, length, codes, Option, Some, None}
 use Rattle.std.specs.Prelude.{option_map, if◌then◌else◌, nat_le, get_or, drop}
 use Rattle.std.specs.List.{list_any}
 use Rattle.std.specs.Option.{option_or}
@@ -16,11 +16,17 @@ pub record Calling : Type 0 where
   pub address : List ℕ
   pub command : Command
 
--- what the words ask for, with what they name: the configuration of a replay, how many users the generator makes, or
--- what is asked for at which address
+-- the names of a configuration and of a store
+pub record ServeNames : Type 0 where
+  pub config : List ℕ
+  pub store : List ℕ
+
+-- what the words ask for, with what they name: the configuration of a replay, how many users the generator makes, the
+-- configuration and the store of a server, or what is asked for at which address
 pub data Form : Type 0 where
   Replay : List ℕ → Form
   Generate : ℕ → Form
+  Serve : ServeNames → Form
   Call : Calling → Form
 
 abbrev pub begins_with_dash : List ℕ → Bool
@@ -47,6 +53,13 @@ abbrev pub gen_form : List (List ℕ) → Option ℕ
 gen_form (command ∷ number ∷ []) = if bytes_eq command (codes "gen") then users_in number else None
 gen_form _ = None
 
+-- `serve CONFIG STORE`, of which neither begins with a dash
+abbrev pub serve_form : List (List ℕ) → Option ServeNames
+serve_form (command ∷ config ∷ store ∷ []) =
+    if bytes_eq command (codes "serve") && not (begins_with_dash config || begins_with_dash store)
+    then Some (record { config = config; store = store }) else None
+serve_form _ = None
+
 -- the command of the client that words are, at an address
 abbrev pub calling : List ℕ → Command → Calling
 calling address command = record { address = address; command = command }
@@ -66,7 +79,8 @@ call_form words = if is_call words then calling_at (get_or words 1 []) (drop 2 w
 -- what the words ask for, if they have a form
 abbrev pub form_of : List (List ℕ) → Option Form
 form_of words = option_or (option_map Replay (replay_form words))
-    (option_or (option_map Generate (gen_form words)) (option_map Call (call_form words)))
+    (option_or (option_map Generate (gen_form words))
+    (option_or (option_map Serve (serve_form words)) (option_map Call (call_form words))))
 
 -- the character that no word of a command line has
 abbrev pub nul : ℕ

@@ -1,100 +1,31 @@
 // The program's commands, over a world.
-ghost use Rattle.std.specs.Prelude.{◌≡◌, ◌≢◌, ◌≤◌, Some, None, true, length, map, MatchResult};
+ghost use Rattle.std.specs.Prelude.{◌≡◌, ◌≢◌, ◌≤◌, Some, None, length, map, true};
 ghost use Rattle.std.specs.String.{string_bytes};
 ghost use Rattle.acct_generator.specs.Calls.{most_users};
 ghost use Rattle.client_calls.specs.Talks.{IsBegun};
 ghost use Rattle.client_steps.specs.declared.command.Command.{Command};
-ghost use Rattle.acct_server.specs.declared.status.Status.TheVariants.{Usage, NoMemory};
+ghost use Rattle.acct_server.specs.declared.status.Status.TheVariants.{Usage};
 ghost use Rattle.acct_prog.specs.Words.{Form, Calling, form_of, is_call, call_form};
-ghost use Rattle.acct_prog.specs.Commanded.{Commanded, Returned, KeepsAny, standard_input, read_status, write_status};
-ghost use Rattle.acct_prog.specs.Commanded.{link_status, store_status};
+ghost use Rattle.acct_prog.specs.Commanded.{Commanded, Returned, standard_input};
 ghost use Rattle.acct_prog.specs.Calling.{Calls};
 ghost use Rattle.acct_prog.specs.Generates.{Generates};
-ghost use Rattle.acct_prog.specs.Statuses.{talk_status};
 ghost use Rattle.acct_prog.specs.Does.{Does, IsFormless};
 
-use crate::forms::{behind_two, gen_users, is_call, replay_name};
-use crate::period::{Period, parted, period_between};
+use crate::forms::{behind_two, gen_users, is_call, replay_name, serve_names};
+use crate::keeping::keep;
+use crate::period::{parted, period_between};
+use crate::serving::run_serve;
+use crate::statuses::{link_status, read_status, store_status, talk_status, write_status};
 use crate::world::World;
+use acct_base::Seq;
 use acct_client::{AskError, Asker};
-use acct_links::TakeError;
-use acct_server::{Failed, Status, replay};
+use acct_links::{Door, Entrance};
+use acct_server::{Status, replay};
 use acct_summary::{Generation, generate};
-use client_calls::{Called, TalkEnd, call, dialogues_come_to_their_ends};
-use std::alloc::{AllocError, Global};
-
-fn read_status(e: TakeError) -> Status
-    ensures { result ≡ read_status e }
-{
-    match e {
-        TakeError::Failed => Status::ReadFault,
-        TakeError::NoMemory => Status::NoMemory,
-    }
-}
-
-fn write_status(e: TakeError) -> Status
-    ensures { result ≡ write_status e }
-{
-    match e {
-        TakeError::Failed => Status::WriteFault,
-        TakeError::NoMemory => Status::NoMemory,
-    }
-}
-
-fn link_status(e: TakeError) -> Status
-    ensures { result ≡ link_status e }
-{
-    match e {
-        TakeError::Failed => Status::PeerFault,
-        TakeError::NoMemory => Status::NoMemory,
-    }
-}
-
-fn store_status(e: TakeError) -> Status
-    ensures { result ≡ store_status e }
-{
-    match e {
-        TakeError::Failed => Status::StoreFault,
-        TakeError::NoMemory => Status::NoMemory,
-    }
-}
-
-// The status of how a dialogue ended; a failed write of its lines comes first.
-fn talk_status(end: TalkEnd, printing: Result<(), Failed>) -> Status
-    ensures { result ≡ talk_status end printing }
-{
-    if printing.is_err() {
-        return Status::WriteFault;
-    }
-    match end {
-        TalkEnd::Done => Status::Done,
-        TalkEnd::NoMemory => Status::NoMemory,
-        TalkEnd::PeerBytes(place) => Status::PeerBytes(place),
-        TalkEnd::PeerFault => Status::PeerFault,
-        TalkEnd::InputTooLong => Status::InputTooLong,
-        TalkEnd::Refused(status) => Status::Refused(status),
-    }
-}
-
-// The status of a replay, once the world was asked to keep its period.
-fn status_after(ended: Status, kept: Result<(), AllocError>) -> Status
-    ensures { MatchResult kept (λ _. result ≡ ended) (λ _. result ≡ NoMemory) }
-{
-    match kept {
-        Ok(()) => ended,
-        Err(_) => Status::NoMemory,
-    }
-}
-
-// Asks the world to keep a period, if there is one.
-fn keep<W: World>(world: &mut W, period: Option<Period>, ended: Status) -> Status
-    ensures { KeepsAny (W.seen world.old) (W.seen world.new) period ended result }
-{
-    match period {
-        Some(period) => status_after(ended, world.keep_period(period)),
-        None => ended,
-    }
-}
+use client_calls::{Called, call, dialogues_come_to_their_ends};
+use std::alloc::Global;
+use std::sync::Wait;
+use std::thread::Threads;
 
 // Runs a replay over parts that were handed out, leaves its period to the world, and gives the parts back.
 fn run_parts<W: World>(
@@ -117,7 +48,8 @@ fn run_parts<W: World>(
     }) name.now (record { config = config; events = events; out = out; keeper = keeper }) (W.seen world.old)
         (W.seen world.new) result }
 {
-    let (ended, period, keeper) = parted(replay(alloc, &mut config, &mut events, &mut out, keeper));
+    let left = replay(alloc, &mut config, &mut events, &mut out, keeper);
+    let (ended, period, keeper) = parted(alloc, left);
     let status = keep(world, period, ended);
     world.give_keeper("", keeper);
     world.give_sink(out);
@@ -187,7 +119,8 @@ fn run_generator<W: World>(alloc: Global, users: u32, world: &mut W) -> Status
         history,
         rows,
     } = generate(alloc, users, &mut out);
-    let status = keep(world, period_between(opening, history, rows), ended);
+    let period = period_between(opening, history, rows, Seq::new(alloc));
+    let status = keep(world, period, ended);
     world.give_sink(out);
     status
 }
@@ -255,26 +188,45 @@ fn run_client<W: World>(alloc: Global, words: &Vec<String>, world: &mut W) -> St
 }
 
 /// Does all that the program does. The words are `replay CONFIG`; or `gen N` for the summary of a replay of events that
-/// make N users, 1 to 10,000; or `call ADDRESS WORD..` for a command of the client. Other words take no part of the
-/// world, and are answered by usage; or by want of memory, where they may be a command of the client.
-pub fn account<W: World>(alloc: Global, words: &Vec<String>, world: &mut W) -> Status
+/// make N users, 1 to 10,000; or `serve CONFIG STORE` for a server, which may wait for its clients; or `call ADDRESS
+/// WORD..` for a command of the client. Other words take no part of the world, and are answered by usage; or by want of
+/// memory, where they may be a command of the client.
+pub fn account<R: Threads + Wait + Sync, W: World>(
+    rt: &R,
+    alloc: Global,
+    words: &Vec<String>,
+    world: &mut W,
+) -> Status
+where
+    <W::E as Entrance>::D: Drop + Send,
+    <<W::E as Entrance>::D as Door>::L: Send,
     ensures usage { result ≡ Usage → form_of (map string_bytes words.now.items) ≡ None }
     ensures formless { form_of (map string_bytes words.now.items) ≡ None →
         IsFormless (map string_bytes words.now.items) result }
     ensures untouched { form_of (map string_bytes words.now.items) ≡ None → world.new ≡ world.old }
     ensures commanded { (form : Form) → form_of (map string_bytes words.now.items) ≡ Some form →
         Does (record {
-          left = W.S.left;
-          read_faults = W.S.faults;
-          held = W.T.held;
-          write_faults = W.T.faults;
-          pairs = W.K.held;
-          store_faults = W.K.faults;
-        }) (record {
-          sunk = λ out. record { held = W.T.held out; faults = W.T.faults out };
-          called = W.C.called;
-          call_faults = W.C.faults;
-          link = W.C.L.told;
+          replay = record {
+            left = W.S.left;
+            read_faults = W.S.faults;
+            held = W.T.held;
+            write_faults = W.T.faults;
+            pairs = W.K.held;
+            store_faults = W.K.faults;
+          };
+          serve = record {
+            left = W.S.left;
+            read_faults = W.S.faults;
+            asked = W.E.asked;
+            entrance_faults = W.E.faults;
+            served = record { door = W.E.D.Door; told = W.E.D.L.told; pairs = W.K.held; faults = W.K.faults };
+          };
+          call = record {
+            sunk = λ out. record { held = W.T.held out; faults = W.T.faults out };
+            called = W.C.called;
+            call_faults = W.C.faults;
+            link = W.C.L.told;
+          };
         }) form (W.seen world.old) (W.seen world.new) result }
 {
     if let Some(name) = replay_name(words) {
@@ -282,6 +234,9 @@ pub fn account<W: World>(alloc: Global, words: &Vec<String>, world: &mut W) -> S
     }
     if let Some(users) = gen_users(words) {
         return run_generator(alloc, users, world);
+    }
+    if let Some((config, store)) = serve_names(words) {
+        return run_serve(rt, alloc, config, store, world);
     }
     if is_call(words) {
         return run_client(alloc, words, world);

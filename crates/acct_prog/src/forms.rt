@@ -2,7 +2,7 @@
 ghost use Rattle.std.specs.Prelude.{◌≡◌, ◌≤◌, None, Some, length, drop, map, MatchOption, IfSome, IsTrue};
 ghost use Rattle.std.specs.List.{list_any};
 ghost use Rattle.std.specs.String.{string_bytes};
-ghost use Rattle.acct_prog.specs.Words.{replay_form, gen_form, users_in, is_call, begins_with_dash};
+ghost use Rattle.acct_prog.specs.Words.{replay_form, gen_form, serve_form, users_in, is_call, begins_with_dash};
 ghost use Rattle.acct_generator.specs.Calls.{most_users};
 
 use acct_base::decimal;
@@ -55,6 +55,23 @@ fn begins_with_dash(word: &str) -> bool
     ensures { result ≡ begins_with_dash word.now }
 {
     word.as_bytes().first() == Some(&b'-')
+}
+
+/// The names of the configuration and of the store, of the words `serve CONFIG STORE`.
+pub fn serve_names(words: &Vec<String>) -> Option<(&str, &str)>
+    ensures { MatchOption result (serve_form (map string_bytes words.now.items) ≡ None)
+        (λ names. serve_form (map string_bytes words.now.items)
+        ≡ Some (record { config = names.0.now; store = names.1.now })) }
+{
+    if words.len() != 3 || words[0].as_str() != "serve" {
+        return None;
+    }
+    let config = words[1].as_str();
+    let store = words[2].as_str();
+    if begins_with_dash(config) || begins_with_dash(store) {
+        return None;
+    }
+    Some((config, store))
 }
 
 // Whether one of the words begins with a dash.

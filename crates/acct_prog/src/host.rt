@@ -3,20 +3,23 @@ ghost use Rattle.std.specs.Prelude.{◌≡◌, Some, None, false, [], unwrap_or,
 ghost use Rattle.acct_prog.specs.Host.{trouble_of};
 ghost use Rattle.acct_prog.specs.declared.stranger.Stranger.TheVariants.{Other};
 
+use crate::host_entrance::{SpokenEntrance, trouble_of};
+use crate::host_keeper::HostKeeper;
 use crate::host_link::{HostCaller, HostLink};
 use crate::opened::Opened;
 use crate::period::Period;
 use crate::stranger::Stranger;
 use crate::trouble::Trouble;
 use crate::world::World;
-use acct_keeper::SteadyKeeper;
+use acct_keeper::{KeepError, SteadyKeeper};
 use acct_links::TakeError;
 use acct_server::{Failed, Sink, Source};
+use host_doors::{DoorTrouble, HostDoor};
+use keeper_sqlite::SqliteKeeper;
 use std::alloc::{AllocError, Global};
 use std::fs::File;
 use std::io::{self, Input, Print, Printer, Read, Write};
 use std::net::Net;
-use std::rt::Files;
 
 /// The standard input or a file. It tells what is left where its reader tells it: over the system's it doesn't.
 #[derive(Drop)]
@@ -106,25 +109,28 @@ impl<W: Write + Drop> Sink for HostSink<W> {
 }
 
 /// The real world. The name `-` is the standard input, each other name of a source a file's path. The keeper with the
-/// empty name is a new one in memory each time, and there is no other. It keeps no period, but what went wrong with the
-/// last link or caller that was given back, and what answered over it.
+/// empty name is a new one in memory each time, that with another name one in the file at that path. It keeps no period,
+/// but what went wrong with the last link or caller that was given back, and what answered over it, and what went wrong
+/// with the last entrance or door.
 #[derive(Drop)]
-pub struct HostWorld<'a, R: Files<File = File> + Input + Print + Net> {
-    rt: &'a R,
+pub struct HostWorld<'a> {
+    rt: &'a HostRuntime,
     alloc: Global,
     source_faults: u64,
     keeper_faults: u64,
     trouble: Option<Trouble>,
     stranger: Option<Stranger>,
+    door_trouble: Option<DoorTrouble>,
 }
 
-impl<'a, R: Files<File = File> + Input + Print + Net> HostWorld<'a, R> {
+impl<'a> HostWorld<'a> {
     /// The real world of a runtime.
-    pub fn new(rt: &'a R, alloc: Global) -> Self
+    pub fn new(rt: &'a HostRuntime, alloc: Global) -> Self
         ensures source { result.source_faults ≡ 0 }
         ensures keeper { result.keeper_faults ≡ 0 }
         ensures trouble { result.trouble ≡ None }
         ensures stranger { result.stranger ≡ None }
+        ensures door_trouble { result.door_trouble ≡ None }
     {
         HostWorld {
             rt,
@@ -133,6 +139,7 @@ impl<'a, R: Files<File = File> + Input + Print + Net> HostWorld<'a, R> {
             keeper_faults: 0,
             trouble: None,
             stranger: None,
+            door_trouble: None,
         }
     }
 
@@ -149,16 +156,25 @@ impl<'a, R: Files<File = File> + Input + Print + Net> HostWorld<'a, R> {
     {
         self.stranger
     }
+
+    /// What went wrong with the last entrance that was given back, or else with the first of its doors.
+    pub fn door_trouble(&self) -> Option<&DoorTrouble>
+        ensures { option_copied result ≡ self.now.door_trouble }
+    {
+        self.door_trouble.as_ref()
+    }
 }
 
-impl<'a, R: Files<File = File> + Input + Print + Net> World for HostWorld<'a, R> {
-    type S = HostSource<R::Reader>;
+impl<'a> World for HostWorld<'a> {
+    type S = HostSource<<HostRuntime as Input>::Reader>;
 
-    type T = HostSink<Printer<'a, R>>;
+    type T = HostSink<Printer<'a, HostRuntime>>;
 
-    type K = SteadyKeeper;
+    type K = HostKeeper;
 
-    type C = HostCaller<'a, R>;
+    type E = SpokenEntrance<'a, HostRuntime>;
+
+    type C = HostCaller<'a, HostRuntime>;
 
     ghost seen = { λ w. record {
       tells = false;
@@ -167,6 +183,8 @@ impl<'a, R: Files<File = File> + Input + Print + Net> World for HostWorld<'a, R>
       sink = None;
       stores = λ _. false;
       keeper = λ _. None;
+      entrance = None;
+      doors = [];
       caller = None;
       talked = None;
       periods = [];
@@ -174,10 +192,14 @@ impl<'a, R: Files<File = File> + Input + Print + Net> World for HostWorld<'a, R>
       source_faults = w.source_faults;
       sink_faults = 0;
       keeper_faults = w.keeper_faults;
+      entrance_faults = 0;
       caller_faults = 0;
     } };
 
-    fn take_source(&mut self, name: &str) -> Result<HostSource<R::Reader>, TakeError> {
+    fn take_source(
+        &mut self,
+        name: &str,
+    ) -> Result<HostSource<<HostRuntime as Input>::Reader>, TakeError> {
         let opened = if name == "-" {
             Opened::Standard(self.rt.reader())
         } else {
@@ -192,35 +214,63 @@ impl<'a, R: Files<File = File> + Input + Print + Net> World for HostWorld<'a, R>
         Ok(HostSource::new(opened))
     }
 
-    fn give_source(&mut self, _name: &str, part: HostSource<R::Reader>) {
+    fn give_source(&mut self, _name: &str, part: HostSource<<HostRuntime as Input>::Reader>) {
         drop(part);
     }
 
-    fn take_sink(&mut self) -> Result<HostSink<Printer<'a, R>>, TakeError> {
+    fn take_sink(&mut self) -> Result<HostSink<Printer<'a, HostRuntime>>, TakeError> {
         Ok(HostSink::new(io::writer(self.rt)))
     }
 
-    fn give_sink(&mut self, part: HostSink<Printer<'a, R>>) {
+    fn give_sink(&mut self, part: HostSink<Printer<'a, HostRuntime>>) {
         drop(part);
     }
 
-    fn take_keeper(&mut self, name: &str) -> Result<SteadyKeeper, TakeError> {
-        if !name.is_empty() {
-            self.keeper_faults = self.keeper_faults.saturating_add(1);
-            return Err(TakeError::Failed);
+    fn take_keeper(&mut self, name: &str) -> Result<HostKeeper, TakeError> {
+        if name.is_empty() {
+            return Ok(HostKeeper::Memory(SteadyKeeper::new(self.alloc)));
         }
-        Ok(SteadyKeeper::new(self.alloc))
+        match SqliteKeeper::new(self.rt, name) {
+            Ok(keeper) => Ok(HostKeeper::File(keeper)),
+            Err(KeepError::NoMemory) => Err(TakeError::NoMemory),
+            Err(KeepError::Failed) => {
+                self.keeper_faults = self.keeper_faults.saturating_add(1);
+                Err(TakeError::Failed)
+            }
+        }
     }
 
-    fn give_keeper(&mut self, _name: &str, part: SteadyKeeper) {
+    fn give_keeper(&mut self, _name: &str, part: HostKeeper) {
         drop(part);
     }
 
-    fn take_caller(&mut self) -> Result<HostCaller<'a, R>, TakeError> {
+    fn take_entrance(&mut self) -> Result<SpokenEntrance<'a, HostRuntime>, TakeError> {
+        Ok(SpokenEntrance::new(self.rt, self.alloc))
+    }
+
+    fn give_entrance(
+        &mut self,
+        part: SpokenEntrance<'a, HostRuntime>,
+        doors: Vec<HostDoor<<HostRuntime as Net>::Listener>>,
+    )
+        ensures kept { self.new ≡ record self.old { door_trouble = self.new.door_trouble } }
+    {
+        self.door_trouble = match part.into_trouble() {
+            Some(trouble) => Some(trouble),
+            None => trouble_of(&doors),
+        };
+        drop(doors);
+    }
+
+    fn take_caller(&mut self) -> Result<HostCaller<'a, HostRuntime>, TakeError> {
         Ok(HostCaller::new(self.rt))
     }
 
-    fn give_caller(&mut self, part: HostCaller<'a, R>, link: Option<HostLink<R::Stream>>)
+    fn give_caller(
+        &mut self,
+        part: HostCaller<'a, HostRuntime>,
+        link: Option<HostLink<<HostRuntime as Net>::Stream>>,
+    )
         ensures kept { self.new ≡ record self.old { trouble = self.new.trouble; stranger = self.new.stranger } }
         ensures trouble { MatchOption link (self.new.trouble ≡ part.entry.trouble)
             (λ given. self.new.trouble ≡ trouble_of given.has_ended given.trouble) }

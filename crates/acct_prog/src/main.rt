@@ -1,11 +1,13 @@
-//! The program `account`: its top call over a world that hands out sources, the sink, keepers and the caller, worlds in
-//! memory and the real one, and `main`, which makes the real world and calls `account`.
+//! The program `account`: its top call over a world that hands out sources, the sink, keepers, the entrance and the
+//! caller, worlds in memory and the real one, and `main`, which makes the real world and calls `account`.
 //!
-//! It stands on `acct_server`, `acct_summary`, `client_calls` and `acct_keeper`. What the program promises are the
-//! clauses of [`account`]: over a world that tells, the words without a form take no part; a replay leaves the history,
-//! the lines and the status of its events, and the world's keeper with the pairs of the rows after them; the generator
-//! writes the summary of a replay of the events that it makes; and a call holds the dialogue of its command over one
-//! link, and writes its lines.
+//! It stands on `acct_server`, `acct_summary`, `client_calls`, `listener_doors` and `acct_keeper`, and in the real world
+//! on `host_doors` and `keeper_sqlite`. What the program promises are the clauses of [`account`]: over a world that
+//! tells, the words without a form take no part; a replay leaves the history, the lines and the status of its events,
+//! and the world's keeper with the pairs of the rows after them; the generator writes the summary of a replay of the
+//! events that it makes; a server asks the entrance once for the doors of each listener, and serves them all, period
+//! after period, each of which is left to the world; and a call holds the dialogue of its command over one link, and
+//! writes its lines.
 #![tactic(auto)]
 
 ghost use Rattle.std.specs.Prelude.{◌≡◌};
@@ -15,11 +17,16 @@ mod channel;
 mod command;
 mod forms;
 mod host;
+mod host_entrance;
+mod host_keeper;
 mod host_link;
+mod keeping;
 mod memory;
 mod opened;
 mod part;
 mod period;
+mod serving;
+mod statuses;
 mod stranger;
 mod trouble;
 mod words;
@@ -30,11 +37,15 @@ pub use acct_links::TakeError;
 use acct_server::Status;
 pub use command::account;
 pub use host::{HostSink, HostSource, HostWorld};
+pub use host_entrance::SpokenEntrance;
+pub use host_keeper::HostKeeper;
 pub use host_link::{HostCaller, HostLink};
 pub use memory::{MemoryParts, MemoryWorld};
 pub use part::Part;
 pub use period::Period;
 use std::process::ExitCode;
+use std::sync::Wait;
+use std::thread::Threads;
 pub use stranger::Stranger;
 pub use trouble::Trouble;
 use words::words;
@@ -88,7 +99,7 @@ fn word_of(status: &Status) -> &'static str
 
 /// Says what went wrong at the address that was called, and what to do about it. Where the link ended and what answered
 /// over it is known to be no account server, it says that.
-fn tell_peer(rt: &HostRuntime, status: &Status, address: &str, world: &HostWorld<HostRuntime>) {
+fn tell_peer(rt: &HostRuntime, status: &Status, address: &str, world: &HostWorld) {
     let is_link = matches!(status, Status::PeerFault);
     if let Some(stranger) = world.stranger() {
         if matches!(status, Status::PeerBytes(_)) || (is_link && stranger.is_known()) {
@@ -99,6 +110,15 @@ fn tell_peer(rt: &HostRuntime, status: &Status, address: &str, world: &HostWorld
     if is_link {
         if let Some(trouble) = world.trouble() {
             let _ = eprintln!(rt; "account: {address}: {trouble}");
+        }
+    }
+}
+
+/// Says what went wrong where the server listens, and what to do about it.
+fn tell_doors(rt: &HostRuntime, status: &Status, world: &HostWorld) {
+    if matches!(status, Status::DoorFault) {
+        if let Some(trouble) = world.door_trouble() {
+            let _ = eprintln!(rt; "account: {trouble}");
         }
     }
 }
@@ -118,15 +138,16 @@ fn tell(rt: &HostRuntime, status: &Status) {
     }
 }
 
-/// The status of the words of the command line, over the real world, and what went wrong there told.
-fn run(rt: &HostRuntime) -> Status {
+/// The status of the words of the command line, over the real world, and what went wrong there told. A server waits.
+fn run<R: Threads + Wait + Sync>(rt: &HostRuntime, waiting: &R) -> Status {
     let Ok(words) = words(rt, rt.alloc()) else {
         tell(rt, &Status::NoMemory);
         return Status::NoMemory;
     };
     let mut world = HostWorld::new(rt, rt.alloc());
-    let status = account(rt.alloc(), &words, &mut world);
+    let status = account(waiting, rt.alloc(), &words, &mut world);
     tell(rt, &status);
+    tell_doors(rt, &status, &world);
     if let Some(address) = words.get(1) {
         tell_peer(rt, &status, address.as_str(), &world);
     }
@@ -135,7 +156,7 @@ fn run(rt: &HostRuntime) -> Status {
 
 /// It only prints and exits: where a line can't be printed, the code says it alone.
 fn main(rt: HostRuntime) -> ExitCode {
-    ExitCode::from(code_of(&run(&rt)))
+    ExitCode::from(code_of(&run(&rt, &rt)))
 }
 
 #[cfg(test)]

@@ -1,6 +1,7 @@
 // A world in memory.
 ghost use Rattle.std.specs.Prelude.{◌≡◌, [], Some, None, option_copied};
-ghost use Rattle.acct_prog.specs.World.{TakesSource, TakesSink, TakesKeeper, TakesCaller, GivesCaller};
+ghost use Rattle.acct_prog.specs.World.{TakesSource, TakesSink, TakesKeeper, TakesEntrance, GivesEntrance};
+ghost use Rattle.acct_prog.specs.World.{TakesCaller, GivesCaller};
 ghost use Rattle.acct_prog.specs.Memory.{shown, source_under, keeper_under, Notes, Hands, TakesInMemory};
 
 use crate::part::Part;
@@ -8,7 +9,7 @@ use crate::period::Period;
 use crate::world::World;
 use acct_base::{Seq, is_same};
 use acct_keeper::Keeper;
-use acct_links::{Caller, TakeError};
+use acct_links::{Caller, Entrance, TakeError};
 use acct_server::{Sink, Source};
 use std::alloc::{AllocError, Global};
 use std::marker::Model;
@@ -40,24 +41,32 @@ fn hand<P>(place: &mut Option<P>, to_fail: bool, faults: &mut u64) -> Result<P, 
     Err(TakeError::Failed)
 }
 
-/// What a world in memory has to hand out: the configuration, the events, the sink, the keeper with the empty name, and
-/// the caller.
+/// What a world in memory has to hand out: the configuration, the events, the sink, the keeper with the empty name, the
+/// entrance, and the caller.
 #[derive(Drop)]
-pub struct MemoryParts<S: Drop, T: Drop, K: Drop, C: Drop> {
+pub struct MemoryParts<S: Drop, T: Drop, K: Drop, E: Drop, C: Drop> {
     pub config: S,
     pub events: S,
     pub sink: T,
     pub keeper: K,
+    pub entrance: E,
     pub caller: C,
 }
 
-/// A world with one configuration under its name, the events, a sink, one keeper, under the empty name, a caller, the
-/// link that was given back with it, and the periods that it was given. Its handings out are numbered from 1, and
-/// those of the given numbers fail; so does one of a part that isn't there. It tells what it holds, and what it was
-/// asked for.
+/// A world with one configuration under its name, the events, a sink, one keeper, under the empty name, an entrance, the
+/// doors that were given back with it, a caller, the link that was given back with it, and the periods that it was
+/// given. Its handings out are numbered from 1, and those of the given numbers fail; so does one of a part that isn't
+/// there. It tells what it holds, and what it was asked for.
 #[derive(Drop)]
-pub struct MemoryWorld<S: Source + Drop, T: Sink + Drop, K: Keeper + Drop, C: Caller + Drop>
+pub struct MemoryWorld<
+    S: Source + Drop,
+    T: Sink + Drop,
+    K: Keeper + Drop,
+    E: Entrance + Drop,
+    C: Caller + Drop,
+>
 where
+    E::D: Drop,
     C::L: Drop,
 {
     alloc: Global,
@@ -66,6 +75,8 @@ where
     events: Option<S>,
     sink: Option<T>,
     keeper: Option<K>,
+    entrance: Option<E>,
+    doors: Vec<E::D>,
     caller: Option<C>,
     talked: Option<C::L>,
     periods: Vec<Period>,
@@ -75,17 +86,19 @@ where
     source_faults: u64,
     sink_faults: u64,
     keeper_faults: u64,
+    entrance_faults: u64,
     caller_faults: u64,
 }
 
-impl<S: Source + Drop, T: Sink + Drop, K: Keeper + Drop, C: Caller + Drop> Model
-    for MemoryWorld<S, T, K, C>
+impl<S: Source + Drop, T: Sink + Drop, K: Keeper + Drop, E: Entrance + Drop, C: Caller + Drop> Model
+    for MemoryWorld<S, T, K, E, C>
 where
+    E::D: Drop,
     C::L: Drop,
 {
     ghost use Rattle.acct_prog.specs.Memory.{WorldInMemory};
 
-    ghost Value = { WorldInMemory S T K C C.L };
+    ghost Value = { WorldInMemory S T K E E.D C C.L };
 
     ghost view = { λ w. record {
       name = w.name.items;
@@ -93,6 +106,8 @@ where
       events = w.events;
       sink = w.sink;
       keeper = w.keeper;
+      entrance = w.entrance;
+      doors = w.doors.items;
       caller = w.caller;
       talked = w.talked;
       periods = w.periods.items;
@@ -100,21 +115,29 @@ where
       source_faults = w.source_faults;
       sink_faults = w.sink_faults;
       keeper_faults = w.keeper_faults;
+      entrance_faults = w.entrance_faults;
       caller_faults = w.caller_faults;
       takes = w.takes;
       failing = w.failing.items;
     } };
 }
 
-impl<S: Source + Drop, T: Sink + Drop, K: Keeper + Drop, C: Caller + Drop> MemoryWorld<S, T, K, C>
+impl<
+    S: Source + Drop,
+    T: Sink + Drop,
+    K: Keeper + Drop,
+    E: Entrance + Drop,
+    C: Caller + Drop,
+> MemoryWorld<S, T, K, E, C>
 where
+    E::D: Drop,
     C::L: Drop,
 {
     /// A world that holds these parts, the configuration under this name.
     pub fn new(
         alloc: Global,
         name: Vec<u8>,
-        parts: MemoryParts<S, T, K, C>,
+        parts: MemoryParts<S, T, K, E, C>,
         failing: Vec<u64>,
     ) -> Self
         ensures { result ≡ record {
@@ -123,6 +146,8 @@ where
           events = Some parts.events;
           sink = Some parts.sink;
           keeper = Some parts.keeper;
+          entrance = Some parts.entrance;
+          doors = [];
           caller = Some parts.caller;
           talked = None;
           periods = [];
@@ -130,6 +155,7 @@ where
           source_faults = 0;
           sink_faults = 0;
           keeper_faults = 0;
+          entrance_faults = 0;
           caller_faults = 0;
           takes = 0;
           failing = failing.items;
@@ -142,6 +168,8 @@ where
             events: Some(parts.events),
             sink: Some(parts.sink),
             keeper: Some(parts.keeper),
+            entrance: Some(parts.entrance),
+            doors: Vec::new(alloc),
             caller: Some(parts.caller),
             talked: None,
             periods: Vec::new(alloc),
@@ -151,6 +179,7 @@ where
             source_faults: 0,
             sink_faults: 0,
             keeper_faults: 0,
+            entrance_faults: 0,
             caller_faults: 0,
         }
     }
@@ -167,6 +196,20 @@ where
         ensures { option_copied result ≡ self.now.keeper }
     {
         self.keeper.as_ref()
+    }
+
+    /// The entrance, if it is not out.
+    pub fn entrance(&self) -> Option<&E>
+        ensures { option_copied result ≡ self.now.entrance }
+    {
+        self.entrance.as_ref()
+    }
+
+    /// The doors that were given back with the entrance.
+    pub fn doors(&self) -> &[E::D]
+        ensures { result.now ≡ self.now.doors }
+    {
+        &self.doors
     }
 
     /// The caller, if it is not out.
@@ -198,9 +241,15 @@ where
     }
 }
 
-impl<S: Source + Drop, T: Sink + Drop, K: Keeper + Drop, C: Caller + Drop> World
-    for MemoryWorld<S, T, K, C>
+impl<
+    S: Source + Drop,
+    T: Sink + Drop,
+    K: Keeper + Drop + Send,
+    E: Entrance + Drop,
+    C: Caller + Drop,
+> World for MemoryWorld<S, T, K, E, C>
 where
+    E::D: Drop,
     C::L: Drop,
 {
     type S = S;
@@ -208,6 +257,8 @@ where
     type T = T;
 
     type K = K;
+
+    type E = E;
 
     type C = C;
 
@@ -263,6 +314,26 @@ where
         if is_same(name.as_bytes(), b"") {
             self.keeper = Some(part);
         }
+    }
+
+    fn take_entrance(&mut self) -> Result<E, TakeError>
+        ensures takes { TakesEntrance (shown self.old) (shown self.new) result }
+        ensures counted { TakesInMemory self.old self.new self.old.entrance result }
+    {
+        let fails = note(
+            &mut self.asked,
+            Part::Entrance,
+            &self.failing,
+            &mut self.takes,
+        )?;
+        hand(&mut self.entrance, fails, &mut self.entrance_faults)
+    }
+
+    fn give_entrance(&mut self, part: E, doors: Vec<E::D>)
+        ensures gives { GivesEntrance (shown self.old) (shown self.new) part doors.items }
+    {
+        self.entrance = Some(part);
+        self.doors = doors;
     }
 
     fn take_caller(&mut self) -> Result<C, TakeError>

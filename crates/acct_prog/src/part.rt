@@ -9,5 +9,6 @@ pub enum Part {
     Sink,
     /// The keeper under this name.
     Keeper(Seq<u8>),
+    Entrance,
     Caller,
 }

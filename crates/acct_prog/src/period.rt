@@ -4,33 +4,55 @@ ghost use Rattle.acct_prog.specs.Commanded.{period_between, period_of};
 
 use acct_base::Seq;
 use acct_machine::{Entry, Rows};
-use acct_server::{Replayed, Status};
+use acct_server::{Ended, Replayed, Served, Status};
+use std::alloc::Global;
 
-/// A period: the rows from which its history began, the history, and the rows after it.
+/// A period: the rows from which its history began, the history, the rows after it, and how the sessions ended that were
+/// served in it, by the numbers of their connections. That of a replay has no ends.
 #[derive(Drop)]
 pub struct Period {
     pub opening: Rows,
     pub history: Seq<Entry>,
     pub rows: Rows,
+    pub ends: Seq<Ended>,
 }
 
-/// The period of rows, if there are both, and a history.
+/// The period of rows, if there are both, a history, and the ends of sessions.
 pub fn period_between(
     opening: Option<Rows>,
     history: Seq<Entry>,
     rows: Option<Rows>,
+    ends: Seq<Ended>,
 ) -> Option<Period>
-    ensures { result ≡ period_between opening history rows }
+    ensures { result ≡ period_between opening history rows ends }
 {
     Some(Period {
         opening: opening?,
         history,
         rows: rows?,
+        ends,
     })
 }
 
+/// How serving ended, the period that it leaves, if its machine was made, and its keeper.
+pub fn parted_served<K: Drop>(left: Served<K>) -> (Status, Option<Period>, K)
+    ensures status { result.0 ≡ left.status }
+    ensures period { result.1 ≡ period_between left.opening left.history left.rows left.ends }
+    ensures keeper { result.2 ≡ left.keeper }
+{
+    let Served {
+        status,
+        opening,
+        history,
+        rows,
+        ends,
+        keeper,
+    } = left;
+    (status, period_between(opening, history, rows, ends), keeper)
+}
+
 /// How a replay ended, the period that it leaves, if its machine was made, and its keeper.
-pub fn parted<K: Drop>(left: Replayed<K>) -> (Status, Option<Period>, K)
+pub fn parted<K: Drop>(alloc: Global, left: Replayed<K>) -> (Status, Option<Period>, K)
     ensures status { result.0 ≡ left.status }
     ensures period { result.1 ≡ period_of left }
     ensures keeper { result.2 ≡ left.keeper }
@@ -42,5 +64,9 @@ pub fn parted<K: Drop>(left: Replayed<K>) -> (Status, Option<Period>, K)
         rows,
         keeper,
     } = left;
-    (status, period_between(opening, history, rows), keeper)
+    (
+        status,
+        period_between(opening, history, rows, Seq::new(alloc)),
+        keeper,
+    )
 }

@@ -5,28 +5,41 @@ use crate::words::text_of;
 use crate::{HostSink, HostSource, MemoryParts, MemoryWorld, Part, account};
 use acct_base::Seq;
 use acct_keeper::{Change, Keeper, MemoryKeeper, SteadyKeeper};
-use acct_links::{MemoryCaller, MemoryLink, SteadyCaller, SteadyLink};
+use acct_links::{
+    MemoryCaller, MemoryEntrance, MemoryLink, SteadyCaller, SteadyEntrance, SteadyLink,
+};
 use acct_machine::{Entry, Rows};
 use acct_server::{
     MemorySink, MemorySource, Sink, Source, Status, SteadySink, SteadySource, read_whole, write_all,
 };
 use std::alloc::Global;
 use std::process::Abort;
+use std::sync::Wait;
 use std::test::Fail;
+use std::thread::Threads;
 
 mod accounts;
 mod calls;
+mod forgetful;
 mod limits;
 mod links;
+mod meeting;
 mod names;
 mod objects;
 mod rights;
+mod serving;
 mod several;
 mod stores;
 mod tables;
 
 /// A world that tells what it holds.
-type Told = MemoryWorld<MemorySource, MemorySink, MemoryKeeper, MemoryCaller<MemoryLink>>;
+type Told = MemoryWorld<
+    MemorySource,
+    MemorySink,
+    MemoryKeeper,
+    MemoryEntrance<MemoryLink>,
+    MemoryCaller<MemoryLink>,
+>;
 
 const CONFIG: &str =
     "[domain]\nname = \"CORP\"\nsid = \"S-1-5-21-1-2-3\"\n[[listener]]\nname = \"a\"\naddress = \
@@ -52,6 +65,7 @@ fn line_of(name: &str) -> &'static str {
         names::LINES,
         objects::LINES,
         rights::LINES,
+        serving::LINES,
         several::LINES,
         stores::LINES,
         tables::LINES,
@@ -210,6 +224,7 @@ fn world_over(
         events: source_of(alloc, events, making.read_size, making.events_failing)?,
         sink: sink_of(alloc, making)?,
         keeper: MemoryKeeper::new(stored, numbered(alloc, making.keeper_failing)?),
+        entrance: MemoryEntrance::new(alloc, Vec::new(alloc), Vec::new(alloc)),
         caller,
     };
     let failing = numbered(alloc, making.takes_failing)?;
@@ -317,7 +332,7 @@ fn column(row: &str) -> (&str, &str) {
 
 /// Tells a row: how the run is made, the words, the configuration, the events, the lines written, the status, and the
 /// history.
-fn tell(rt: &impl Abort, alloc: Global, row: &str) -> Result<(), Fail> {
+fn tell<R: Abort + Threads + Wait + Sync>(rt: &R, alloc: Global, row: &str) -> Result<(), Fail> {
     let (making, rest) = column(row);
     let (words, rest) = column(rest);
     let (config, rest) = column(rest);
@@ -333,11 +348,15 @@ fn tell(rt: &impl Abort, alloc: Global, row: &str) -> Result<(), Fail> {
     let words = words_of(alloc, words)?;
     let config = config_of(alloc, config)?;
     let mut world = world_of(alloc, config, lines_of(alloc, events)?, making_of(making))?;
-    let ended = account(alloc, &words, &mut world);
+    let ended = account(rt, alloc, &words, &mut world);
     compare(rt, alloc, row, ended, &world, wanted)
 }
 
-fn tell_all(rt: &impl Abort, alloc: Global, table: &str) -> Result<(), Fail> {
+fn tell_all<R: Abort + Threads + Wait + Sync>(
+    rt: &R,
+    alloc: Global,
+    table: &str,
+) -> Result<(), Fail> {
     for row in table.lines() {
         tell(rt, alloc, row)?;
     }
@@ -436,7 +455,7 @@ fn a_period_has_the_rows_before_and_after(rt: HostRuntime) -> Result<(), Fail> {
     let words = words_of(alloc, "replay first.toml")?;
     let events = lines_of(alloc, "OPEN BIND CONNECT")?;
     let mut world = world_of(alloc, config_of(alloc, "")?, events, making_of(""))?;
-    let status = account(alloc, &words, &mut world);
+    let status = account(&rt, alloc, &words, &mut world);
     assert!(rt; matches!(status, Status::Done));
     assert_eq!(rt; world.periods().len(), 1);
     let seeded = "0: 500 501 512 513 514;1: 544 545 546;";
@@ -476,7 +495,7 @@ fn a_replay_begins_from_what_the_last_one_stored(rt: HostRuntime) -> Result<(), 
     let (config, making) = (config_of(alloc, "")?, making_of(""));
     let events = lines_of(alloc, "OPEN BIND CONNECT OPEN-CORP CREATE-ALICE")?;
     let mut world = world_of(alloc, config, events, making)?;
-    assert!(rt; matches!(account(alloc, &words, &mut world), Status::Done));
+    assert!(rt; matches!(account(&rt, alloc, &words, &mut world), Status::Done));
     let stored = stored_by(alloc, &world, None)?;
     let events = lines_of(
         alloc,
@@ -489,7 +508,7 @@ fn a_replay_begins_from_what_the_last_one_stored(rt: HostRuntime) -> Result<(), 
         (config_of(alloc, "")?, events),
         making,
     )?;
-    assert!(rt; matches!(account(alloc, &words, &mut next), Status::Done));
+    assert!(rt; matches!(account(&rt, alloc, &words, &mut next), Status::Done));
     let wanted = lines_of(
         alloc,
         "ACK CONNECTED DOMAIN-2 USER-EXISTS-9 BOB-3-1001 GONE",
@@ -504,11 +523,11 @@ fn a_store_of_an_unknown_format(rt: HostRuntime) -> Result<(), Fail> {
     let words = words_of(alloc, "replay first.toml")?;
     let making = making_of("");
     let mut world = world_of(alloc, config_of(alloc, "")?, String::new(alloc), making)?;
-    assert!(rt; matches!(account(alloc, &words, &mut world), Status::Done));
+    assert!(rt; matches!(account(&rt, alloc, &words, &mut world), Status::Done));
     let stored = stored_by(alloc, &world, Some((b"\x66", b"\x02")))?;
     let texts = (config_of(alloc, "")?, String::new(alloc));
     let mut next = world_over(alloc, stored, nobody(alloc), texts, making)?;
-    let status = account(alloc, &words, &mut next);
+    let status = account(&rt, alloc, &words, &mut next);
     assert_eq!(rt;
         format!(in alloc; "{status:?}")?.as_str(),
         "StoredPair(Seq { values: [102] })"
@@ -518,7 +537,11 @@ fn a_store_of_an_unknown_format(rt: HostRuntime) -> Result<(), Fail> {
 }
 
 /// A run of the events as they are.
-fn run(alloc: Global, events: &str) -> Result<(Status, String), Fail> {
+fn run<R: Threads + Wait + Sync>(
+    rt: &R,
+    alloc: Global,
+    events: &str,
+) -> Result<(Status, String), Fail> {
     let words = words_of(alloc, "replay first.toml")?;
     let config = config_of(alloc, "")?;
     let mut world = world_of(
@@ -527,7 +550,7 @@ fn run(alloc: Global, events: &str) -> Result<(Status, String), Fail> {
         String::from_str(alloc, events)?,
         making_of(""),
     )?;
-    let status = account(alloc, &words, &mut world);
+    let status = account(rt, alloc, &words, &mut world);
     Ok((status, written_text(alloc, &world)?))
 }
 
@@ -536,11 +559,11 @@ fn lines_end_in_both_ways(rt: HostRuntime) -> Result<(), Fail> {
     let alloc = rt.alloc();
     let bind = line_of("BIND");
     let events = format!(in alloc; "# a comment\r\n\r\nopen 1 a\r\n\n{bind}\nend 1")?;
-    let (status, text) = run(alloc, events.as_str())?;
+    let (status, text) = run(&rt, alloc, events.as_str())?;
     assert!(rt; matches!(status, Status::Done));
     assert_eq!(rt; text.as_str(), lines_of(alloc, "ACK GONE")?.as_str());
     // A carriage return before the end of the input belongs to the line.
-    let (status, _) = run(alloc, "open 1 a\r")?;
+    let (status, _) = run(&rt, alloc, "open 1 a\r")?;
     assert!(rt; matches!(status, Status::EventLine(1)));
     Ok(())
 }
@@ -567,7 +590,7 @@ fn a_stream_cut_anywhere(rt: HostRuntime) -> Result<(), Fail> {
             .split_at_checked(2 * place)
             .unwrap_or(("", ""));
         let events = format!(in alloc; "open 1 a\ndata 1 {front}\ndata 1 {back}\nend 1\n")?;
-        let (status, text) = run(alloc, events.as_str())?;
+        let (status, text) = run(&rt, alloc, events.as_str())?;
         assert!(rt; matches!(status, Status::Done));
         assert_eq!(rt; text.as_str(), wanted.as_str(), "cut at {place}");
     }
@@ -583,7 +606,7 @@ fn a_stream_byte_by_byte(rt: HostRuntime) -> Result<(), Fail> {
         let byte = digits.as_str().get(2 * place..2 * place + 2).unwrap_or("");
         events.push_str(format!(in alloc; "data 1 {byte}\n")?.as_str())?;
     }
-    let (status, text) = run(alloc, events.as_str())?;
+    let (status, text) = run(&rt, alloc, events.as_str())?;
     assert!(rt; matches!(status, Status::Done));
     let wanted = lines_of(alloc, "ACK CONNECTED CLOSED GONE")?;
     assert_eq!(rt; text.as_str(), wanted.as_str());
@@ -598,10 +621,10 @@ fn a_source_above_the_limit_is_too_long(rt: HostRuntime) -> Result<(), Fail> {
         text.push_str("###############################################################\n")?;
     }
     assert_eq!(rt; text.len(), 67108864);
-    let (status, _) = run(alloc, text.as_str())?;
+    let (status, _) = run(&rt, alloc, text.as_str())?;
     assert!(rt; matches!(status, Status::Done));
     text.push('#')?;
-    let (status, _) = run(alloc, text.as_str())?;
+    let (status, _) = run(&rt, alloc, text.as_str())?;
     assert!(rt; matches!(status, Status::InputTooLong));
     Ok(())
 }
@@ -616,10 +639,11 @@ fn first_run_over_steady_parts(rt: HostRuntime) -> Result<(), Fail> {
         events: SteadySource::new(lines_of(alloc, "OPEN BIND CONNECT CLOSE END")?.into_bytes()),
         sink: SteadySink,
         keeper: SteadyKeeper::new(alloc),
+        entrance: SteadyEntrance::<SteadyLink>::new(alloc, Vec::new(alloc)),
         caller: SteadyCaller::new(alloc, Vec::new(alloc), 1),
     };
     let mut world = MemoryWorld::new(alloc, name, parts, Vec::new(alloc));
-    let status = account(alloc, &words, &mut world);
+    let status = account(&rt, alloc, &words, &mut world);
     assert!(rt; matches!(status, Status::Done));
     assert_eq!(rt; world.periods().len(), 1);
     Ok(())
@@ -633,6 +657,7 @@ fn asked_text(alloc: Global, world: &Told) -> Result<String, Fail> {
             Part::Source(name) => ("source ", name.as_slice()),
             Part::Sink => ("sink", b"".as_slice()),
             Part::Keeper(name) => ("keeper ", name.as_slice()),
+            Part::Entrance => ("entrance", b"".as_slice()),
             Part::Caller => ("caller", b"".as_slice()),
         };
         text.push_str(kind)?;
@@ -643,11 +668,15 @@ fn asked_text(alloc: Global, world: &Told) -> Result<String, Fail> {
 }
 
 /// What a replay without events asks for, in words.
-fn asked_by(alloc: Global, failing: &str) -> Result<String, Fail> {
+fn asked_by<R: Threads + Wait + Sync>(
+    rt: &R,
+    alloc: Global,
+    failing: &str,
+) -> Result<String, Fail> {
     let words = words_of(alloc, "replay first.toml")?;
     let config = config_of(alloc, "")?;
     let mut world = world_of(alloc, config, String::new(alloc), making_of(failing))?;
-    account(alloc, &words, &mut world);
+    account(rt, alloc, &words, &mut world);
     asked_text(alloc, &world)
 }
 
@@ -661,7 +690,7 @@ fn the_world_is_asked_in_order(rt: HostRuntime) -> Result<(), Fail> {
         ("t2", "source first.toml;source -;"),
         ("t1", "source first.toml;"),
     ] {
-        assert_eq!(rt; asked_by(alloc, failing)?.as_str(), wanted);
+        assert_eq!(rt; asked_by(&rt, alloc, failing)?.as_str(), wanted);
     }
     Ok(())
 }
@@ -695,7 +724,7 @@ fn summaries_of_generated_events(rt: HostRuntime) -> Result<(), Fail> {
         let mut world = world_without_events(alloc, "")?;
         assert!(rt;
             matches!(
-                account(alloc, &words_of(alloc, words)?, &mut world),
+                account(&rt, alloc, &words_of(alloc, words)?, &mut world),
                 Status::Done
             )
         );
@@ -711,7 +740,7 @@ fn a_summary_over_a_sink_that_fails(rt: HostRuntime) -> Result<(), Fail> {
     let alloc = rt.alloc();
     for (failing, front) in [("t1", ""), ("w1", ""), ("s4 w3", "calls 16")] {
         let mut world = world_without_events(alloc, failing)?;
-        let status = account(alloc, &words_of(alloc, "gen 1")?, &mut world);
+        let status = account(&rt, alloc, &words_of(alloc, "gen 1")?, &mut world);
         assert!(rt; matches!(status, Status::WriteFault));
         assert_eq!(rt; written_text(alloc, &world)?.as_str(), front);
     }
@@ -719,7 +748,11 @@ fn a_summary_over_a_sink_that_fails(rt: HostRuntime) -> Result<(), Fail> {
 }
 
 /// Tells a row of a call: how it is made, the words, the peer's answers, the lines printed, and the status.
-fn tell_call(rt: &impl Abort, alloc: Global, row: &str) -> Result<(), Fail> {
+fn tell_call<R: Abort + Threads + Wait + Sync>(
+    rt: &R,
+    alloc: Global,
+    row: &str,
+) -> Result<(), Fail> {
     let (making, rest) = column(row);
     let (words, rest) = column(rest);
     let (answers, rest) = column(rest);
@@ -729,7 +762,7 @@ fn tell_call(rt: &impl Abort, alloc: Global, row: &str) -> Result<(), Fail> {
     let caller = caller_of(alloc, answers, making)?;
     let texts = (String::new(alloc), String::new(alloc));
     let mut world = world_over(alloc, SteadyKeeper::new(alloc), caller, texts, making)?;
-    let ended = account(alloc, &words_of(alloc, words)?, &mut world);
+    let ended = account(rt, alloc, &words_of(alloc, words)?, &mut world);
     assert_eq!(rt; format!(in alloc; "{ended:?}")?.as_str(), status, "{row}");
     assert_eq!(rt;
         written(&world),
@@ -756,7 +789,7 @@ fn a_call_takes_the_caller_and_then_the_sink(rt: HostRuntime) -> Result<(), Fail
     let texts = (String::new(alloc), String::new(alloc));
     let mut world = world_over(alloc, SteadyKeeper::new(alloc), caller, texts, making)?;
     let words = words_of(alloc, "call tcp:127.0.0.1:4045 domains")?;
-    assert!(rt; matches!(account(alloc, &words, &mut world), Status::Done));
+    assert!(rt; matches!(account(&rt, alloc, &words, &mut world), Status::Done));
     assert_eq!(rt; asked_text(alloc, &world)?.as_str(), "caller;sink;");
     let called = world.caller().map_or(0, |caller| caller.addresses().len());
     assert_eq!(rt; called, 1);

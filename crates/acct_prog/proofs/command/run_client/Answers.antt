@@ -10,8 +10,8 @@ use Rattle.acct_prog.proofs.command.run_client.Goals as goal
 clash : (o : Option Calling) (one : Calling) → o ≡ Some one → o ≡ None → ⊥
 clash o one some none = let e : Some one ≡ None = sym some ∙ none in absurd cc
 
-pub run_call-requires : goal.run_call-requires
-run_call-requires g c =
+pub run_call-requires-after_bounds : goal.run_call-requires-after_bounds
+run_call-requires-after_bounds g c = λ lives outlive.
     let a = asks (map string_bytes c.behind_two.result.now) c.in-Ok.asker c.in-Ok.ensures.ok in (a.command, a.begins)
 
 pub returns-in-Ok : goal.returns-in-Ok

@@ -18,13 +18,13 @@ returns g c =
     let t = g.W.T.Sink in
     let w = g.W.World in
     let done = c.generate-ended.result in
-    let kept = rw c.period_between.ensures at c.keep-status.ensures in
+    let kept = rw (c.period_between-period.ensures, c.new.ensures) at c.keep-status.ensures in
     record {
       generated = inr (has-generated t.held t.faults c.args.users (w.seen c.args.world.now)
           (w.seen c.take_sink.new.self) (w.seen c.keep-status.new.world) (w.seen c.give_sink.new.self) c.in-Ok.out
           c.generate-ended.new.out done c.keep-status.result c.in-Ok.ensures.takes c.generate-ended.ensures.is kept
           c.give_sink.ensures.gives);
       not_usage = kept-not-usage (w.seen c.take_sink.new.self) (w.seen c.keep-status.new.world)
-          (period_between done.opening done.history done.rows) done.ended c.keep-status.result
+          (period_between done.opening done.history done.rows []) done.ended c.keep-status.result
           kept.periods c.generate-ended.ensures.not_usage;
     }

@@ -8,7 +8,7 @@ returns g c =
     let t = g.W.T.Sink in
     let k = g.W.K.Keeper in
     let w = g.W.World in
-    let r = c.replay in
+    let r = c.replay-left in
     let p = c.parted-ended.ensures in
     returned (record {
       left = s.left;

@@ -1,11 +1,11 @@
 -- The real world is a `World`: what the search leaves open.
-use Rattle.std.proofs.Common.{◌≡◌, ℕ, false, [], Option, None, ap, ◌∙◌}
+use Rattle.std.proofs.Common.{◌≡◌, ℕ, List, false, [], Option, None, ap, ◌∙◌}
 use Rattle.acct_prog.specs.declared.host.HostWorld.{HostWorld}
-use Rattle.acct_prog.specs.World.{Seen, GivesCaller}
+use Rattle.acct_prog.specs.World.{Seen, GivesEntrance, GivesCaller}
 use Rattle.acct_prog.proofs.host.HostWorldWorld.TheImpl.Goals as goal
 
 -- what the real world shows: its counts of sources and of keepers that weren't handed out
-abbrev real : {S T K C L : Type 0} → ℕ → ℕ → Seen S T K C L
+abbrev real : {S T K E D C L : Type 0} → ℕ → ℕ → Seen S T K E D C L
 real sources keepers = record {
   tells = false;
   knows = λ name. false;
@@ -13,6 +13,8 @@ real sources keepers = record {
   sink = None;
   stores = λ name. false;
   keeper = λ name. None;
+  entrance = None;
+  doors = [];
   caller = None;
   talked = None;
   periods = [];
@@ -20,24 +22,51 @@ real sources keepers = record {
   source_faults = sources;
   sink_faults = 0;
   keeper_faults = keepers;
+  entrance_faults = 0;
   caller_faults = 0;
 }
 
-given : {S T K C L : Type 0} (sources keepers sources_now keepers_now : ℕ) (part : C) (link : Option L)
+same : {S T K E D C L : Type 0} (sources keepers sources_now keepers_now : ℕ) → sources_now ≡ sources
+    → keepers_now ≡ keepers → real {S = S} {T = T} {K = K} {E = E} {D = D} {C = C} {L = L} sources_now keepers_now ≡ real sources keepers
+same sources keepers sources_now keepers_now same_sources same_keepers =
+    ap (λ (n : ℕ). real n keepers_now) same_sources ∙ ap (λ (n : ℕ). real sources n) same_keepers
+
+given : {S T K E D C L : Type 0} (sources keepers sources_now keepers_now : ℕ) (part : C) (link : Option L)
     → sources_now ≡ sources → keepers_now ≡ keepers
-    → GivesCaller {S = S} {T = T} {K = K} (real sources keepers) (real sources_now keepers_now) part link
+    → GivesCaller {S = S} {T = T} {K = K} {E = E} {D = D} (real sources keepers) (real sources_now keepers_now) part
+    link
 given sources keepers sources_now keepers_now part link same_sources same_keepers = record {
   holds = λ tells. absurd cc;
   talked = λ tells. absurd cc;
-  others = ap (λ (n : ℕ). real n keepers_now) same_sources ∙ ap (λ (n : ℕ). real sources n) same_keepers;
+  others = same sources keepers sources_now keepers_now same_sources same_keepers;
 }
 
+given-doors : {S T K E D C L : Type 0} (sources keepers sources_now keepers_now : ℕ) (part : E) (doors : List D)
+    → sources_now ≡ sources → keepers_now ≡ keepers
+    → GivesEntrance {S = S} {T = T} {K = K} {C = C} {L = L} (real sources keepers) (real sources_now keepers_now) part
+    doors
+given-doors sources keepers sources_now keepers_now part doors same_sources same_keepers = record {
+  holds = λ tells. absurd cc;
+  back = λ tells. absurd cc;
+  others = same sources keepers sources_now keepers_now same_sources same_keepers;
+}
+
+pub give_entrance-tells : goal.give_entrance-tells
+give_entrance-tells g x d c =
+    let old = c.args.self.now in
+    let new = c.new.self.now in
+    record {
+      gives = given-doors old.source_faults old.keeper_faults new.source_faults new.keeper_faults c.args.part
+          c.args.doors.items (ap (λ (w : HostWorld). w.source_faults) c.ensures.kept)
+          (ap (λ (w : HostWorld). w.keeper_faults) c.ensures.kept);
+    }
+
 pub give_caller-tells : goal.give_caller-tells
-give_caller-tells g x c =
+give_caller-tells g x d c =
     let old = c.args.self.now in
     let new = c.new.self.now in
     record {
       gives = given old.source_faults old.keeper_faults new.source_faults new.keeper_faults c.args.part c.args.link
-          (ap (λ (w : HostWorld _ _ _ _ _). w.source_faults) c.ensures.kept)
-          (ap (λ (w : HostWorld _ _ _ _ _). w.keeper_faults) c.ensures.kept);
+          (ap (λ (w : HostWorld). w.source_faults) c.ensures.kept)
+          (ap (λ (w : HostWorld). w.keeper_faults) c.ensures.kept);
     }

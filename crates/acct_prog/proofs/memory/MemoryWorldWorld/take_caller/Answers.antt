@@ -6,12 +6,14 @@ use Rattle.acct_prog.proofs.memory.MemoryWorldWorld.take_caller.Goals as goal
 pub returns-clause-takes : goal.returns-clause-takes
 returns-clause-takes g c =
     let s = c.self.inside in
-    let w : WorldInMemory g.row.S.Denot g.row.T.Denot g.row.K.Denot g.row.C.Denot g.row.C-L.Denot = record {
+    let w : WorldInMemory g.row.S.Denot g.row.T.Denot g.row.K.Denot g.row.E.Denot g.row.E-D.Denot g.row.C.Denot g.row.C-L.Denot = record {
       name = s.name.items;
       config = s.config;
       events = s.events;
       sink = s.sink;
       keeper = s.keeper;
+      entrance = s.entrance;
+      doors = s.doors.items;
       caller = s.caller;
       talked = s.talked;
       periods = s.periods.items;
@@ -19,6 +21,7 @@ returns-clause-takes g c =
       source_faults = s.source_faults;
       sink_faults = s.sink_faults;
       keeper_faults = s.keeper_faults;
+      entrance_faults = s.entrance_faults;
       caller_faults = s.caller_faults;
       takes = s.takes;
       failing = s.failing.items;

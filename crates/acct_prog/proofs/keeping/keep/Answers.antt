@@ -3,7 +3,7 @@ use Rattle.std.proofs.Common.{Option, sym, subst}
 use Rattle.acct_prog.specs.declared.period.Period.{Period}
 use Rattle.acct_prog.specs.Commanded.{KeepsAny}
 use Rattle.acct_prog.proofs.Worlds.{kept-one}
-use Rattle.acct_prog.proofs.command.keep.Goals as goal
+use Rattle.acct_prog.proofs.keeping.keep.Goals as goal
 
 pub returns-in-Some : goal.returns-in-Some
 returns-in-Some g c =
