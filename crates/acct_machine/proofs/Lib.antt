@@ -20,3 +20,4 @@ pub mod Storing
 pub mod Puts
 pub mod Kept
 pub mod Loaded
+pub mod Indexes

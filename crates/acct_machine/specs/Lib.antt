@@ -1,4 +1,6 @@
 pub mod State
+pub mod Arrivals
+pub mod Indexed
 pub mod Opening
 pub mod Calls
 pub mod Access

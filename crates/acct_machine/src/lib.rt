@@ -1,12 +1,12 @@
 //! The account machine: one history of what was asked, the state after it, and the reply to each call.
 //!
 //! It stands on the configuration of `acct_config`, the access check of `dtyp_access`, the rows of `acct_rows`, the
-//! keepers of `acct_keeper` with the causes of `acct_streams`, and the table of `acct_operations` with what `acct_rules`
-//! says of an operation; and for which calls there are and which shape a reply has on `acct_layouts`. It names no
-//! operation: access, outcome, step, legal histories and the laws speak of whatever operation the table has at a call's
-//! interface and opnum, and have what they need of each from the laws of the table. An opening is decided by the access
-//! check over the configured descriptor of the object and the token of the connection's listener, whatever right
-//! configuration the machine was given.
+//! keepers of `acct_keeper` with the causes of `acct_streams`, the sorted tables of `acct_tables`, in which it keeps the
+//! handles, and the table of `acct_operations` with what `acct_rules` says of an operation; and for which calls there
+//! are and which shape a reply has on `acct_layouts`. It names no operation: access, outcome, step, legal histories and
+//! the laws speak of whatever operation the table has at a call's interface and opnum, and have what they need of each
+//! from the laws of the table. An opening is decided by the access check over the configured descriptor of the object
+//! and the token of the connection's listener, whatever right configuration the machine was given.
 //!
 //! The layer above uses `Machine`: `open_conn`, `act` and `gone` each enter one event, or none where they answer that
 //! the history is full, exactly at the limits of the configuration, and then change nothing. A call's reply is the one
@@ -21,8 +21,10 @@
 //! gives the rows whose pairs a keeper holds, or the smallest key that is broken, and seeds a keeper without a pair.
 #![tactic(auto)]
 
+mod arrivals;
 mod checks;
 mod entry;
+mod index;
 mod laws;
 mod lists;
 mod machine;

@@ -27,10 +27,8 @@ ghost use Rattle.acct_machine.specs.Legal.{HasPassed, MayHave};
 ghost use Rattle.acct_machine.specs.Wants.{has_change, MayMiss, Wants, WantsRoom};
 
 use crate::checks::{Access, access_with, object_of};
-use crate::lists::{
-    drop_conn, drop_handle, drop_object, end_live, find_conn, find_handle, number_of, serial_of,
-    set_serial,
-};
+use crate::index::Handles;
+use crate::lists::{end_live, find_conn, number_of, serial_of, set_serial};
 use crate::opening::granted;
 use crate::{Call, Config, Conn, Handle, Held, NoMemory, Object, Outs, Reply, Rows, Verdict};
 use acct_codes::fault::{NCA_S_FAULT_CONTEXT_MISMATCH, NCA_S_OP_RNG_ERROR};
@@ -53,7 +51,7 @@ pub struct Store {
     config: Config,
     rows: Rows,
     conns: Vec<Conn>,
-    handles: Vec<Held>,
+    handles: Handles,
 }
 
 impl Model for Store {
@@ -67,7 +65,7 @@ impl Model for Store {
       config = s.config;
       rows = s.rows.lists;
       conns = s.conns.items;
-      handles = s.handles.items;
+      handles = s.handles.0;
     } };
 
     ghost invariant = { λ s. HasRoom s.config s.conns.items (vec_capacity s.conns) };
@@ -163,12 +161,12 @@ fn commit<K: Keeper>(
     keeper.commit(&changes)
 }
 
-fn drop_left(handles: &mut Vec<Held>, effect: Effect, conn: u32, number: u128)
-    ensures { handles.new.items ≡ left effect conn number handles.old.items }
+fn drop_left(handles: &mut Handles, effect: Effect, conn: u32, number: u128)
+    ensures { handles.new.0 ≡ left effect conn number handles.old.0 }
 {
     match effect {
-        Effect::Closes => drop_handle(handles, conn, number),
-        Effect::Deletes(object) => drop_object(handles, object),
+        Effect::Closes => handles.drop_handle(conn, number),
+        Effect::Deletes(object) => handles.drop_object(object),
         Effect::Nothing => {}
         Effect::Opens(_) => {}
         Effect::Checks(_) => {}
@@ -188,7 +186,7 @@ impl Store {
             config,
             rows,
             conns,
-            handles: Vec::new(alloc),
+            handles: Handles::new(alloc),
         })
     }
 
@@ -244,7 +242,7 @@ impl Store {
         ensures { self.new ≡ step self.old (Gone conn) }
     {
         end_live(&mut self.conns, conn);
-        drop_conn(&mut self.handles, conn);
+        self.handles.drop_conn(conn);
     }
 
     // What an opening grants the connection that was found.
@@ -286,10 +284,7 @@ impl Store {
             object,
             granted,
         };
-        match self.handles.push(held) {
-            Ok(()) => {}
-            Err(_) => unreachable!(),
-        }
+        self.handles.push(held);
         self.rows.apply(plan);
         set_serial(&mut self.conns, conn, serial);
         Ok(())
@@ -538,7 +533,7 @@ impl Store {
             return (Verdict::Ran, Reply::Fault(NCA_S_OP_RNG_ERROR));
         };
         let profile = profile_of(work);
-        let found = find_handle(&self.handles, conn, call.handle.number);
+        let found = self.handles.find(conn, call.handle.number);
         let bits = needed_bits(profile.needs, &self.rows, &call.args);
         let object = object_of(found);
         match access_with(profile.brings, bits, found) {

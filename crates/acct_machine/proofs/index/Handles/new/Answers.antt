@@ -1,0 +1,20 @@
+-- `Handles::new` meets its contract: what the search leaves open.
+use Rattle.std.proofs.Common.{List, sym, ap, subst, ◌∙◌, arith}
+use Rattle.acct_tables.specs.Keyed.{sorted}
+use Rattle.acct_machine.specs.declared.arrivals.Arrival.{Arrival}
+use Rattle.acct_machine.specs.Arrivals.{object_key}
+use Rattle.acct_machine.specs.Indexed.{arrived, CameBefore}
+use Rattle.acct_machine.proofs.Indexes.{none_arrived}
+use Rattle.acct_machine.proofs.index.Handles.new.Goals as goal
+
+pub invariant_of-result : goal.invariant_of-result
+invariant_of-result c = record {
+  same = c.new-2.ensures ∙ ap (λ (xs : List Arrival). sorted object_key xs) (sym c.new.ensures);
+  before = subst (λ (xs : List Arrival). CameBefore 0 xs) (sym c.new.ensures) tt;
+  turns = omega arith;
+  by_number = omega arith;
+  by_object = omega arith;
+}
+
+pub returns : goal.returns
+returns c = ap (λ (xs : List Arrival). (arrived xs, 0)) c.new.ensures ∙ ap (λ hs. (hs, 0)) none_arrived

@@ -1,7 +1,0 @@
--- `drop_object` meets its contract: what the search leaves open.
-use Rattle.std.proofs.Common.{rules}
-use Rattle.std.proofs.lemmas.Fn.{filter_same}
-use Rattle.acct_machine.proofs.lists.drop_object.Goals as goal
-
-pub returns : goal.returns
-returns c = filter_same _ _ _ (λ x b f' k. search rules) _ _ c.retain.ensures.filtered
