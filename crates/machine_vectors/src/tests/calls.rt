@@ -86,6 +86,17 @@ fn lsar_close(number: u128) -> Call
     }
 }
 
+fn delete(number: u128) -> Call
+    ensures { IsCall result }
+{
+    Call {
+        face: Face::Lsa,
+        opnum: 34,
+        handle: Handle { number },
+        args: Args::Nothing,
+    }
+}
+
 fn create_account(number: u128, sid: Sid) -> Call
     ensures { IsCall result }
 {
@@ -98,7 +109,22 @@ fn create_account(number: u128, sid: Sid) -> Call
     }
 }
 
-/// The call of some words; the SID is that of the account that is created.
+fn open_account(number: u128, sid: Sid) -> Call
+    ensures { IsCall result }
+{
+    sid.keeps_limits();
+    Call {
+        face: Face::Lsa,
+        opnum: 17,
+        handle: Handle { number },
+        args: Args::AccessSid {
+            access: 0x10001,
+            sid,
+        },
+    }
+}
+
+/// The call of some words; the SID is that of the account that is created or opened.
 pub fn call_of(words: &str, sid: Sid) -> Call
     ensures { IsCall result }
 {
@@ -111,6 +137,8 @@ pub fn call_of(words: &str, sid: Sid) -> Call
         "rooted" => open_policy2(true, number(rest)),
         "close" => samr_close(handle(rest)),
         "create" => create_account(handle(rest), sid),
+        "open" => open_account(handle(rest), sid),
+        "delete" => delete(handle(rest)),
         _ => lsar_close(handle(rest)),
     }
 }

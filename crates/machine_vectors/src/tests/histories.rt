@@ -177,3 +177,56 @@ fn a_commit_that_fails_changes_nothing(rt: HostRuntime) -> Result<(), Fail> {
     assert_eq!(rt; told(&rt, alloc, "", &[3, 4], TWICE)?.as_str(), TWICE_LEFT);
     Ok(())
 }
+
+/// A deletion takes each handle to its object, of both connections, and no other.
+const FEW: &str = "\
+1 policy 11 = 0 1.1
+2 policy 1 = 0 2.1
+1 create 1.1 = 0 1.2
+2 open 2.1 = 0 2.2
+1 open 1.1 = 0 1.3
+1 delete 1.2 = c0000022 1.2
+2 delete 1.3 = fault 1c00001a
+1 delete 1.3 = 0 0.0
+1 lsar-close 1.3 = fault 1c00001a
+1 lsar-close 1.2 = fault 1c00001a
+2 lsar-close 2.2 = fault 1c00001a
+2 open 2.1 = c0000034 0.0
+1 create 1.1 = 0 1.4
+2 lsar-close 2.1 = 0 0.0
+1 lsar-close 1.4 = 0 0.0
+1 lsar-close 1.1 = 0 0.0";
+
+const MANY: &str = "\
+1 policy 11 = 0 1.1
+1 create 1.1 = 0 1.2
+2 connect2 20 = 0 2.1
+2 policy 1 = 0 2.2
+2 open 2.2 = 0 2.3
+1 open 1.1 = 0 1.3
+2 open 2.2 = 0 2.4
+1 open 1.1 = 0 1.4
+1 lsar-close 1.3 = 0 0.0
+2 open 2.2 = 0 2.5
+1 policy 1 = 0 1.5
+1 open 1.5 = 0 1.6
+2 delete 2.4 = 0 0.0
+1 lsar-close 1.2 = fault 1c00001a
+1 lsar-close 1.4 = fault 1c00001a
+1 lsar-close 1.6 = fault 1c00001a
+2 lsar-close 2.3 = fault 1c00001a
+2 lsar-close 2.4 = fault 1c00001a
+2 lsar-close 2.5 = fault 1c00001a
+2 close 2.1 = 0 0.0
+2 lsar-close 2.2 = 0 0.0
+1 lsar-close 1.5 = 0 0.0
+1 lsar-close 1.1 = 0 0.0";
+
+#[test]
+fn a_deletion_takes_each_handle_to_its_object(rt: HostRuntime) -> Result<(), Fail> {
+    let alloc = rt.alloc();
+    for script in [FEW, MANY] {
+        told(&rt, alloc, "", &[], script)?;
+    }
+    Ok(())
+}
