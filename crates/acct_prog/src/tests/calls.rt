@@ -1,5 +1,13 @@
 // Commands of the client. The answers are lines of replays, with the call ids of a call; those of `domains` come from
 // another writer of the layouts.
+use super::left::{ended, push_asked, push_count, written};
+use super::lines::{column, joined, line_of, lines_of};
+use super::worlds::{Making, Told, caller_of, making_of, world_of_caller};
+use std::alloc::Global;
+use std::process::Abort;
+use std::sync::Wait;
+use std::test::Fail;
+use std::thread::Threads;
 
 /// Lines of digits of what a peer sends, and lines that are printed, by their names.
 pub const LINES: &str =
@@ -28,13 +36,8 @@ PRINTED-BUILTIN BUILTIN
 PRINTED-CREATED created 1000
 PRINTED-REFUSED refused 0xc0000063";
 
-/// What the client of `domains` sends, and what it is answered.
-pub const REQUESTS: &str = "DOMAINS-REQUESTS";
-
-pub const DOMAINS: &str = "DOMAINS-ANSWERS";
-
 /// Each row: how it is made, the words, the peer's answers, the lines printed, and the status.
-pub const CALLS: &str =
+const CALLS: &str =
     "|call tcp:127.0.0.1:4045 domains|DOMAINS-ANSWERS|PRINTED-CORP PRINTED-BUILTIN|Done
 |call unix:/run/account domains|DOMAINS-ANSWERS|PRINTED-CORP PRINTED-BUILTIN|Done
 |call tcp:h:1 create-user CORP alice|CALL-ACK CALL-CONNECTED CALL-CORP CALL-DOMAIN CALL-ALICE|PRINTED-CREATED|Done
@@ -54,3 +57,104 @@ w1|call tcp:h:1 domains|DOMAINS-ANSWERS||WriteFault
 |call tcp:h:1 -domains|||Usage
 |call tcp:h:1 domains CORP|||Usage
 |call tcp:h:1 create-user CORP|||Usage";
+
+/// How words over a world ended, how many periods there are, and what was written.
+fn left<R: Threads + Wait + Sync>(
+    rt: &R,
+    alloc: Global,
+    words: &str,
+    world: &mut Told,
+) -> Result<String, Fail> {
+    let mut text = ended(rt, alloc, words, world)?;
+    push_count(&mut text, world.periods().len())?;
+    text.push('|')?;
+    text.push_str(written(world))?;
+    Ok(text)
+}
+
+/// The same over a caller with one link, whose peer sends the bytes of these lines.
+fn left_by<R: Threads + Wait + Sync>(
+    rt: &R,
+    alloc: Global,
+    making: Making,
+    words: &str,
+    answers: &str,
+) -> Result<String, Fail> {
+    let caller = caller_of(alloc, answers, making)?;
+    let mut world = world_of_caller(alloc, caller, making)?;
+    let text = left(rt, alloc, words, &mut world);
+    drop(world);
+    text
+}
+
+/// What is left, of the columns of a row: no period.
+fn wanted_of(alloc: Global, row: &str) -> Result<String, Fail> {
+    let (lines, status) = column(row);
+    let lines = lines_of(alloc, lines)?;
+    joined(alloc, &[status.trim(), " 0|", lines.as_str()])
+}
+
+fn tell<R: Abort + Threads + Wait + Sync>(rt: &R, alloc: Global, row: &str) -> Result<(), Fail> {
+    let (making, rest) = column(row);
+    let (words, rest) = column(rest);
+    let (answers, rest) = column(rest);
+    let left = left_by(rt, alloc, making_of(making), words, answers)?;
+    let wanted = wanted_of(alloc, rest)?;
+    assert_eq!(rt; left.as_str(), wanted.as_str(), "{row}");
+    Ok(())
+}
+
+#[test]
+fn commands_of_the_client(rt: HostRuntime) -> Result<(), Fail> {
+    for row in CALLS.lines() {
+        tell(&rt, rt.alloc(), row)?;
+    }
+    Ok(())
+}
+
+/// What a world was asked for, for how many addresses its caller gave a link, and the digits of what was sent over the
+/// link that was given back.
+fn push_dialogue(alloc: Global, text: &mut String, world: &Told) -> Result<(), Fail> {
+    text.push('|')?;
+    push_asked(text, world.asked())?;
+    push_count(
+        text,
+        world.caller().map_or(0, |caller| caller.addresses().len()),
+    )?;
+    text.push('|')?;
+    let sent = world.talked().map_or(&b""[..], |link| link.as_slice());
+    text.push_str(hex::encode(alloc, sent)?.as_str())?;
+    Ok(())
+}
+
+fn dialogue<R: Threads + Wait + Sync>(
+    rt: &R,
+    alloc: Global,
+    world: &mut Told,
+) -> Result<String, Fail> {
+    let mut text = ended(rt, alloc, "call tcp:127.0.0.1:4045 domains", world)?;
+    push_dialogue(alloc, &mut text, world)?;
+    Ok(text)
+}
+
+fn dialogue_by<R: Threads + Wait + Sync>(
+    rt: &R,
+    alloc: Global,
+    answers: &str,
+) -> Result<String, Fail> {
+    let making = making_of("");
+    let caller = caller_of(alloc, answers, making)?;
+    let mut world = world_of_caller(alloc, caller, making)?;
+    let text = dialogue(rt, alloc, &mut world);
+    drop(world);
+    text
+}
+
+#[test]
+fn a_call_takes_the_caller_and_then_the_sink(rt: HostRuntime) -> Result<(), Fail> {
+    let dialogue = dialogue_by(&rt, rt.alloc(), "DOMAINS-ANSWERS")?;
+    let (told, sent) = dialogue.as_str().rsplit_once('|').unwrap_or(("", ""));
+    assert_eq!(rt; told, "Done|caller;sink; 1");
+    assert_eq!(rt; sent, line_of("DOMAINS-REQUESTS"));
+    Ok(())
+}

@@ -1,6 +1,5 @@
 // A world that has no memory for periods.
-
-use super::Told;
+use super::worlds::Told;
 use crate::{Period, World};
 use acct_keeper::MemoryKeeper;
 use acct_links::{MemoryCaller, MemoryDoor, MemoryEntrance, MemoryLink, TakeError};

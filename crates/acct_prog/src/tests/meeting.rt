@@ -3,17 +3,19 @@ ghost use Rattle.std.specs.Prelude.{◌≡◌, ◌+◌, ◌-◌, ◌^◌, min, A
 ghost use Rattle.acct_links.specs.Links.{IsNew, Told};
 ghost use Rattle.acct_links.specs.Memory.{told_by};
 
+use super::configs::config_with;
+use super::left::ended;
 use super::serving::link_of;
-use super::{CONFIG, making_of, nobody, sink_of, source_of, words_of};
-use crate::{MemoryParts, MemoryWorld, account};
+use super::worlds::{Steady, steady_world};
+use crate::Period;
 use acct_base::Seq;
-use acct_keeper::SteadyKeeper;
-use acct_links::{DoorPlan, Failed, Link, MemoryCaller, MemoryEntrance, MemoryLink};
-use acct_server::{MemorySink, MemorySource, Status};
+use acct_links::{DoorPlan, Failed, Link, MemoryEntrance, MemoryLink};
+use acct_server::{Ended, SessionEnd};
 use std::alloc::Global;
-use std::sync::Arc;
 use std::sync::atomic::{AtomicU64, Ordering};
+use std::sync::{Arc, Wait};
 use std::test::Fail;
+use std::thread::Threads;
 
 /// How often a link looks for the other one.
 const LOOKS: u32 = 1_000_000;
@@ -90,13 +92,7 @@ impl Link for MeetingLink {
 }
 
 /// A world whose entrance gives links that wait for others.
-type Meeting = MemoryWorld<
-    MemorySource,
-    MemorySink,
-    SteadyKeeper,
-    MemoryEntrance<MeetingLink>,
-    MemoryCaller<MemoryLink>,
->;
+type Meeting = Steady<MemoryEntrance<MeetingLink>>;
 
 /// A door with one link, which brings the first run.
 fn door_of(
@@ -138,41 +134,56 @@ fn entrance_of(alloc: Global) -> Result<MemoryEntrance<MeetingLink>, Fail> {
     Ok(MemoryEntrance::new(alloc, plans, Vec::new(alloc)))
 }
 
+/// A world with two workers.
 fn meeting(alloc: Global) -> Result<Meeting, Fail> {
-    let config = format!(in alloc; "{CONFIG}workers = 2\nlinks = 1\n")?;
-    let parts = MemoryParts {
-        config: source_of(alloc, config, 4096, 0)?,
-        events: source_of(alloc, String::new(alloc), 4096, 0)?,
-        sink: sink_of(alloc, making_of(""))?,
-        keeper: SteadyKeeper::new(alloc),
-        entrance: entrance_of(alloc)?,
-        caller: nobody(alloc),
-    };
-    let name = b"first.toml".to_vec(alloc)?;
-    Ok(MemoryWorld::new(alloc, name, parts, Vec::new(alloc)))
+    let config = config_with(alloc, "workers = 2;links = 1")?;
+    let entrance = entrance_of(alloc)?;
+    steady_world(alloc, (config, String::new(alloc)), entrance)
 }
 
-/// The status, and the ends of all sessions, in words.
-fn ends_text(alloc: Global, status: &Status, world: &Meeting) -> Result<String, Fail> {
-    let mut text = format!(in alloc; "{status:?}|")?;
-    for period in world.periods() {
-        for ended in period.ends.as_slice() {
-            write!(text, "{} {:?},", ended.conn, ended.end)?;
-        }
+fn push_end(text: &mut String, conn: u32, end: SessionEnd) -> Result<(), Fail> {
+    write!(text, "{conn} {end:?},")?;
+    Ok(())
+}
+
+fn push_ends(text: &mut String, ends: &[Ended]) -> Result<(), Fail> {
+    for ended in ends {
+        push_end(text, ended.conn, ended.end)?;
     }
+    Ok(())
+}
+
+/// The ends of all sessions, by their connections.
+fn push_sessions(text: &mut String, periods: &[Period]) -> Result<(), Fail> {
+    for period in periods {
+        push_ends(text, period.ends.as_slice())?;
+    }
+    Ok(())
+}
+
+/// Runs words over such a world: how they ended, and the ends of all sessions.
+fn left<R: Threads + Wait + Sync>(
+    rt: &R,
+    alloc: Global,
+    words: &str,
+    world: &mut Meeting,
+) -> Result<String, Fail> {
+    let mut text = ended(rt, alloc, words, world)?;
+    text.push('|')?;
+    push_sessions(&mut text, world.periods())?;
     Ok(text)
+}
+
+fn left_by<R: Threads + Wait + Sync>(rt: &R, alloc: Global, words: &str) -> Result<String, Fail> {
+    let mut world = meeting(alloc)?;
+    let text = left(rt, alloc, words, &mut world);
+    drop(world);
+    text
 }
 
 #[test]
 fn two_doors_are_served_at_once(rt: HostRuntime) -> Result<(), Fail> {
-    let alloc = rt.alloc();
-    let mut world = meeting(alloc)?;
-    let mut words = words_of(alloc, "serve first.toml")?;
-    words.push(String::new(alloc))?;
-    let status = account(&rt, alloc, &words, &mut world);
-    assert_eq!(rt;
-        ends_text(alloc, &status, &world)?.as_str(),
-        "Done|1 End,2 End,"
-    );
+    let left = left_by(&rt, rt.alloc(), "serve first.toml ''")?;
+    assert_eq!(rt; left.as_str(), "Done|1 End,2 End,");
     Ok(())
 }

@@ -4,16 +4,17 @@ ghost use Rattle.std.specs.Prelude.{◌≡◌, All, false, IfOk};
 ghost use Rattle.acct_links.specs.Links.{IsNew};
 ghost use Rattle.acct_links.specs.Memory.{told_by};
 
+use super::configs::config_with;
 use super::forgetful::Forgetful;
-use super::{
-    CONFIG, Told, column, config_of, entry_text, line_of, making_of, nobody, numbered, sink_of,
-    source_of, stored_by, world_of,
-};
-use crate::{MemoryParts, MemoryWorld, Part, Period, SpokenEntrance, account};
+use super::left::{ended, push_asked, push_history};
+use super::lines::{column, joined, line_of};
+use super::replays::stored_after;
+use super::worlds::{Told, making_of, numbered, world_of_entrance};
+use crate::{Period, SpokenEntrance};
 use acct_base::Seq;
-use acct_keeper::{MemoryKeeper, SteadyKeeper};
-use acct_links::{DoorPlan, Entrance, MemoryDoor, MemoryEntrance, MemoryLink, SteadyLink};
-use acct_server::Status;
+use acct_keeper::SteadyKeeper;
+use acct_links::{Asking, DoorPlan, Entrance, MemoryDoor, MemoryEntrance, MemoryLink, SteadyLink};
+use acct_server::{Ended, SessionEnd};
 use std::alloc::Global;
 use std::process::Abort;
 use std::sync::Wait;
@@ -66,26 +67,6 @@ t3|serve first.toml ''||BIND|DoorFault|source first.toml;keeper ;entrance;|||
 |serve first.toml -store||BIND|Usage||||
 |serve -first.toml store||BIND|Usage||||
 |serve first.toml store x||BIND|Usage||||";
-
-/// The words, of which `''` is one without characters.
-fn serve_words(alloc: Global, text: &str) -> Result<Vec<String>, Fail> {
-    let mut words = Vec::new(alloc);
-    for word in text.split(' ') {
-        let word = if word == "''" { "" } else { word };
-        words.push(String::from_str(alloc, word)?)?;
-    }
-    Ok(words)
-}
-
-/// The configuration with these lines behind it.
-fn serve_config(alloc: Global, lines: &str) -> Result<String, Fail> {
-    let mut text = String::from_str(alloc, CONFIG)?;
-    for line in lines.split(';') {
-        text.push_str(line)?;
-        text.push('\n')?;
-    }
-    Ok(text)
-}
 
 /// The number behind a letter, 0 where no word begins with it.
 fn number_of(words: &str, letter: char) -> u64 {
@@ -161,151 +142,236 @@ fn entrance_of(
 }
 
 /// A keeper without pairs, or one with the pairs of a seeded store but for its format, which is unknown.
-fn keeper_of<R: Threads + Wait + Sync>(
+fn stored_of<R: Abort + Threads + Wait + Sync>(
     rt: &R,
     alloc: Global,
     making: &str,
 ) -> Result<SteadyKeeper, Fail> {
-    if making != "b" {
-        return Ok(SteadyKeeper::new(alloc));
+    if making == "b" {
+        return stored_after(rt, alloc, "", "66=02");
     }
-    let words = serve_words(alloc, "replay first.toml")?;
-    let config = config_of(alloc, "")?;
-    let mut world = world_of(alloc, config, String::new(alloc), making_of(""))?;
-    account(rt, alloc, &words, &mut world);
-    stored_by(alloc, &world, Some((b"\x66", b"\x02")))
+    Ok(SteadyKeeper::new(alloc))
 }
 
-/// The world of a row.
-fn serve_world(
-    alloc: Global,
-    words: &str,
-    config: String,
-    entrance: MemoryEntrance<MemoryLink>,
-    stored: SteadyKeeper,
-) -> Result<Told, Fail> {
-    let making = making_of(words);
-    let parts = MemoryParts {
-        config: source_of(alloc, config, 4096, making.config_failing)?,
-        events: source_of(alloc, String::new(alloc), 4096, 0)?,
-        sink: sink_of(alloc, making)?,
-        keeper: MemoryKeeper::new(stored, numbered(alloc, making.keeper_failing)?),
-        entrance,
-        caller: nobody(alloc),
-    };
-    let name = b"first.toml".to_vec(alloc)?;
-    let failing = numbered(alloc, making.takes_failing)?;
-    Ok(MemoryWorld::new(alloc, name, parts, failing))
-}
-
-/// A run of the words over a world, or over one that has no memory for periods.
-fn run_over<R: Threads + Wait + Sync>(
+/// The world of a row: how it is made, what the configuration says more, and the links of its doors.
+fn serve_world<R: Abort + Threads + Wait + Sync>(
     rt: &R,
     alloc: Global,
-    words: &Vec<String>,
-    world: Told,
-    forgets: bool,
-) -> (Status, Told) {
-    if forgets {
-        let mut forgetful = Forgetful { world };
-        let status = account(rt, alloc, words, &mut forgetful);
-        return (status, forgetful.world);
+    making: &str,
+    lines: &str,
+    doors: &str,
+) -> Result<Told, Fail> {
+    let config = config_with(alloc, lines)?;
+    let entrance = entrance_of(alloc, doors, number_of(making, 'a'))?;
+    let stored = stored_of(rt, alloc, making)?;
+    world_of_entrance(alloc, stored, entrance, config, making_of(making))
+}
+
+/// The numbers of accounts before and after a period.
+fn push_counts(text: &mut String, before: usize, after: usize) -> Result<(), Fail> {
+    write!(text, "{before}>{after} ")?;
+    Ok(())
+}
+
+fn push_ended(text: &mut String, conn: u32, door: u32, end: SessionEnd) -> Result<(), Fail> {
+    write!(text, "{conn} {door} {end:?},")?;
+    Ok(())
+}
+
+fn push_ends(text: &mut String, ends: &[Ended]) -> Result<(), Fail> {
+    for ended in ends {
+        push_ended(text, ended.conn, ended.door, ended.end)?;
     }
-    let mut world = world;
-    let status = account(rt, alloc, words, &mut world);
-    (status, world)
+    Ok(())
 }
 
 /// A period in words.
-fn push_period(text: &mut String, alloc: Global, period: &Period) -> Result<(), Fail> {
-    let (before, after) = (
+fn push_period(text: &mut String, period: &Period) -> Result<(), Fail> {
+    push_counts(
+        text,
         period.opening.accounts().len(),
         period.rows.accounts().len(),
-    );
-    write!(text, "{before}>{after} ")?;
-    for entry in period.history.as_slice() {
-        text.push_str(entry_text(alloc, entry)?.as_str())?;
-    }
+    )?;
+    push_history(text, period.history.as_slice())?;
     text.push(' ')?;
-    for ended in period.ends.as_slice() {
-        write!(text, "{} {} {:?},", ended.conn, ended.door, ended.end)?;
-    }
+    push_ends(text, period.ends.as_slice())?;
     text.push('/')?;
     Ok(())
 }
 
-/// What was finished on a door, each link by its connection and the digits of what was written on it.
+fn push_periods(text: &mut String, periods: &[Period]) -> Result<(), Fail> {
+    for period in periods {
+        push_period(text, period)?;
+    }
+    Ok(())
+}
+
+/// A link by its connection and the digits of what was written on it.
+fn push_link(alloc: Global, text: &mut String, conn: u32, sent: &[u8]) -> Result<(), Fail> {
+    let digits = hex::encode(alloc, sent)?;
+    write!(text, "{conn} ")?;
+    text.push_str(digits.as_str())?;
+    text.push(',')?;
+    Ok(())
+}
+
+/// What was finished on a door.
 fn push_finished(
-    text: &mut String,
     alloc: Global,
+    text: &mut String,
     door: &MemoryDoor<MemoryLink>,
 ) -> Result<(), Fail> {
     for (conn, link) in door.as_slice() {
-        let digits = hex::encode(alloc, link.as_slice())?;
-        write!(text, "{conn} {},", digits.as_str())?;
+        push_link(alloc, text, *conn, link.as_slice())?;
     }
     text.push(';')?;
     Ok(())
 }
 
-/// What a world was asked for, and what its entrance was, in words.
-fn push_asked(text: &mut String, world: &Told) -> Result<(), Fail> {
-    for part in world.asked() {
-        let (kind, name) = match part {
-            Part::Source(name) => ("source ", name.as_slice()),
-            Part::Keeper(name) => ("keeper ", name.as_slice()),
-            Part::Entrance => ("entrance", b"".as_slice()),
-            Part::Sink | Part::Caller => ("another part", b"".as_slice()),
-        };
-        let name = std::str::from_utf8(name).ok().unwrap_or("?");
-        write!(text, "{kind}{name};")?;
-    }
-    text.push('|')?;
-    for asking in world
-        .entrance()
-        .map_or(&[][..], |entrance| entrance.askings())
-    {
-        let address = std::str::from_utf8(asking.address.as_slice())
-            .ok()
-            .unwrap_or("?");
-        let (listener, workers, links) = (asking.listener, asking.workers, asking.links);
-        write!(text, "{listener} {address} {workers} {links};")?;
+fn push_doors(
+    alloc: Global,
+    text: &mut String,
+    doors: &[MemoryDoor<MemoryLink>],
+) -> Result<(), Fail> {
+    for door in doors {
+        push_finished(alloc, text, door)?;
     }
     Ok(())
 }
 
-/// What a run leaves, in words.
-fn left_text(alloc: Global, status: &Status, world: &Told) -> Result<String, Fail> {
-    let mut text = String::new(alloc);
-    write!(text, "{status:?}|")?;
-    push_asked(&mut text, world)?;
-    text.push('|')?;
-    for period in world.periods() {
-        push_period(&mut text, alloc, period)?;
+fn push_address(text: &mut String, listener: u32, address: &[u8]) -> Result<(), Fail> {
+    write!(text, "{listener} ")?;
+    text.push_str(std::str::from_utf8(address).ok().unwrap_or("?"))?;
+    Ok(())
+}
+
+fn push_sizes(text: &mut String, workers: u32, links: u64) -> Result<(), Fail> {
+    write!(text, " {workers} {links};")?;
+    Ok(())
+}
+
+/// What an entrance was asked for.
+fn push_askings(text: &mut String, askings: &[Asking]) -> Result<(), Fail> {
+    for asking in askings {
+        push_address(text, asking.listener, asking.address.as_slice())?;
+        push_sizes(text, asking.workers, asking.links)?;
     }
-    text.push('|')?;
-    for door in world.doors() {
-        push_finished(&mut text, alloc, door)?;
+    Ok(())
+}
+
+/// The askings of the entrance of a world.
+fn askings(world: &Told) -> &[Asking] {
+    match world.entrance() {
+        Some(entrance) => entrance.askings(),
+        None => &[],
     }
+}
+
+/// What is left in a world: what it was asked for, what its entrance was, its periods, and what was finished on each
+/// door.
+fn push_left(alloc: Global, text: &mut String, world: &Told) -> Result<(), Fail> {
+    text.push('|')?;
+    push_asked(text, world.asked())?;
+    text.push('|')?;
+    push_askings(text, askings(world))?;
+    text.push('|')?;
+    push_periods(text, world.periods())?;
+    text.push('|')?;
+    push_doors(alloc, text, world.doors())
+}
+
+/// Runs words over a world: how they ended, and what they leave.
+fn left<R: Threads + Wait + Sync>(
+    rt: &R,
+    alloc: Global,
+    words: &str,
+    world: &mut Told,
+) -> Result<String, Fail> {
+    let mut text = ended(rt, alloc, words, world)?;
+    push_left(alloc, &mut text, world)?;
     Ok(text)
 }
 
-/// What a row has to leave: the names of lines in its last column stand for their digits.
-fn wanted_text(alloc: Global, row: &str) -> Result<String, Fail> {
+/// The same over a world that has no memory for periods.
+fn left_forgetful<R: Threads + Wait + Sync>(
+    rt: &R,
+    alloc: Global,
+    words: &str,
+    world: &mut Forgetful,
+) -> Result<String, Fail> {
+    let mut text = ended(rt, alloc, words, world)?;
+    push_left(alloc, &mut text, &world.world)?;
+    Ok(text)
+}
+
+fn left_over<R: Threads + Wait + Sync>(
+    rt: &R,
+    alloc: Global,
+    words: &str,
+    mut world: Told,
+) -> Result<String, Fail> {
+    let text = left(rt, alloc, words, &mut world);
+    drop(world);
+    text
+}
+
+fn left_forgotten<R: Threads + Wait + Sync>(
+    rt: &R,
+    alloc: Global,
+    words: &str,
+    world: Told,
+) -> Result<String, Fail> {
+    let mut forgetful = Forgetful { world };
+    let text = left_forgetful(rt, alloc, words, &mut forgetful);
+    drop(forgetful);
+    text
+}
+
+/// Adds what has to be finished on a link: the names of lines stand for their digits.
+fn push_wanted_link(alloc: Global, text: &mut String, link: &str) -> Result<(), Fail> {
+    if let Some((conn, names)) = link.split_once(' ') {
+        text.push_str(conn)?;
+        text.push(' ')?;
+        text.push_str(digits_of(alloc, names)?.as_str())?;
+        text.push(',')?;
+    }
+    Ok(())
+}
+
+fn push_wanted_door(alloc: Global, text: &mut String, door: &str) -> Result<(), Fail> {
+    for link in door.split(',') {
+        push_wanted_link(alloc, text, link)?;
+    }
+    Ok(())
+}
+
+/// What a row has to leave: its last column says what is finished on each door.
+fn wanted_of(alloc: Global, row: &str) -> Result<String, Fail> {
     let (front, finished) = row.rsplit_once('|').unwrap_or(("", row));
-    let mut text = String::from_str(alloc, front)?;
-    text.push('|')?;
+    let mut text = joined(alloc, &[front, "|"])?;
     for (place, door) in finished.split(';').enumerate() {
         if place != 0 {
             text.push(';')?;
         }
-        for link in door.split(',') {
-            if let Some((conn, names)) = link.split_once(' ') {
-                write!(text, "{conn} {},", digits_of(alloc, names)?.as_str())?;
-            }
-        }
+        push_wanted_door(alloc, &mut text, door)?;
     }
     Ok(text)
+}
+
+fn left_by<R: Abort + Threads + Wait + Sync>(
+    rt: &R,
+    alloc: Global,
+    making: &str,
+    words: &str,
+    lines: &str,
+    doors: &str,
+) -> Result<String, Fail> {
+    let world = serve_world(rt, alloc, making, lines, doors)?;
+    if making == "f" {
+        left_forgotten(rt, alloc, words, world)
+    } else {
+        left_over(rt, alloc, words, world)
+    }
 }
 
 fn tell<R: Abort + Threads + Wait + Sync>(rt: &R, alloc: Global, row: &str) -> Result<(), Fail> {
@@ -313,17 +379,9 @@ fn tell<R: Abort + Threads + Wait + Sync>(rt: &R, alloc: Global, row: &str) -> R
     let (words, rest) = column(rest);
     let (lines, rest) = column(rest);
     let (doors, rest) = column(rest);
-    let entrance = entrance_of(alloc, doors, number_of(making, 'a'))?;
-    let stored = keeper_of(rt, alloc, making)?;
-    let world = serve_world(alloc, making, serve_config(alloc, lines)?, entrance, stored)?;
-    let words = serve_words(alloc, words)?;
-    let (status, world) = run_over(rt, alloc, &words, world, making == "f");
-    let wanted = wanted_text(alloc, rest)?;
-    assert_eq!(rt;
-        left_text(alloc, &status, &world)?.as_str(),
-        wanted.as_str(),
-        "{row}"
-    );
+    let left = left_by(rt, alloc, making, words, lines, doors)?;
+    let wanted = wanted_of(alloc, rest)?;
+    assert_eq!(rt; left.as_str(), wanted.as_str(), "{row}");
     Ok(())
 }
 

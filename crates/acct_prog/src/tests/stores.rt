@@ -18,3 +18,11 @@ k4|replay first.toml||OPEN BIND CONNECT OPEN-CORP CREATE-ALICE CREATE-BOB NAMES-
     ALICE-1000 STORE-FAULT-9 NONE-10 BOB-1001 GONE|Done|opened 1 0;called 1 57 Ran 8;called 1 7 Ran 52;called 1 50 Ran \
     60;called 1 12 StoreFault(1) 52;called 1 17 Ran 62;called 1 12 Ran 52;gone 1;
 t4|replay first.toml||OPEN|/0|StoreFault|none";
+
+/// Each row: the events of a first replay, a change of a pair that it stored, the events of a second replay, the lines
+/// that it writes, its status and its history. The first has made alice; then the store has an unknown format.
+pub const SECOND: &str =
+    "OPEN BIND CONNECT OPEN-CORP CREATE-ALICE||OPEN BIND CONNECT OPEN-CORP CREATE-ALICE-AGAIN CREATE-BOB|ACK CONNECTED \
+    DOMAIN-2 USER-EXISTS-9 BOB-3-1001 GONE|Done|opened 1 0;called 1 57 Ran 8;called 1 7 Ran 52;called 1 50 Ran \
+    60;called 1 12 Ran 52;gone 1;
+|66=02||/0|StoredPair(Seq { values: [102] })|none";

@@ -174,3 +174,15 @@ t1|replay first.toml||OPEN|/0|ReadFault|none
 t2|replay first.toml||OPEN|/0|ReadFault|none
 t3|replay first.toml||OPEN|/0|WriteFault|none
 |replay other.toml||OPEN|/0|ReadFault|none";
+
+/// Each row: how the run is made, the events, the status, what was asked for, and the domains and accounts before and
+/// after the period that is left.
+pub const ASKED: &str =
+    "|OPEN BIND CONNECT|Done|source first.toml;source -;sink;keeper ;| 0: 500 501 512 513 514; 1: 544 545 546; then 0: \
+    500 501 512 513 514; 1: 544 545 546;
+||Done|source first.toml;source -;sink;keeper ;| 0: 500 501 512 513 514; 1: 544 545 546; then 0: 500 501 512 513 514; \
+    1: 544 545 546;
+t4||StoreFault|source first.toml;source -;sink;keeper ;|
+t3||WriteFault|source first.toml;source -;sink;|
+t2||ReadFault|source first.toml;source -;|
+t1||ReadFault|source first.toml;|";
