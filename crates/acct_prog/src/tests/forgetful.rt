@@ -1,4 +1,7 @@
 // A world that has no memory for periods.
+ghost use Rattle.acct_prog.specs.World.{GivesEntrance, GivesCaller};
+ghost use Rattle.acct_prog.specs.Memory.{shown};
+
 use super::worlds::Told;
 use crate::{Period, World};
 use acct_keeper::MemoryKeeper;
@@ -59,7 +62,9 @@ impl World for Forgetful {
         &mut self,
         part: MemoryEntrance<MemoryLink>,
         doors: Vec<MemoryDoor<MemoryLink>>,
-    ) {
+    )
+        ensures gives { GivesEntrance (shown self.old.world) (shown self.new.world) part doors.items }
+    {
         self.world.give_entrance(part, doors)
     }
 
@@ -67,7 +72,9 @@ impl World for Forgetful {
         self.world.take_caller()
     }
 
-    fn give_caller(&mut self, part: MemoryCaller<MemoryLink>, link: Option<MemoryLink>) {
+    fn give_caller(&mut self, part: MemoryCaller<MemoryLink>, link: Option<MemoryLink>)
+        ensures gives { GivesCaller (shown self.old.world) (shown self.new.world) part link }
+    {
         self.world.give_caller(part, link)
     }
 

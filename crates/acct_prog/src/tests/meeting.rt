@@ -1,5 +1,5 @@
 // Two links that wait for each other: only a program that serves its doors side by side brings both to their end.
-ghost use Rattle.std.specs.Prelude.{◌≡◌, ◌+◌, ◌-◌, ◌^◌, min, All, IfOk};
+ghost use Rattle.std.specs.Prelude.{◌≡◌, ◌+◌, ◌-◌, ◌^◌, ◌≤◌, min, All, IfOk};
 ghost use Rattle.acct_links.specs.Links.{IsNew, Told};
 ghost use Rattle.acct_links.specs.Memory.{told_by};
 
@@ -15,9 +15,10 @@ use std::alloc::Global;
 use std::sync::atomic::{AtomicU64, Ordering};
 use std::sync::{Arc, Wait};
 use std::test::Fail;
+use std::thread;
 use std::thread::Threads;
 
-/// How often a link looks for the other one.
+/// How often a link looks for the other one, and lets other threads run.
 const LOOKS: u32 = 1_000_000;
 
 /// A link that raises its flag at its first read, and gives its bytes once the other flag is raised. Where that isn't so
@@ -38,6 +39,7 @@ fn is_raised(flag: &AtomicU64) -> bool {
         if flag.load(Ordering::SeqCst) == 1 {
             return true;
         }
+        thread::yield_now();
     }
     false
 }
@@ -46,6 +48,7 @@ impl MeetingLink {
     fn fail(&mut self) -> Failed
         ensures link { self.new.link ≡ self.old.link }
         ensures rose { self.new.faults ≡ min (self.old.faults + 1) (2 ^ 64 - 1) }
+        ensures later { self.old.faults ≤ self.new.faults }
     {
         self.faults = self.faults.saturating_add(1);
         Failed
