@@ -1,79 +1,69 @@
 // A world that has no memory for periods.
 ghost use Rattle.acct_prog.specs.World.{GivesEntrance, GivesCaller};
-ghost use Rattle.acct_prog.specs.Memory.{shown};
 
-use super::worlds::Told;
 use crate::{Period, World};
-use acct_keeper::MemoryKeeper;
-use acct_links::{MemoryCaller, MemoryDoor, MemoryEntrance, MemoryLink, TakeError};
-use acct_server::{MemorySink, MemorySource};
+use acct_links::{Caller, Entrance, TakeError};
 use std::alloc::AllocError;
 
 /// A world as another is, but that it keeps no period: memory is wanted for each.
 #[derive(Drop)]
-pub struct Forgetful {
-    pub world: Told,
+pub struct Forgetful<W: World + Drop> {
+    pub world: W,
 }
 
-impl World for Forgetful {
-    ghost use Rattle.acct_prog.specs.Memory.{shown};
+impl<W: World + Drop> World for Forgetful<W> {
+    type S = W::S;
 
-    type S = MemorySource;
+    type T = W::T;
 
-    type T = MemorySink;
+    type K = W::K;
 
-    type K = MemoryKeeper;
+    type E = W::E;
 
-    type E = MemoryEntrance<MemoryLink>;
+    type C = W::C;
 
-    type C = MemoryCaller<MemoryLink>;
+    ghost seen = { λ forgetful. W.seen forgetful.world };
 
-    ghost seen = { λ forgetful. shown forgetful.world };
-
-    fn take_source(&mut self, name: &str) -> Result<MemorySource, TakeError> {
+    fn take_source(&mut self, name: &str) -> Result<W::S, TakeError> {
         self.world.take_source(name)
     }
 
-    fn give_source(&mut self, name: &str, part: MemorySource) {
+    fn give_source(&mut self, name: &str, part: W::S) {
         self.world.give_source(name, part)
     }
 
-    fn take_sink(&mut self) -> Result<MemorySink, TakeError> {
+    fn take_sink(&mut self) -> Result<W::T, TakeError> {
         self.world.take_sink()
     }
 
-    fn give_sink(&mut self, part: MemorySink) {
+    fn give_sink(&mut self, part: W::T) {
         self.world.give_sink(part)
     }
 
-    fn take_keeper(&mut self, name: &str) -> Result<MemoryKeeper, TakeError> {
+    fn take_keeper(&mut self, name: &str) -> Result<W::K, TakeError> {
         self.world.take_keeper(name)
     }
 
-    fn give_keeper(&mut self, name: &str, part: MemoryKeeper) {
+    fn give_keeper(&mut self, name: &str, part: W::K) {
         self.world.give_keeper(name, part)
     }
 
-    fn take_entrance(&mut self) -> Result<MemoryEntrance<MemoryLink>, TakeError> {
+    fn take_entrance(&mut self) -> Result<W::E, TakeError> {
         self.world.take_entrance()
     }
 
-    fn give_entrance(
-        &mut self,
-        part: MemoryEntrance<MemoryLink>,
-        doors: Vec<MemoryDoor<MemoryLink>>,
-    )
-        ensures gives { GivesEntrance (shown self.old.world) (shown self.new.world) part doors.items }
+    fn give_entrance(&mut self, part: W::E, doors: Vec<<W::E as Entrance>::D>)
+        ensures gives { GivesEntrance (W.seen self.old.world) (W.seen self.new.world) part doors.items }
     {
         self.world.give_entrance(part, doors)
     }
 
-    fn take_caller(&mut self) -> Result<MemoryCaller<MemoryLink>, TakeError> {
+    fn take_caller(&mut self) -> Result<W::C, TakeError> {
         self.world.take_caller()
     }
 
-    fn give_caller(&mut self, part: MemoryCaller<MemoryLink>, link: Option<MemoryLink>)
-        ensures gives { GivesCaller (shown self.old.world) (shown self.new.world) part link }
+    fn give_caller(&mut self, part: W::C, link: Option<<W::C as Caller>::L>)
+        ensures gives { GivesCaller (W.seen self.old.world) (W.seen self.new.world) part link }
     {
         self.world.give_caller(part, link)
     }

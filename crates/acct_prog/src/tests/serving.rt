@@ -297,7 +297,7 @@ fn left_forgetful<R: Threads + Wait + Sync>(
     rt: &R,
     alloc: Global,
     words: &str,
-    world: &mut Forgetful,
+    world: &mut Forgetful<Told>,
 ) -> Result<String, Fail> {
     let mut text = ended(rt, alloc, words, world)?;
     push_left(alloc, &mut text, &world.world)?;
