@@ -20,15 +20,19 @@ use Rattle.keeper_sqlite.specs.contracts.keeper.SqliteKeeper.TheInside as inside
 host-send : IsSend Host.the_row
 host-send = search (crosses, sendable) depth 60 fits 20000
 
+abbrev file : RattleType
+file = Modelled.the_row Host.the_row Unknown.the_row calls.ghosts unknown.ghosts
+
+file-send : IsSend file
+file-send = modelled.the_send Host.the_row Unknown.the_row calls.ghosts unknown.ghosts host-send
+
 fields-send : AllSend (fields inside.the_type)
 fields-send =
-    let file : RattleType = Modelled.the_row Host.the_row Unknown.the_row calls.ghosts unknown.ghosts in
     let on = disk.ghosts Host.the_row Unknown.the_row calls.ghosts disk.no_dict unknown.ghosts disk.no_dict
     disk.no_dict in (
       global.the_field_send,
       (
-        connection.the_send _ (stores.ghosts file on stores.no_dict)
-            (store.the_send file on (modelled.the_send Host.the_row Unknown.the_row calls.ghosts unknown.ghosts host-send)),
+        connection.the_send _ (stores.ghosts file on stores.no_dict) (store.the_send file on file-send),
         (search sendable, tt),
       ),
     )
