@@ -8,3 +8,6 @@
 mod opening;
 
 pub use opening::open_doors;
+
+#[cfg(test)]
+mod tests;
