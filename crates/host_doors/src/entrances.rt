@@ -1,5 +1,5 @@
 // The entrance of the system.
-ghost use Rattle.std.specs.Prelude.{◌≡◌, ◌≤◌, None, true, All, IsSome, IfSome, IfOk, IfErr, MatchOption, length};
+ghost use Rattle.std.specs.Prelude.{◌≡◌, ◌≤◌, None, true, All, IsSome, IfSome, IfOk, IfErr, is_some, length};
 ghost use Rattle.std.specs.Prelude.{string_bytes};
 ghost use Rattle.std.specs.IoError.{error_kind, raw_os_error};
 ghost use Rattle.acct_keeper.specs.Causes.{KeepCause};
@@ -67,8 +67,8 @@ impl<'a, R: Net + Files> HostEntrance<'a, R> {
 
     /// The address at which the last listener listens, by TCP with the port that the system gave it.
     pub fn place(&self) -> Option<&str>
-        ensures { MatchOption result (self.now.place ≡ None)
-            (λ text. IfSome self.now.place (λ place. text.now ≡ string_bytes place)) }
+        ensures none { is_some result ≡ is_some self.now.place }
+        ensures text { IfSome result (λ text. IfSome self.now.place (λ place. text.now ≡ string_bytes place)) }
     {
         match &self.place {
             Some(place) => Some(place.as_str()),
