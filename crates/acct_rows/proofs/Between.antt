@@ -6,7 +6,7 @@ use Rattle.std.specs.List.{filter}
 use Rattle.std.specs.List.Sorted.{IsPartitionPoint, IsPartitionedBy}
 use Rattle.std.specs.Cmp.{first_so, second_so}
 use Rattle.std.specs.Cmp.Lexicographic.{nat_list_cmp_total}
-use Rattle.std.specs.Ordering.{nat_cmp, is_lt, is_le, ordering_then, ordering_reverse}
+use Rattle.std.specs.Ordering.{nat_cmp, is_lt, is_le, ordering_then}
 use Rattle.std.specs.declared.cmp.Ordering.{Ordering}
 use Rattle.std.specs.declared.cmp.Ordering.TheVariants.{Less, Equal, Greater}
 use Rattle.std.proofs.lemmas.Bool.Decides.{nat_tests}
@@ -35,7 +35,7 @@ module _ {A : Type 0} (key : A → List ℕ) (p : A → Bool)
   turns (x ∷ xs) h (suc i) zero d le lt e = absurd (omega arith)
   turns (x ∷ xs) h (suc i) (suc j) d le lt e = turns xs (second_so _ _ h) i j d (omega arith) (omega arith) e
 
-alike : {A : Type 0} (p q : A → Bool) → ((x : A) → p x ≡ q x) → (xs : List A) → filter p xs ≡ filter q xs
+pub alike : {A : Type 0} (p q : A → Bool) → ((x : A) → p x ≡ q x) → (xs : List A) → filter p xs ≡ filter q xs
 alike p q same [] = refl
 alike p q same (x ∷ xs) =
     ap (λ b. cond b (x ∷ filter p xs) (filter p xs)) (same x)
@@ -199,7 +199,7 @@ abbrev pub front : AliasRow → List ℕ
 front a = a.domain ∷ a.alias ∷ []
 
 -- the keys' fronts don't fall
-fronts : (x y : AliasRow) → compare (alias_key x) (alias_key y) ≡ Less → is_le (compare (front x) (front y)) ≡ true
+pub fronts : (x y : AliasRow) → compare (alias_key x) (alias_key y) ≡ Less → is_le (compare (front x) (front y)) ≡ true
 fronts x y lt = by_domain (nat_cmp x.domain y.domain) lt
   where
     by_alias : (r : Ordering) → ordering_then r (compare (sid_key x.member) (sid_key y.member)) ≡ Less
@@ -215,7 +215,7 @@ fronts x y lt = by_domain (nat_cmp x.domain y.domain) lt
     by_domain Equal e = by_alias (nat_cmp x.alias y.alias) e
     by_domain Greater e = cc
 
-le_then_le : (j k q : List ℕ) → is_le (compare j k) ≡ true → is_le (compare k q) ≡ true → is_le (compare j q) ≡ true
+pub le_then_le : (j k q : List ℕ) → is_le (compare j k) ≡ true → is_le (compare k q) ≡ true → is_le (compare j q) ≡ true
 le_then_le j k q le e =
     elim (compare j k) as (λ r. compare j k ≡ r → is_le r ≡ true → is_le (compare j q) ≡ true) [
       | Less ↦ λ is t. still_le j k q is e
@@ -223,7 +223,7 @@ le_then_le j k q le e =
       | Greater ↦ λ is t. cc
     ] refl le
 
-le_then_lt : (j k q : List ℕ) → is_le (compare j k) ≡ true → is_lt (compare k q) ≡ true → is_lt (compare j q) ≡ true
+pub le_then_lt : (j k q : List ℕ) → is_le (compare j k) ≡ true → is_lt (compare k q) ≡ true → is_lt (compare j q) ≡ true
 le_then_lt j k q le e =
     elim (compare j k) as (λ r. compare j k ≡ r → is_le r ≡ true → is_lt (compare j q) ≡ true) [
       | Less ↦ λ is t. elim (compare k q) as (λ r. compare k q ≡ r → is_lt r ≡ true → is_lt (compare j q) ≡ true) [

@@ -1,11 +1,11 @@
 -- What is looked up among pairs is found among the rows that are loaded of them.
-use Rattle.std.proofs.Common.{◌≡◌, ◌≢◌, ℕ, ◌^◌, ◌<◌, ◌≤◌, ◌==◌, nat_lt, Bool, true, false, ◌&&◌, ◌||◌, List, []}
+use Rattle.std.proofs.Common.{◌≡◌, ℕ, ◌^◌, ◌<◌, ◌≤◌, ◌==◌, nat_lt, Bool, true, false, ◌&&◌, ◌||◌, List, []}
 use Rattle.std.proofs.Common.{◌∷◌, All, map}
 use Rattle.std.proofs.Common.{Option, Some, None, refl, sym, ap, subst, ◌∙◌, arith, inl, inr}
 use Rattle.std.specs.Prelude.{option_map, is_some, not}
 use Rattle.std.specs.List.{list_any, find}
 use Rattle.std.specs.Cmp.{first_so, second_so, nat_cmp_is}
-use Rattle.std.specs.Ordering.{nat_cmp, ordering_then}
+use Rattle.std.specs.Ordering.{ordering_then}
 use Rattle.std.specs.declared.cmp.Ordering.TheVariants.{Less, Equal}
 use Rattle.std.proofs.lemmas.Bool.Decides.{nat_tests}
 use Rattle.acct_codes.specs.declared.kind.Kind.{Kind}
@@ -15,7 +15,7 @@ use Rattle.acct_calls.specs.Folding.{is_same}
 use Rattle.acct_keeper.specs.declared.pairs.Pair.{Pair}
 use Rattle.acct_rows.specs.Changes.{row_at}
 use Rattle.acct_rows.specs.Keyed.{compare, is_ascending}
-use Rattle.acct_rows.specs.Loading.{IsReadWell, IsLoaded, LoadedRowsAreFound, loaded, somes, is_smaller}
+use Rattle.acct_rows.specs.Loading.{IsReadWell, LoadedRowsAreFound, loaded, somes, is_smaller}
 use Rattle.acct_rows.specs.PairRules.{pair_key, pair_at, is_there, row_in, as_domain, as_account, domain_in, account_in}
 use Rattle.acct_rows.specs.PairRules.{is_earlier, is_other, is_missing}
 use Rattle.acct_rows.specs.PairsOf.{IsRowOf}
@@ -33,7 +33,6 @@ use Rattle.acct_rows.proofs.Loaded.{find_so, find_none, find_least, loaded_table
 use Rattle.acct_rows.proofs.Lookups.{tested, there_or_not, key_found}
 use Rattle.acct_rows.proofs.Members.{In, at_in, in_at, any_in, in_any}
 use Rattle.acct_rows.proofs.Moves.{equal_is}
-use Rattle.acct_rows.proofs.ReadRows.{FitsKey}
 use Rattle.acct_rows.proofs.Taken.{bind_some}
 use Rattle.acct_rows.proofs.Translated.{is_row_at, at_is_row, one_key}
 

@@ -56,7 +56,7 @@ sid_is s t authority subs =
     ap (λ n. record { authority = n; subs = s.subs }) authority
     ∙ ap (λ ns. record { authority = t.authority; subs = ns }) subs
 
-membership_tells : (a b : AliasRow) → membership_key (membership_of a) ≡ membership_key (membership_of b)
+pub membership_tells : (a b : AliasRow) → membership_key (membership_of a) ≡ membership_key (membership_of b)
     → alias_key a ≡ alias_key b
 membership_tells a b e =
     let authority : a.member.authority ≡ b.member.authority = cc in

@@ -30,8 +30,10 @@ pub mod Kept
 pub mod Members
 pub mod Moves
 pub mod Named
+pub mod NamedRows
 pub mod Purges
 pub mod Rising
+pub mod Sides
 pub mod Runs
 pub mod Without
 pub mod Unbroken

@@ -74,7 +74,7 @@ module _ {A : Type 0} (f : A → ℕ) (n : ℕ) where
       grind (arith, nat_tests))
       (λ k d ge lt. let over = high.1 k d (omega arith) lt in grind (arith, nat_tests))
 
-group_le : (a b : MemberRow) → compare (member_key a) (member_key b) ≡ Less → a.group ≤ b.group
+pub group_le : (a b : MemberRow) → compare (member_key a) (member_key b) ≡ Less → a.group ≤ b.group
 group_le a b lt =
     elim (tested (nat_lt b.group a.group)) [
       | inl t ↦ absurd (

@@ -126,7 +126,7 @@ exchanged false false x y f apart = refl
 
 -- a value that is below all that pass is the first of them
 module _ {A : Type 0} (key : A → List ℕ) (p : A → Bool) where
-  filter_put : (x : A) (ys : List A)
+  pub filter_put : (x : A) (ys : List A)
       → (p x ≡ true → (b : A) → In b ys → p b ≡ true → compare (key x) (key b) ≡ Less)
       → ((b : A) → key x ≡ key b → p x ≡ p b)
       → filter p (put key x ys) ≡ cond (p x) (x ∷ filter p ys) (filter p ys)

@@ -3,6 +3,7 @@ pub mod Indexes
 pub mod Keyed
 pub mod Laws
 pub mod Loading
+pub mod Naming
 pub mod Objects
 pub mod PairRules
 pub mod PairsOf

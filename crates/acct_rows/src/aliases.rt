@@ -1,14 +1,17 @@
 // The members of aliases, by key and by SID.
-ghost use Rattle.std.specs.Prelude.{◌≡◌, ◌+◌, ◌^◌, ◌<◌, ◌≤◌, true, [], ◌∷◌, IfOk, OnOk, length, vec_len, map};
+ghost use Rattle.std.specs.Prelude.{◌≡◌, ◌+◌, ◌^◌, ◌<◌, ◌≤◌, true, [], ◌∷◌, ◌++◌, IfOk, OnOk, length, vec_len, map};
 ghost use Rattle.std.specs.List.{filter};
 ghost use Rattle.std.specs.Option.{option_copied};
 ghost use Rattle.acct_rows.specs.Keyed.{at, put, without, is_ascending};
+ghost use Rattle.acct_rows.specs.Laws.{is_alias_row_of, key_of_alias};
 ghost use Rattle.acct_rows.specs.Rows.{alias_key, sid_key, is_in_alias, has_one, each_once};
 
 use crate::keyed::Table;
 use crate::membership::{Membership, aliases_among, membership_of, memberships_of};
-use crate::ranges::alias_members_among;
-use crate::row::AliasRow;
+use crate::naming::{push_aliases, push_memberships};
+use crate::ranges::{alias_members_among, memberships_among};
+use crate::row::{AliasRow, RowKey};
+use acct_base::Seq;
 use acct_calls::{NoMemory, Rids};
 use dtyp_sid::Sid;
 use std::alloc::Global;
@@ -105,6 +108,25 @@ impl Aliases {
     {
         let _rows = self.rows.rows();
         aliases_among(alloc, self.memberships.rows(), domain, sids)
+    }
+
+    /// Adds the keys of the alias rows that are of the account, or have its SID.
+    pub fn push_keys(
+        &self,
+        keys: &mut Seq<RowKey>,
+        domain: u8,
+        rid: u32,
+        sid: &Sid,
+    ) -> Result<(), NoMemory>
+        ensures { OnOk result
+            (keys.new ≡ keys.old ++ map key_of_alias (filter (is_alias_row_of domain rid sid.now) self.now.0)) }
+    {
+        let _rows = self.rows.rows();
+        let held = memberships_among(self.memberships.rows(), sid);
+        push_memberships(keys, held, domain, rid, false)?;
+        push_aliases(keys, self.members(domain, rid))?;
+        push_memberships(keys, held, domain, rid, true)?;
+        Ok(())
     }
 
     /// Makes room for more rows.

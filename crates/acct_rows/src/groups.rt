@@ -1,14 +1,17 @@
 // The members of groups, by key and by user.
-ghost use Rattle.std.specs.Prelude.{◌≡◌, ◌+◌, ◌^◌, ◌<◌, ◌≤◌, true, [], ◌∷◌, IfOk, OnOk, length, vec_len, map};
+ghost use Rattle.std.specs.Prelude.{◌≡◌, ◌+◌, ◌^◌, ◌<◌, ◌≤◌, true, [], ◌∷◌, ◌++◌, IfOk, OnOk, length, vec_len, map};
 ghost use Rattle.std.specs.List.{filter};
 ghost use Rattle.std.specs.Option.{option_copied};
 ghost use Rattle.acct_rows.specs.Keyed.{at, put, without, is_ascending};
+ghost use Rattle.acct_rows.specs.Laws.{is_member_of, key_of_member};
 ghost use Rattle.acct_rows.specs.Rows.{member_key, is_in_group, is_of_user};
 ghost use Rattle.acct_rows.specs.Users.{user_key, by_user, row_of, users_of, is_for};
 
 use crate::keyed::Table;
 use crate::membership::members_among;
-use crate::row::MemberRow;
+use crate::naming::{push_groups, push_members};
+use crate::row::{ACCOUNT_DOMAIN, MemberRow, RowKey};
+use acct_base::Seq;
 use acct_calls::NoMemory;
 use std::alloc::Global;
 use std::marker::Model;
@@ -129,6 +132,22 @@ impl Members {
     {
         let _rows = self.rows.rows();
         groups_among(self.users.rows(), user)
+    }
+
+    /// Adds the keys of the member rows that have the account as a group or a user.
+    pub fn push_keys(&self, keys: &mut Seq<RowKey>, domain: u8, rid: u32) -> Result<(), NoMemory>
+        ensures { OnOk result
+            (keys.new ≡ keys.old ++ map key_of_member (filter (is_member_of domain rid) self.now.0)) }
+    {
+        if domain != ACCOUNT_DOMAIN {
+            return Ok(());
+        }
+        let _rows = self.rows.rows();
+        let groups = self.groups(rid);
+        push_groups(keys, groups, rid, false)?;
+        push_members(keys, self.members(rid))?;
+        push_groups(keys, groups, rid, true)?;
+        Ok(())
     }
 
     /// Makes room for more rows.

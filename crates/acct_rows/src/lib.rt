@@ -18,6 +18,7 @@ mod keys;
 pub mod laws;
 mod membership;
 mod names;
+mod naming;
 mod object;
 pub mod pairs;
 mod plan;

@@ -3,11 +3,16 @@ ghost use Rattle.std.specs.Prelude.{◌≡◌, true, [], ◌∷◌};
 ghost use Rattle.std.specs.List.{filter};
 ghost use Rattle.std.specs.Ordering.{is_lt, is_le};
 ghost use Rattle.acct_rows.specs.Keyed.{compare, is_ascending};
+ghost use Rattle.acct_rows.specs.Indexes.{membership_key};
+ghost use Rattle.acct_rows.specs.Naming.{has_sid};
 ghost use Rattle.acct_rows.specs.Ranges.{is_behind};
 ghost use Rattle.acct_rows.specs.Rows.{account_key, alias_key, is_in_alias};
+ghost use Rattle.dtyp_sid.specs.Order.{sid_cmp};
 
 use crate::keyed::Keyed;
+use crate::membership::Membership;
 use crate::row::{AccountRow, AliasRow};
+use dtyp_sid::Sid;
 use std::cmp::Ordering;
 
 fn is_up_to(row: &AccountRow, domain: u8, rid: u32) -> bool
@@ -51,5 +56,27 @@ pub fn alias_members_among(rows: &[AliasRow], domain: u8, alias: u32) -> &[Alias
 {
     let first = rows.partition_point(|row| is_below_alias(row, domain, alias));
     let last = rows.partition_point(|row| is_up_to_alias(row, domain, alias));
+    &rows[first..last]
+}
+
+fn is_below_sid(row: &Membership, sid: &Sid) -> bool
+    ensures { result ≡ is_lt (sid_cmp row.now.member sid.now) }
+{
+    row.member.cmp(sid).is_lt()
+}
+
+fn is_up_to_sid(row: &Membership, sid: &Sid) -> bool
+    ensures { result ≡ is_le (sid_cmp row.now.member sid.now) }
+{
+    row.member.cmp(sid).is_le()
+}
+
+/// The memberships of a SID.
+pub fn memberships_among<'a>(rows: &'a [Membership], sid: &Sid) -> &'a [Membership]
+    requires { is_ascending membership_key rows.now ≡ true }
+    ensures { result.now ≡ filter (has_sid sid.now) rows.now }
+{
+    let first = rows.partition_point(|row| is_below_sid(row, sid));
+    let last = rows.partition_point(|row| is_up_to_sid(row, sid));
     &rows[first..last]
 }

@@ -1,10 +1,12 @@
 // The rows.
-ghost use Rattle.std.specs.Prelude.{◌≡◌, ◌+◌, ◌<◌, ◌≤◌, true, [], ◌∷◌, IfOk, OnOk, OnErr, length, map};
+ghost use Rattle.std.specs.Prelude.{◌≡◌, ◌+◌, ◌<◌, ◌≤◌, true, [], ◌∷◌, ◌++◌, IfOk, OnOk, OnErr, length, map};
+ghost use Rattle.std.specs.List.{filter};
 ghost use Rattle.acct_calls.specs.Domains.{is_domain_name, is_domain_sid};
 ghost use Rattle.acct_rows.specs.Sound.{IsSoundRows};
 ghost use Rattle.acct_rows.specs.Seed.{seed_lists};
 ghost use Rattle.std.specs.Option.{option_copied};
 ghost use Rattle.acct_rows.specs.Keyed.{is_ascending};
+ghost use Rattle.acct_rows.specs.Laws.{is_member_of, is_alias_row_of, key_of_member, key_of_alias};
 ghost use Rattle.acct_rows.specs.Loading.{no_lists};
 ghost use Rattle.acct_rows.specs.Rows.{members_of, aliases_of, HasRoom, domain_key, account_key, member_key, alias_key};
 ghost use Rattle.acct_rows.specs.Rows.{lsa_key, domain_at};
@@ -22,6 +24,7 @@ use crate::keyed::Table;
 use crate::plan::Plan;
 use crate::row::{AccountRow, AliasRow, DomainRow, LsaRow, MemberRow, Row, RowKey};
 use crate::seed::{seed_accounts, seed_aliases, seed_domains, seed_members};
+use acct_base::Seq;
 use acct_calls::{Name, NoMemory, Rids, Sids};
 use dtyp_sid::Sid;
 use std::alloc::Global;
@@ -240,6 +243,36 @@ impl Rows {
         ensures rising { IfOk result (λ rids. is_ascending (λ rid. rid ∷ []) rids ≡ true) }
     {
         self.aliases.aliases_of(alloc, domain, sids.as_slice())
+    }
+
+    /// Adds the keys of the member rows that have the account of a domain as a group or a user. It takes time as there
+    /// are such rows. Where memory runs out some may have been added.
+    pub fn push_member_keys(
+        &self,
+        keys: &mut Seq<RowKey>,
+        domain: u8,
+        rid: u32,
+    ) -> Result<(), NoMemory>
+        ensures { OnOk result
+            (keys.new ≡ keys.old ++ map key_of_member (filter (is_member_of domain rid) self.now.lists.members)) }
+    {
+        self.members.push_keys(keys, domain, rid)
+    }
+
+    /// Adds the keys of the alias rows that are of the account of a domain, or have its SID. It takes time as there are
+    /// such rows. Where memory runs out some may have been added.
+    pub fn push_alias_keys(
+        &self,
+        keys: &mut Seq<RowKey>,
+        domain: u8,
+        rid: u32,
+        sid: &Sid,
+    ) -> Result<(), NoMemory>
+        ensures { OnOk result
+            (keys.new ≡ keys.old
+            ++ map key_of_alias (filter (is_alias_row_of domain rid sid.now) self.now.lists.aliases)) }
+    {
+        self.aliases.push_keys(keys, domain, rid, sid)
     }
 
     /// The account of the policy with that SID.
