@@ -1,7 +1,6 @@
 // The operations that delete an account of a domain.
-ghost use Rattle.std.specs.Prelude.{◌≡◌, ◌++◌, true, map, IfOk, OnOk, OnErr};
-ghost use Rattle.std.specs.List.{filter};
-ghost use Rattle.acct_rows.specs.Laws.{naming, is_member_of, is_alias_row_of, key_of_member, key_of_alias};
+ghost use Rattle.std.specs.Prelude.{◌≡◌, true, IfOk, OnErr};
+ghost use Rattle.acct_rows.specs.Laws.{naming};
 ghost use Rattle.acct_rows.specs.Objects.{rid_of};
 ghost use Rattle.acct_rules.specs.Planned.{decision, none_fails};
 ghost use Rattle.samr_objects.specs.Deletions.{is_special, has_primary, is_primary, account_sid, keys_of, deletes};
@@ -12,7 +11,7 @@ use acct_calls::{Args, Handle, Outs};
 use acct_codes::Kind;
 use acct_codes::rid::FIRST_CREATED_RID;
 use acct_codes::status::{STATUS_MEMBERS_PRIMARY_GROUP, STATUS_SPECIAL_ACCOUNT, STATUS_SUCCESS};
-use acct_rows::{AccountRow, AliasRow, MemberRow, Object, Plan, RowKey, Rows};
+use acct_rows::{AccountRow, Object, Plan, RowKey, Rows};
 use acct_rules::{Effect, NoMemory, Planned, answers, refusal};
 use dtyp_sid::Sid;
 use std::alloc::Global;
@@ -40,62 +39,6 @@ fn is_primary(rows: &Rows, group: &Object) -> bool
         .any(|account| has_primary(account, rid))
 }
 
-fn is_member_of(member: &MemberRow, domain: u8, rid: u32) -> bool
-    ensures { result ≡ is_member_of domain rid member.now }
-{
-    domain == 0 && (member.group == rid || member.user == rid)
-}
-
-// Adds the keys of the member rows that have the account as a group or a user.
-fn push_members(
-    keys: &mut Seq<RowKey>,
-    members: &[MemberRow],
-    domain: u8,
-    rid: u32,
-) -> Result<(), NoMemory>
-    ensures { OnOk result
-        (keys.new ≡ keys.old ++ map key_of_member (filter (is_member_of domain rid) members.now)) }
-{
-    for member in members {
-        if is_member_of(member, domain, rid) {
-            keys.push(RowKey::Member {
-                group: member.group,
-                user: member.user,
-            })?;
-        }
-    }
-    Ok(())
-}
-
-fn is_alias_row_of(row: &AliasRow, domain: u8, rid: u32, sid: Sid) -> bool
-    ensures { result ≡ is_alias_row_of domain rid sid row.now }
-{
-    (row.domain == domain && row.alias == rid) || row.member == sid
-}
-
-// Adds the keys of the alias rows that are of the account, or have its SID.
-fn push_aliases(
-    keys: &mut Seq<RowKey>,
-    aliases: &[AliasRow],
-    domain: u8,
-    rid: u32,
-    sid: Sid,
-) -> Result<(), NoMemory>
-    ensures { OnOk result
-        (keys.new ≡ keys.old ++ map key_of_alias (filter (is_alias_row_of domain rid sid) aliases.now)) }
-{
-    for row in aliases {
-        if is_alias_row_of(row, domain, rid, sid) {
-            keys.push(RowKey::Alias {
-                domain: row.domain,
-                alias: row.alias,
-                member: row.member,
-            })?;
-        }
-    }
-    Ok(())
-}
-
 // The keys of an account of a SID and of every row that names it.
 fn naming(
     alloc: Global,
@@ -107,8 +50,8 @@ fn naming(
     ensures { IfOk result (λ keys. keys ≡ naming rows.now.lists domain rid sid) }
 {
     let mut keys = Seq::new(alloc);
-    push_members(&mut keys, rows.member_rows(), domain, rid)?;
-    push_aliases(&mut keys, rows.alias_rows(), domain, rid, sid)?;
+    rows.push_member_keys(&mut keys, domain, rid)?;
+    rows.push_alias_keys(&mut keys, domain, rid, &sid)?;
     keys.push(RowKey::Account { domain, rid })?;
     Ok(keys)
 }
