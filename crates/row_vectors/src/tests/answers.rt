@@ -2,7 +2,7 @@
 use super::words::{domain_number, number, word};
 use acct_base::Seq;
 use acct_calls::{Name, Sids};
-use acct_rows::{AccountRow, AliasRow, DomainRow, LsaRow, MemberRow, Rows};
+use acct_rows::{AccountRow, AliasRow, DomainRow, LsaRow, MemberRow, RowKey, Rows};
 use dtyp_sid::{Sid, parse_text};
 use std::alloc::Global;
 use std::test::Fail;
@@ -115,6 +115,41 @@ fn push_members_of(alloc: Global, text: &mut String, rows: &Rows, group: u32) ->
     push_members(text, &members)
 }
 
+fn push_key(alloc: Global, text: &mut String, key: &RowKey) -> Result<(), Fail> {
+    match key {
+        RowKey::Member { group, user } => write!(text, "{group}-{user} ")?,
+        RowKey::Alias {
+            domain,
+            alias,
+            member,
+        } => {
+            write!(text, "{domain}-{alias}-")?;
+            push_sid(alloc, text, member)?;
+        }
+        _ => {}
+    }
+    Ok(())
+}
+
+/// Tells the member rows and the alias rows that name an account of a domain, by its RID and its SID.
+fn push_naming(
+    alloc: Global,
+    text: &mut String,
+    rows: &Rows,
+    domain: u8,
+    words: &str,
+) -> Result<(), Fail> {
+    let (rid, sid) = word(words);
+    let sid = parse_text(sid.trim())?;
+    let mut keys = Seq::new(alloc);
+    rows.push_member_keys(&mut keys, domain, number(rid))?;
+    rows.push_alias_keys(&mut keys, domain, number(rid), &sid)?;
+    for key in keys.as_slice() {
+        push_key(alloc, text, key)?;
+    }
+    Ok(())
+}
+
 fn push_found(alloc: Global, text: &mut String, rows: &Rows, question: &str) -> Result<(), Fail> {
     let (what, rest) = word(question);
     let (first, second) = word(rest);
@@ -122,6 +157,7 @@ fn push_found(alloc: Global, text: &mut String, rows: &Rows, question: &str) -> 
         "named" => push_named(alloc, text, rows, domain_number(first), second)?,
         "of" => push_members_of(alloc, text, rows, number(first))?,
         "having" => push_aliases_of(alloc, text, rows, domain_number(first), second)?,
+        "naming" => push_naming(alloc, text, rows, domain_number(first), second)?,
         "member" => write!(text, "{:?}", rows.member(number(first), number(second)))?,
         _ => {}
     }

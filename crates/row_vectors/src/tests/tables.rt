@@ -71,6 +71,23 @@ put member 513 501; put member 0 7; put member 4294967295 8 | of 4294967295 | 42
 | having 1 S-1-5-21-1-2-3-544 S-1-5-21-1-2-3-1000 | []
 | having 1 | []";
 
+/// The member rows that have an account as a group or a user, and the alias rows that are of it or have its SID, each
+/// once: below those of the group or the alias, those of it, and above them.
+pub const NAMING: &str = "\
+| naming 0 513 S-1-5-21-1-2-3-513 | 513-500 1-545-S-1-5-21-1-2-3-513
+| naming 0 500 S-1-5-21-1-2-3-500 | 512-500 513-500 1-544-S-1-5-21-1-2-3-500
+| naming 1 544 S-1-5-32-544 | 1-544-S-1-5-21-1-2-3-500 1-544-S-1-5-21-1-2-3-512
+| naming 1 513 S-1-5-32-513 |
+| naming 0 515 S-1-5-21-1-2-3-515 |
+put member 513 501; remove member 514 501 | naming 0 501 S-1-5-21-1-2-3-501 | 513-501 1-546-S-1-5-21-1-2-3-501
+put member 512 513; put member 513 501; put member 513 513; put member 514 513 | naming 0 513 S-1-1-0 \
+| 512-513 513-500 513-501 513-513 514-513
+put alias 544 S-1-5-32-545; put alias 545 S-1-5-32-545; put alias 545 S-1-1-0; put alias 546 S-1-5-32-545 \
+| naming 1 545 S-1-5-32-545 | 1-544-S-1-5-32-545 1-545-S-1-1-0 1-545-S-1-5-21-1-2-3-513 1-545-S-1-5-32-545 \
+1-546-S-1-5-32-545
+put alias 544 S-1-5-32-545; put alias 546 S-1-5-32-545; put alias 546 S-1-5-32-544 | naming 0 545 S-1-5-32-545 \
+| 1-544-S-1-5-32-545 1-546-S-1-5-32-545";
+
 /// A copy is told as what it was copied from, and a plan removes before it puts.
 pub const PLANS: &str = "\
 copy | members | 512-500-7 513-500-7 514-501-7
