@@ -1,12 +1,11 @@
 -- The members of aliases by SID: the rows of one SID in a domain, and the aliases that these name
 use Rattle.std.proofs.Common.{◌≡◌, ◌≢◌, ℕ, suc, ◌+◌, ◌<◌, ◌==◌, Bool, true, false, cond, List, [], ◌∷◌, map}
-use Rattle.std.proofs.Common.{length, get_or, drop, refl, sym, ap, subst, ◌∙◌, inl, inr, arith}
+use Rattle.std.proofs.Common.{get_or, drop, refl, sym, ap, subst, ◌∙◌, inl, inr, arith}
 use Rattle.std.proofs.lemmas.Bool.{eq-eqb}
-use Rattle.std.proofs.Math.Seq.{drop-cons, drop-length}
 use Rattle.std.proofs.lemmas.List.Concat.{flat_map-cons}
 use Rattle.std.specs.Prelude.{◌↔◌, IfOk}
 use Rattle.std.specs.List.{filter, flat_map, list_any, Contains}
-use Rattle.std.specs.List.Sorted.{IsStrictlyIncreasing}
+use Rattle.std.specs.List.Sorted.{IsStrictlyIncreasing, IsPermutation, IsSortedByKey}
 use Rattle.std.specs.declared.result.Result.{Result}
 use Rattle.std.specs.declared.result.Result.TheVariants.{Ok, Err}
 use Rattle.std.specs.declared.cmp.Ordering.TheVariants.{Less, Equal, Greater}
@@ -32,6 +31,7 @@ use Rattle.acct_rows.proofs.Members.{any_in, in_any}
 use Rattle.acct_rows.proofs.Moves.{equal_is}
 use Rattle.acct_rows.proofs.Rising.{number_key, number_less, aliases_rise}
 use Rattle.acct_rows.proofs.Runs.{spot, leading, run}
+use Rattle.acct_rows.proofs.Sorts.{sorted_is}
 use Rattle.acct_rows.proofs.Tables.{tied-is, below_less}
 
 -- ---- keys
@@ -85,17 +85,14 @@ pub no_memberships : [] ≡ memberships_of []
 unfolding memberships_of
 no_memberships = refl
 
-pub memberships_start : (aliases : List AliasRow) → [] ≡ memberships_of (drop (length aliases) aliases)
+-- the alias rows, sorted by SID, whatever their order was
+pub memberships_sorted : (aliases : List AliasRow) (entries memberships : List Membership)
+    → is_ascending alias_key aliases ≡ true → entries ≡ map membership_of aliases → IsPermutation entries memberships
+    → IsSortedByKey membership_key compare memberships → memberships ≡ memberships_of aliases
 unfolding memberships_of
-memberships_start aliases = rw drop-length refl
-
-pub memberships_next : (aliases : List AliasRow) (i j : ℕ) (row : AliasRow) → i ≡ suc j → j < length aliases
-    → row ≡ get_or aliases j row
-    → put membership_key (membership_of row) (memberships_of (drop i aliases)) ≡ memberships_of (drop j aliases)
-unfolding memberships_of
-memberships_next aliases i j row next lt is =
-    ap (index membership_of membership_key) (ap (λ n. row ∷ drop n aliases) next
-    ∙ ap (λ x. x ∷ drop (suc j) aliases) is ∙ sym (drop-cons aliases j row lt))
+memberships_sorted aliases entries memberships h are moved sorted =
+    sorted_is membership_of alias_key membership_key membership_tells aliases memberships h
+    (subst (λ es. IsPermutation es memberships) are moved) sorted
 
 module _ (aliases : List AliasRow) (h : is_ascending alias_key aliases ≡ true) where
   pub memberships_put : (a : AliasRow)

@@ -11,6 +11,7 @@ pub mod Found
 pub mod Halving
 pub mod Holding
 pub mod Indexed
+pub mod Sorts
 pub mod SpelledRows
 pub mod Taken
 pub mod Together

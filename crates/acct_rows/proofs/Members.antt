@@ -4,7 +4,7 @@ use Rattle.std.proofs.Common.{[], ◌∷◌, ◌++◌}
 use Rattle.std.proofs.Common.{length, get_or, map, Some, refl, sym, ap, subst, ◌∙◌, arith, inl, inr, ◌⊎◌}
 use Rattle.std.specs.Prelude.{slice_index_or}
 use Rattle.std.specs.List.{Contains, list_any}
-use Rattle.std.specs.List.Sorted.{IsPermutation, IsSortedBy}
+use Rattle.std.specs.List.Sorted.{IsPermutation, IsSortedBy, IsSortedByKey}
 use Rattle.std.specs.Cmp.{tied_itself, first_so, second_so}
 use Rattle.std.specs.Cmp.Lexicographic.{nat_list_cmp_total}
 use Rattle.std.specs.declared.cmp.Ordering.{Ordering}
@@ -110,63 +110,73 @@ module _ {A : Type 0} (key : A → List ℕ) where
         | inr t ↦ ap (λ b. cond b (Some x) (at key (key a) xs)) t ∙ in_at a xs (second_so _ _ up) e
       ]
 
--- how many pairs have a key
 abbrev pub one_if : Bool → ℕ
 one_if test = cond test 1 0
 
+one_more : (k : ℕ) → suc k + 1 ≡ suc (k + 1)
+one_more k = omega arith
+
+module _ {A : Type 0} (key : A → List ℕ) where
+  -- how many have a key
+  abbrev pub count_by : List ℕ → List A → ℕ
+  count_by k [] = 0
+  count_by k (x ∷ xs) = one_if (same_key k (key x)) + count_by k xs
+
+  pub count_by-permutation : (k : List ℕ) (xs ys : List A) → IsPermutation xs ys → count_by k ys ≡ count_by k xs
+  count_by-permutation k xs ys p =
+      let f : A → ℕ = λ x. one_if (same_key k (key x)) in
+      is_sum_by (count_by k) f refl (λ _ _. refl) ys ∙ sum_by-IsPermutation f xs ys p
+      ∙ sym (is_sum_by (count_by k) f refl (λ _ _. refl) xs)
+
+  -- what is sorted, and of which no two have one key, ascends
+  below : (k : List ℕ) (xs : List A) → count_by k xs ≡ 0
+      → ((j : ℕ) (d : A) → j < length xs → is_lt (compare (key (get_or xs j d)) k) ≡ false) → below_all key k xs ≡ true
+  below k [] none up = refl
+  below k (x ∷ xs) none up =
+      elim (tested (same_key k (key x))) [
+        | inl t ↦ absurd (let one : one_if (same_key k (key x)) ≡ 1 = ap one_if t in omega arith)
+        | inr t ↦
+            let rest = below k xs (omega arith) (λ j d lt. up (suc j) d (omega arith)) in
+            let first : is_lt (compare k (key x)) ≡ true = over (compare k (key x)) refl t (up 0 x (omega arith)) in
+            rw (first, rest) refl
+      ]
+    where
+      over : (r : Ordering) → compare k (key x) ≡ r → is_eq r ≡ false → is_lt (compare (key x) k) ≡ false
+          → is_lt r ≡ true
+      over Less e t u = refl
+      over Equal e t u = absurd cc
+      over Greater e t u = absurd (
+          let turned : compare (key x) k ≡ Less = nat_list_cmp_total.antisymm (key x) k ∙ ap ordering_reverse e in
+          let is : is_lt (compare (key x) k) ≡ true = ap is_lt turned in
+          cc (is, u))
+
+  pub sorted_rises : (xs : List A) → IsSortedByKey key compare xs → ((k : List ℕ) → count_by k xs ≤ 1)
+      → is_ascending key xs ≡ true
+  sorted_rises [] up few = refl
+  sorted_rises (x ∷ xs) up few =
+      let itself : one_if (same_key (key x) (key x)) ≡ 1 = ap one_if (same_key-itself (key x)) in
+      let none : count_by (key x) xs ≡ 0 = (let all = few (key x) in omega arith) in
+      let lt : A → A → Bool = λ a b. is_lt (compare (key a) (key b)) in
+      let first = below (key x) xs none (λ j d bound.
+      sorted_far lt (ranks_by nat_list_cmp_total key) (x ∷ xs) up 0 (suc j) d (omega arith) (omega arith)) in
+      let rest = sorted_rises xs (λ k d le bound. subst (λ j. lt (get_or (x ∷ xs) j d) (get_or xs k d) ≡ false)
+      (one_more k) (up (suc k) d (omega arith) (omega arith)))
+      (λ k. let all = few k in omega arith) in
+      rw (first, rest) refl
+
+-- how many pairs have a key
 abbrev pub count : List ℕ → List Pair → ℕ
-count k [] = 0
-count k (p ∷ ps) = one_if (same_key k p.key) + count k ps
+count k ps = count_by pair_key k ps
 
 pub count-append : (k : List ℕ) (ps qs : List Pair) → count k (ps ++ qs) ≡ count k ps + count k qs
 count-append k [] qs = omega arith
 count-append k (p ∷ ps) qs = let rest = count-append k ps qs in omega arith
 
 pub count-permutation : (k : List ℕ) (ps qs : List Pair) → IsPermutation ps qs → count k qs ≡ count k ps
-count-permutation k ps qs p =
-    let f : Pair → ℕ = λ pair. one_if (same_key k pair.key) in
-    is_sum_by (count k) f refl (λ _ _. refl) qs ∙ sum_by-IsPermutation f ps qs p
-    ∙ sym (is_sum_by (count k) f refl (λ _ _. refl) ps)
+count-permutation = count_by-permutation pair_key
 
 abbrev pub precedes : Pair → Pair → Bool
 precedes p q = is_lt (compare p.key q.key)
-
--- sorted pairs of which no two have one key ascend
-below : (k : List ℕ) (ps : List Pair) → count k ps ≡ 0
-    → ((j : ℕ) (d : Pair) → j < length ps → is_lt (compare (get_or ps j d).key k) ≡ false) → kept.below_all k ps ≡ true
-below k [] none up = refl
-below k (p ∷ ps) none up =
-    elim (tested (same_key k p.key)) [
-      | inl t ↦ absurd (let one : one_if (same_key k p.key) ≡ 1 = ap one_if t in omega arith)
-      | inr t ↦
-          let rest = below k ps (omega arith) (λ j d lt. up (suc j) d (omega arith)) in
-          let first : is_lt (compare k p.key) ≡ true = over (compare k p.key) refl t (up 0 p (omega arith)) in
-          rw (first, rest) refl
-    ]
-  where
-    over : (r : Ordering) → compare k p.key ≡ r → is_eq r ≡ false → is_lt (compare p.key k) ≡ false → is_lt r ≡ true
-    over Less e t u = refl
-    over Equal e t u = absurd cc
-    over Greater e t u = absurd (
-        let turned : compare p.key k ≡ Less = nat_list_cmp_total.antisymm p.key k ∙ ap ordering_reverse e in
-        let is : is_lt (compare p.key k) ≡ true = ap is_lt turned in
-        cc (is, u))
-
-one_more : (k : ℕ) → suc k + 1 ≡ suc (k + 1)
-one_more k = omega arith
-
-pub sorted_ascends : (ps : List Pair) → IsSortedBy precedes ps → ((k : List ℕ) → count k ps ≤ 1)
-    → kept.is_ascending ps ≡ true
-sorted_ascends [] up few = refl
-sorted_ascends (p ∷ ps) up few =
-    let itself : one_if (same_key p.key p.key) ≡ 1 = ap one_if (same_key-itself p.key) in
-    let none : count p.key ps ≡ 0 = (let all = few p.key in omega arith) in
-    let first = below p.key ps none (λ j d lt.
-    sorted_far precedes (ranks_by nat_list_cmp_total pair_key) (p ∷ ps) up 0 (suc j) d (omega arith) (omega arith)) in
-    let rest = sorted_ascends ps (λ k d le lt. subst (λ j. precedes (get_or (p ∷ ps) j d) (get_or ps k d) ≡ false)
-    (one_more k) (up (suc k) d (omega arith) (omega arith)))
-    (λ k. let all = few k in omega arith) in
-    rw (first, rest) refl
 
 below-kept : (k : List ℕ) (ps : List Pair) → below_all pair_key k ps ≡ kept.below_all k ps
 below-kept k [] = refl
@@ -175,3 +185,8 @@ below-kept k (p ∷ ps) = ap (λ b. is_lt (compare k p.key) && b) (below-kept k 
 pub ascending-kept : (ps : List Pair) → is_ascending pair_key ps ≡ kept.is_ascending ps
 ascending-kept [] = refl
 ascending-kept (p ∷ ps) = rw (below-kept p.key ps, ascending-kept ps) refl
+
+-- sorted pairs of which no two have one key ascend
+pub sorted_ascends : (ps : List Pair) → IsSortedBy precedes ps → ((k : List ℕ) → count k ps ≤ 1)
+    → kept.is_ascending ps ≡ true
+sorted_ascends ps up few = sym (ascending-kept ps) ∙ sorted_rises pair_key ps up few

@@ -3,8 +3,9 @@ use Rattle.std.proofs.Common.{◌≡◌, ◌≢◌, ℕ, suc, zero, ◌<◌, ◌
 use Rattle.std.proofs.Common.{length, get_or, drop, set, insert, remove, Some, None, Result, Ok, Err, refl, sym, ap}
 use Rattle.std.proofs.Common.{subst, ◌∙◌, inl, inr, ◌⊎◌, arith}
 use Rattle.std.proofs.lemmas.Bool.{eq-eqb}
-use Rattle.std.proofs.Math.Seq.{drop-cons, drop-length}
 use Rattle.std.specs.List.{filter, find}
+use Rattle.std.specs.List.Sorted.{IsPermutation, IsSortedByKey}
+use Rattle.std.proofs.lemmas.List.Sorted.{IsPermutation-map}
 use Rattle.std.specs.declared.cmp.Ordering.{Ordering}
 use Rattle.std.specs.declared.cmp.Ordering.TheVariants.{Less, Equal, Greater}
 use Rattle.std.specs.Ordering.{nat_cmp, is_lt, ordering_then, ordering_reverse}
@@ -20,10 +21,11 @@ use Rattle.acct_rows.specs.declared.row.AccountRow.{AccountRow}
 use Rattle.acct_rows.proofs.FoldOrder.{alone, squeezed, not_below, ended-compare, ended-parts}
 use Rattle.acct_rows.proofs.Indexed.{without_none, index_ascends, index_put_over, index_without, in_index}
 use Rattle.acct_rows.proofs.Lookups.{tested}
-use Rattle.acct_rows.proofs.Members.{In, in_at, below_in}
+use Rattle.acct_rows.proofs.Members.{In, in_at, below_in, count_by, sorted_rises}
 use Rattle.acct_rows.proofs.Moves.{equal_is}
 use Rattle.acct_rows.proofs.Places.{put-place, put_at, without-placed, without_at}
 use Rattle.acct_rows.proofs.Runs.{spot, first_if, first_found}
+use Rattle.acct_rows.proofs.Sorts.{moved_differ, moved_is, count-shown, ascending-shown, map_same}
 use Rattle.acct_rows.proofs.Tables.{tied-is, shadowed, swapped}
 
 -- ---- keys
@@ -159,11 +161,6 @@ module _ (accounts : List AccountRow) (h : is_ascending account_key accounts ≡
       ap (λ r. put_in r (pair_of row) (map pair_of ys)) (place_pairs accounts h (name_key row) ys among)
       ∙ put_in-map (place name_key (name_key row) ys) row ys
       ∙ ap (map pair_of) (put_in-is (place name_key (name_key row) ys) row ys ∙ sym (put-place name_key row ys))
-
-  pub names_more : (row : AccountRow) (rows : List AccountRow) → Among rows accounts
-      → with_pair accounts row (names_of rows) ≡ names_of (row ∷ rows)
-  unfolding names_of
-  names_more row rows among = paired row (by_name rows) (λ y e. among y (by_name_among rows y e))
 
   pub names_put : (row : AccountRow)
       → with_pair accounts row (names_of (without account_key (account_key row) accounts))
@@ -348,28 +345,34 @@ unfolding names_of
 stands_at_name p accounts h i pair lt is =
     stands p accounts h (by_name accounts) (by_name_among accounts) i pair lt is
 
--- ---- all accounts, from the last on
-
-in_drop : (i : ℕ) (accounts : List AccountRow) → Among (drop i accounts) accounts
-in_drop zero accounts y e = e
-in_drop (suc i) [] y e = e
-in_drop (suc i) (x ∷ xs) y e = inr (in_drop i xs y e)
+-- ---- all accounts
 
 pub no_names : [] ≡ names_of []
 unfolding names_of
 no_names = refl
 
-pub names_start : (accounts : List AccountRow) → [] ≡ names_of (drop (length accounts) accounts)
-unfolding names_of
-names_start accounts = rw drop-length refl
+-- values that show accounts, sorted by name, show them by name
+module _ {A : Type 0} (shown : A → AccountRow) (accounts : List AccountRow) where
+  pub names_sorted : (lent rows : List A) → is_ascending account_key accounts ≡ true → map shown lent ≡ accounts
+      → IsPermutation lent rows → IsSortedByKey (λ row. name_key (shown row)) compare rows
+      → map shown rows ≡ by_name accounts
+  names_sorted lent rows h are moved sorted =
+      let same : AccountRow → AccountRow = λ a. a in
+      let all : IsPermutation (map same accounts) (map shown rows) =
+      subst (λ xs. IsPermutation xs (map shown rows)) (are ∙ sym (map_same accounts))
+      (IsPermutation-map shown lent rows moved) in
+      let few : (k : List ℕ) → count_by (λ row. name_key (shown row)) k rows ≤ 1 =
+      λ k. (let one = count-shown shown name_key k rows in
+      let most = moved_differ same account_key name_key name_tells accounts (map shown rows) h all k in
+      omega arith) in
+      moved_is same account_key name_key name_tells accounts (map shown rows) h all
+      (ascending-shown shown name_key rows ∙ sorted_rises (λ row. name_key (shown row)) rows sorted few)
 
-module _ (accounts : List AccountRow) (h : is_ascending account_key accounts ≡ true) where
-  pub names_ascend_behind : (i : ℕ) → is_ascending (key_at accounts) (names_of (drop i accounts)) ≡ true
-  names_ascend_behind i = names_ascend accounts h (drop i accounts) (in_drop i accounts)
+  paired_shown : (rows : List A) → map (λ row. pair_of (shown row)) rows ≡ map pair_of (map shown rows)
+  paired_shown [] = refl
+  paired_shown (r ∷ rs) = ap (λ pairs. pair_of (shown r) ∷ pairs) (paired_shown rs)
 
-  pub names_next : (i j : ℕ) (row : AccountRow) → i ≡ suc j → j < length accounts → row ≡ get_or accounts j row
-      → with_pair accounts row (names_of (drop i accounts)) ≡ names_of (drop j accounts)
-  names_next i j row next lt is =
-      names_more accounts h row (drop i accounts) (in_drop i accounts)
-      ∙ ap names_of (ap (λ n. row ∷ drop n accounts) next ∙ ap (λ x. x ∷ drop (suc j) accounts) is
-      ∙ sym (drop-cons accounts j row lt))
+  pub names_are : (rows : List A) → map shown rows ≡ by_name accounts
+      → map (λ row. pair_of (shown row)) rows ≡ names_of accounts
+  unfolding names_of
+  names_are rows are = paired_shown rows ∙ ap (map pair_of) are

@@ -1,9 +1,8 @@
 -- The members of groups by user: the rows of one user, and how they change
-use Rattle.std.proofs.Common.{◌≡◌, ◌≢◌, ℕ, suc, ◌<◌, ◌≤◌, ◌==◌, nat_lt, Bool, true, false, cond, List, [], ◌∷◌, map}
-use Rattle.std.proofs.Common.{length, get_or, drop, refl, sym, ap, ◌∙◌, inl, inr, arith}
-use Rattle.std.proofs.Math.Seq.{drop-cons, drop-length}
+use Rattle.std.proofs.Common.{◌≡◌, ◌≢◌, ℕ, ◌<◌, ◌≤◌, ◌==◌, nat_lt, Bool, true, false, cond, List, [], ◌∷◌, map}
+use Rattle.std.proofs.Common.{refl, sym, ap, subst, ◌∙◌, inl, inr, arith}
 use Rattle.std.specs.List.{filter}
-use Rattle.std.specs.List.Sorted.{IsNonDecreasingBy}
+use Rattle.std.specs.List.Sorted.{IsNonDecreasingBy, IsPermutation, IsSortedByKey}
 use Rattle.std.specs.declared.cmp.Ordering.{Ordering}
 use Rattle.std.specs.declared.cmp.Ordering.TheVariants.{Less, Equal, Greater}
 use Rattle.std.specs.Ordering.{nat_cmp, ordering_then}
@@ -23,6 +22,7 @@ use Rattle.acct_rows.proofs.Indexed.{in_index}
 use Rattle.acct_rows.proofs.Lookups.{tested, there_or_not, key_found}
 use Rattle.acct_rows.proofs.Members.{In, below_in}
 use Rattle.acct_rows.proofs.Moves.{equal_is}
+use Rattle.acct_rows.proofs.Sorts.{sorted_is}
 use Rattle.acct_rows.proofs.Tables.{tied-is}
 
 -- ---- keys
@@ -68,16 +68,14 @@ pub no_users : [] ≡ users_of []
 unfolding users_of
 no_users = refl
 
-pub users_start : (members : List MemberRow) → [] ≡ users_of (drop (length members) members)
+-- the member rows, sorted by user, whatever their order was
+pub users_sorted : (members : List MemberRow) (entries users : List ByUser) → is_ascending member_key members ≡ true
+    → entries ≡ map by_user members → IsPermutation entries users → IsSortedByKey user_key compare users
+    → users ≡ users_of members
 unfolding users_of
-users_start members = rw drop-length refl
-
-pub users_next : (members : List MemberRow) (i j : ℕ) (d : MemberRow) → i ≡ suc j → j < length members
-    → put user_key (by_user (get_or members j d)) (users_of (drop i members)) ≡ users_of (drop j members)
-unfolding users_of
-users_next members i j d next lt =
-    ap (index by_user user_key)
-    (ap (λ n. get_or members j d ∷ drop n members) next ∙ sym (drop-cons members j d lt))
+users_sorted members entries users h are moved sorted =
+    sorted_is by_user member_key user_key user_tells members users h
+    (subst (λ es. IsPermutation es users) are moved) sorted
 
 module _ (members : List MemberRow) (h : is_ascending member_key members ≡ true) where
   pub users_put : (m : MemberRow)

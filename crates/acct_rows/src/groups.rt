@@ -7,7 +7,7 @@ ghost use Rattle.acct_rows.specs.Laws.{is_member_of, key_of_member};
 ghost use Rattle.acct_rows.specs.Rows.{member_key, is_in_group, is_of_user};
 ghost use Rattle.acct_rows.specs.Users.{user_key, by_user, row_of, users_of, is_for};
 
-use crate::keyed::Table;
+use crate::keyed::{Table, sort};
 use crate::membership::members_among;
 use crate::naming::{push_groups, push_members};
 use crate::row::{ACCOUNT_DOMAIN, MemberRow, RowKey};
@@ -23,14 +23,23 @@ pub struct ByUser {
 }
 
 fn users_of(alloc: Global, rows: &[MemberRow]) -> Result<Table<ByUser>, NoMemory>
+    requires ascending { is_ascending member_key rows.now ≡ true }
+    requires few { length rows.now < 2 ^ 32 }
     ensures { IfOk result (λ table. table.0 ≡ users_of rows.now) }
 {
-    let mut table = Table::new(alloc);
-    table.reserve(rows.len())?;
-    for i in (0..rows.len()).rev() {
-        table.put(ByUser { row: rows[i] });
+    let mut users = entries_of(alloc, rows)?;
+    sort(&mut users);
+    Ok(Table::from_rows(users))
+}
+
+fn entries_of(alloc: Global, rows: &[MemberRow]) -> Result<Vec<ByUser>, NoMemory>
+    ensures { IfOk result (λ users. users.items ≡ map by_user rows.now) }
+{
+    let mut users = Vec::with_capacity(alloc, rows.len())?;
+    for row in rows {
+        users.push(ByUser { row: *row })?;
     }
-    Ok(table)
+    Ok(users)
 }
 
 // The groups of a user stand together: halving finds the first and the last of them.

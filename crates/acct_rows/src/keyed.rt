@@ -1,6 +1,7 @@
 // Tables: rows by ascending key.
 ghost use Rattle.std.specs.Prelude.{◌≡◌, ◌+◌, ◌^◌, ◌<◌, ◌≤◌, true, ℕ, List, [], OnOk, OnErr, MatchResult, length};
 ghost use Rattle.std.specs.Prelude.{vec_len, vec_capacity};
+ghost use Rattle.std.specs.List.Sorted.{IsPermutation, IsSortedByKey};
 ghost use Rattle.std.specs.Option.{option_copied};
 ghost use Rattle.acct_rows.specs.Keyed.{compare, at, put, without, place, is_ascending};
 
@@ -99,6 +100,15 @@ fn remove<T: Keyed>(rows: &mut Vec<T>, key: &T::Key)
     }
 }
 
+/// Brings rows into the order of their keys.
+pub fn sort<T: Keyed>(rows: &mut Vec<T>)
+    ensures same { IsPermutation rows.old.items rows.new.items }
+    ensures sorted { IsSortedByKey T.key_of compare rows.new.items }
+    ensures len { vec_len rows.new ≡ vec_len rows.old }
+{
+    rows.sort_unstable_by(|left, right| T::order(left, &right.key()));
+}
+
 impl<T: Keyed> Table<T> {
     /// The table of no row, which takes no memory.
     pub fn new(alloc: Global) -> Self
@@ -117,6 +127,15 @@ impl<T: Keyed> Table<T> {
         ensures { result ≡ (rows.items, 0) }
     {
         Table { rows, spare: 0 }
+    }
+
+    /// The rows by ascending key alone. It takes no memory.
+    pub fn into_rows(self) -> Vec<T>
+        ensures all { result.items ≡ self.0 }
+        ensures ascending { is_ascending T.key_of result.items ≡ true }
+        ensures few { vec_len result < 2 ^ 32 }
+    {
+        self.rows
     }
 
     /// All rows by ascending key.

@@ -1,11 +1,11 @@
 // The members of groups, and the aliases that have some SIDs as members.
-ghost use Rattle.std.specs.Prelude.{◌≡◌, ◌↔◌, ℕ, true, [], ◌∷◌, ◌++◌, IfOk, OnOk, Contains, map};
+ghost use Rattle.std.specs.Prelude.{◌≡◌, ◌↔◌, ℕ, ◌^◌, ◌<◌, true, [], ◌∷◌, ◌++◌, IfOk, OnOk, Contains, length, map};
 ghost use Rattle.std.specs.List.{filter};
 ghost use Rattle.acct_rows.specs.Keyed.{is_ascending};
-ghost use Rattle.acct_rows.specs.Rows.{member_key, is_in_group};
+ghost use Rattle.acct_rows.specs.Rows.{member_key, alias_key, is_in_group};
 ghost use Rattle.acct_rows.specs.Indexes.{membership_key, membership_of, memberships_of, is_for, alias_of, held_by};
 
-use crate::keyed::{Table, place};
+use crate::keyed::{Table, place, sort};
 use crate::row::{AliasRow, MemberRow};
 use acct_base::Seq;
 use acct_calls::{NoMemory, Rids};
@@ -40,16 +40,25 @@ pub fn membership_of(row: &AliasRow) -> Membership
     }
 }
 
-/// The memberships of alias rows.
+/// The memberships of alias rows by ascending key.
 pub fn memberships_of(alloc: Global, rows: &[AliasRow]) -> Result<Table<Membership>, NoMemory>
+    requires ascending { is_ascending alias_key rows.now ≡ true }
+    requires few { length rows.now < 2 ^ 32 }
     ensures { IfOk result (λ table. table.0 ≡ memberships_of rows.now) }
 {
-    let mut table = Table::new(alloc);
-    table.reserve(rows.len())?;
-    for i in (0..rows.len()).rev() {
-        table.put(membership_of(&rows[i]));
+    let mut memberships = entries_of(alloc, rows)?;
+    sort(&mut memberships);
+    Ok(Table::from_rows(memberships))
+}
+
+fn entries_of(alloc: Global, rows: &[AliasRow]) -> Result<Vec<Membership>, NoMemory>
+    ensures { IfOk result (λ memberships. memberships.items ≡ map membership_of rows.now) }
+{
+    let mut memberships = Vec::with_capacity(alloc, rows.len())?;
+    for row in rows {
+        memberships.push(membership_of(row))?;
     }
-    Ok(table)
+    Ok(memberships)
 }
 
 fn is_for(row: &Membership, domain: u8, sid: &Sid) -> bool

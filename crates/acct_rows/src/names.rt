@@ -1,10 +1,10 @@
 // The accounts by domain and folded name.
-ghost use Rattle.std.specs.Prelude.{◌≡◌, ◌+◌, ◌<◌, ◌≤◌, true, [], ◌∷◌, IfOk, OnOk, MatchResult, length, find};
+ghost use Rattle.std.specs.Prelude.{◌≡◌, ◌+◌, ◌<◌, ◌≤◌, true, [], ◌∷◌, IfOk, OnOk, MatchResult, length, map, find};
 ghost use Rattle.std.specs.Prelude.{vec_len, vec_capacity};
 ghost use Rattle.std.specs.Option.{option_copied};
 ghost use Rattle.acct_rows.specs.Keyed.{compare, place, put, without, is_ascending};
 ghost use Rattle.acct_rows.specs.Rows.{account_key, has_name};
-ghost use Rattle.acct_rows.specs.Indexes.{named, key_at, with_pair, names_of};
+ghost use Rattle.acct_rows.specs.Indexes.{named, name_key, by_name, pair_of, key_at, with_pair, names_of};
 
 use crate::folding::fold_order;
 use crate::keyed::{Keyed, find};
@@ -33,16 +33,23 @@ impl Model for Names {
     ghost invariant = { λ names. vec_len names.keys + names.spare ≤ vec_capacity names.keys };
 }
 
+// The order of an account's own domain, folded name and RID and others.
+fn row_order(row: &AccountRow, domain: u8, name: &Name, rid: u32) -> Ordering
+    ensures { result ≡ compare (name_key row.now) (named domain name.now rid) }
+{
+    match row.domain.cmp(&domain) {
+        Ordering::Equal => fold_order(row.name.units(), name.units()).then(row.rid.cmp(&rid)),
+        other => other,
+    }
+}
+
 fn order(accounts: &[AccountRow], key: &(u8, u32), domain: u8, name: &Name, rid: u32) -> Ordering
     requires { is_ascending account_key accounts.now ≡ true }
     ensures { result ≡ compare (key_at accounts.now key.now) (named domain name.now rid) }
 {
-    let Some(row) = find(accounts, key) else {
-        return Ordering::Less;
-    };
-    match row.domain.cmp(&domain) {
-        Ordering::Equal => fold_order(row.name.units(), name.units()).then(row.rid.cmp(&rid)),
-        other => other,
+    match find(accounts, key) {
+        Some(row) => row_order(row, domain, name, rid),
+        None => Ordering::Less,
     }
 }
 
@@ -105,6 +112,37 @@ fn remove(keys: &mut Vec<(u8, u32)>, accounts: &[AccountRow], key: &(u8, u32))
     }
 }
 
+// The accounts where they stand.
+fn lent(alloc: Global, accounts: &[AccountRow]) -> Result<Vec<&AccountRow>, NoMemory>
+    ensures { IfOk result (λ rows. map (λ row. row.now) rows.items ≡ accounts.now) }
+{
+    let mut rows = Vec::with_capacity(alloc, accounts.len())?;
+    for row in accounts {
+        rows.push(row)?;
+    }
+    Ok(rows)
+}
+
+// The accounts by domain, folded name and RID.
+fn by_name(alloc: Global, accounts: &[AccountRow]) -> Result<Vec<&AccountRow>, NoMemory>
+    requires { is_ascending account_key accounts.now ≡ true }
+    ensures { IfOk result (λ rows. map (λ row. row.now) rows.items ≡ by_name accounts.now) }
+{
+    let mut rows = lent(alloc, accounts)?;
+    rows.sort_unstable_by(|left, right| row_order(left, right.domain, &right.name, right.rid));
+    Ok(rows)
+}
+
+fn keys_of(alloc: Global, rows: &[&AccountRow]) -> Result<Vec<(u8, u32)>, NoMemory>
+    ensures { IfOk result (λ keys. keys.items ≡ map (λ row. pair_of row.now) rows.now) }
+{
+    let mut keys = Vec::with_capacity(alloc, rows.len())?;
+    for row in rows {
+        keys.push(row.key())?;
+    }
+    Ok(keys)
+}
+
 impl Names {
     /// No names, which take no memory.
     pub fn new(alloc: Global) -> Names
@@ -121,11 +159,11 @@ impl Names {
         requires { is_ascending account_key accounts.now ≡ true }
         ensures { IfOk result (λ names. names.0 ≡ names_of accounts.now) }
     {
-        let mut keys = Vec::with_capacity(alloc, accounts.len())?;
-        for i in (0..accounts.len()).rev() {
-            insert(&mut keys, accounts, &accounts[i]);
-        }
-        Ok(Names { keys, spare: 0 })
+        let rows = by_name(alloc, accounts)?;
+        Ok(Names {
+            keys: keys_of(alloc, &rows)?,
+            spare: 0,
+        })
     }
 
     /// Equal keys of its own.

@@ -7,7 +7,6 @@ ghost use Rattle.acct_rows.specs.Seed.{seed_lists};
 ghost use Rattle.std.specs.Option.{option_copied};
 ghost use Rattle.acct_rows.specs.Keyed.{is_ascending};
 ghost use Rattle.acct_rows.specs.Laws.{is_member_of, is_alias_row_of, key_of_member, key_of_alias};
-ghost use Rattle.acct_rows.specs.Loading.{no_lists};
 ghost use Rattle.acct_rows.specs.Rows.{members_of, aliases_of, HasRoom, domain_key, account_key, member_key, alias_key};
 ghost use Rattle.acct_rows.specs.Rows.{lsa_key, domain_at};
 ghost use Rattle.acct_rows.specs.Ranges.{accounts_behind};
@@ -15,6 +14,8 @@ ghost use Rattle.acct_rows.specs.Users.{row_of};
 ghost use Rattle.acct_rows.specs.Rows.{groups_of, alias_members_of, alias_row_at};
 ghost use Rattle.acct_rows.specs.Rows.{account_at, member_at, lsa_at, find_name, put_row, remove_row};
 ghost use Rattle.acct_rows.specs.Rows.{removed, with_puts, after};
+
+pub mod tables;
 
 use crate::accounts::Accounts;
 use crate::aliases::Aliases;
@@ -67,20 +68,6 @@ impl Model for Rows {
 }
 
 impl Rows {
-    /// No rows, which take no memory.
-    pub(crate) fn empty(alloc: Global) -> Rows
-        ensures { result ≡ record { lists = no_lists; spare = 0 } }
-    {
-        Rows {
-            domains: Table::new(alloc),
-            accounts: Accounts::new(alloc),
-            members: Members::new(alloc),
-            aliases: Aliases::new(alloc),
-            lsa: Table::new(alloc),
-            spare: 0,
-        }
-    }
-
     /// The rows that a database without rows begins with, for an account domain of that name and SID.
     pub fn seed(alloc: Global, name: &Name, sid: Sid) -> Result<Rows, NoMemory>
         requires name { is_domain_name name.now ≡ true }

@@ -23,6 +23,7 @@ use super::store::Store;
 use super::writing::{format_pair, key_bytes};
 use crate::row::{ACCOUNT_DOMAIN, BUILTIN_DOMAIN, Row, RowKey};
 use crate::rows::Rows;
+use crate::rows::tables::Tables;
 use acct_base::{Seq, is_same};
 use acct_calls::NoMemory;
 use acct_calls::laws::same_is_equivalence;
@@ -75,7 +76,7 @@ fn read_one(alloc: Global, pair: &Pair) -> Result<Option<Row>, NoMemory>
 }
 
 // The rows with the one that a pair spells, where it spells one, put in its place.
-fn put_read(alloc: Global, rows: &mut Rows, pair: &Pair) -> Result<(), NoMemory>
+fn put_read(alloc: Global, rows: &mut Tables, pair: &Pair) -> Result<(), NoMemory>
     requires { 0 < rows.old.spare }
     ensures rows { OnOk result (rows.new.lists ≡ with_puts (somes (row_of pair.now ∷ [])) rows.old.lists) }
     ensures spare { rows.old.spare ≤ rows.new.spare + 1 }
@@ -90,17 +91,17 @@ fn put_read(alloc: Global, rows: &mut Rows, pair: &Pair) -> Result<(), NoMemory>
     }
 }
 
-// The rows that the pairs spell, each put in its place.
+// The rows that the pairs spell, each put in its place, and then their indexes.
 fn load(alloc: Global, pairs: &[Pair]) -> Result<Rows, NoMemory>
     ensures rows { IfOk result (λ rows. rows.lists ≡ loaded pairs.now) }
     ensures spelled { OnOk result (All IsReadWell pairs.now) }
 {
-    let mut rows = Rows::empty(alloc);
+    let mut rows = Tables::new(alloc);
     rows.reserve(pairs.len())?;
     for pair in pairs {
         put_read(alloc, &mut rows, pair)?;
     }
-    Ok(rows)
+    rows.into_rows(alloc)
 }
 
 fn is_format(pair: &Pair) -> bool

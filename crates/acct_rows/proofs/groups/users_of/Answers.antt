@@ -1,22 +1,26 @@
--- `users_of` meets its contract: what the search leaves open.
-use Rattle.std.proofs.Common.{◌≡◌, ◌-◌, suc, get_or, ap, ◌∙◌, rules}
-use Rattle.acct_rows.specs.Keyed.{put}
+-- `users_of` meets its contract: the sorted entries are the members by user.
+use Rattle.std.proofs.Common.{◌≡◌, true, sym, ap, subst, ◌∙◌, List, length, arith}
+use Rattle.std.proofs.lemmas.List.{length-map}
+use Rattle.acct_rows.specs.Keyed.{is_ascending}
 use Rattle.acct_rows.specs.Users.{user_key, by_user}
-use Rattle.acct_rows.specs.declared.row.MemberRow.{MemberRow}
-use Rattle.acct_rows.proofs.Users.{users_start, users_next}
+use Rattle.acct_rows.specs.declared.groups.ByUser.{ByUser}
+use Rattle.acct_rows.proofs.Users.{users_sorted, users_ascend}
 use Rattle.acct_rows.proofs.groups.users_of.Goals as goal
 
-pub loop-i-init : goal.loop-i-init
-loop-i-init c = record { rows = (search rules) ∙ users_start c.args.rows.now; room = search rules }
+pub from_rows-requires-clause-ascending : goal.from_rows-requires-clause-ascending
+from_rows-requires-clause-ascending c =
+    let is = users_sorted c.args.rows.now _ _ c.requires.ascending c.in_ok-users.ensures c.sort.ensures.same
+    c.sort.ensures.sorted in
+    subst (λ (users : List ByUser). is_ascending user_key users ≡ true) (sym is) (users_ascend c.args.rows.now)
 
-pub loop-i-preserved : goal.loop-i-preserved
-loop-i-preserved c =
-    let members = c.args.rows.now in
-    let d : MemberRow = record { group = 0; user = 0; attributes = 0 } in
-    let next : c.loop-i.i ≡ suc (c.loop-i.i - 1) = search rules in
-    record {
-      rows = c.put.ensures.rows
-          ∙ ap (put user_key (by_user (get_or members (c.loop-i.i - 1) d))) c.loop-i.invariant.rows
-          ∙ users_next members c.loop-i.i (c.loop-i.i - 1) d next (search rules);
-      room = search rules;
-    }
+pub from_rows-requires-clause-few : goal.from_rows-requires-clause-few
+from_rows-requires-clause-few c =
+    let all : length c.in_ok-users.users.items ≡ length c.args.rows.now =
+    ap length c.in_ok-users.ensures ∙ length-map c.args.rows.now by_user in
+    omega arith
+
+pub returns : goal.returns
+returns c =
+    ap (λ table. table.0) c.from_rows.ensures
+    ∙ users_sorted c.args.rows.now _ _ c.requires.ascending c.in_ok-users.ensures c.sort.ensures.same
+    c.sort.ensures.sorted

@@ -1,20 +1,27 @@
--- `memberships_of` meets its contract: what the search leaves open.
-use Rattle.std.proofs.Common.{◌≡◌, ◌-◌, suc, ap, ◌∙◌, rules}
+-- `memberships_of` meets its contract: the sorted entries are the memberships by SID.
+use Rattle.std.proofs.Common.{◌≡◌, true, sym, ap, subst, ◌∙◌, List, length, arith}
+use Rattle.std.proofs.lemmas.List.{length-map}
+use Rattle.acct_rows.specs.Keyed.{is_ascending}
 use Rattle.acct_rows.specs.Indexes.{membership_key, membership_of}
-use Rattle.acct_rows.specs.Keyed.{put}
-use Rattle.acct_rows.proofs.Holding.{memberships_start, memberships_next}
+use Rattle.acct_rows.specs.declared.membership.Membership.{Membership}
+use Rattle.acct_rows.proofs.Holding.{memberships_sorted, memberships_ascend}
 use Rattle.acct_rows.proofs.membership.memberships_of.Goals as goal
 
-pub loop-i-init : goal.loop-i-init
-loop-i-init c = record { rows = (search rules) ∙ memberships_start c.args.rows.now; room = search rules }
+pub from_rows-requires-clause-ascending : goal.from_rows-requires-clause-ascending
+from_rows-requires-clause-ascending c =
+    let is = memberships_sorted c.args.rows.now _ _ c.requires.ascending c.in_ok-memberships.ensures c.sort.ensures.same
+    c.sort.ensures.sorted in
+    subst (λ (memberships : List Membership). is_ascending membership_key memberships ≡ true) (sym is)
+    (memberships_ascend c.args.rows.now)
 
-pub loop-i-preserved : goal.loop-i-preserved
-loop-i-preserved c =
-    let row = c.index-rows-i.result in
-    let next : c.loop-i.i ≡ suc (c.loop-i.i - 1) = search rules in
-    record {
-      rows = c.put.ensures.rows ∙ ap (λ m. put membership_key m c.loop-i.table.0) c.membership_of.ensures
-          ∙ ap (put membership_key (membership_of row)) c.loop-i.invariant.rows
-          ∙ memberships_next c.args.rows.now c.loop-i.i (c.loop-i.i - 1) row next (search rules) c.index-rows-i.is;
-      room = search rules;
-    }
+pub from_rows-requires-clause-few : goal.from_rows-requires-clause-few
+from_rows-requires-clause-few c =
+    let all : length c.in_ok-memberships.memberships.items ≡ length c.args.rows.now =
+    ap length c.in_ok-memberships.ensures ∙ length-map c.args.rows.now membership_of in
+    omega arith
+
+pub returns : goal.returns
+returns c =
+    ap (λ table. table.0) c.from_rows.ensures
+    ∙ memberships_sorted c.args.rows.now _ _ c.requires.ascending c.in_ok-memberships.ensures c.sort.ensures.same
+    c.sort.ensures.sorted

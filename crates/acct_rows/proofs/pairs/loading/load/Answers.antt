@@ -1,10 +1,15 @@
 -- `load` meets its contract: pairs are loaded one by one.
-use Rattle.std.proofs.Common.{◌+◌, drop, map, sym, ap, ◌∙◌, rules}
-use Rattle.acct_rows.specs.Loading.{somes}
+use Rattle.std.proofs.Common.{◌≡◌, ◌+◌, drop, map, sym, ap, ◌∙◌, rules}
+use Rattle.std.specs.Prelude.{All, OnOk, Result, Ok, Err}
+use Rattle.acct_rows.specs.Loading.{IsReadWell, loaded, somes}
 use Rattle.acct_rows.specs.Rows.{Lists, with_puts}
 use Rattle.acct_rows.specs.Stored.{row_of}
 use Rattle.acct_rows.proofs.Loaded.{next_loaded, all_loaded, next_read}
 use Rattle.acct_rows.proofs.pairs.loading.load.Goals as goal
+
+either_way : {T E : Type 0} (r : Result T E) (P : Type 0) → P → OnOk r P
+either_way (Ok x) P p = p
+either_way (Err e) P p = tt
 
 pub loop-pair-preserved : goal.loop-pair-preserved
 loop-pair-preserved c =
@@ -21,5 +26,12 @@ loop-pair-preserved c =
 
 pub returns-clause-rows : goal.returns-clause-rows
 returns-clause-rows c =
+    let all : c.loop-pair.rows.lists ≡ loaded c.args.pairs.now =
     sym (all_loaded c.args.pairs.now c.loop-pair.pair-index c.loop-pair.rows.lists c.loop-pair-test.false)
-    ∙ c.loop-pair.invariant.rest
+    ∙ c.loop-pair.invariant.rest in
+    search rules
+
+pub returns-clause-spelled : goal.returns-clause-spelled
+returns-clause-spelled c =
+    let all : All IsReadWell c.args.pairs.now = search rules in
+    either_way c.into_rows.result (All IsReadWell c.args.pairs.now) all

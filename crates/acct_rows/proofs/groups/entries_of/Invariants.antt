@@ -1,0 +1,7 @@
+-- What the loop of `entries_of` keeps.
+use Rattle.std.proofs.Common.{◌≡◌, take, map}
+use Rattle.acct_rows.specs.Users.{by_user}
+use Rattle.acct_rows.proofs.groups.entries_of.Given as goal
+
+abbrev pub invariant-loop-row : goal.invariant-loop-row
+invariant-loop-row l = l.users.items ≡ map by_user (take l.row-index l.rows)

@@ -1,0 +1,10 @@
+-- `sort` meets its contract: what the search leaves open.
+use Rattle.std.proofs.Common.{rules}
+use Rattle.std.specs.Cmp.Lexicographic.{nat_list_cmp_total}
+use Rattle.std.proofs.lemmas.List.Sorted.{ranks_by, answers_always}
+use Rattle.acct_rows.proofs.keyed.sort.Goals as goal
+
+pub returns-clause-sorted : goal.returns-clause-sorted
+returns-clause-sorted g c =
+    c.sort_unstable_by.ensures.sorted _ (ranks_by nat_list_cmp_total g.T.Keyed.key_of)
+    (answers_always _ _ _ (λ f a r f' k. search rules))

@@ -1,0 +1,7 @@
+-- What the loop of `entries_of` keeps.
+use Rattle.std.proofs.Common.{◌≡◌, take, map}
+use Rattle.acct_rows.specs.Indexes.{membership_of}
+use Rattle.acct_rows.proofs.membership.entries_of.Given as goal
+
+abbrev pub invariant-loop-row : goal.invariant-loop-row
+invariant-loop-row l = l.memberships.items ≡ map membership_of (take l.row-index l.rows)

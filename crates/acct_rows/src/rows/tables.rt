@@ -1,0 +1,112 @@
+// The rows as they are loaded: tables alone, whose indexes are made at once when all rows are there.
+ghost use Rattle.std.specs.Prelude.{◌≡◌, ◌+◌, ◌<◌, ◌≤◌, IfOk, OnOk};
+ghost use Rattle.acct_rows.specs.Loading.{no_lists};
+ghost use Rattle.acct_rows.specs.Rows.{put_row};
+
+use super::Rows;
+use crate::accounts::Accounts;
+use crate::aliases::Aliases;
+use crate::groups::Members;
+use crate::keyed::Table;
+use crate::row::{AccountRow, AliasRow, DomainRow, LsaRow, MemberRow, Row};
+use acct_calls::NoMemory;
+use std::alloc::Global;
+use std::marker::Model;
+
+/// The rows without indexes: a put behind all others shifts nothing. A contract sees their lists by ascending key, and
+/// for how many more rows there is room.
+#[derive(Drop)]
+pub struct Tables {
+    domains: Table<DomainRow>,
+    accounts: Table<AccountRow>,
+    members: Table<MemberRow>,
+    aliases: Table<AliasRow>,
+    lsa: Table<LsaRow>,
+    spare: usize,
+}
+
+impl Model for Tables {
+    ghost use Rattle.std.specs.Prelude.{◌≤◌};
+    ghost use Rattle.acct_rows.specs.Rows.{Shown};
+
+    ghost Value = { Shown };
+
+    ghost view = { λ tables. record {
+      lists = record {
+        domains = tables.domains.0;
+        accounts = tables.accounts.0;
+        members = tables.members.0;
+        aliases = tables.aliases.0;
+        lsa = tables.lsa.0;
+      };
+      spare = tables.spare;
+    } };
+
+    ghost invariant = { λ tables. (tables.spare ≤ tables.domains.1)
+        × (tables.spare ≤ tables.accounts.1)
+        × (tables.spare ≤ tables.members.1)
+        × (tables.spare ≤ tables.aliases.1)
+        × (tables.spare ≤ tables.lsa.1) };
+}
+
+impl Tables {
+    /// No rows, which take no memory.
+    pub fn new(alloc: Global) -> Tables
+        ensures { result ≡ record { lists = no_lists; spare = 0 } }
+    {
+        Tables {
+            domains: Table::new(alloc),
+            accounts: Table::new(alloc),
+            members: Table::new(alloc),
+            aliases: Table::new(alloc),
+            lsa: Table::new(alloc),
+            spare: 0,
+        }
+    }
+
+    /// Makes room for as many puts.
+    pub fn reserve(&mut self, puts: usize) -> Result<(), NoMemory>
+        ensures lists { self.new.lists ≡ self.old.lists }
+        ensures ok { OnOk result (puts ≤ self.new.spare) }
+    {
+        if self.spare < puts {
+            self.domains.reserve(puts)?;
+            self.accounts.reserve(puts)?;
+            self.members.reserve(puts)?;
+            self.aliases.reserve(puts)?;
+            self.lsa.reserve(puts)?;
+            self.spare = puts;
+        }
+        Ok(())
+    }
+
+    /// Puts a row in its place; a row with its key goes. It takes no memory.
+    pub fn put(&mut self, row: Row)
+        requires { 0 < self.old.spare }
+        ensures lists { self.new.lists ≡ put_row row self.old.lists }
+        ensures spare { self.new.spare + 1 ≡ self.old.spare }
+    {
+        match row {
+            Row::Domain(domain) => self.domains.put(domain),
+            Row::Account(account) => self.accounts.put(account),
+            Row::Member(member) => self.members.put(member),
+            Row::Alias(alias) => self.aliases.put(alias),
+            Row::Lsa(account) => self.lsa.put(account),
+        }
+        self.spare -= 1;
+    }
+
+    /// The rows with their indexes, each of which is sorted once.
+    pub fn into_rows(self, alloc: Global) -> Result<Rows, NoMemory>
+        ensures { IfOk result (λ rows. rows.lists ≡ self.lists) }
+    {
+        Ok(Rows {
+            domains: self.domains,
+            accounts: Accounts::from_rows(alloc, self.accounts.into_rows())?,
+            members: Members::from_rows(alloc, self.members.into_rows())?,
+            aliases: Aliases::from_rows(alloc, self.aliases.into_rows())?,
+            lsa: self.lsa,
+            spare: 0,
+        })
+    }
+}
