@@ -1,7 +1,8 @@
 // Pairs in a table.
-ghost use Rattle.std.specs.Prelude.{◌≡◌, ◌≤◌, true, None, IfOk};
+ghost use Rattle.std.specs.Prelude.{◌≡◌, ◌≤◌, true, None, IfOk, IfErr};
 ghost use Rattle.acct_keeper.specs.Pairs.{is_ascending};
 ghost use Rattle.acct_keeper.specs.Causes.{KeepCause};
+ghost use Rattle.keeper_sqlite.specs.Counts.{counted, after_call};
 
 use acct_base::Seq;
 use acct_keeper::{Change, KeepError, Keeper, Pair, is_ascending};
@@ -105,6 +106,7 @@ impl SqliteKeeper {
     fn cause(&mut self, error: Error) -> KeepError
         ensures cause { KeepCause self.old self.new result }
         ensures later { self.old ≤ self.new }
+        ensures count { self.new ≡ counted self.old result }
     {
         match error {
             Error::SqliteFailure(ErrorCode::OutOfMemory) => KeepError::NoMemory,
@@ -121,14 +123,23 @@ impl Keeper for SqliteKeeper {
 
     ghost faults = { λ faults. faults };
 
-    fn load(&mut self) -> Result<Vec<Pair>, KeepError> {
+    fn load(&mut self) -> Result<Vec<Pair>, KeepError>
+        ensures ascending { IfOk result (λ pairs. is_ascending pairs.items ≡ true) }
+        ensures cause { IfErr result (KeepCause self.old self.new) }
+        ensures later { self.old ≤ self.new }
+        ensures count { self.new ≡ after_call self.old result }
+    {
         match load(self.alloc, &mut self.connection) {
             Ok(pairs) => Ok(pairs),
             Err(error) => Err(self.cause(error)),
         }
     }
 
-    fn commit(&mut self, changes: &[Change]) -> Result<(), KeepError> {
+    fn commit(&mut self, changes: &[Change]) -> Result<(), KeepError>
+        ensures cause { IfErr result (KeepCause self.old self.new) }
+        ensures later { self.old ≤ self.new }
+        ensures count { self.new ≡ after_call self.old result }
+    {
         match commit(&mut self.connection, changes) {
             Ok(()) => Ok(()),
             Err(error) => Err(self.cause(error)),
