@@ -1,5 +1,5 @@
 // Tables: values by ascending key.
-ghost use Rattle.std.specs.Prelude.{◌≡◌, ◌+◌, ◌-◌, ◌<◌, ◌≤◌, true, [], ◌++◌, not, OnOk, MatchResult};
+ghost use Rattle.std.specs.Prelude.{◌≡◌, ◌+◌, ◌-◌, ◌<◌, ◌≤◌, true, [], ◌++◌, not, OnOk, OnErr, MatchResult};
 ghost use Rattle.std.specs.Prelude.{length, take, drop, vec_len, vec_capacity};
 ghost use Rattle.std.specs.List.{filter, find};
 ghost use Rattle.std.specs.Option.{option_copied};
@@ -143,7 +143,8 @@ fn keep<T: Copy, P: Test<T>>(values: &mut Vec<T>, test: &P)
 impl<T: Copy, O: Order<T>> Table<T, O> {
     /// The table of no value, which takes no memory.
     pub fn new(alloc: Global) -> Self
-        ensures { result.0 ≡ [] }
+        ensures values { result.0 ≡ [] }
+        ensures room { result.1 ≡ 0 }
     {
         Table {
             values: Vec::new(alloc),
@@ -174,10 +175,11 @@ impl<T: Copy, O: Order<T>> Table<T, O> {
         &self.values[first..end]
     }
 
-    /// Makes room for more values.
+    /// Makes room for more values. Memory may want only where there is less room than that.
     pub fn reserve(&mut self, more: usize) -> Result<(), AllocError>
         ensures values { self.new.0 ≡ self.old.0 }
         ensures ok { OnOk result (more ≤ self.new.1) }
+        ensures wants { OnErr result (self.old.1 < more) }
         ensures kept { self.old.1 ≤ self.new.1 }
     {
         self.values.reserve(more)
@@ -217,6 +219,7 @@ impl<T: Copy, O: Order<T>> Table<T, O> {
     {
         remove_within::<T, O>(&mut self.values, front);
     }
+
     /// Keeps the values that pass the test, and no other. It walks over all values.
     pub fn keep<P: Test<T>>(&mut self, test: &P)
         ensures values { self.new.0 ≡ filter (P.passes test.now) self.old.0 }
