@@ -1,5 +1,5 @@
 // The handles: found by connection and number, and by object.
-ghost use Rattle.std.specs.Prelude.{◌≡◌, ◌==◌, ◌<◌, ◌≤◌, [], ◌∷◌, ◌++◌, not, OnOk};
+ghost use Rattle.std.specs.Prelude.{◌≡◌, ◌==◌, ◌<◌, ◌≤◌, ◌+◌, [], ◌∷◌, ◌++◌, not, OnOk, OnErr};
 ghost use Rattle.std.specs.List.{filter};
 ghost use Rattle.std.specs.Option.{option_copied};
 ghost use Rattle.acct_tables.specs.Keyed.{sorted};
@@ -96,10 +96,13 @@ impl Handles {
         }
     }
 
-    /// Makes room for more handles. There is none past 2^64 that came.
+    /// Makes room for more handles. Memory may want only where there is less room than that; there is none past 2^64
+    /// that came.
     pub fn reserve(&mut self, more: usize) -> Result<(), NoMemory>
         ensures handles { self.new.0 ≡ self.old.0 }
         ensures ok { OnOk result (more ≤ self.new.1) }
+        ensures wants { OnErr result (self.old.1 < more) }
+        ensures kept { self.old.1 ≤ self.new.1 }
     {
         if self.spare < more {
             if more as u64 >= u64::MAX - self.next {
@@ -115,7 +118,8 @@ impl Handles {
     /// Adds a handle. It takes no memory.
     pub fn push(&mut self, held: Held)
         requires { 0 < self.old.1 }
-        ensures { self.new.0 ≡ self.old.0 ++ held ∷ [] }
+        ensures handles { self.new.0 ≡ self.old.0 ++ held ∷ [] }
+        ensures room { self.old.1 ≡ self.new.1 + 1 }
     {
         let _numbers = self.numbers.as_slice();
         let arrival = &Arrival {
@@ -130,7 +134,8 @@ impl Handles {
 
     /// Drops the handle of a connection with a number.
     pub fn drop_handle(&mut self, conn: u32, number: u128)
-        ensures { self.new.0 ≡ without_handle conn number self.old.0 }
+        ensures handles { self.new.0 ≡ without_handle conn number self.old.0 }
+        ensures room { self.new.1 ≡ self.old.1 }
     {
         let front = &Numbered::Handle(conn, number);
         let _numbers = self.numbers.as_slice();
@@ -140,7 +145,8 @@ impl Handles {
 
     /// Drops the handles of a connection.
     pub fn drop_conn(&mut self, conn: u32)
-        ensures { self.new.0 ≡ without_conn conn self.old.0 }
+        ensures handles { self.new.0 ≡ without_conn conn self.old.0 }
+        ensures room { self.new.1 ≡ self.old.1 }
     {
         let _numbers = self.numbers.as_slice();
         leave_conn(&mut self.objects, &self.numbers, conn);
@@ -149,7 +155,8 @@ impl Handles {
 
     /// Drops every handle to an object.
     pub fn drop_object(&mut self, object: Object)
-        ensures { self.new.0 ≡ without_object object self.old.0 }
+        ensures handles { self.new.0 ≡ without_object object self.old.0 }
+        ensures room { self.new.1 ≡ self.old.1 }
     {
         let object = &object;
         let _numbers = self.numbers.as_slice();

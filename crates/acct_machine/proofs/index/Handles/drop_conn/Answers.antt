@@ -29,8 +29,8 @@ invariant_of-self c =
       by_object = omega (arith, c.self.invariant.by_object, c.leave_conn.ensures.room);
     }
 
-pub returns : goal.returns
-returns c =
+pub returns-clause-handles : goal.returns-clause-handles
+returns-clause-handles c =
     let xs : List Arrival = c.self.inside.numbers.0 in
     let p : Arrival → Bool = is_within number_key (number_front (numbers.Conn c.args.conn)) in
     let h : is_ascending number_key xs ≡ true = search rules in

@@ -30,8 +30,8 @@ invariant_of-self c =
       by_object = omega (arith, c.self.invariant.by_object, c.remove_within.ensures.room);
     }
 
-pub returns : goal.returns
-returns c =
+pub returns-clause-handles : goal.returns-clause-handles
+returns-clause-handles c =
     let xs : List Arrival = c.self.inside.numbers.0 in
     let p : Arrival → Bool = is_within object_key (object_front c.args.object) in
     let q : Arrival → Bool = λ a. same_object a.held.object c.args.object in

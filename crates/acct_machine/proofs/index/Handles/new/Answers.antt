@@ -9,12 +9,12 @@ use Rattle.acct_machine.proofs.index.Handles.new.Goals as goal
 
 pub invariant_of-result : goal.invariant_of-result
 invariant_of-result c = record {
-  same = c.new-2.ensures ∙ ap (λ (xs : List Arrival). sorted object_key xs) (sym c.new.ensures);
-  before = subst (λ (xs : List Arrival). CameBefore 0 xs) (sym c.new.ensures) tt;
+  same = c.new-2.ensures.values ∙ ap (λ (xs : List Arrival). sorted object_key xs) (sym c.new.ensures.values);
+  before = subst (λ (xs : List Arrival). CameBefore 0 xs) (sym c.new.ensures.values) tt;
   turns = omega arith;
   by_number = omega arith;
   by_object = omega arith;
 }
 
 pub returns : goal.returns
-returns c = ap (λ (xs : List Arrival). (arrived xs, 0)) c.new.ensures ∙ ap (λ hs. (hs, 0)) none_arrived
+returns c = ap (λ (xs : List Arrival). (arrived xs, 0)) c.new.ensures.values ∙ ap (λ hs. (hs, 0)) none_arrived

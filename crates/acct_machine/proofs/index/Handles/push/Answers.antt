@@ -25,8 +25,8 @@ invariant_of-self c =
       by_object = omega (arith, seen, c.requires, c.self.invariant.by_object, c.put-2.ensures.room);
     }
 
-pub returns : goal.returns
-returns c =
+pub returns-clause-handles : goal.returns-clause-handles
+returns-clause-handles c =
     let xs : List Arrival = c.self.inside.numbers.0 in
     let a : Arrival = record { held = c.args.held; turn = c.self.inside.next } in
     let h : is_ascending number_key xs ≡ true = search rules in
