@@ -1,5 +1,5 @@
--- The status of how a dialogue ended; the exit code of a status, and its word.
-use Rattle.std.specs.Prelude.{ℕ, List, codes, Result, Ok, Err}
+-- The status of how a dialogue ended; the exit code of a status, its word, and whether a message follows.
+use Rattle.std.specs.Prelude.{ℕ, Bool, true, false, List, codes, Result, Ok, Err}
 use Rattle.acct_server.specs.declared.status.Status.{Status}
 use Rattle.acct_server.specs.declared.status.Status.TheVariants.{Done, NoMemory, Usage, Config, ReadFault, WriteFault}
 use Rattle.acct_server.specs.declared.status.Status.TheVariants.{StoreFault, StoredPair, EventLine, DoorFault}
@@ -54,3 +54,21 @@ word_of (PeerBytes place) = codes "peer"
 word_of PeerFault = codes "link"
 word_of InputTooLong = codes "long"
 word_of (Refused number) = codes "refused"
+
+-- a message says what happened, with what the status carries; of the others the world tells more, or there is no more
+abbrev pub has_message : Status → Bool
+has_message Done = false
+has_message NoMemory = false
+has_message Usage = false
+has_message (Config rule) = true
+has_message ReadFault = true
+has_message WriteFault = true
+has_message StoreFault = true
+has_message (StoredPair key) = true
+has_message (EventLine line) = true
+has_message DoorFault = false
+has_message (HistoryFull count) = true
+has_message (PeerBytes place) = false
+has_message PeerFault = false
+has_message InputTooLong = true
+has_message (Refused number) = false

@@ -1,15 +1,17 @@
 // The real world: files, the standard streams, and no word on what they hold.
 ghost use Rattle.std.specs.Prelude.{◌≡◌, Some, None, false, [], unwrap_or, option_copied, MatchOption};
-ghost use Rattle.acct_prog.specs.Host.{trouble_of};
+ghost use Rattle.std.specs.Option.{option_or};
+ghost use Rattle.acct_prog.specs.Host.{trouble_of, first_trouble, unread_after};
 ghost use Rattle.acct_prog.specs.declared.stranger.Stranger.TheVariants.{Other};
 
-use crate::host_entrance::{SpokenEntrance, trouble_of};
+use crate::host_entrance::{SpokenEntrance, first_trouble};
 use crate::host_keeper::HostKeeper;
 use crate::host_link::{HostCaller, HostLink};
 use crate::opened::Opened;
 use crate::period::Period;
 use crate::stranger::Stranger;
 use crate::trouble::Trouble;
+use crate::unread::{Unread, unread_of};
 use crate::world::World;
 use acct_keeper::{KeepError, SteadyKeeper};
 use acct_links::TakeError;
@@ -21,23 +23,26 @@ use std::fs::File;
 use std::io::{self, Input, Print, Printer, Read, Write};
 use std::net::Net;
 
-/// The standard input or a file. It tells what is left where its reader tells it: over the system's it doesn't.
+/// The standard input or a file. It tells what is left where its reader tells it: over the system's it doesn't. It keeps
+/// what went wrong last.
 #[derive(Drop)]
 pub struct HostSource<I: Read + Drop> {
     opened: Opened<I>,
     has_ended: bool,
     fault_count: u64,
+    trouble: Option<io::Error>,
 }
 
 impl<I: Read + Drop> HostSource<I> {
     /// A source of which nothing was read.
     pub fn new(opened: Opened<I>) -> Self
-        ensures { result ≡ record { opened = opened; has_ended = false; fault_count = 0 } }
+        ensures { result ≡ record { opened = opened; has_ended = false; fault_count = 0; trouble = None } }
     {
         HostSource {
             opened,
             has_ended: false,
             fault_count: 0,
+            trouble: None,
         }
     }
 }
@@ -61,8 +66,9 @@ impl<I: Read + Drop> Source for HostSource<I> {
                 self.has_ended |= (count == 0) & !buf.is_empty();
                 Ok(count)
             }
-            Err(_) => {
+            Err(error) => {
                 self.fault_count = self.fault_count.saturating_add(1);
+                self.trouble = Some(error);
                 Err(Failed)
             }
         }
@@ -110,8 +116,8 @@ impl<W: Write + Drop> Sink for HostSink<W> {
 
 /// The real world. The name `-` is the standard input, each other name of a source a file's path. The keeper with the
 /// empty name is a new one in memory each time, that with another name one in the file at that path. It keeps no period,
-/// but what went wrong with the last link or caller that was given back, and what answered over it, and what went wrong
-/// with the last entrance or door.
+/// but what went wrong with the last link or caller that was given back, and what answered over it, what went wrong with
+/// the last entrance or door, and why the last source that wasn't read wasn't.
 #[derive(Drop)]
 pub struct HostWorld<'a> {
     rt: &'a HostRuntime,
@@ -121,6 +127,7 @@ pub struct HostWorld<'a> {
     trouble: Option<Trouble>,
     stranger: Option<Stranger>,
     door_trouble: Option<DoorTrouble>,
+    unread: Option<Unread>,
 }
 
 impl<'a> HostWorld<'a> {
@@ -131,6 +138,7 @@ impl<'a> HostWorld<'a> {
         ensures trouble { result.trouble ≡ None }
         ensures stranger { result.stranger ≡ None }
         ensures door_trouble { result.door_trouble ≡ None }
+        ensures unread { result.unread ≡ None }
     {
         HostWorld {
             rt,
@@ -140,6 +148,7 @@ impl<'a> HostWorld<'a> {
             trouble: None,
             stranger: None,
             door_trouble: None,
+            unread: None,
         }
     }
 
@@ -162,6 +171,13 @@ impl<'a> HostWorld<'a> {
         ensures { option_copied result ≡ self.now.door_trouble }
     {
         self.door_trouble.as_ref()
+    }
+
+    /// Why the last source that wasn't handed out or read wasn't.
+    pub fn unread(&self) -> Option<Unread>
+        ensures { result ≡ self.now.unread }
+    {
+        self.unread
     }
 }
 
@@ -205,8 +221,9 @@ impl<'a> World for HostWorld<'a> {
         } else {
             match File::open(self.rt, name) {
                 Ok(file) => Opened::Disk(file),
-                Err(_) => {
+                Err(error) => {
                     self.source_faults = self.source_faults.saturating_add(1);
+                    self.unread = Some(Unread::Named(error));
                     return Err(TakeError::Failed);
                 }
             }
@@ -214,7 +231,13 @@ impl<'a> World for HostWorld<'a> {
         Ok(HostSource::new(opened))
     }
 
-    fn give_source(&mut self, _name: &str, part: HostSource<<HostRuntime as Input>::Reader>) {
+    fn give_source(&mut self, name: &str, part: HostSource<<HostRuntime as Input>::Reader>)
+        ensures kept { self.new ≡ record self.old { unread = self.new.unread } }
+        ensures unread { self.new.unread ≡ unread_after name.now part.trouble self.old.unread }
+    {
+        if let Some(error) = part.trouble {
+            self.unread = Some(unread_of(name, error));
+        }
         drop(part);
     }
 
@@ -254,10 +277,12 @@ impl<'a> World for HostWorld<'a> {
         doors: Vec<HostDoor<<HostRuntime as Net>::Listener>>,
     )
         ensures kept { self.new ≡ record self.old { door_trouble = self.new.door_trouble } }
+        ensures door_trouble { self.new.door_trouble
+            ≡ option_or part.entry.entrance.trouble (first_trouble doors.items) }
     {
         self.door_trouble = match part.into_trouble() {
             Some(trouble) => Some(trouble),
-            None => trouble_of(&doors),
+            None => first_trouble(&doors),
         };
         drop(doors);
     }

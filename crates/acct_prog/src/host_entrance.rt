@@ -1,5 +1,6 @@
 // The real entrance, which says where it listens.
-ghost use Rattle.std.specs.Prelude.{None};
+ghost use Rattle.std.specs.Prelude.{◌≡◌, None};
+ghost use Rattle.acct_prog.specs.Host.{first_trouble};
 
 use acct_keeper::KeepError;
 use acct_links::Entrance;
@@ -19,7 +20,10 @@ pub struct SpokenEntrance<'a, R: Net + Files + Eprint> {
 
 impl<'a, R: Net + Files + Eprint> SpokenEntrance<'a, R> {
     /// An entrance of which nothing was asked.
-    pub fn new(rt: &'a R, alloc: Global) -> Self {
+    pub fn new(rt: &'a R, alloc: Global) -> Self
+        ensures faults { result.entrance.fault_count ≡ 0 }
+        ensures trouble { result.entrance.trouble ≡ None }
+    {
         SpokenEntrance {
             rt,
             entrance: HostEntrance::new(rt, alloc),
@@ -27,7 +31,9 @@ impl<'a, R: Net + Files + Eprint> SpokenEntrance<'a, R> {
     }
 
     /// Why the last listener that has no doors has none.
-    pub fn into_trouble(self) -> Option<DoorTrouble> {
+    pub fn into_trouble(self) -> Option<DoorTrouble>
+        ensures { result ≡ self.entry.entrance.trouble }
+    {
         self.entrance.into_trouble()
     }
 }
@@ -58,7 +64,9 @@ where
 }
 
 /// Why a connection wasn't taken at the first of the doors at which one wasn't.
-pub fn trouble_of<T: OpenListener>(doors: &[HostDoor<T>]) -> Option<DoorTrouble> {
+pub fn first_trouble<T: OpenListener>(doors: &[HostDoor<T>]) -> Option<DoorTrouble>
+    ensures { result ≡ first_trouble doors.now }
+{
     for door in doors {
         if let Some(trouble) = door.trouble() {
             return Some(trouble);

@@ -1,6 +1,6 @@
 // The real links: connections by TCP and by Unix sockets.
-ghost use Rattle.std.specs.Prelude.{◌≡◌, None, false, unwrap_or};
-ghost use Rattle.acct_prog.specs.Host.{trouble_of};
+ghost use Rattle.std.specs.Prelude.{◌≡◌, ◌||◌, None, false, true, unwrap_or, IfOk};
+ghost use Rattle.acct_prog.specs.Host.{trouble_of, is_unix, has_path, has_place};
 ghost use Rattle.acct_prog.specs.declared.stranger.Stranger.TheVariants.{Other};
 
 use crate::channel::Channel;
@@ -144,7 +144,10 @@ impl<'a, R: Net> HostCaller<'a, R> {
     }
 }
 
-fn connect<R: Net>(rt: &R, address: &str) -> io::Result<Channel<R::Stream>> {
+fn connect<R: Net>(rt: &R, address: &str) -> io::Result<Channel<R::Stream>>
+    ensures form { IfOk result (λ _. (has_path address.now || has_place address.now) ≡ true) }
+    ensures unix { IfOk result (λ channel. is_unix channel ≡ has_path address.now) }
+{
     if let Some(path) = address.strip_prefix("unix:") {
         return Ok(Channel::Unix(UnixStream::connect(rt, path)?));
     }

@@ -22,6 +22,7 @@ mod host_keeper;
 mod host_link;
 mod keeping;
 mod memory;
+mod messages;
 mod opened;
 mod part;
 mod period;
@@ -29,6 +30,7 @@ mod serving;
 mod statuses;
 mod stranger;
 mod trouble;
+mod unread;
 mod words;
 mod world;
 
@@ -41,6 +43,7 @@ pub use host_entrance::SpokenEntrance;
 pub use host_keeper::HostKeeper;
 pub use host_link::{HostCaller, HostLink};
 pub use memory::{MemoryParts, MemoryWorld};
+use messages::message;
 pub use part::Part;
 pub use period::Period;
 use std::process::ExitCode;
@@ -48,6 +51,7 @@ use std::sync::Wait;
 use std::thread::Threads;
 pub use stranger::Stranger;
 pub use trouble::Trouble;
+pub use unread::Unread;
 use words::words;
 pub use world::World;
 
@@ -138,6 +142,13 @@ fn tell(rt: &HostRuntime, status: &Status) {
     }
 }
 
+/// Says behind that what happened, with what the status carries, and what to do about it.
+fn tell_more(rt: &HostRuntime, status: &Status, words: &[String], world: &HostWorld) {
+    if let Ok(Some(text)) = message(rt.alloc(), status, words, world.unread()) {
+        let _ = eprintln!(rt; "account: {text}");
+    }
+}
+
 /// The status of the words of the command line, over the real world, and what went wrong there told. A server waits.
 fn run<R: Threads + Wait + Sync>(rt: &HostRuntime, waiting: &R) -> Status {
     let Ok(words) = words(rt, rt.alloc()) else {
@@ -147,6 +158,7 @@ fn run<R: Threads + Wait + Sync>(rt: &HostRuntime, waiting: &R) -> Status {
     let mut world = HostWorld::new(rt, rt.alloc());
     let status = account(waiting, rt.alloc(), &words, &mut world);
     tell(rt, &status);
+    tell_more(rt, &status, &words, &world);
     tell_doors(rt, &status, &world);
     if let Some(address) = words.get(1) {
         tell_peer(rt, &status, address.as_str(), &world);

@@ -18,6 +18,7 @@ mod limits;
 mod lines;
 mod links;
 mod meeting;
+mod messages;
 mod names;
 mod objects;
 mod replays;

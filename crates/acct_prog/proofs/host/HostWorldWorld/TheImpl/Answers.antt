@@ -1,7 +1,7 @@
 -- The real world is a `World`: what the search leaves open.
-use Rattle.std.proofs.Common.{◌≡◌, ℕ, List, false, [], Option, None, ap, ◌∙◌}
+use Rattle.std.proofs.Common.{◌≡◌, ℕ, List, false, [], Option, None, refl, ap, ◌∙◌}
 use Rattle.acct_prog.specs.declared.host.HostWorld.{HostWorld}
-use Rattle.acct_prog.specs.World.{Seen, GivesEntrance, GivesCaller}
+use Rattle.acct_prog.specs.World.{Seen, GivesSource, GivesEntrance, GivesCaller}
 use Rattle.acct_prog.proofs.host.HostWorldWorld.TheImpl.Goals as goal
 
 -- what the real world shows: its counts of sources and of keepers that weren't handed out
@@ -50,6 +50,26 @@ given-doors sources keepers sources_now keepers_now part doors same_sources same
   back = λ tells. absurd cc;
   others = same sources keepers sources_now keepers_now same_sources same_keepers;
 }
+
+given-source : {S T K E D C L : Type 0} (sources keepers sources_now keepers_now : ℕ) (name : List ℕ) (part : S)
+    → sources_now ≡ sources → keepers_now ≡ keepers
+    → GivesSource {T = T} {K = K} {E = E} {D = D} {C = C} {L = L} (real sources keepers)
+    (real sources_now keepers_now) name part
+given-source sources keepers sources_now keepers_now name part same_sources same_keepers = record {
+  holds = λ tells knows. absurd cc;
+  sources = λ other differs. refl;
+  others = same sources keepers sources_now keepers_now same_sources same_keepers;
+}
+
+pub give_source-tells : goal.give_source-tells
+give_source-tells g x d c =
+    let old = c.args.self.now in
+    let new = c.new.self.now in
+    record {
+      gives = given-source old.source_faults old.keeper_faults new.source_faults new.keeper_faults c.args.name.now
+          c.args.part (ap (λ (w : HostWorld). w.source_faults) c.ensures.kept)
+          (ap (λ (w : HostWorld). w.keeper_faults) c.ensures.kept);
+    }
 
 pub give_entrance-tells : goal.give_entrance-tells
 give_entrance-tells g x d c =
