@@ -148,7 +148,7 @@ fn deny_before_allow(rt: HostRuntime) -> Result<(), Fail> {
 }
 
 /// The keeper's third call, behind the loading and the seeding, is the first creation's. It changes nothing: the serial
-/// isn't used up, and the account isn't there.
+/// isn't used up, and the account isn't there. The second creation's commit is the last: a fifth call would fail.
 const FAILING: &str = "\
 1 policy 10 = 0 1.1
 1 create 1.1 = c0000158 0.0
@@ -173,7 +173,10 @@ const TWICE_LEFT: &str = "opened 1 0;opened 2 1;1 Lsa 44 Ran 22;1 Lsa 10 Ran 22;
 #[test]
 fn a_commit_that_fails_changes_nothing(rt: HostRuntime) -> Result<(), Fail> {
     let alloc = rt.alloc();
-    assert_eq!(rt; told(&rt, alloc, "", &[3], FAILING)?.as_str(), FAILING_LEFT);
+    assert_eq!(rt;
+        told(&rt, alloc, "", &[3, 5], FAILING)?.as_str(),
+        FAILING_LEFT
+    );
     assert_eq!(rt; told(&rt, alloc, "", &[3, 4], TWICE)?.as_str(), TWICE_LEFT);
     Ok(())
 }

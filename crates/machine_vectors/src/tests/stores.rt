@@ -69,7 +69,8 @@ fn break_store(alloc: Global, keeper: &mut MemoryKeeper) -> Result<(), Fail> {
 fn stores_are_opened_again_as_they_were_left(rt: HostRuntime) -> Result<(), Fail> {
     let alloc = rt.alloc();
     let config = configured(&rt, alloc, PLAIN)?;
-    let mut keeper = keeper_with(alloc, &[])?;
+    // The fourth call fails, behind two loads and the seeding: the second opening commits nothing.
+    let mut keeper = keeper_with(alloc, &[4])?;
     assert_eq!(rt;
         opened(alloc, &config, &mut keeper)?.as_str(),
         "8 accounts, 19 pairs"
@@ -78,6 +79,7 @@ fn stores_are_opened_again_as_they_were_left(rt: HostRuntime) -> Result<(), Fail
         opened(alloc, &config, &mut keeper)?.as_str(),
         "8 accounts, 19 pairs"
     );
+    assert!(rt; keeper.commit(&[]).is_err());
     break_store(alloc, &mut keeper)?;
     assert_eq!(rt;
         opened(alloc, &config, &mut keeper)?.as_str(),
