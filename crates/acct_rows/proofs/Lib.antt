@@ -32,6 +32,7 @@ pub mod Members
 pub mod Moves
 pub mod Named
 pub mod NamedRows
+pub mod PrimaryGroups
 pub mod Purges
 pub mod Rising
 pub mod Sides

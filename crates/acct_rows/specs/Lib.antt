@@ -7,6 +7,7 @@ pub mod Naming
 pub mod Objects
 pub mod PairRules
 pub mod PairsOf
+pub mod Primaries
 pub mod Ranges
 pub mod Rows
 pub mod Seed

@@ -105,6 +105,14 @@ has_name domain name a = (a.domain == domain) && is_same a.name name
 abbrev pub find_name : Lists → ℕ → List ℕ → Option AccountRow
 find_name lists domain name = find (has_name domain name) lists.accounts
 
+-- whether an account is a user with that primary group
+abbrev pub has_primary : ℕ → AccountRow → Bool
+has_primary group a = same_kind User a.kind && (a.primary == group)
+
+-- whether a group is some user's primary group
+abbrev pub is_primary : Lists → ℕ → Bool
+is_primary lists group = list_any (has_primary group) lists.accounts
+
 -- the members of a group by ascending user
 abbrev pub is_in_group : ℕ → MemberRow → Bool
 is_in_group group m = m.group == group

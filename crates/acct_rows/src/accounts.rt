@@ -1,32 +1,36 @@
-// The accounts, by key and by name.
+// The accounts, by key, by name and by primary group.
 ghost use Rattle.std.specs.Prelude.{◌≡◌, ◌+◌, ◌^◌, ◌<◌, ◌≤◌, true, [], ◌∷◌, IfOk, OnOk, length, vec_len, find};
-ghost use Rattle.std.specs.List.{filter};
+ghost use Rattle.std.specs.List.{filter, list_any};
 ghost use Rattle.std.specs.Option.{option_copied};
 ghost use Rattle.acct_rows.specs.Keyed.{at, put, without, is_ascending};
 ghost use Rattle.acct_rows.specs.Ranges.{is_behind};
-ghost use Rattle.acct_rows.specs.Rows.{account_key, has_name};
+ghost use Rattle.acct_rows.specs.Rows.{account_key, has_name, has_primary};
 
 use crate::copies::copy_accounts;
 use crate::keyed::Table;
 use crate::names::Names;
+use crate::primaries;
+use crate::primaries::{ByPrimary, no_primaries, primaries_of};
 use crate::ranges::accounts_behind;
 use crate::row::AccountRow;
 use acct_calls::{Name, NoMemory};
 use std::alloc::Global;
 use std::marker::Model;
 
-/// Accounts by ascending key, with their names, and with room for more. A contract sees the list of the accounts, and
-/// for how many more there is room.
+/// Accounts by ascending key, by name and by primary group, with room for more. A contract sees the list of the
+/// accounts, and for how many more there is room.
 #[derive(Drop)]
 pub struct Accounts {
     rows: Table<AccountRow>,
     names: Names,
+    primaries: Table<ByPrimary>,
     spare: usize,
 }
 
 impl Model for Accounts {
     ghost use Rattle.std.specs.Prelude.{◌≡◌, ◌≤◌, ℕ, List};
     ghost use Rattle.acct_rows.specs.Indexes.{names_of};
+    ghost use Rattle.acct_rows.specs.Primaries.{primaries_of};
     ghost use Rattle.acct_rows.specs.declared.row.AccountRow.{AccountRow};
 
     ghost Value = { List AccountRow × ℕ };
@@ -34,8 +38,10 @@ impl Model for Accounts {
     ghost view = { λ accounts. (accounts.rows.0, accounts.spare) };
 
     ghost invariant = { λ accounts. (accounts.names.0 ≡ names_of accounts.rows.0)
+        × (accounts.primaries.0 ≡ primaries_of accounts.rows.0)
         × (accounts.spare ≤ accounts.rows.1)
-        × (accounts.spare ≤ accounts.names.1) };
+        × (accounts.spare ≤ accounts.names.1)
+        × (accounts.spare ≤ accounts.primaries.1) };
 }
 
 impl Accounts {
@@ -46,6 +52,7 @@ impl Accounts {
         Accounts {
             rows: Table::new(alloc),
             names: Names::new(alloc),
+            primaries: no_primaries(alloc),
             spare: 0,
         }
     }
@@ -57,9 +64,11 @@ impl Accounts {
         ensures { IfOk result (λ accounts. accounts ≡ (rows.items, 0)) }
     {
         let names = Names::of(alloc, &rows)?;
+        let primaries = primaries_of(alloc, &rows)?;
         Ok(Accounts {
             rows: Table::from_rows(rows),
             names,
+            primaries,
             spare: 0,
         })
     }
@@ -71,6 +80,7 @@ impl Accounts {
         Ok(Accounts {
             rows: Table::from_rows(copy_accounts(alloc, self.rows.rows())?),
             names: self.names.copy(alloc)?,
+            primaries: Table::from_rows(self.primaries.rows().to_vec(alloc)?),
             spare: 0,
         })
     }
@@ -105,6 +115,13 @@ impl Accounts {
         accounts_behind(self.rows.rows(), domain, rid)
     }
 
+    /// Whether the group is some user's primary group.
+    pub fn is_primary(&self, group: u32) -> bool
+        ensures { result ≡ list_any (has_primary group) self.now.0 }
+    {
+        primaries::is_primary(&self.primaries, self.rows.rows(), group)
+    }
+
     /// Makes room for more accounts.
     pub fn reserve(&mut self, more: usize) -> Result<(), NoMemory>
         ensures rows { self.new.0 ≡ self.old.0 }
@@ -113,6 +130,7 @@ impl Accounts {
     {
         if self.spare < more {
             self.names.reserve(more)?;
+            self.primaries.reserve(more)?;
             self.rows.reserve(more)?;
             self.spare = more;
         }
@@ -126,6 +144,7 @@ impl Accounts {
         ensures spare { self.new.1 + 1 ≡ self.old.1 }
     {
         self.names.put(self.rows.rows(), &row);
+        primaries::put(&mut self.primaries, self.rows.rows(), &row);
         self.rows.put(row);
         self.spare -= 1;
     }
@@ -136,6 +155,7 @@ impl Accounts {
         ensures spare { self.new.1 ≡ self.old.1 }
     {
         self.names.remove(self.rows.rows(), key);
+        primaries::remove(&mut self.primaries, self.rows.rows(), key);
         self.rows.remove(key);
     }
 }

@@ -2,11 +2,13 @@
 ghost use Rattle.std.specs.Prelude.{[], ◌∷◌};
 ghost use Rattle.acct_rows.specs.Rows.{domain_key, account_key, member_key, alias_key, lsa_key, sid_key};
 ghost use Rattle.acct_rows.specs.Indexes.{held, membership_key};
+ghost use Rattle.acct_rows.specs.Primaries.{primary_key};
 ghost use Rattle.acct_rows.specs.Users.{user_key};
 
 use crate::groups::ByUser;
 use crate::keyed::Keyed;
 use crate::membership::Membership;
+use crate::primaries::ByPrimary;
 use crate::row::{AccountRow, AliasRow, DomainRow, LsaRow, MemberRow};
 use dtyp_sid::Sid;
 use std::cmp::Ordering;
@@ -126,5 +128,24 @@ impl Keyed for ByUser {
 
     fn order(row: &Self, key: &(u32, u32)) -> Ordering {
         row.row.user.cmp(&key.0).then(row.row.group.cmp(&key.1))
+    }
+}
+
+impl Keyed for ByPrimary {
+    type Key = (u32, u8, u32);
+
+    ghost key_of = { primary_key };
+
+    ghost path = { λ key. key.0 ∷ key.1 ∷ key.2 ∷ [] };
+
+    fn key(&self) -> (u32, u8, u32) {
+        (self.primary, self.domain, self.rid)
+    }
+
+    fn order(row: &Self, key: &(u32, u8, u32)) -> Ordering {
+        row.primary
+            .cmp(&key.0)
+            .then(row.domain.cmp(&key.1))
+            .then(row.rid.cmp(&key.2))
     }
 }

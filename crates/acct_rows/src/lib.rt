@@ -22,6 +22,7 @@ mod naming;
 mod object;
 pub mod pairs;
 mod plan;
+mod primaries;
 mod ranges;
 mod row;
 mod rows;

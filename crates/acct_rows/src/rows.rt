@@ -12,7 +12,7 @@ ghost use Rattle.acct_rows.specs.Rows.{lsa_key, domain_at};
 ghost use Rattle.acct_rows.specs.Ranges.{accounts_behind};
 ghost use Rattle.acct_rows.specs.Users.{row_of};
 ghost use Rattle.acct_rows.specs.Rows.{groups_of, alias_members_of, alias_row_at};
-ghost use Rattle.acct_rows.specs.Rows.{account_at, member_at, lsa_at, find_name, put_row, remove_row};
+ghost use Rattle.acct_rows.specs.Rows.{account_at, is_primary, member_at, lsa_at, find_name, put_row, remove_row};
 ghost use Rattle.acct_rows.specs.Rows.{removed, with_puts, after};
 
 pub mod tables;
@@ -173,6 +173,13 @@ impl Rows {
         ensures { option_copied result ≡ find_name self.now.lists domain name.now }
     {
         self.accounts.find_name(domain, name)
+    }
+
+    /// Whether the group is some user's primary group.
+    pub fn is_primary(&self, group: u32) -> bool
+        ensures { result ≡ is_primary self.now.lists group }
+    {
+        self.accounts.is_primary(group)
     }
 
     /// The accounts of a domain behind a RID, by ascending RID.

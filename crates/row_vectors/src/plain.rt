@@ -1,12 +1,13 @@
-// Look-ups by name and by SID as plain programs of their definitions: each looks at every row.
+// Look-ups by name, by primary group and by SID as plain programs of their definitions: each looks at every row.
 ghost use Rattle.std.specs.Prelude.{◌≡◌, IfOk, find, map};
 ghost use Rattle.std.specs.List.{filter, list_any};
 ghost use Rattle.std.specs.Option.{option_copied};
 ghost use Rattle.dtyp_sid.specs.Order.{sid_eq};
-ghost use Rattle.acct_rows.specs.Rows.{has_name, has_one, each_once};
+ghost use Rattle.acct_rows.specs.Rows.{has_name, has_primary, has_one, each_once};
 
 use acct_base::Seq;
 use acct_calls::{Name, NoMemory, Rids};
+use acct_codes::Kind;
 use acct_rows::{AccountRow, AliasRow};
 use dtyp_sid::Sid;
 use std::alloc::Global;
@@ -27,6 +28,19 @@ pub fn find_name<'a>(accounts: &'a [AccountRow], domain: u8, name: &Name) -> Opt
         }
     }
     None
+}
+
+fn has_primary(account: &AccountRow, group: u32) -> bool
+    ensures { result ≡ has_primary group account.now }
+{
+    account.kind == Kind::User && account.primary == group
+}
+
+/// Whether the group is some user's primary group.
+pub fn is_primary(accounts: &[AccountRow], group: u32) -> bool
+    ensures { result ≡ list_any (has_primary group) accounts.now }
+{
+    accounts.iter().any(|account| has_primary(account, group))
 }
 
 fn is_among(sids: &[Sid], sid: &Sid) -> bool

@@ -20,6 +20,7 @@ use Rattle.acct_rows.specs.Laws.{EachIsGood, IsNoPrimary, OthersAreNoPrimary, Re
 use Rattle.acct_rows.specs.Laws.{IsWithout}
 use Rattle.acct_rows.specs.Objects.{kind_of, domain_of, rid_of, exists, same_object}
 use Rattle.acct_rows.specs.Rows.{Lists, domain_key, account_key, domain_at, account_at, is_of, same_kind, after}
+use Rattle.acct_rows.specs.Rows.{has_primary, is_primary}
 use Rattle.acct_rows.specs.Sound.{IsSoundRows, IsGoodDomain, is_account_kind, next_rid_of}
 use Rattle.acct_rows.specs.declared.object.Object.{Object}
 use Rattle.acct_rows.specs.declared.object.Object.TheVariants as objects
@@ -31,7 +32,7 @@ use Rattle.acct_rules.specs.declared.planned.Effect.TheVariants as effects
 use Rattle.acct_rules.specs.declared.planned.Planned.{Planned}
 use Rattle.dtyp_sid.specs.Made.{with_last}
 use Rattle.dtyp_sid.specs.Value.{SidValue}
-use Rattle.samr_objects.specs.Deletions.{is_special, has_primary, is_primary, account_sid, keys_of, deletes}
+use Rattle.samr_objects.specs.Deletions.{is_special, account_sid, keys_of, deletes}
 use Rattle.samr_objects.specs.Domains.{sid_of_rid}
 use Rattle.samr_objects.specs.Laws.{IsGone, Deletes}
 use Rattle.samr_objects.specs.Table.{delete_group_in_domain, delete_alias_in_domain, delete_user_in_domain}

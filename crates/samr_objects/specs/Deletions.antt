@@ -1,16 +1,13 @@
 -- The operations that delete an account of a domain.
-use Rattle.std.specs.Prelude.{ℕ, ◌==◌, Bool, ◌&&◌, nat_lt, List, [], ◌∷◌, Option, Some, None}
-use Rattle.std.specs.List.{list_any}
+use Rattle.std.specs.Prelude.{Bool, nat_lt, List, [], ◌∷◌, Option, Some, None}
 use Rattle.acct_calls.specs.declared.calls.Args.{Args}
 use Rattle.acct_calls.specs.declared.replies.Outs.TheVariants as outs
 use Rattle.acct_codes.specs.Rids.{first_created_rid}
 use Rattle.acct_codes.specs.Statuses.{status_success, status_special_account, status_members_primary_group}
-use Rattle.acct_codes.specs.declared.kind.Kind.TheVariants as kind
 use Rattle.acct_rows.specs.Laws.{naming}
 use Rattle.acct_rows.specs.Objects.{domain_of, rid_of}
-use Rattle.acct_rows.specs.Rows.{Lists, domain_at, same_kind}
+use Rattle.acct_rows.specs.Rows.{Lists, domain_at, is_primary}
 use Rattle.acct_rows.specs.declared.object.Object.{Object}
-use Rattle.acct_rows.specs.declared.row.AccountRow.{AccountRow}
 use Rattle.acct_rows.specs.declared.row.RowKey.{RowKey}
 use Rattle.acct_rules.specs.Planned.{Ruled, when, answers, zero_handle}
 use Rattle.acct_rules.specs.declared.planned.Effect.TheVariants as effects
@@ -23,13 +20,6 @@ use Rattle.samr_objects.specs.Domains.{sid_of_rid}
 -- the account is well-known: its RID is below those of created accounts
 abbrev pub is_special : Object → Bool
 is_special object = nat_lt (rid_of object) first_created_rid
-
-abbrev pub has_primary : ℕ → AccountRow → Bool
-has_primary rid a = same_kind kind.User a.kind && (a.primary == rid)
-
--- the group is some user's primary group
-abbrev pub is_primary : Lists → ℕ → Bool
-is_primary r rid = list_any (has_primary rid) r.accounts
 
 -- ---- what goes
 

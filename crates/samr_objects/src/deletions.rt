@@ -3,15 +3,14 @@ ghost use Rattle.std.specs.Prelude.{◌≡◌, true, IfOk, OnErr};
 ghost use Rattle.acct_rows.specs.Laws.{naming};
 ghost use Rattle.acct_rows.specs.Objects.{rid_of};
 ghost use Rattle.acct_rules.specs.Planned.{decision, none_fails};
-ghost use Rattle.samr_objects.specs.Deletions.{is_special, has_primary, is_primary, account_sid, keys_of, deletes};
+ghost use Rattle.samr_objects.specs.Deletions.{is_special, account_sid, keys_of, deletes};
 ghost use Rattle.samr_objects.specs.Deletions.{delete_group, delete_alias, delete_user};
 
 use acct_base::Seq;
 use acct_calls::{Args, Handle, Outs};
-use acct_codes::Kind;
 use acct_codes::rid::FIRST_CREATED_RID;
 use acct_codes::status::{STATUS_MEMBERS_PRIMARY_GROUP, STATUS_SPECIAL_ACCOUNT, STATUS_SUCCESS};
-use acct_rows::{AccountRow, Object, Plan, RowKey, Rows};
+use acct_rows::{Object, Plan, RowKey, Rows};
 use acct_rules::{Effect, NoMemory, Planned, answers, refusal};
 use dtyp_sid::Sid;
 use std::alloc::Global;
@@ -21,22 +20,6 @@ fn is_special(object: &Object) -> bool
     ensures { result ≡ is_special object.now }
 {
     object.rid() < FIRST_CREATED_RID
-}
-
-fn has_primary(account: &AccountRow, rid: u32) -> bool
-    ensures { result ≡ has_primary rid account.now }
-{
-    account.kind == Kind::User && account.primary == rid
-}
-
-// The group is some user's primary group.
-fn is_primary(rows: &Rows, group: &Object) -> bool
-    ensures { result ≡ is_primary rows.now.lists (rid_of group.now) }
-{
-    let rid = group.rid();
-    rows.accounts()
-        .iter()
-        .any(|account| has_primary(account, rid))
 }
 
 // The keys of an account of a SID and of every row that names it.
@@ -100,7 +83,7 @@ pub fn delete_group(
     if is_special(&group) {
         return Ok(refusal(alloc, STATUS_SPECIAL_ACCOUNT));
     }
-    if is_primary(rows, &group) {
+    if rows.is_primary(group.rid()) {
         return Ok(refusal(alloc, STATUS_MEMBERS_PRIMARY_GROUP));
     }
     deletes(alloc, rows, &group)

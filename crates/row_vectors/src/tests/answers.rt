@@ -159,6 +159,7 @@ fn push_found(alloc: Global, text: &mut String, rows: &Rows, question: &str) -> 
         "having" => push_aliases_of(alloc, text, rows, domain_number(first), second)?,
         "naming" => push_naming(alloc, text, rows, domain_number(first), second)?,
         "member" => write!(text, "{:?}", rows.member(number(first), number(second)))?,
+        "primary" => write!(text, "{}", rows.is_primary(number(first)))?,
         _ => {}
     }
     Ok(())

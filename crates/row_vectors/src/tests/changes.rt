@@ -43,6 +43,16 @@ fn group(alloc: Global, rid: u32, name: &str) -> Result<Row, NoMemory> {
     Ok(Row::Account(account(alloc, Kind::Group, 0, rid, name)))
 }
 
+/// A user of that primary group, named by its RID.
+fn user(alloc: Global, rid: u32, primary: u32) -> Result<Row, NoMemory> {
+    let text = format!(in alloc; "u{rid}")?;
+    let name = Name::from_text(alloc, text.as_str())?;
+    Ok(Row::Account(AccountRow {
+        primary,
+        ..account(alloc, Kind::User, 0, rid, name)
+    }))
+}
+
 fn policy(alloc: Global, sid: Sid) -> Result<Row, NoMemory> {
     let mut privileges = Seq::new(alloc);
     privileges.push(Held {
@@ -61,6 +71,7 @@ fn row_of(alloc: Global, words: &str) -> Result<Row, Fail> {
     let (first, second) = word(rest);
     Ok(match list {
         "group" => group(alloc, number(first), second)?,
+        "user" => user(alloc, number(first), number(second))?,
         "member" => Row::Member(MemberRow {
             group: number(first),
             user: number(second),

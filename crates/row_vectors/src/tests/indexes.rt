@@ -159,6 +159,20 @@ fn scattered(place: u32, column: u32) -> u32 {
     mixed.wrapping_mul(1_103_515_245) >> 16
 }
 
+/// A user, a group or an alias, with one of four primary groups.
+fn kept(alloc: Global, place: u32, domain: u8, rid: u32) -> Result<AccountRow, NoMemory> {
+    let name = spelled(alloc, scattered(place, 5) % 2048)?;
+    let kind = match scattered(place, 11) % 4 {
+        0 => Kind::Alias,
+        1 => Kind::Group,
+        _ => Kind::User,
+    };
+    Ok(AccountRow {
+        primary: scattered(place, 12) % 4,
+        ..account(alloc, kind, domain, rid, name)
+    })
+}
+
 fn change(alloc: Global, rows: &mut Rows, place: u32) -> Result<(), Fail> {
     let domain = (scattered(place, 1) % 2) as u8;
     let rid = scattered(place, 2) % 16;
@@ -171,13 +185,7 @@ fn change(alloc: Global, rows: &mut Rows, place: u32) -> Result<(), Fail> {
             member: row.member,
         }),
         2 => put(rows, Row::Alias(row)),
-        _ => {
-            let name = spelled(alloc, scattered(place, 5) % 2048)?;
-            put(
-                rows,
-                Row::Account(account(alloc, Kind::Alias, domain, rid, name)),
-            );
-        }
+        _ => put(rows, Row::Account(kept(alloc, place, domain, rid)?)),
     }
     Ok(())
 }
@@ -219,8 +227,14 @@ fn aliases_agree(alloc: Global, rows: &Rows, domain: u8, sids: &Sids) -> Result<
     Ok(found.as_slice() == plain.as_slice())
 }
 
+/// Whether each primary group is told as its definition says.
+fn primaries_agree(rows: &Rows) -> bool {
+    (0..5_u32).all(|group| rows.is_primary(group) == plain::is_primary(rows.accounts(), group))
+}
+
 fn tell(rt: &impl Abort, alloc: Global, rows: &Rows, place: u32) -> Result<(), Fail> {
     let sids = some_sids(alloc, place)?;
+    assert!(rt; primaries_agree(rows));
     assert!(rt; names_agree(alloc, rows, scattered(place, 10) % 2048)?);
     assert!(rt; aliases_agree(alloc, rows, 0, &sids)?);
     assert!(rt; aliases_agree(alloc, rows, 1, &sids)?);

@@ -43,6 +43,7 @@ fn rows_are_found_and_changed(rt: HostRuntime) -> Result<(), Fail> {
         tables::NAMES,
         tables::CHANGES,
         tables::MEMBERS,
+        tables::PRIMARIES,
         tables::NAMING,
         tables::PLANS,
     ] {

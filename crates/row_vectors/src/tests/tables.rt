@@ -71,6 +71,23 @@ put member 513 501; put member 0 7; put member 4294967295 8 | of 4294967295 | 42
 | having 1 S-1-5-21-1-2-3-544 S-1-5-21-1-2-3-1000 | []
 | having 1 | []";
 
+/// A group is a primary one while it is that of a user; other accounts have none, and the number 0.
+pub const PRIMARIES: &str = "\
+| primary 513 | true
+| primary 514 | true
+| primary 512 | false
+| primary 0 | false
+put user 1000 0 | primary 0 | true
+put user 1000 512 | primary 512 | true
+put user 1000 512 | primary 511 | false
+put user 1000 512; copy | primary 512 | true
+put user 1000 512; put user 1000 513 | primary 512 | false
+put user 1000 512; put group 1000 A | primary 512 | false
+put user 1000 512; remove account 1000 | primary 512 | false
+put user 1000 512; put user 1001 512; remove account 1000 | primary 512 | true
+put user 1000 4294967295 | primary 4294967295 | true
+remove account 500 | primary 513 | false";
+
 /// The member rows that have an account as a group or a user, and the alias rows that are of it or have its SID, each
 /// once: below those of the group or the alias, those of it, and above them.
 pub const NAMING: &str = "\
