@@ -1,3 +1,4 @@
+pub mod ByOpnum
 pub mod Finding
 pub mod Ruling
 pub mod Served

@@ -1,6 +1,6 @@
 // The table of operations.
-ghost use Rattle.std.specs.Prelude.{◌≡◌, ◌+◌, true, IfOk, OnErr};
-ghost use Rattle.std.specs.List.{find};
+ghost use Rattle.std.specs.Prelude.{◌≡◌, ◌+◌, true, None, map, get_or, IfOk, OnErr};
+ghost use Rattle.std.specs.List.{range_with_len};
 ghost use Rattle.acct_calls.specs.declared.calls.Face.TheVariants.{Samr, Lsa};
 ghost use Rattle.acct_rules.specs.Planned.{decision};
 ghost use Rattle.acct_rules.specs.Profiles.{asking, is_anywhere};
@@ -9,7 +9,7 @@ ghost use Rattle.acct_codes.specs.declared.kind.Kind.TheVariants as kind;
 ghost use Rattle.acct_rules.specs.declared.profile.Kinds.TheVariants.{Only};
 ghost use Rattle.acct_rules.specs.declared.profile.Needs.TheVariants as needs;
 ghost use Rattle.acct_rules.specs.declared.profile.Memory.TheVariants.{Anywhere, BehindConditions};
-ghost use Rattle.acct_operations.specs.Table.{opening, closing, operation, works, is_work_of, work_of, has_operation};
+ghost use Rattle.acct_operations.specs.Table.{opening, closing, operation, works, work_of, has_operation};
 ghost use Rattle.samr_objects.specs.Table.{asking_user};
 
 use crate::closings::close;
@@ -256,30 +256,157 @@ pub fn works() -> &'static [Work]
     ]
 }
 
-fn is_work_of(face: Face, opnum: u16, work: Work) -> bool
-    ensures { result ≡ is_work_of face opnum work }
+// The operations of SAMR, each at the place that its opnum says.
+#[tactic(auto, unfolding(crate::specs::Table::work_of, crate::specs::Table::operation))]
+fn samr_works() -> &'static [Option<Work>]
+    ensures { result.now ≡ map (work_of Samr) (range_with_len 0 66) }
 {
-    let profile = profile_of(work);
-    face == profile.face && opnum == profile.opnum
+    &[
+        None,
+        Some(Work::SamrCloseHandle),
+        None,
+        None,
+        None,
+        Some(Work::SamrLookupDomainInSamServer),
+        Some(Work::SamrEnumerateDomainsInSamServer),
+        Some(Work::SamrOpenDomain),
+        Some(Work::SamrQueryInformationDomain),
+        Some(Work::SamrSetInformationDomain),
+        Some(Work::SamrCreateGroupInDomain),
+        Some(Work::SamrEnumerateGroupsInDomain),
+        Some(Work::SamrCreateUserInDomain),
+        Some(Work::SamrEnumerateUsersInDomain),
+        Some(Work::SamrCreateAliasInDomain),
+        Some(Work::SamrEnumerateAliasesInDomain),
+        Some(Work::SamrGetAliasMembership),
+        Some(Work::SamrLookupNamesInDomain),
+        Some(Work::SamrLookupIdsInDomain),
+        Some(Work::SamrOpenGroup),
+        Some(Work::SamrQueryInformationGroup),
+        Some(Work::SamrSetInformationGroup),
+        Some(Work::SamrAddMemberToGroup),
+        Some(Work::SamrDeleteGroup),
+        Some(Work::SamrRemoveMemberFromGroup),
+        Some(Work::SamrGetMembersInGroup),
+        None,
+        Some(Work::SamrOpenAlias),
+        Some(Work::SamrQueryInformationAlias),
+        Some(Work::SamrSetInformationAlias),
+        Some(Work::SamrDeleteAlias),
+        Some(Work::SamrAddMemberToAlias),
+        Some(Work::SamrRemoveMemberFromAlias),
+        Some(Work::SamrGetMembersInAlias),
+        Some(Work::SamrOpenUser),
+        Some(Work::SamrDeleteUser),
+        Some(Work::SamrQueryInformationUser),
+        Some(Work::SamrSetInformationUser),
+        None,
+        Some(Work::SamrGetGroupsForUser),
+        None,
+        None,
+        None,
+        None,
+        None,
+        None,
+        Some(Work::SamrQueryInformationDomain2),
+        Some(Work::SamrQueryInformationUser2),
+        None,
+        None,
+        Some(Work::SamrCreateUser2InDomain),
+        None,
+        None,
+        None,
+        None,
+        None,
+        None,
+        Some(Work::SamrConnect2),
+        Some(Work::SamrSetInformationUser2),
+        None,
+        None,
+        None,
+        Some(Work::SamrConnect4),
+        None,
+        Some(Work::SamrConnect5),
+        Some(Work::SamrRidToSid),
+    ]
 }
 
-fn find_work(works: &[Work], face: Face, opnum: u16) -> Option<Work>
-    ensures { result ≡ find (is_work_of face opnum) works.now }
+// The operations of LSARPC, each at the place that its opnum says.
+#[tactic(auto, unfolding(crate::specs::Table::work_of, crate::specs::Table::operation))]
+fn lsa_works() -> &'static [Option<Work>]
+    ensures { result.now ≡ map (work_of Lsa) (range_with_len 0 47) }
 {
-    for work in works {
-        if is_work_of(face, opnum, *work) {
-            return Some(*work);
-        }
+    &[
+        Some(Work::LsarClose),
+        None,
+        Some(Work::LsarEnumeratePrivileges),
+        None,
+        None,
+        None,
+        None,
+        Some(Work::LsarQueryInformationPolicy),
+        None,
+        None,
+        Some(Work::LsarCreateAccount),
+        Some(Work::LsarEnumerateAccounts),
+        None,
+        None,
+        Some(Work::LsarLookupNames),
+        Some(Work::LsarLookupSids),
+        None,
+        Some(Work::LsarOpenAccount),
+        Some(Work::LsarEnumeratePrivilegesAccount),
+        Some(Work::LsarAddPrivilegesToAccount),
+        Some(Work::LsarRemovePrivilegesFromAccount),
+        None,
+        None,
+        Some(Work::LsarGetSystemAccessAccount),
+        Some(Work::LsarSetSystemAccessAccount),
+        None,
+        None,
+        None,
+        None,
+        None,
+        None,
+        Some(Work::LsarLookupPrivilegeValue),
+        Some(Work::LsarLookupPrivilegeName),
+        None,
+        Some(Work::LsarDeleteObject),
+        Some(Work::LsarEnumerateAccountsWithUserRight),
+        Some(Work::LsarEnumerateAccountRights),
+        Some(Work::LsarAddAccountRights),
+        Some(Work::LsarRemoveAccountRights),
+        None,
+        None,
+        None,
+        None,
+        None,
+        Some(Work::LsarOpenPolicy2),
+        None,
+        Some(Work::LsarQueryInformationPolicy2),
+    ]
+}
+
+// What stands at the place that an opnum says; behind the last place nothing does.
+#[tactic(auto, using(std::proofs::lemmas::Option::get_or_from_slice_get))]
+fn at(works: &[Option<Work>], opnum: u16) -> Option<Work>
+    ensures { result ≡ get_or works.now opnum None }
+{
+    match works.get(usize::from(opnum)) {
+        Some(work) => *work,
+        None => None,
     }
-    None
 }
 
 /// The operation of an interface and an opnum.
-#[tactic(auto, unfolding(crate::specs::Table::work_of))]
+#[tactic(auto, using(crate::proofs::ByOpnum::samr_at, crate::proofs::ByOpnum::lsa_at))]
 pub fn work_of(face: Face, opnum: u16) -> Option<Work>
     ensures { result ≡ work_of face opnum }
 {
-    find_work(works(), face, opnum)
+    match face {
+        Face::Samr => at(samr_works(), opnum),
+        Face::Lsa => at(lsa_works(), opnum),
+    }
 }
 
 /// Whether there is an operation of an interface and an opnum.
