@@ -72,6 +72,3 @@ pub fn usage(alloc: Global) -> Result<String, NoMemory> {
         Err(shown) => format!(in alloc; "{shown}"),
     }
 }
-
-#[cfg(test)]
-mod tests;

@@ -14,6 +14,3 @@ pub use events::generated;
 
 /// Want of memory, which is the one fault that may come anywhere.
 pub type NoMemory = std::alloc::AllocError;
-
-#[cfg(test)]
-mod tests;

@@ -14,6 +14,3 @@ pub use keeper::{KeepError, Keeper};
 pub use memory::{MemoryKeeper, SteadyKeeper};
 pub use pairs::{Change, Pair};
 pub use places::is_ascending;
-
-#[cfg(test)]
-mod tests;

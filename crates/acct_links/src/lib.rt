@@ -28,6 +28,3 @@ pub use memory_links::{MemoryLink, SteadyLink};
 
 /// What a call answers whose object's count of faults has risen.
 pub use acct_streams::Failed;
-
-#[cfg(test)]
-mod tests;

@@ -1,105 +1,21 @@
-//! The program `account`: its top call over a world that hands out sources, the sink, keepers, the entrance and the
-//! caller, worlds in memory and the real one, and `main`, which makes the real world and calls `account`.
+//! The program `account`: `main`, which makes the real world and calls `account` on it.
 //!
-//! It stands on `acct_server`, `acct_summary`, `client_calls`, `listener_doors` and `acct_keeper`, and in the real world
-//! on `host_doors` and `keeper_sqlite`. What the program promises are the clauses of [`account`]: over a world that
-//! tells, the words without a form take no part; a replay leaves the history, the lines and the status of its events,
-//! and the world's keeper with the pairs of the rows after them; the generator writes the summary of a replay of the
-//! events that it makes; a server asks the entrance once for the doors of each listener, and serves them all, period
-//! after period, each of which is left to the world; and a call holds the dialogue of its command over one link, and
-//! writes its lines.
+//! It stands on `acct_commands` for the top call, on `host_world` for the real world, on `account_words` for the words
+//! of the command line and what is said of a status, and on `account_usage` for what is written where the words have no
+//! form. What the program promises are the clauses of [`account`], over a world that tells; what is here makes that
+//! world and writes to the standard error.
 #![tactic(auto)]
 
-ghost use Rattle.std.specs.Prelude.{◌≡◌};
-ghost use Rattle.acct_prog.specs.Statuses.{code_of, word_of};
-
-mod channel;
-mod command;
-mod forms;
-mod host;
-mod host_entrance;
-mod host_keeper;
-mod host_link;
-mod keeping;
-mod memory;
-mod messages;
-mod opened;
-mod part;
-mod period;
-mod serving;
-mod statuses;
-mod stranger;
-mod trouble;
-mod unread;
-mod words;
-mod world;
-
 use account_usage::usage;
-pub use acct_links::TakeError;
+use account_words::{code_of, message, word_of, words};
+pub use acct_commands::account;
+pub use acct_links::{Caller, TakeError};
 use acct_server::Status;
-pub use command::account;
-pub use host::{HostSink, HostSource, HostWorld};
-pub use host_entrance::SpokenEntrance;
-pub use host_keeper::HostKeeper;
-pub use host_link::{HostCaller, HostLink};
-pub use memory::{MemoryParts, MemoryWorld};
-use messages::message;
-pub use part::Part;
-pub use period::Period;
+pub use acct_world::{Period, World};
+use host_world::HostWorld;
 use std::process::ExitCode;
 use std::sync::Wait;
 use std::thread::Threads;
-pub use stranger::Stranger;
-pub use trouble::Trouble;
-pub use unread::Unread;
-use words::words;
-pub use world::World;
-
-/// The exit code of a status.
-fn code_of(status: &Status) -> u8
-    ensures { result ≡ code_of status.now }
-{
-    match status {
-        Status::Done => 0,
-        Status::NoMemory => 1,
-        Status::Usage => 2,
-        Status::Config(_) => 3,
-        Status::ReadFault => 4,
-        Status::WriteFault => 5,
-        Status::StoreFault => 6,
-        Status::StoredPair(_) => 7,
-        Status::EventLine(_) => 8,
-        Status::DoorFault => 9,
-        Status::HistoryFull(_) => 10,
-        Status::PeerBytes(_) => 11,
-        Status::PeerFault => 12,
-        Status::InputTooLong => 13,
-        Status::Refused(_) => 14,
-    }
-}
-
-/// Its word.
-fn word_of(status: &Status) -> &'static str
-    ensures { result.now ≡ word_of status.now }
-{
-    match status {
-        Status::Done => "done",
-        Status::NoMemory => "memory",
-        Status::Usage => "usage",
-        Status::Config(_) => "config",
-        Status::ReadFault => "read",
-        Status::WriteFault => "write",
-        Status::StoreFault => "store",
-        Status::StoredPair(_) => "pair",
-        Status::EventLine(_) => "event",
-        Status::DoorFault => "door",
-        Status::HistoryFull(_) => "full",
-        Status::PeerBytes(_) => "peer",
-        Status::PeerFault => "link",
-        Status::InputTooLong => "long",
-        Status::Refused(_) => "refused",
-    }
-}
 
 /// Says what went wrong at the address that was called, and what to do about it. Where the link ended and what answered
 /// over it is known to be no account server, it says that.
@@ -170,6 +86,3 @@ fn run<R: Threads + Wait + Sync>(rt: &HostRuntime, waiting: &R) -> Status {
 fn main(rt: HostRuntime) -> ExitCode {
     ExitCode::from(code_of(&run(&rt, &rt)))
 }
-
-#[cfg(test)]
-mod tests;

@@ -15,6 +15,3 @@ pub use memory::{MemorySink, MemorySource, SteadySink, SteadySource};
 pub use outside::{Failed, Sink, Source};
 pub use whole::{WholeError, read_whole};
 pub use writing::write_all;
-
-#[cfg(test)]
-mod tests;

@@ -12,6 +12,3 @@ pub use generating::{Generation, generate};
 
 /// Want of memory, which is the one fault that may come anywhere.
 pub type NoMemory = std::alloc::AllocError;
-
-#[cfg(test)]
-mod tests;

@@ -8,8 +8,6 @@
 
 mod order;
 mod table;
-#[cfg(test)]
-mod tests;
 
 pub use order::{Order, Test};
 pub use table::Table;

@@ -16,6 +16,3 @@ pub use calling::{Called, call};
 pub use conversing::converse;
 pub use ends::TalkEnd;
 pub use laws::dialogues_come_to_their_ends;
-
-#[cfg(test)]
-mod tests;

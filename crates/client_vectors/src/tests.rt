@@ -2,10 +2,13 @@
 // and what the peer answers (`<`), then how it ends (`=`), and the lines that are printed. A word `N*REST` is REST so
 // many times. Every expected value was packed from the fields of the standards by another program, which agrees with
 // the stubs of Samba and impacket.
+mod calls;
 mod commands;
 mod digits;
 mod errors;
 mod fragments;
+mod generated;
+mod generated_lines;
 mod lists;
 mod peers;
 mod refusals;

@@ -23,6 +23,3 @@ pub use entrances::HostEntrance;
 pub use links::{HostLink, LinkTrouble};
 pub use sockets::Socket;
 pub use troubles::{Advice, DoorTrouble};
-
-#[cfg(test)]
-mod tests;

@@ -12,6 +12,3 @@
 mod keeper;
 
 pub use keeper::SqliteKeeper;
-
-#[cfg(test)]
-mod tests;

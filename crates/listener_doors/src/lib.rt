@@ -8,6 +8,3 @@
 mod opening;
 
 pub use opening::open_doors;
-
-#[cfg(test)]
-mod tests;

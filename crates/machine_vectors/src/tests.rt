@@ -6,3 +6,4 @@ mod histories;
 mod profiles;
 mod scripts;
 mod stores;
+mod tables;

@@ -1,0 +1,32 @@
+-- What each command does to a world.
+use Rattle.std.specs.Prelude.{◌≡◌, ℕ, List, true}
+use Rattle.acct_server.specs.Replaying.{Telling}
+use Rattle.acct_server.specs.declared.status.Status.{Status}
+use Rattle.acct_server.specs.declared.status.Status.TheVariants.{Usage, NoMemory}
+use Rattle.acct_commands.specs.Words.{Form, Replay, Generate, Serve, Call, is_call}
+use Rattle.acct_world.specs.World.{Seen}
+use Rattle.acct_commands.specs.Commanded.{Commanded}
+use Rattle.acct_commands.specs.Generates.{Generates}
+use Rattle.acct_commands.specs.Serving.{TellingServe, Serves}
+use Rattle.acct_commands.specs.Calling.{TellingCall, Calls}
+
+-- what the parts of each command tell
+pub record TellingAll (S T K E D F C L : Type 0) : Type 1 where
+  pub replay : Telling S T K
+  pub serve : TellingServe S K E D F
+  pub call : TellingCall T C L
+
+abbrev pub Does : {S T K E D F C L : Type 0} → TellingAll S T K E D F C L → Form → Seen S T K E D C L
+    → Seen S T K E D C L → Status → Type 0
+Does told (Replay name) old new status = Commanded told.replay name old new status
+Does told (Generate users) old new status =
+    Generates told.replay.held told.replay.write_faults users old new status
+Does told (Serve names) old new status = Serves told.serve names old new status
+Does told (Call calling) old new status = Calls told.call calling old new status
+
+-- The status of words without a form. Memory is wanted only where they may be a command of the client, which is then
+-- read.
+abbrev pub IsFormless : List (List ℕ) → Status → Type 0
+IsFormless words Usage = Unit {0}
+IsFormless words NoMemory = is_call words ≡ true
+IsFormless words _ = ⊥

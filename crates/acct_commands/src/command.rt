@@ -1,0 +1,245 @@
+// The program's commands, over a world.
+ghost use Rattle.std.specs.Prelude.{◌≡◌, ◌≢◌, ◌≤◌, Some, None, length, map, true};
+ghost use Rattle.std.specs.String.{string_bytes};
+ghost use Rattle.acct_generator.specs.Calls.{most_users};
+ghost use Rattle.client_calls.specs.Talks.{IsBegun};
+ghost use Rattle.client_steps.specs.declared.command.Command.{Command};
+ghost use Rattle.acct_server.specs.declared.status.Status.TheVariants.{Usage};
+ghost use Rattle.acct_commands.specs.Words.{Form, Calling, form_of, is_call, call_form};
+ghost use Rattle.acct_commands.specs.Commanded.{Commanded, Returned, standard_input};
+ghost use Rattle.acct_commands.specs.Calling.{Calls};
+ghost use Rattle.acct_commands.specs.Generates.{Generates};
+ghost use Rattle.acct_commands.specs.Does.{Does, IsFormless};
+
+use crate::forms::{behind_two, gen_users, is_call, replay_name, serve_names};
+use crate::keeping::keep;
+use crate::period::{parted, period_between};
+use crate::serving::run_serve;
+use crate::statuses::{link_status, read_status, store_status, talk_status, write_status};
+use acct_base::Seq;
+use acct_client::{AskError, Asker};
+use acct_links::{Door, Entrance};
+use acct_server::{Status, replay};
+use acct_summary::{Generation, generate};
+use acct_world::World;
+use client_calls::{Called, call, dialogues_come_to_their_ends};
+use std::alloc::Global;
+use std::sync::Wait;
+use std::thread::Threads;
+
+// Runs a replay over parts that were handed out, leaves its period to the world, and gives the parts back.
+fn run_parts<W: World>(
+    alloc: Global,
+    name: &str,
+    world: &mut W,
+    mut config: W::S,
+    mut events: W::S,
+    mut out: W::T,
+    keeper: W::K,
+) -> Status
+    requires { name.now ≢ standard_input }
+    ensures { Returned (record {
+      left = W.S.left;
+      read_faults = W.S.faults;
+      held = W.T.held;
+      write_faults = W.T.faults;
+      pairs = W.K.held;
+      store_faults = W.K.faults;
+    }) name.now (record { config = config; events = events; out = out; keeper = keeper }) (W.seen world.old)
+        (W.seen world.new) result }
+{
+    let left = replay(alloc, &mut config, &mut events, &mut out, keeper);
+    let (ended, period, keeper) = parted(alloc, left);
+    let status = keep(world, period, ended);
+    world.give_keeper("", keeper);
+    world.give_sink(out);
+    world.give_source("-", events);
+    world.give_source(name, config);
+    status
+}
+
+// The command `replay`: it takes the configuration, the standard input, the sink and the keeper with the empty name, in
+// this order.
+fn run_replay<W: World>(alloc: Global, name: &str, world: &mut W) -> Status
+    requires { name.now ≢ standard_input }
+    ensures commanded { Commanded (record {
+      left = W.S.left;
+      read_faults = W.S.faults;
+      held = W.T.held;
+      write_faults = W.T.faults;
+      pairs = W.K.held;
+      store_faults = W.K.faults;
+    }) name.now (W.seen world.old) (W.seen world.new) result }
+    ensures not_usage { result ≢ Usage }
+{
+    let config = match world.take_source(name) {
+        Ok(config) => config,
+        Err(e) => return read_status(e),
+    };
+    let events = match world.take_source("-") {
+        Ok(events) => events,
+        Err(e) => {
+            world.give_source(name, config);
+            return read_status(e);
+        }
+    };
+    let out = match world.take_sink() {
+        Ok(out) => out,
+        Err(e) => {
+            world.give_source("-", events);
+            world.give_source(name, config);
+            return write_status(e);
+        }
+    };
+    let keeper = match world.take_keeper("") {
+        Ok(keeper) => keeper,
+        Err(e) => {
+            world.give_sink(out);
+            world.give_source("-", events);
+            world.give_source(name, config);
+            return store_status(e);
+        }
+    };
+    run_parts(alloc, name, world, config, events, out, keeper)
+}
+
+// The command `gen`: it takes the sink alone.
+fn run_generator<W: World>(alloc: Global, users: u32, world: &mut W) -> Status
+    requires { users ≤ most_users }
+    ensures generated { Generates W.T.held W.T.faults users (W.seen world.old) (W.seen world.new) result }
+    ensures not_usage { result ≢ Usage }
+{
+    let mut out = match world.take_sink() {
+        Ok(out) => out,
+        Err(e) => return write_status(e),
+    };
+    let Generation {
+        ended,
+        opening,
+        history,
+        rows,
+    } = generate(alloc, users, &mut out);
+    let period = period_between(opening, history, rows, Seq::new(alloc));
+    let status = keep(world, period, ended);
+    world.give_sink(out);
+    status
+}
+
+// The command `call`: it takes the caller and the sink, in this order, and asks the caller for one link, to the
+// address.
+fn run_call<W: World>(alloc: Global, asker: Asker, address: &str, world: &mut W) -> Status
+    requires { (command : Command) × IsBegun command asker }
+    ensures calls { (command : Command) → IsBegun command asker → Calls (record {
+      sunk = λ out. record { held = W.T.held out; faults = W.T.faults out };
+      called = W.C.called;
+      call_faults = W.C.faults;
+      link = W.C.L.told;
+    }) (record { address = address.now; command = command }) (W.seen world.old) (W.seen world.new) result }
+    ensures not_usage { result ≢ Usage }
+{
+    let mut caller = match world.take_caller() {
+        Ok(caller) => caller,
+        Err(e) => {
+            drop(asker);
+            return link_status(e);
+        }
+    };
+    let mut out = match world.take_sink() {
+        Ok(out) => out,
+        Err(e) => {
+            drop(asker);
+            world.give_caller(caller, None);
+            return write_status(e);
+        }
+    };
+    let Called {
+        end,
+        printing,
+        link,
+    } = call(alloc, asker, address, &mut caller, &mut out);
+    world.give_sink(out);
+    world.give_caller(caller, link);
+    dialogues_come_to_their_ends();
+    talk_status(end, printing)
+}
+
+// The command `call`, where the words may be one: it reads which command of the client they are before any part is
+// taken.
+fn run_client<W: World>(alloc: Global, words: &Vec<String>, world: &mut W) -> Status
+    requires call { is_call (map string_bytes words.now.items) ≡ true }
+    requires some { 3 ≤ length words.now.items }
+    ensures calls { (calling : Calling) → call_form (map string_bytes words.now.items) ≡ Some calling →
+        Calls (record {
+          sunk = λ out. record { held = W.T.held out; faults = W.T.faults out };
+          called = W.C.called;
+          call_faults = W.C.faults;
+          link = W.C.L.told;
+        }) calling (W.seen world.old) (W.seen world.new) result }
+    ensures usage { result ≡ Usage → call_form (map string_bytes words.now.items) ≡ None }
+    ensures none { call_form (map string_bytes words.now.items) ≡ None →
+        IsFormless (map string_bytes words.now.items) result }
+    ensures untouched { call_form (map string_bytes words.now.items) ≡ None → world.new ≡ world.old }
+{
+    match Asker::new(alloc, behind_two(words)) {
+        Ok(asker) => run_call(alloc, asker, words[1].as_str(), world),
+        Err(AskError::Usage) => Status::Usage,
+        Err(_) => Status::NoMemory,
+    }
+}
+
+/// Does all that the program does. The words are `replay CONFIG`; or `gen N` for the summary of a replay of events that
+/// make N users, 1 to 10,000; or `serve CONFIG STORE` for a server, which may wait for its clients; or `call ADDRESS
+/// WORD..` for a command of the client. Other words take no part of the world, and are answered by usage; or by want of
+/// memory, where they may be a command of the client.
+pub fn account<R: Threads + Wait + Sync, W: World>(
+    rt: &R,
+    alloc: Global,
+    words: &Vec<String>,
+    world: &mut W,
+) -> Status
+where
+    <W::E as Entrance>::D: Drop + Send,
+    <<W::E as Entrance>::D as Door>::L: Send,
+    ensures usage { result ≡ Usage → form_of (map string_bytes words.now.items) ≡ None }
+    ensures formless { form_of (map string_bytes words.now.items) ≡ None →
+        IsFormless (map string_bytes words.now.items) result }
+    ensures untouched { form_of (map string_bytes words.now.items) ≡ None → world.new ≡ world.old }
+    ensures commanded { (form : Form) → form_of (map string_bytes words.now.items) ≡ Some form →
+        Does (record {
+          replay = record {
+            left = W.S.left;
+            read_faults = W.S.faults;
+            held = W.T.held;
+            write_faults = W.T.faults;
+            pairs = W.K.held;
+            store_faults = W.K.faults;
+          };
+          serve = record {
+            left = W.S.left;
+            read_faults = W.S.faults;
+            asked = W.E.asked;
+            entrance_faults = W.E.faults;
+            served = record { door = W.E.D.Door; told = W.E.D.L.told; pairs = W.K.held; faults = W.K.faults };
+          };
+          call = record {
+            sunk = λ out. record { held = W.T.held out; faults = W.T.faults out };
+            called = W.C.called;
+            call_faults = W.C.faults;
+            link = W.C.L.told;
+          };
+        }) form (W.seen world.old) (W.seen world.new) result }
+{
+    if let Some(name) = replay_name(words) {
+        return run_replay(alloc, name, world);
+    }
+    if let Some(users) = gen_users(words) {
+        return run_generator(alloc, users, world);
+    }
+    if let Some((config, store)) = serve_names(words) {
+        return run_serve(rt, alloc, config, store, world);
+    }
+    if is_call(words) {
+        return run_client(alloc, words, world);
+    }
+    Status::Usage
+}

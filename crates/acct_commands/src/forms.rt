@@ -1,0 +1,101 @@
+// The forms of the words: which command they are.
+ghost use Rattle.std.specs.Prelude.{◌≡◌, ◌≤◌, None, Some, length, drop, map, MatchOption, IfSome, IsTrue};
+ghost use Rattle.std.specs.List.{list_any};
+ghost use Rattle.std.specs.String.{string_bytes};
+ghost use Rattle.acct_commands.specs.Words.{replay_form, gen_form, serve_form, users_in, is_call, begins_with_dash};
+ghost use Rattle.acct_generator.specs.Calls.{most_users};
+
+use acct_base::decimal;
+use acct_config::is_address;
+use acct_generator::MOST_USERS;
+
+/// The configuration's name, of the words `replay CONFIG`.
+pub fn replay_name(words: &Vec<String>) -> Option<&str>
+    ensures { MatchOption result (replay_form (map string_bytes words.now.items) ≡ None)
+        (λ name. replay_form (map string_bytes words.now.items) ≡ Some name.now) }
+{
+    if words.len() != 2 {
+        return None;
+    }
+    let name = words[1].as_str();
+    if words[0].as_str() != "replay" || name.as_bytes().first() == Some(&b'-') {
+        return None;
+    }
+    Some(name)
+}
+
+// The number of users from 1 to 10,000 that digits without a leading zero spell.
+#[tactic(auto, unfolding(crate::specs::Words::users_in))]
+fn users_in(word: &[u8]) -> Option<u32>
+    ensures value { result ≡ users_in word.now }
+    ensures few { IfSome result (λ users. users ≤ most_users) }
+{
+    if 5 < word.len() || word.first() == Some(&b'0') {
+        return None;
+    }
+    let number = decimal(word)?;
+    if number < 1 || (MOST_USERS as u64) < number {
+        return None;
+    }
+    Some(number as u32)
+}
+
+/// The number of users, of the words `gen N`.
+pub fn gen_users(words: &Vec<String>) -> Option<u32>
+    ensures value { result ≡ gen_form (map string_bytes words.now.items) }
+    ensures few { IfSome result (λ users. users ≤ most_users) }
+{
+    if words.len() != 2 || words[0].as_str() != "gen" {
+        return None;
+    }
+    users_in(words[1].as_bytes())
+}
+
+fn begins_with_dash(word: &str) -> bool
+    ensures { result ≡ begins_with_dash word.now }
+{
+    word.as_bytes().first() == Some(&b'-')
+}
+
+/// The names of the configuration and of the store, of the words `serve CONFIG STORE`.
+pub fn serve_names(words: &Vec<String>) -> Option<(&str, &str)>
+    ensures { MatchOption result (serve_form (map string_bytes words.now.items) ≡ None)
+        (λ names. serve_form (map string_bytes words.now.items)
+        ≡ Some (record { config = names.0.now; store = names.1.now })) }
+{
+    if words.len() != 3 || words[0].as_str() != "serve" {
+        return None;
+    }
+    let config = words[1].as_str();
+    let store = words[2].as_str();
+    if begins_with_dash(config) || begins_with_dash(store) {
+        return None;
+    }
+    Some((config, store))
+}
+
+// Whether one of the words begins with a dash.
+fn has_dash(words: &[String]) -> bool
+    ensures { result ≡ list_any begins_with_dash (map string_bytes words.now) }
+{
+    words.iter().any(|word| begins_with_dash(word.as_str()))
+}
+
+/// The words behind the first two.
+pub fn behind_two(words: &Vec<String>) -> &[String]
+    requires { 2 ≤ length words.now.items }
+    ensures { result.now ≡ drop 2 words.now.items }
+{
+    &words[2..]
+}
+
+/// Whether the words are `call`, an address, and one word or more, of which none begins with a dash.
+pub fn is_call(words: &Vec<String>) -> bool
+    ensures value { result ≡ is_call (map string_bytes words.now.items) }
+    ensures some { IsTrue result → 3 ≤ length words.now.items }
+{
+    if words.len() < 3 {
+        return false;
+    }
+    words[0].as_str() == "call" && is_address(words[1].as_str()) && !has_dash(behind_two(words))
+}

@@ -1,0 +1,23 @@
+//! The program's commands, over a world: its top call, `account`.
+//!
+//! It stands on `acct_world` for the world that hands out sources, the sink, keepers, the entrance and the caller, and
+//! on `acct_server`, `acct_summary`, `client_calls` and `listener_doors` for what the commands do. What the program
+//! promises are the clauses of [`account`]: over a world that tells, the words without a form take no part; a replay
+//! leaves the history, the lines and the status of its events, and the world's keeper with the pairs of the rows after
+//! them; the generator writes the summary of a replay of the events that it makes; a server asks the entrance once for
+//! the doors of each listener, and serves them all, period after period, each of which is left to the world; and a call
+//! holds the dialogue of its command over one link, and writes its lines.
+//!
+//! In rooms: `forms` tells which command the words are; `command` has `account` with the replay, the generator and the
+//! client's command, `serving` the server; `period` makes what is left of a run, `keeping` leaves it to the world, and
+//! `statuses` has the statuses of parts that aren't handed out, of askings, and of dialogues.
+#![tactic(auto)]
+
+mod command;
+mod forms;
+mod keeping;
+mod period;
+mod serving;
+mod statuses;
+
+pub use command::account;

@@ -1,8 +1,0 @@
-pub mod Worlds
-pub mod Usages
-pub mod Holding
-pub mod Generations
-pub mod Callings
-pub mod Servings
-pub mod Periods
-pub mod GoingOn

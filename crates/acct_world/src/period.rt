@@ -1,0 +1,14 @@
+// What a run leaves to the world.
+use acct_base::Seq;
+use acct_machine::{Entry, Rows};
+use acct_workers::Ended;
+
+/// A period: the rows from which its history began, the history, the rows after it, and how the sessions ended that were
+/// served in it, by the numbers of their connections. That of a replay has no ends.
+#[derive(Drop)]
+pub struct Period {
+    pub opening: Rows,
+    pub history: Seq<Entry>,
+    pub rows: Rows,
+    pub ends: Seq<Ended>,
+}

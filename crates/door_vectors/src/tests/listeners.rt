@@ -1,0 +1,142 @@
+// Entrances in memory that are asked for the doors of listeners: which askings are answered, and which doors are there.
+ghost use Rattle.std.specs.Prelude.{All, IfOk};
+ghost use Rattle.acct_config.specs.Right.{IsRight};
+ghost use Rattle.acct_links.specs.Links.{IsNew};
+ghost use Rattle.acct_links.specs.Memory.{told_by_steady};
+
+use acct_base::Seq;
+use acct_config::{Config, read_config};
+use acct_links::{Asking, Door, DoorPlan, Link, MemoryEntrance, Next, SteadyLink};
+use listener_doors::open_doors;
+use std::alloc::Global;
+use std::test::Fail;
+
+const DOMAIN: &str = "[domain]\nname = \"CORP\"\nsid = \"S-1-5-21-1-2-3\"\n";
+
+// Each row: the asking that fails, or 0; the listeners, each by its address, its workers and its links; what is
+// answered; the askings that the entrance answered with doors, each with the listener's place in front; and the doors,
+// each by its listener's place and the letter that its first link brings. The first three doors that an entrance makes
+// bring a, b and c, those behind them nothing.
+const ROWS: &str = "0|tcp:127.0.0.1:4045 1 0|Ok(())|0 tcp:127.0.0.1:4045 1 0,|0a,
+0|unix:/run/account 3 7|Ok(())|0 unix:/run/account 3 7,|0a,0b,0c,
+0|tcp:h:1 1 4294967295,unix:s 2 0,tcp:h:1 1 1|Ok(())|0 tcp:h:1 1 4294967295,1 unix:s 2 0,2 tcp:h:1 1 1,|0a,1b,1c,2-,
+0|tcp:h:1 2 0,tcp:h:2 1 5|Ok(())|0 tcp:h:1 2 0,1 tcp:h:2 1 5,|0a,0b,1c,
+1|tcp:h:1 1 0|Err(Failed)||
+1|tcp:h:1 2 0,unix:s 1 3,unix:t 1 0|Err(Failed)||
+2|tcp:h:1 2 0,unix:s 1 3,unix:t 1 0|Err(Failed)|0 tcp:h:1 2 0,|0a,0b,
+3|tcp:h:1 2 0,unix:s 1 3,unix:t 1 0|Err(Failed)|0 tcp:h:1 2 0,1 unix:s 1 3,|0a,0b,1c,
+4|tcp:h:1 2 0,unix:s 1 3,unix:t 1 0|Ok(())|0 tcp:h:1 2 0,1 unix:s 1 3,2 unix:t 1 0,|0a,0b,1c,2-,";
+
+// The front of a text up to a sign, and what is behind the sign.
+fn split(text: &str, sign: char) -> (&str, &str) {
+    text.split_once(sign).unwrap_or((text, ""))
+}
+
+// A configuration with these listeners.
+fn configured(alloc: Global, listeners: &str) -> Result<Config, Fail>
+    ensures { IfOk result IsRight }
+{
+    let mut document = String::from_str(alloc, DOMAIN)?;
+    for (place, listener) in listeners.split(',').enumerate() {
+        let (address, counts) = split(listener, ' ');
+        let (workers, links) = split(counts, ' ');
+        write!(
+            document,
+            "[[listener]]\nname = \"l{place}\"\naddress = \"{address}\"\ntoken = [\"S-1-1-0\"]\nworkers = \
+            {workers}\nlinks = {links}\n"
+        )?;
+    }
+    Ok(read_config(alloc, document.as_str().as_bytes())?)
+}
+
+// A door with a link that brings this letter.
+fn plan_of(alloc: Global, letter: u8) -> Result<DoorPlan<SteadyLink>, Fail>
+    ensures { IfOk result (λ plan. All (λ link. IsNew (told_by_steady link)) plan.links) }
+{
+    let mut links = Vec::new(alloc);
+    links.push(SteadyLink::new([letter].to_vec(alloc)?, 1))?;
+    Ok(DoorPlan {
+        links: Seq::from_vec(links),
+        failing: Seq::new(alloc),
+    })
+}
+
+// An entrance whose call of this number fails.
+fn entrance_of(alloc: Global, failing: u64) -> Result<MemoryEntrance<SteadyLink>, Fail> {
+    let mut plans = Vec::new(alloc);
+    plans.push(plan_of(alloc, b'a')?)?;
+    plans.push(plan_of(alloc, b'b')?)?;
+    plans.push(plan_of(alloc, b'c')?)?;
+    Ok(MemoryEntrance::new(alloc, plans, [failing].to_vec(alloc)?))
+}
+
+// The letter that the next link of a door brings.
+fn letter_of<D: Door>(door: &mut D) -> char {
+    let mut letter = [b'?'];
+    match door.next() {
+        Next::Link(mut link) => {
+            let _ = link.read(&mut letter);
+            door.finish(1, link);
+        }
+        Next::Closed => letter = [b'-'],
+        Next::Failed => letter = [b'!'],
+    }
+    char::from(letter[0])
+}
+
+fn push_askings(text: &mut String, askings: &[Asking]) -> Result<(), Fail> {
+    for asking in askings {
+        let address = std::str::from_utf8(asking.address.as_slice())
+            .ok()
+            .unwrap_or("?");
+        let (listener, workers, links) = (asking.listener, asking.workers, asking.links);
+        write!(text, "{listener} {address} {workers} {links},")?;
+    }
+    Ok(())
+}
+
+fn push_doors<D: Door>(text: &mut String, doors: &mut Vec<D>) -> Result<(), Fail> {
+    for door in doors {
+        let letter = letter_of(door);
+        write!(text, "{}{letter},", door.listener())?;
+    }
+    Ok(())
+}
+
+// What is left where an entrance was asked for the doors of a configuration.
+fn left(
+    alloc: Global,
+    config: &Config,
+    entrance: &mut MemoryEntrance<SteadyLink>,
+) -> Result<String, Fail>
+    requires { IsRight config.now }
+{
+    let mut doors = Vec::new(alloc);
+    let answer = open_doors(config, entrance, &mut doors);
+    let mut text = format!(in alloc; "{answer:?}|")?;
+    push_askings(&mut text, entrance.askings())?;
+    text.push('|')?;
+    push_doors(&mut text, &mut doors)?;
+    Ok(text)
+}
+
+fn told(alloc: Global, failing: &str, listeners: &str) -> Result<String, Fail> {
+    let number = failing.parse::<u32>().ok().unwrap_or(0) as u64;
+    let config = configured(alloc, listeners)?;
+    let mut entrance = entrance_of(alloc, number)?;
+    left(alloc, &config, &mut entrance)
+}
+
+#[test]
+fn doors_of_listeners(rt: HostRuntime) -> Result<(), Fail> {
+    for row in ROWS.lines() {
+        let (failing, rest) = split(row, '|');
+        let (listeners, wanted) = split(rest, '|');
+        assert_eq!(rt;
+            told(rt.alloc(), failing, listeners)?.as_str(),
+            wanted,
+            "{row}"
+        );
+    }
+    Ok(())
+}

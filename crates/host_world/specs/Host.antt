@@ -1,0 +1,80 @@
+-- What a source, a keeper and a link of the real world tell, what answers over a link by its first bytes, and what the
+-- real world keeps of what went wrong.
+use Rattle.std.specs.Prelude.{ℕ, List, ◌∷◌, [], Bool, true, false, codes, Option, Some, None, nat_eq, if◌then◌else◌}
+use Rattle.std.specs.Prelude.{option_map, slice_get}
+use Rattle.std.specs.List.{starts_with, filter_map}
+use Rattle.std.specs.Str.{bytes_eq}
+use Rattle.std.specs.declared.io.Error.{Error}
+use Rattle.host_world.specs.declared.opened.Opened.{Opened}
+use Rattle.host_world.specs.declared.opened.Opened.TheVariants.{Standard, Disk}
+use Rattle.host_world.specs.declared.channel.Channel.{Channel}
+use Rattle.host_world.specs.declared.channel.Channel.TheVariants.{Tcp, Unix}
+use Rattle.acct_keeper.specs.declared.pairs.Pair.{Pair}
+use Rattle.host_world.specs.declared.host_keeper.HostKeeper.{HostKeeper}
+use Rattle.host_world.specs.declared.host_keeper.HostKeeper.TheVariants.{Memory, File}
+use Rattle.host_world.specs.declared.stranger.Stranger.{Stranger}
+use Rattle.host_world.specs.declared.stranger.Stranger.TheVariants.{Http, Ssh, Tls, Other}
+use Rattle.host_world.specs.declared.trouble.Trouble.{Trouble}
+use Rattle.host_world.specs.declared.trouble.Trouble.TheVariants.{Ended}
+use Rattle.host_world.specs.declared.unread.Unread.{Unread}
+use Rattle.host_world.specs.declared.unread.Unread.TheVariants.{Input, Named}
+use Rattle.host_doors.specs.declared.doors.HostDoor.{HostDoor}
+use Rattle.host_doors.specs.declared.troubles.DoorTrouble.{DoorTrouble}
+use Rattle.host_doors.specs.declared.troubles.DoorTrouble.TheVariants.{NotAccepted}
+
+-- the standard input tells what its reader tells; a file doesn't tell what it has left
+abbrev pub left_of : {I : Type 0} → (I → Option (List ℕ)) → Opened I → Option (List ℕ)
+left_of tells (Standard input) = tells input
+left_of tells (Disk file) = None
+
+-- a keeper in memory tells its pairs, and one in a file doesn't
+abbrev pub held_by : HostKeeper → Option (List Pair)
+held_by (Memory pairs) = Some pairs
+held_by (File faults) = None
+
+-- how many of its calls have failed: none of one in memory
+abbrev pub faults_of : HostKeeper → ℕ
+faults_of (Memory pairs) = 0
+faults_of (File faults) = faults
+
+-- the bytes begin as an answer by HTTP, a banner of SSH or an alert of TLS
+abbrev pub stranger_of : List ℕ → Stranger
+stranger_of front = if starts_with nat_eq front (codes "HTTP/") then Http else
+    (if starts_with nat_eq front (codes "SSH-") then Ssh else
+    (if starts_with nat_eq front (21 ∷ 3 ∷ []) then Tls else Other))
+
+abbrev pub is_known : Stranger → Bool
+is_known Other = false
+is_known _ = true
+
+-- whether an address is of a socket's path, or of a host and a port, and whether a channel goes over a Unix socket
+abbrev pub has_path : List ℕ → Bool
+has_path address = starts_with nat_eq address (codes "unix:")
+
+abbrev pub has_place : List ℕ → Bool
+has_place address = starts_with nat_eq address (codes "tcp:")
+
+abbrev pub is_unix : {S : Type 0} → Channel S → Bool
+is_unix (Tcp stream) = false
+is_unix (Unix stream) = true
+
+-- what went wrong with a link: what it kept, or else that it ended
+abbrev pub trouble_of : Bool → Option Trouble → Option Trouble
+trouble_of true None = Some Ended
+trouble_of _ trouble = trouble
+
+-- what went wrong at a door, and at the first of some doors at which something did
+abbrev pub trouble_at : {T : Type 0} → HostDoor T → Option DoorTrouble
+trouble_at door = option_map (λ error. NotAccepted error) door.trouble
+
+abbrev pub first_trouble : {T : Type 0} → List (HostDoor T) → Option DoorTrouble
+first_trouble doors = slice_get (filter_map trouble_at doors) 0
+
+-- why the source of a name wasn't read: the name `-` is the standard input's
+abbrev pub unread_of : List ℕ → Error → Unread
+unread_of name error = if bytes_eq name (codes "-") then Input error else Named error
+
+-- and what the world keeps of that once a source was given back: what went wrong with it, or else what it kept before
+abbrev pub unread_after : List ℕ → Option Error → Option Unread → Option Unread
+unread_after name None kept = kept
+unread_after name (Some error) kept = Some (unread_of name error)

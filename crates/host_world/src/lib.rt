@@ -1,0 +1,34 @@
+//! The real world of the program: files and the standard streams, keepers in memory and in files, the entrance of the
+//! system, and calls by TCP and by Unix sockets.
+//!
+//! It stands on `acct_world` for the trait of a world, on `acct_streams`, `acct_keeper` and `acct_links` for those of
+//! its parts, and on `host_doors` and `keeper_sqlite` for the system's doors and stores. The layer above uses
+//! [`HostWorld`] by the contract of `World`: a part is refused, and a call of a part answers a fault, only where that
+//! object's count of faults rose. It uses as well that the world keeps what went wrong with a part that was given back,
+//! which is told behind a status: [`Trouble`] and [`Stranger`] of a link, [`Unread`] of a source, and that of a door.
+//! What a file, a stream, a store or a socket gives or takes is told by no clause.
+//!
+//! In rooms: `host` has the world with its sources and its sink, `opened` what a source reads from, `unread` why one
+//! wasn't read; `host_keeper` has the keepers; `host_entrance` the entrance, which says where it listens; `host_link`
+//! the caller and its links, `channel` what these go over, `trouble` what went wrong there, `stranger` what answered.
+#![tactic(auto)]
+
+mod channel;
+mod host;
+mod host_entrance;
+mod host_keeper;
+mod host_link;
+mod opened;
+mod stranger;
+mod trouble;
+mod unread;
+
+pub use channel::Channel;
+pub use host::{HostSink, HostSource, HostWorld};
+pub use host_entrance::SpokenEntrance;
+pub use host_keeper::HostKeeper;
+pub use host_link::{HostCaller, HostLink};
+pub use opened::Opened;
+pub use stranger::{Stranger, stranger_of};
+pub use trouble::Trouble;
+pub use unread::Unread;
