@@ -4,6 +4,7 @@ ghost use Rattle.std.specs.declared.option.Option.{Option};
 ghost use Rattle.acct_keeper.specs.declared.keeper.KeepError.TheVariants.{NoMemory};
 ghost use Rattle.acct_keeper.specs.declared.pairs.Pair.{Pair};
 ghost use Rattle.acct_keeper.specs.Causes.{KeepCause};
+ghost use Rattle.acct_keeper.specs.Counts.{after_call};
 ghost use Rattle.acct_keeper.specs.Pairs.{is_ascending, after};
 
 use crate::pairs::{Change, Pair};
@@ -43,7 +44,8 @@ pub trait Keeper {
         ensures all { IfOk result (λ pairs. IfSome (held self.old) (λ told. pairs.items ≡ told)) }
         ensures kept { held self.new ≡ held self.old }
         ensures cause { IfErr result (KeepCause (faults self.old) (faults self.new)) }
-        ensures later { faults self.old ≤ faults self.new };
+        ensures later { faults self.old ≤ faults self.new }
+        ensures count { faults self.new ≡ after_call (faults self.old) result };
 
     /// Makes the changes in order, or none of them. A later change of a key acts on what an earlier one left.
     fn commit(&mut self, changes: &[Change]) -> Result<(), KeepError>
@@ -51,7 +53,8 @@ pub trait Keeper {
         ensures err { OnErr result (held self.new ≡ held self.old) }
         ensures ascending { IfSome (held self.new) (λ told. is_ascending told ≡ true) }
         ensures cause { IfErr result (KeepCause (faults self.old) (faults self.new)) }
-        ensures later { faults self.old ≤ faults self.new };
+        ensures later { faults self.old ≤ faults self.new }
+        ensures count { faults self.new ≡ after_call (faults self.old) result };
 
     /// How many calls have failed.
     fn faults(&self) -> u64

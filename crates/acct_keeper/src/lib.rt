@@ -2,7 +2,7 @@
 //!
 //! It stands on the causes of `acct_streams` and the list type of `acct_base`. The layers above use the contract of
 //! [`Keeper`], by which a load gives the pairs by strictly ascending key, a commit makes all its changes in order or
-//! none, and a fault is answered only where the keeper's count of faults rose.
+//! none, and the keeper's count of faults is one more after a call that failed, and after any other as it was.
 #![tactic(auto)]
 
 mod keeper;

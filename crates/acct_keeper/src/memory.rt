@@ -2,6 +2,7 @@
 ghost use Rattle.std.specs.Prelude.{◌≡◌, ◌≤◌, [], true, Some, IfOk, IfErr, OnOk, OnErr};
 ghost use Rattle.acct_keeper.specs.declared.keeper.KeepError.TheVariants.{NoMemory};
 ghost use Rattle.acct_keeper.specs.Causes.{KeepCause};
+ghost use Rattle.acct_keeper.specs.Counts.{after_call};
 ghost use Rattle.acct_keeper.specs.Memory.{CallsInMemory};
 ghost use Rattle.acct_keeper.specs.Pairs.{is_ascending, after};
 
@@ -132,6 +133,7 @@ impl MemoryKeeper {
         ensures pairs { self.new.pairs ≡ self.old.pairs }
         ensures counted { CallsInMemory self.old self.new result }
         ensures later { self.old.faults ≤ self.new.faults }
+        ensures count { self.new.faults ≡ after_call self.old.faults result }
         ensures ascending { is_ascending self.new.pairs ≡ true }
     {
         self.calls = self.calls.saturating_add(1);
@@ -155,6 +157,7 @@ impl Keeper for MemoryKeeper {
         ensures cause { IfErr result (KeepCause self.old.faults self.new.faults) }
         ensures later { self.old.faults ≤ self.new.faults }
         ensures fails { CallsInMemory self.old self.new result }
+        ensures count { self.new.faults ≡ after_call self.old.faults result }
     {
         self.count_call()?;
         self.kept.load()
@@ -167,6 +170,7 @@ impl Keeper for MemoryKeeper {
         ensures cause { IfErr result (KeepCause self.old.faults self.new.faults) }
         ensures later { self.old.faults ≤ self.new.faults }
         ensures fails { CallsInMemory self.old self.new result }
+        ensures count { self.new.faults ≡ after_call self.old.faults result }
     {
         self.count_call()?;
         self.kept.commit(changes)

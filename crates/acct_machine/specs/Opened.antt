@@ -1,5 +1,5 @@
 -- What opening a store gives.
-use Rattle.std.specs.Prelude.{◌≡◌, ◌≢◌, ℕ, List, [], ◌∷◌, Option, Some, IfSome, ⊤}
+use Rattle.std.specs.Prelude.{◌≡◌, ◌≢◌, ℕ, List, [], ◌∷◌, Option, Some, IfSome, Result, Ok, Err, ⊤}
 use Rattle.acct_config.specs.declared.config.Config.{Config}
 use Rattle.acct_keeper.specs.declared.keeper.KeepError.{KeepError}
 use Rattle.acct_keeper.specs.declared.keeper.KeepError.TheVariants as keeps
@@ -8,6 +8,7 @@ use Rattle.acct_keeper.specs.declared.pairs.Pair.{Pair}
 use Rattle.acct_rows.specs.Rows.{Lists}
 use Rattle.acct_rows.specs.Seed.{seed_lists}
 use Rattle.acct_streams.specs.Causes.{Rose}
+use Rattle.acct_streams.specs.Memory.{one_more}
 use Rattle.acct_machine.specs.declared.opened.OpenError.{OpenError}
 use Rattle.acct_machine.specs.declared.opened.OpenError.TheVariants.{StoreFault, StoredPair, Memory}
 use Rattle.acct_rows.specs.PairsOf.{ArePairsOf}
@@ -25,6 +26,13 @@ abbrev pub OpenCause : Option (List Pair) → ℕ → ℕ → OpenError → Type
 OpenCause told before now StoreFault = Rose before now
 OpenCause told before now (StoredPair key) = IfSome told (λ pairs. (pairs ≢ []) × IsSmallestBroken pairs key)
 OpenCause told before now Memory = ⊤
+
+-- how many calls of the keeper have failed after an opening: one more where it answers a fault, and else as many
+abbrev pub count_after : {T : Type 0} → ℕ → Result T OpenError → ℕ
+count_after count (Ok x) = count
+count_after count (Err StoreFault) = one_more count
+count_after count (Err (StoredPair key)) = count
+count_after count (Err Memory) = count
 
 -- what a keeper's error makes of the opening
 abbrev pub unopened : KeepError → OpenError

@@ -2,7 +2,7 @@
 use Rattle.std.specs.Prelude.{◌≡◌, ℕ, ◌^◌, ◌≤◌, ◌<◌, List, Option, IfSome, All, ⊤}
 use Rattle.acct_keeper.specs.declared.pairs.Pair.{Pair}
 use Rattle.acct_rows.specs.Rows.{Lists}
-use Rattle.acct_streams.specs.Causes.{Rose}
+use Rattle.acct_streams.specs.Memory.{one_more}
 use Rattle.acct_machine.specs.declared.entry.Verdict.{Verdict}
 use Rattle.acct_machine.specs.declared.entry.Verdict.TheVariants.{Ran, StoreFault, NoMemory}
 use Rattle.acct_machine.specs.declared.entry.Entry.{Entry}
@@ -14,11 +14,11 @@ use Rattle.acct_machine.specs.Legal.{counts_of}
 abbrev pub HoldsRows : Option (List Pair) → Lists → Type 0
 HoldsRows held rows = IfSome held (λ told. ArePairsOf rows told)
 
--- a commit failed only where the keeper's count rose in it, and the verdict has the count behind it
+-- the keeper's count stays, but is one more where a commit failed, and then the verdict has it
 abbrev pub Counts : ℕ → ℕ → Verdict → Type 0
-Counts before now Ran = ⊤
-Counts before now (StoreFault n) = (n ≡ now) × (n < 2 ^ 64) × Rose before now
-Counts before now NoMemory = ⊤
+Counts before now Ran = now ≡ before
+Counts before now (StoreFault n) = (n ≡ now) × (n < 2 ^ 64) × (now ≡ one_more before)
+Counts before now NoMemory = now ≡ before
 
 -- none of the store's counts lies above this one
 abbrev pub AreUpTo : ℕ → Start → List Entry → Type 0

@@ -5,7 +5,7 @@ ghost use Rattle.acct_keeper.specs.Causes.{KeepCause};
 ghost use Rattle.acct_keeper.specs.Pairs.{after};
 ghost use Rattle.acct_rows.specs.Seed.{seed_lists};
 ghost use Rattle.acct_rows.specs.Sound.{IsSoundRows};
-ghost use Rattle.acct_machine.specs.Opened.{OpensRows, OpenCause, put_of, unopened};
+ghost use Rattle.acct_machine.specs.Opened.{OpensRows, OpenCause, count_after, put_of, unopened};
 ghost use Rattle.acct_rows.specs.PairsOf.{ArePairsOf};
 ghost use Rattle.acct_machine.specs.Storing.{HoldsRows};
 
@@ -71,6 +71,7 @@ fn seed_store<K: Keeper>(alloc: Global, config: &Config, keeper: &mut K) -> Resu
     ensures err { OnErr result (K.held keeper.new ≡ K.held keeper.old) }
     ensures cause { IfErr result (OpenCause (Some []) (K.faults keeper.old) (K.faults keeper.new)) }
     ensures later { K.faults keeper.old ≤ K.faults keeper.new }
+    ensures count { K.faults keeper.new ≡ count_after (K.faults keeper.old) result }
 {
     let Ok(rows) = seed_rows(alloc, config) else {
         return Err(OpenError::Memory);
@@ -99,6 +100,7 @@ pub fn open_store<K: Keeper>(
     ensures err { OnErr result (K.held keeper.new ≡ K.held keeper.old) }
     ensures cause { IfErr result (OpenCause (K.held keeper.old) (K.faults keeper.old) (K.faults keeper.new)) }
     ensures later { K.faults keeper.old ≤ K.faults keeper.new }
+    ensures count { K.faults keeper.new ≡ count_after (K.faults keeper.old) result }
 {
     let pairs = match keeper.load() {
         Ok(pairs) => pairs,

@@ -6,6 +6,7 @@ ghost use Rattle.acct_calls.specs.declared.replies.Reply.TheVariants.{Done};
 ghost use Rattle.acct_rows.specs.Rows.{after};
 ghost use Rattle.acct_rows.specs.Sound.{IsSoundRows};
 ghost use Rattle.acct_keeper.specs.Causes.{KeepCause};
+ghost use Rattle.acct_keeper.specs.Counts.{after_call};
 ghost use Rattle.acct_keeper.specs.declared.keeper.KeepError.TheVariants as keeps;
 ghost use Rattle.acct_layouts.specs.CallShapes.{CanBeSpelled};
 ghost use Rattle.acct_rules.specs.declared.planned.Effect.TheVariants as effects;
@@ -149,6 +150,7 @@ fn commit<K: Keeper>(
     ensures differs { IfErr result (λ e. e ≡ keeps.Failed → after plan.now rows.now.lists ≢ rows.now.lists) }
     ensures wants { OnErr result (has_change plan.now ≡ true) }
     ensures later { K.faults keeper.old ≤ K.faults keeper.new }
+    ensures count { K.faults keeper.new ≡ after_call (K.faults keeper.old) result }
     ensures quiet { after plan.now rows.now.lists ≡ rows.now.lists → keeper.new ≡ keeper.old }
 {
     if !has_change(plan) {
@@ -273,6 +275,7 @@ impl Store {
         ensures cause { IfErr result (KeepCause (K.faults keeper.old) (K.faults keeper.new)) }
         ensures differs { IfErr result (λ e. e ≡ keeps.Failed → after plan self.old.rows ≢ self.old.rows) }
         ensures later { K.faults keeper.old ≤ K.faults keeper.new }
+        ensures count { K.faults keeper.new ≡ after_call (K.faults keeper.old) result }
         ensures quiet { after plan self.old.rows ≡ self.old.rows → keeper.new ≡ keeper.old }
     {
         make_room(&mut self.rows, &plan)?;
@@ -312,6 +315,7 @@ impl Store {
         ensures cause { IfErr result (KeepCause (K.faults keeper.old) (K.faults keeper.new)) }
         ensures differs { IfErr result (λ e. e ≡ keeps.Failed → after plan self.old.rows ≢ self.old.rows) }
         ensures later { K.faults keeper.old ≤ K.faults keeper.new }
+        ensures count { K.faults keeper.new ≡ after_call (K.faults keeper.old) result }
         ensures quiet { after plan self.old.rows ≡ self.old.rows → keeper.new ≡ keeper.old }
     {
         make_room(&mut self.rows, &plan)?;

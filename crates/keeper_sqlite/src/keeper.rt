@@ -2,7 +2,7 @@
 ghost use Rattle.std.specs.Prelude.{◌≡◌, ◌≤◌, true, None, IfOk, IfErr};
 ghost use Rattle.acct_keeper.specs.Pairs.{is_ascending};
 ghost use Rattle.acct_keeper.specs.Causes.{KeepCause};
-ghost use Rattle.keeper_sqlite.specs.Counts.{counted, after_call};
+ghost use Rattle.acct_keeper.specs.Counts.{counted, after_call};
 
 use acct_base::Seq;
 use acct_keeper::{Change, KeepError, Keeper, Pair, is_ascending};
