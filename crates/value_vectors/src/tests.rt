@@ -1,6 +1,7 @@
 // Values as other software and the standards write them, one module for each crate that is called.
 mod descriptors;
 mod documents;
+mod lines;
 mod lists;
 mod names;
 mod numbers;

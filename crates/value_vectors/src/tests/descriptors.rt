@@ -1,5 +1,6 @@
 // Descriptors as Samba 4.17 packs them (revision 2 set on their lists), and accesses as MS-DTYP 2.5.3 decides them.
 // SIDs and entries are written as in the SDDL, but for the order of an entry's fields.
+use super::lines::cut;
 use acct_codes::Kind;
 use acct_codes::standard_rights::{
     ACCESS_SYSTEM_SECURITY, DELETE, GENERIC_ALL, READ_CONTROL, WRITE_DAC,
@@ -33,9 +34,9 @@ fn hexadecimal(word: &str) -> Result<u32, Fail> {
 
 /// An entry, as kind, flags, mask and SID.
 fn ace_of(text: &str) -> Result<Ace, Fail> {
-    let (kind, others) = text.split_once(';').ok_or("no flags")?;
-    let (flags, others) = others.split_once(';').ok_or("no mask")?;
-    let (mask, sid) = others.split_once(';').ok_or("no SID")?;
+    let (kind, others) = cut(text, ';');
+    let (flags, others) = cut(others, ';');
+    let (mask, sid) = cut(others, ';');
     let kind = if kind == "A" {
         AceKind::Allow
     } else {
@@ -63,8 +64,8 @@ fn acl_of(alloc: Global, text: &str) -> Result<Option<Acl>, Fail> {
 
 /// A descriptor, as owner, group and entries.
 fn descriptor_of(alloc: Global, text: &str) -> Result<Descriptor, Fail> {
-    let (owner, others) = text.split_once('|').ok_or("no group")?;
-    let (group, aces) = others.split_once('|').ok_or("no entries")?;
+    let (owner, others) = cut(text, '|');
+    let (group, aces) = cut(others, '|');
     let group = if group == "-" {
         None
     } else {
@@ -122,10 +123,10 @@ const OPENINGS: &str = "\
 
 /// Whether the first two words are what an opening of the others asks for and is granted.
 fn is_opened(alloc: Global, line: &str) -> Result<bool, Fail> {
-    let (masks, others) = line.split_once('|').ok_or("no kind")?;
-    let (kind, others) = others.split_once('|').ok_or("no token")?;
-    let (sids, text) = others.split_once('|').ok_or("no descriptor")?;
-    let (asked, granted) = masks.split_once(' ').ok_or("no answer")?;
+    let (masks, others) = cut(line, '|');
+    let (kind, others) = cut(others, '|');
+    let (sids, text) = cut(others, '|');
+    let (asked, granted) = cut(masks, ' ');
     let token = token_of(alloc, sids)?;
     let d = descriptor_of(alloc, text)?;
     let opened = opening(kind_of(kind), &d, &token, hexadecimal(asked)?);
@@ -174,7 +175,7 @@ fn rights_are_granted(rt: HostRuntime) -> Result<(), Fail> {
         ),
         ("SY", "WD|-|-", [true, true, true, true, false]),
     ] {
-        assert_eq!(rt; rights_of(rt.alloc(), sids, text)?, granted, "{text}");
+        assert!(rt; rights_of(rt.alloc(), sids, text)? == granted, "{text}");
     }
     Ok(())
 }
@@ -231,20 +232,28 @@ fn are_equal(left: &Descriptor, right: &Descriptor) -> bool {
     left.owner == right.owner && left.group == right.group && lists
 }
 
+fn reads(alloc: Global, bytes: &[u8], d: &Descriptor) -> bool {
+    match read_descriptor(alloc, bytes) {
+        Ok(read) => are_equal(&read, d),
+        Err(_) => false,
+    }
+}
+
 fn is_read(alloc: Global, bytes: &[u8], text: &str) -> Result<bool, Fail> {
     let d = descriptor_of(alloc, text)?;
-    match read_descriptor(alloc, bytes) {
-        Ok(read) => Ok(are_equal(&read, &d)),
-        Err(_) => Ok(false),
+    Ok(reads(alloc, bytes, &d))
+}
+
+fn writes(alloc: Global, d: &Descriptor, bytes: &[u8]) -> Result<bool, Fail> {
+    if !has_few_aces(d) {
+        return Ok(false);
     }
+    Ok(write_descriptor(alloc, d)?.as_slice() == bytes)
 }
 
 fn is_written(alloc: Global, bytes: &[u8], text: &str) -> Result<bool, Fail> {
     let d = descriptor_of(alloc, text)?.copy(alloc)?;
-    if !has_few_aces(&d) {
-        return Ok(false);
-    }
-    Ok(write_descriptor(alloc, &d)?.as_slice() == bytes)
+    writes(alloc, &d, bytes)
 }
 
 #[test]
@@ -258,7 +267,7 @@ fn descriptors_are_written_and_read(rt: HostRuntime) -> Result<(), Fail> {
     ] {
         let bytes = bytes_of(rt.alloc(), packed)?;
         assert!(rt; is_read(rt.alloc(), &bytes, text)?, "{text}");
-        assert_eq!(rt; is_written(rt.alloc(), &bytes, text)?, same, "{text}");
+        assert!(rt; is_written(rt.alloc(), &bytes, text)? == same, "{text}");
     }
     Ok(())
 }
@@ -314,22 +323,31 @@ fn each_refusal_has_its_place(rt: HostRuntime) -> Result<(), Fail> {
     Ok(())
 }
 
-/// A descriptor whose owner and entries are of a SID of 15 sub-authorities; the entries allow 0, 1, 2 and so on.
-fn long_list(alloc: Global, count: u32) -> Result<Descriptor, Fail> {
-    let full = sid_of("S-1-5-1-2-3-4-5-6-7-8-9-10-11-12-13-14-15")?;
+fn allowing(mask: u32, sid: Sid) -> Ace {
+    Ace {
+        kind: AceKind::Allow,
+        flags: 0,
+        mask,
+        sid,
+    }
+}
+
+/// Entries that allow a SID 0, 1, 2 and so on.
+fn long_acl(alloc: Global, sid: Sid, count: u32) -> Result<Acl, Fail> {
     let mut aces = Vec::new(alloc);
     for mask in 0..count {
-        aces.push(Ace {
-            kind: AceKind::Allow,
-            flags: 0,
-            mask,
-            sid: full,
-        })?;
+        aces.push(allowing(mask, sid))?;
     }
+    Ok(Acl::from_vec(aces))
+}
+
+/// A descriptor whose owner and entries are of a SID of 15 sub-authorities.
+fn long_list(alloc: Global, count: u32) -> Result<Descriptor, Fail> {
+    let full = sid_of("S-1-5-1-2-3-4-5-6-7-8-9-10-11-12-13-14-15")?;
     Ok(Descriptor {
         owner: full,
         group: None,
-        acl: Some(Acl::from_vec(aces)),
+        acl: Some(long_acl(alloc, full, count)?),
     })
 }
 
@@ -339,10 +357,11 @@ fn written_length(alloc: Global, d: &Descriptor) -> Result<usize, Fail> {
         return Ok(0);
     }
     let bytes = write_descriptor(alloc, d)?;
-    match read_descriptor(alloc, &bytes) {
-        Ok(read) => Ok(if are_equal(&read, d) { bytes.len() } else { 0 }),
-        Err(_) => Ok(0),
-    }
+    Ok(if reads(alloc, &bytes, d) {
+        bytes.len()
+    } else {
+        0
+    })
 }
 
 /// The limit of 800 entries from both sides.
@@ -350,10 +369,10 @@ fn written_length(alloc: Global, d: &Descriptor) -> Result<usize, Fail> {
 fn as_many_entries_as_fit(rt: HostRuntime) -> Result<(), Fail> {
     for (count, length) in [(800, 20 + 68 + 8 + 800 * 76), (801, 0)] {
         let d = long_list(rt.alloc(), count)?;
-        assert_eq!(rt; written_length(rt.alloc(), &d)?, length);
+        assert!(rt; written_length(rt.alloc(), &d)? == length);
         let token = token_of(rt.alloc(), "S-1-5-1-2-3-4-5-6-7-8-9-10-11-12-13-14-15")?;
         let opened = opening(Kind::Policy, &d, &token, 0x0200_0000);
-        assert_eq!(rt; opened, Some(0x0006_03FF));
+        assert!(rt; opened == Some(0x0006_03FF));
     }
     Ok(())
 }
@@ -361,15 +380,19 @@ fn as_many_entries_as_fit(rt: HostRuntime) -> Result<(), Fail> {
 #[test]
 fn refusals_tell_in_words(rt: HostRuntime) -> Result<(), Fail> {
     let told = format!(in rt.alloc(); "{}", DescError::Sid(20))?;
-    assert_eq!(rt; told.as_str(), "no SID stands at byte 20");
+    assert!(rt; told.as_str() == "no SID stands at byte 20");
     Ok(())
+}
+
+fn is_copied(alloc: Global, token: &Token) -> Result<bool, Fail> {
+    Ok(token.copy(alloc)?.sids() == token.sids())
 }
 
 #[test]
 fn tokens_are_copied(rt: HostRuntime) -> Result<(), Fail> {
     let token = token_of(rt.alloc(), "WD BU")?;
-    assert_eq!(rt; token.copy(rt.alloc())?.sids(), token.sids());
-    assert_eq!(rt; token.sids().len(), 2);
+    assert!(rt; is_copied(rt.alloc(), &token)?);
+    assert!(rt; token.sids().len() == 2);
     Ok(())
 }
 

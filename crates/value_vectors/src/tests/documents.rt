@@ -1,7 +1,8 @@
 // Documents and the rule that each breaks, and what the documents that break none spell.
+use super::lines::cut;
 use acct_codes::Kind;
 use acct_config::{Config, ConfigError, Limits, Listener, Text, laws, read_config};
-use dtyp_access::{Ace, AceKind, Descriptor, make_token, opening};
+use dtyp_access::{Ace, AceKind, Acl, Descriptor, make_token, opening};
 use dtyp_sid::{Sid, parse_text};
 use std::alloc::Global;
 use std::test::Fail;
@@ -160,10 +161,10 @@ const MANY: &str =
 -|[domain]||16384|# One of 16,384 lines of 64 bytes, which make a mebibyte of text.;|[domain]"#;
 
 /// Two bars cut a text into a front, a middle and a back.
-fn cut(line: &str) -> Result<(&str, &str, &str), Fail> {
-    let (front, others) = line.split_once('|').ok_or("one part alone")?;
-    let (middle, back) = others.split_once('|').ok_or("two parts alone")?;
-    Ok((front, middle, back))
+fn cut_in_three(line: &str) -> (&str, &str, &str) {
+    let (front, others) = cut(line, '|');
+    let (middle, back) = cut(others, '|');
+    (front, middle, back)
 }
 
 /// A document with another text in the place of a part.
@@ -175,23 +176,22 @@ fn replaced(alloc: Global, document: &str, part: &str, text: &str) -> Result<Str
 /// A document changed as a line says, which has a part and what stands in its place.
 fn changed(alloc: Global, document: &str, line: &str) -> Result<String, Fail> {
     let lines = line.replace(alloc, ";", "\n")?;
-    let (part, text) = lines.as_str().split_once('|').ok_or("no text")?;
+    let (part, text) = cut(lines.as_str(), '|');
     replaced(alloc, document, part, text)
 }
 
-/// Whether a document breaks a rule first, or none where the word is no number.
+/// Whether a document breaks a rule first, or none where a dash stands for it.
 fn breaks(alloc: Global, bytes: &[u8], rule: &str) -> Result<bool, Fail> {
-    let broken = match read_config(alloc, bytes) {
-        Ok(_) => None,
-        Err(ConfigError::Rule(rule)) => Some(rule),
-        Err(ConfigError::Memory) => return Err(Fail::from("memory")),
-    };
-    Ok(broken == rule.parse::<u32>().ok())
+    match read_config(alloc, bytes) {
+        Ok(_) => Ok(rule == "-"),
+        Err(ConfigError::Rule(broken)) => Ok(rule.parse::<u32>().ok() == Some(broken)),
+        Err(ConfigError::Memory) => Err(Fail::from("memory")),
+    }
 }
 
 /// Whether the document of a line of [`RULES`] breaks what the line says.
 fn is_ruled(alloc: Global, line: &str) -> Result<bool, Fail> {
-    let (rule, change) = line.split_once('|').ok_or("no rule")?;
+    let (rule, change) = cut(line, '|');
     let document = changed(alloc, PLAIN, change)?;
     breaks(alloc, document.as_bytes(), rule)
 }
@@ -218,20 +218,25 @@ fn numbered(alloc: Global, count: u32, text: &str) -> Result<String, Fail> {
 
 /// The plain document with the front, the texts and the back of a line of [`MANY`] in the place of a part.
 fn filled(alloc: Global, line: &str) -> Result<String, Fail> {
-    let (part, front, others) = cut(line)?;
-    let (count, text, back) = cut(others)?;
+    let (part, front, others) = cut_in_three(line);
+    let (count, text, back) = cut_in_three(others);
     let count = count.parse::<u32>().ok().ok_or("no number")?;
     let texts = numbered(alloc, count, text)?;
     let change = format!(in alloc; "{part}|{front}{}{back}", texts.as_str())?;
     changed(alloc, PLAIN, change.as_str())
 }
 
+/// Whether the document of a line of [`MANY`] breaks what the line says.
+fn filled_is_ruled(alloc: Global, line: &str) -> Result<bool, Fail> {
+    let (rule, others) = cut(line, '|');
+    let document = filled(alloc, others)?;
+    breaks(alloc, document.as_bytes(), rule)
+}
+
 #[test]
 fn documents_with_many_of_the_same(rt: HostRuntime) -> Result<(), Fail> {
     for line in MANY.lines() {
-        let (rule, others) = line.split_once('|').ok_or("no rule")?;
-        let document = filled(rt.alloc(), others)?;
-        assert!(rt; breaks(rt.alloc(), document.as_bytes(), rule)?, "{line}");
+        assert!(rt; filled_is_ruled(rt.alloc(), line)?, "{line}");
     }
     Ok(())
 }
@@ -268,7 +273,7 @@ const EARLIER: &str = r#"10|CORP|CORP
 fn the_first_of_several_rules_counts(rt: HostRuntime) -> Result<(), Fail> {
     let mut document = changed(rt.alloc(), PLAIN, LAST_BROKEN)?;
     for line in EARLIER.lines() {
-        let (rule, change) = line.split_once('|').ok_or("no rule")?;
+        let (rule, change) = cut(line, '|');
         let next = changed(rt.alloc(), document.as_str(), change)?;
         assert!(rt; breaks(rt.alloc(), next.as_bytes(), rule)?, "{line}");
         document = next;
@@ -310,97 +315,121 @@ fn config_of(alloc: Global, text: &str) -> Result<Config, Fail> {
     }
 }
 
+fn push_sid(text: &mut String, alloc: Global, sid: &Sid) -> Result<(), Fail> {
+    Ok(text.push_str(sid.text(alloc)?.as_str())?)
+}
+
 /// Each unit of a name and the SID of the domain.
-fn shown_domain(alloc: Global, config: &Config) -> Result<String, Fail> {
-    let mut text = String::new(alloc);
+fn push_domain(text: &mut String, alloc: Global, config: &Config) -> Result<(), Fail> {
     for unit in config.name.units() {
         write!(text, "{unit:x} ")?;
     }
-    write!(text, "{}", config.sid.text(alloc)?)?;
-    Ok(text)
+    push_sid(text, alloc, &config.sid)
 }
 
 /// Name, address, workers, links and the SIDs of the token.
-fn shown_listener(alloc: Global, listener: &Listener) -> Result<String, Fail> {
+fn push_listener(text: &mut String, alloc: Global, listener: &Listener) -> Result<(), Fail> {
     let name = listener.name.as_str();
     let address = listener.address.as_str();
-    let mut text = format!(in alloc; "{name} {address} {} {}", listener.workers, listener.links)?;
+    write!(
+        text,
+        "({name} {address} {} {}",
+        listener.workers, listener.links
+    )?;
     for sid in listener.token.sids() {
-        write!(text, " {}", sid.text(alloc)?)?;
+        text.push(' ')?;
+        push_sid(text, alloc, sid)?;
     }
-    Ok(text)
+    Ok(text.push(')')?)
 }
 
-fn shown_listeners(alloc: Global, listeners: &[Listener]) -> Result<String, Fail> {
-    let mut text = String::new(alloc);
+fn push_listeners(text: &mut String, alloc: Global, listeners: &[Listener]) -> Result<(), Fail> {
     for listener in listeners {
-        write!(text, "({})", shown_listener(alloc, listener)?)?;
+        push_listener(text, alloc, listener)?;
     }
-    Ok(text)
+    Ok(())
 }
 
-fn shown_ace(alloc: Global, ace: &Ace) -> Result<String, Fail> {
+fn push_ace(text: &mut String, alloc: Global, ace: &Ace) -> Result<(), Fail> {
     let kind = match ace.kind {
         AceKind::Allow => "allow",
         AceKind::Deny => "deny",
     };
-    Ok(format!(in alloc;
-        "{kind} {} {:x} {}",
-        ace.flags,
-        ace.mask,
-        ace.sid.text(alloc)?
-    )?)
+    write!(text, ", {kind} {} {:x} ", ace.flags, ace.mask)?;
+    push_sid(text, alloc, &ace.sid)
 }
 
-/// The owner, whether there is a group, and the entries, or that there is no list.
-fn shown_descriptor(alloc: Global, descriptor: &Descriptor) -> Result<String, Fail> {
-    let mut text = descriptor.owner.text(alloc)?;
-    if descriptor.group.is_some() {
-        text.push_str(" group")?;
-    }
-    match &descriptor.acl {
+/// The entries, or that there is no list.
+fn push_acl(text: &mut String, alloc: Global, acl: &Option<Acl>) -> Result<(), Fail> {
+    match acl {
         None => text.push_str(" open")?,
         Some(acl) => {
             for ace in acl.aces() {
-                write!(text, ", {}", shown_ace(alloc, ace)?)?;
+                push_ace(text, alloc, ace)?;
             }
         }
     }
-    Ok(text)
+    Ok(())
+}
+
+/// The owner, whether there is a group, and the entries.
+fn push_descriptor(text: &mut String, alloc: Global, descriptor: &Descriptor) -> Result<(), Fail> {
+    push_sid(text, alloc, &descriptor.owner)?;
+    if descriptor.group.is_some() {
+        text.push_str(" group")?;
+    }
+    push_acl(text, alloc, &descriptor.acl)
+}
+
+fn push_descriptors(text: &mut String, alloc: Global, list: &[Descriptor]) -> Result<(), Fail> {
+    for descriptor in list {
+        text.push('(')?;
+        push_descriptor(text, alloc, descriptor)?;
+        text.push(')')?;
+    }
+    Ok(())
 }
 
 /// Each limit.
-fn shown_limits(alloc: Global, limits: &Limits) -> Result<String, Fail> {
-    Ok(format!(in alloc;
+fn push_limits(text: &mut String, limits: &Limits) -> Result<(), Fail> {
+    Ok(write!(
+        text,
         "{} {} {} {} {}",
         limits.max_calls, limits.max_bytes, limits.max_conns, limits.max_read, limits.max_periods
     )?)
 }
 
-fn shown_descriptors(alloc: Global, descriptors: &[Descriptor]) -> Result<String, Fail> {
-    let mut text = String::new(alloc);
-    for descriptor in descriptors {
-        write!(text, "({})", shown_descriptor(alloc, descriptor)?)?;
-    }
-    Ok(text)
-}
-
 /// One part of a configuration as text.
-fn shown(alloc: Global, config: &Config, part: &str) -> Result<String, Fail> {
+fn push_part(text: &mut String, alloc: Global, config: &Config, part: &str) -> Result<(), Fail> {
     match part {
-        "domain" => shown_domain(alloc, config),
-        "listeners" => shown_listeners(alloc, config.listeners.as_slice()),
-        "descriptors" => shown_descriptors(alloc, config.descriptors.as_slice()),
-        _ => shown_limits(alloc, &config.limits),
+        "domain" => push_domain(text, alloc, config),
+        "listeners" => push_listeners(text, alloc, config.listeners.as_slice()),
+        "descriptors" => push_descriptors(text, alloc, config.descriptors.as_slice()),
+        _ => push_limits(text, &config.limits),
     }
 }
 
-/// Whether a document's configuration and its copy show what a line says, which has a part and its text.
-fn says(alloc: Global, document: &str, line: &str) -> Result<bool, Fail> {
-    let (part, text) = line.split_once('|').ok_or("no text")?;
-    let config = config_of(alloc, document)?;
+/// Whether a configuration shows what a line says, which has a part and its text.
+fn shows(alloc: Global, config: &Config, line: &str) -> Result<bool, Fail> {
+    let (part, wanted) = cut(line, '|');
+    let mut text = String::new(alloc);
+    push_part(&mut text, alloc, config, part)?;
+    Ok(text.as_str() == wanted)
+}
+
+fn copy_shows(alloc: Global, config: &Config, line: &str) -> Result<bool, Fail> {
     let copy = config.copy(alloc)?;
-    Ok(shown(alloc, &config, part)?.as_str() == text && shown(alloc, &copy, part)?.as_str() == text)
+    shows(alloc, &copy, line)
+}
+
+fn both_show(alloc: Global, config: &Config, line: &str) -> Result<bool, Fail> {
+    Ok(shows(alloc, config, line)? && copy_shows(alloc, config, line)?)
+}
+
+/// Whether a document's configuration and its copy show what a line says.
+fn says(alloc: Global, document: &str, line: &str) -> Result<bool, Fail> {
+    let config = config_of(alloc, document)?;
+    both_show(alloc, &config, line)
 }
 
 const PLAIN_SAYS: &str = r#"domain|43 4f 52 50 S-1-5-21-1-2-3
@@ -490,26 +519,33 @@ limits = { max_periods = 5, max_read = 4, max_conns = 3, max_bytes = 2, max_call
 [limits];max_calls = 1000000;max_bytes = 1073741824|1000000 1073741824 1024 4294967296 1
 [limits];max_conns = 65536;max_read = 1099511627776;max_periods = 1000000|65536 67108864 65536 1099511627776 1000000"#;
 
+/// Whether a document has the limits of a line of [`LIMITS`].
+fn limits_are_said(alloc: Global, line: &str) -> Result<bool, Fail> {
+    let (front, limits) = cut(line, '|');
+    let lines = front.replace(alloc, ";", "\n")?;
+    let document = format!(in alloc; "{}\n{PLAIN}", lines.as_str())?;
+    let wanted = format!(in alloc; "limits|{limits}")?;
+    says(alloc, document.as_str(), wanted.as_str())
+}
+
 #[test]
 fn limits_are_those_of_the_document(rt: HostRuntime) -> Result<(), Fail> {
-    let alloc = rt.alloc();
     for line in LIMITS.lines() {
-        let (front, limits) = line.split_once('|').ok_or("no limits")?;
-        let lines = front.replace(alloc, ";", "\n")?;
-        let document = format!(in alloc; "{}\n{PLAIN}", lines.as_str())?;
-        let says_them = format!(in alloc; "limits|{limits}")?;
-        assert!(rt;
-            says(alloc, document.as_str(), says_them.as_str())?,
-            "{line}"
-        );
+        assert!(rt; limits_are_said(rt.alloc(), line)?, "{line}");
     }
     Ok(())
 }
 
-/// What the descriptor of a kind shows, in a configuration that breaks no rule.
-fn shown_of_kind(alloc: Global, document: &str, kind: Kind) -> Result<String, Fail> {
+fn descriptor_shows(alloc: Global, descriptor: &Descriptor, wanted: &str) -> Result<bool, Fail> {
+    let mut text = String::new(alloc);
+    push_descriptor(&mut text, alloc, descriptor)?;
+    Ok(text.as_str() == wanted)
+}
+
+/// Whether the descriptor of a kind shows this, in a configuration that breaks no rule.
+fn kind_shows(alloc: Global, document: &str, kind: Kind, wanted: &str) -> Result<bool, Fail> {
     match read_config(alloc, document.as_bytes()) {
-        Ok(config) => shown_descriptor(alloc, config.descriptor(kind)),
+        Ok(config) => descriptor_shows(alloc, config.descriptor(kind), wanted),
         Err(_) => Err(Fail::from("no configuration")),
     }
 }
@@ -524,7 +560,7 @@ fn descriptors_stand_by_their_kinds(rt: HostRuntime) -> Result<(), Fail> {
         (Kind::Policy, "S-1-5-32-544 open"),
         (Kind::Account, "S-1-1-0, allow 7 fedcba98 S-1-5-32-544"),
     ] {
-        assert_eq!(rt; shown_of_kind(rt.alloc(), OTHER, kind)?.as_str(), text);
+        assert!(rt; kind_shows(rt.alloc(), OTHER, kind, text)?, "{kind:?}");
     }
     Ok(())
 }
@@ -557,7 +593,7 @@ fn deny_before_allow(rt: HostRuntime) -> Result<(), Fail> {
         (0x20, Some(0x20)),
         (0x0200_0000, Some(0x000F_002F)),
     ] {
-        assert_eq!(rt; granted(rt.alloc(), OTHER, asked)?, wanted);
+        assert!(rt; granted(rt.alloc(), OTHER, asked)? == wanted);
     }
     Ok(())
 }
@@ -565,7 +601,7 @@ fn deny_before_allow(rt: HostRuntime) -> Result<(), Fail> {
 #[test]
 fn refusals_tell_in_words(rt: HostRuntime) -> Result<(), Fail> {
     let told = format!(in rt.alloc(); "{}", ConfigError::Rule(4))?;
-    assert_eq!(rt; told.as_str(), "the configuration breaks rule 4");
+    assert!(rt; told.as_str() == "the configuration breaks rule 4");
     Ok(())
 }
 
@@ -577,6 +613,6 @@ fn laws_and_texts(rt: HostRuntime) -> Result<(), Fail> {
     laws::addresses_are_spelled();
     laws::entries_are_spelled();
     let text = Text::copy_of(rt.alloc(), "unix:s")?;
-    assert_eq!(rt; text.as_str(), "unix:s");
+    assert!(rt; text.as_str() == "unix:s");
     Ok(())
 }

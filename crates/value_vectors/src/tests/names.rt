@@ -1,15 +1,22 @@
 // Foldings as Unicode's CaseFolding.txt has them (statuses C and S), and the rules for names at their limits.
+use super::lines::cut;
 use acct_calls::{Name, Names, NoMemory, laws};
 use acct_codes::Kind;
 use std::alloc::Global;
 use std::test::Fail;
 
-/// Whether the names of two texts are the same, asked both ways, and whether the folded names are equal.
-fn are_same(alloc: Global, left: &str, right: &str) -> Result<(bool, bool), NoMemory> {
+fn fold_alike(alloc: Global, left: &Name, right: &Name) -> Result<bool, NoMemory> {
+    let left = left.fold(alloc)?;
+    Ok(left == right.fold(alloc)?)
+}
+
+/// Whether the names of a pair of texts are the same, asked both ways, and fold alike; or neither.
+fn are_same(alloc: Global, pair: &str, same: bool) -> Result<bool, Fail> {
+    let (left, right) = cut(pair, '|');
     let left = Name::from_text(alloc, left)?;
     let right = Name::from_text(alloc, right)?;
-    let folded = left.fold(alloc)? == right.fold(alloc)?;
-    Ok((left.same(&right) && right.same(&left), folded))
+    let both = left.same(&right) && right.same(&left);
+    Ok(both == same && fold_alike(alloc, &left, &right)? == same)
 }
 
 /// Pairs of texts, of which each is the other in another case.
@@ -38,8 +45,7 @@ straße|strasse
 fn names_differ_in_case_alone(rt: HostRuntime) -> Result<(), Fail> {
     for (pairs, same) in [(SAME, true), (DIFFERENT, false)] {
         for pair in pairs.lines() {
-            let (left, right) = pair.split_once('|').ok_or("no pair")?;
-            assert_eq!(rt; are_same(rt.alloc(), left, right)?, (same, same), "{pair}");
+            assert!(rt; are_same(rt.alloc(), pair, same)?, "{pair}");
         }
     }
     Ok(())
@@ -91,6 +97,10 @@ fn unpaired_surrogates_differ(rt: HostRuntime) -> Result<(), Fail> {
     Ok(())
 }
 
+fn is_spelled(alloc: Global, text: &str, units: &[u16]) -> Result<bool, NoMemory> {
+    Ok(Name::from_text(alloc, text)?.into_units().as_slice() == units)
+}
+
 /// Code points beyond the first 65,536 take two units.
 #[test]
 fn texts_are_spelled_in_units(rt: HostRuntime) -> Result<(), Fail> {
@@ -98,8 +108,7 @@ fn texts_are_spelled_in_units(rt: HostRuntime) -> Result<(), Fail> {
         ("\u{1DF95}x", [0xD837, 0xDF95, 0x78].as_slice()),
         ("aé", &[0x61, 0xE9]),
     ] {
-        let name = Name::from_text(rt.alloc(), text)?;
-        assert_eq!(rt; name.into_units().as_slice(), units);
+        assert!(rt; is_spelled(rt.alloc(), text, units)?, "{text}");
     }
     Ok(())
 }
@@ -154,8 +163,8 @@ fn foldings_are_those_of_perl(rt: HostRuntime) -> Result<(), Fail> {
             digest = (digest ^ u64::from(folded)).wrapping_mul(0x0100_0000_01b3);
         }
     }
-    assert_eq!(rt; count, 1454);
-    assert_eq!(rt; digest, 0x67bc_908b_2b28_6b36);
+    assert!(rt; count == 1454);
+    assert!(rt; digest == 0x67bc_908b_2b28_6b36);
     Ok(())
 }
 
@@ -174,6 +183,16 @@ fn is_judged(alloc: Global, before: &str, c: char, valid: bool) -> Result<bool, 
     Ok(has_validity(&Name::from_units(units), valid))
 }
 
+/// Whether the names that each of some characters and some text before it make are valid, or aren't.
+fn are_judged(alloc: Global, before: &str, chars: &str, valid: bool) -> Result<bool, NoMemory> {
+    for c in chars.chars() {
+        if !is_judged(alloc, before, c, valid)? {
+            return Ok(false);
+        }
+    }
+    Ok(true)
+}
+
 const ALLOWED: &str = "a$#'@()!%^_-\u{7F}ß\u{10400}\u{E000}\u{D7FF}";
 
 #[test]
@@ -186,9 +205,7 @@ fn names_are_valid_by_their_characters(rt: HostRuntime) -> Result<(), Fail> {
         (". ", ". .", false),
         (". ", "a", true),
     ] {
-        for c in chars.chars() {
-            assert!(rt; is_judged(rt.alloc(), before, c, valid)?, "{c}");
-        }
+        assert!(rt; are_judged(rt.alloc(), before, chars, valid)?, "{before}");
     }
     Ok(())
 }
@@ -204,6 +221,11 @@ fn unpaired_surrogates_are_not_valid(rt: HostRuntime) -> Result<(), Fail> {
         assert!(rt; has_validity(&name_of(rt.alloc(), &units)?, false));
     }
     Ok(())
+}
+
+/// Whether a name of so many letters is valid.
+fn is_valid(alloc: Global, kind: Kind, count: usize) -> Result<bool, NoMemory> {
+    Ok(Name::from_units(vec![in alloc; 0x61; count]?).is_valid(kind))
 }
 
 /// The longest names of a user and of a group or an alias, from both sides; other objects have no names.
@@ -222,10 +244,14 @@ fn names_are_valid_by_their_lengths(rt: HostRuntime) -> Result<(), Fail> {
         (Kind::Policy, 1, false),
         (Kind::Account, 1, false),
     ] {
-        let name = Name::from_units(vec![in rt.alloc(); 0x61; count]?);
-        assert_eq!(rt; name.is_valid(kind), valid, "{count}");
+        assert!(rt; is_valid(rt.alloc(), kind, count)? == valid, "{count}");
     }
     Ok(())
+}
+
+/// A name of 256 units.
+fn long_name(alloc: Global) -> Result<Name, NoMemory> {
+    Ok(Name::from_units(vec![in alloc; 0x61; 256]?))
 }
 
 /// A thousand names of 256 units and an empty one.
@@ -233,21 +259,37 @@ fn many_names(alloc: Global) -> Result<Names, NoMemory> {
     let mut names = Names::new(alloc);
     names.push(Name::from_units(Vec::new(alloc)))?;
     for _ in 0..1000 {
-        names.push(Name::from_units(vec![in alloc; 0x61; 256]?))?;
+        names.push(long_name(alloc)?)?;
     }
     Ok(names)
+}
+
+fn is_copied(alloc: Global, name: &Name) -> Result<bool, NoMemory> {
+    name.has_units();
+    Ok(name.copy(alloc)? == *name)
+}
+
+/// Whether each name of a list is copied.
+fn are_copied(alloc: Global, names: &[Name]) -> Result<bool, NoMemory> {
+    for name in names {
+        if !is_copied(alloc, name)? {
+            return Ok(false);
+        }
+    }
+    Ok(true)
+}
+
+/// Whether a list is copied as a whole, with so many names.
+fn is_listed(alloc: Global, names: &Names, count: usize) -> Result<bool, NoMemory> {
+    let copy = Names::from_vec(names.copy(alloc)?.into_vec());
+    Ok(copy == *names && copy.as_slice().len() == count)
 }
 
 #[test]
 fn names_are_listed_and_copied(rt: HostRuntime) -> Result<(), Fail> {
     let names = many_names(rt.alloc())?;
-    let copy = Names::from_vec(names.copy(rt.alloc())?.into_vec());
-    assert_eq!(rt; copy, names);
-    assert_eq!(rt; copy.as_slice().len(), 1001);
-    for name in copy.as_slice() {
-        assert_eq!(rt; &name.copy(rt.alloc())?, name);
-        name.has_units();
-    }
+    assert!(rt; is_listed(rt.alloc(), &names, 1001)?);
+    assert!(rt; are_copied(rt.alloc(), names.as_slice())?);
     Ok(())
 }
 

@@ -151,35 +151,20 @@ e3110000 03000000 0e6b0000 20000000 03000000 08000800 39170000 128d0000 0e000e00
 #[test]
 fn texts_and_sids_are_read_and_written(rt: HostRuntime) -> Result<(), Fail> {
     let alloc = rt.alloc();
-    assert_eq!(rt; table_is_right(&rt, alloc, Wire::Text, TEXTS)?, (3, 7));
-    assert_eq!(rt; table_is_right(&rt, alloc, Wire::Sid, SIDS)?, (3, 3));
-    assert_eq!(rt;
-        table_is_right(&rt, alloc, Wire::SidList, SID_LISTS)?,
-        (2, 4)
-    );
+    assert!(rt; table_is_right(&rt, alloc, Wire::Text, TEXTS)? == (3, 7));
+    assert!(rt; table_is_right(&rt, alloc, Wire::Sid, SIDS)? == (3, 3));
+    assert!(rt; table_is_right(&rt, alloc, Wire::SidList, SID_LISTS)? == (2, 4));
     Ok(())
 }
 
 #[test]
 fn lists_are_read_and_written(rt: HostRuntime) -> Result<(), Fail> {
     let alloc = rt.alloc();
-    assert_eq!(rt;
-        table_is_right(&rt, alloc, Wire::NumberList, NUMBER_LISTS)?,
-        (4, 4)
-    );
-    assert_eq!(rt;
-        table_is_right(&rt, alloc, Wire::TextList, TEXT_LISTS)?,
-        (1, 2)
-    );
-    assert_eq!(rt;
-        table_is_right(&rt, alloc, Wire::Privileges, PRIVILEGES)?,
-        (1, 2)
-    );
-    assert_eq!(rt;
-        table_is_right(&rt, alloc, Wire::Accounts, ACCOUNTS)?,
-        (3, 4)
-    );
-    assert_eq!(rt; table_is_right(&rt, alloc, Wire::Domains, DOMAINS)?, (2, 4));
+    assert!(rt; table_is_right(&rt, alloc, Wire::NumberList, NUMBER_LISTS)? == (4, 4));
+    assert!(rt; table_is_right(&rt, alloc, Wire::TextList, TEXT_LISTS)? == (1, 2));
+    assert!(rt; table_is_right(&rt, alloc, Wire::Privileges, PRIVILEGES)? == (1, 2));
+    assert!(rt; table_is_right(&rt, alloc, Wire::Accounts, ACCOUNTS)? == (3, 4));
+    assert!(rt; table_is_right(&rt, alloc, Wire::Domains, DOMAINS)? == (2, 4));
     Ok(())
 }
 
@@ -247,25 +232,19 @@ const BAD_DOMAINS: &str = "
 #[test]
 fn bad_texts_and_sids_have_their_places(rt: HostRuntime) -> Result<(), Fail> {
     let alloc = rt.alloc();
-    assert_eq!(rt; lines_are_bad(&rt, alloc, Wire::Text, BAD_TEXTS)?, 8);
-    assert_eq!(rt; lines_are_bad(&rt, alloc, Wire::Sid, BAD_SIDS)?, 5);
-    assert_eq!(rt; lines_are_bad(&rt, alloc, Wire::SidList, BAD_SID_LISTS)?, 9);
+    assert!(rt; lines_are_bad(&rt, alloc, Wire::Text, BAD_TEXTS)? == 8);
+    assert!(rt; lines_are_bad(&rt, alloc, Wire::Sid, BAD_SIDS)? == 5);
+    assert!(rt; lines_are_bad(&rt, alloc, Wire::SidList, BAD_SID_LISTS)? == 9);
     Ok(())
 }
 
 #[test]
 fn bad_lists_have_their_places(rt: HostRuntime) -> Result<(), Fail> {
     let alloc = rt.alloc();
-    assert_eq!(rt; lines_are_bad(&rt, alloc, Wire::NumberList, BAD_LISTS)?, 1);
-    assert_eq!(rt;
-        lines_are_bad(&rt, alloc, Wire::TextList, BAD_TEXT_LISTS)?,
-        1
-    );
-    assert_eq!(rt;
-        lines_are_bad(&rt, alloc, Wire::Privileges, BAD_PRIVILEGES)?,
-        4
-    );
-    assert_eq!(rt; lines_are_bad(&rt, alloc, Wire::Domains, BAD_DOMAINS)?, 4);
+    assert!(rt; lines_are_bad(&rt, alloc, Wire::NumberList, BAD_LISTS)? == 1);
+    assert!(rt; lines_are_bad(&rt, alloc, Wire::TextList, BAD_TEXT_LISTS)? == 1);
+    assert!(rt; lines_are_bad(&rt, alloc, Wire::Privileges, BAD_PRIVILEGES)? == 4);
+    assert!(rt; lines_are_bad(&rt, alloc, Wire::Domains, BAD_DOMAINS)? == 4);
     Ok(())
 }
 

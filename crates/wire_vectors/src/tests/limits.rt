@@ -100,30 +100,48 @@ fn names_stub(alloc: Global) -> Result<Vec<u8>, Fail> {
     Ok(stub)
 }
 
-/// Adds a word a thousand times.
+/// Adds a list of a thousand times a word.
 fn tell_thousand(told: &mut String, word: &str) -> Result<(), Fail> {
+    told.push_str(" [ ")?;
     for _ in 0..1000u32 {
         told.push_str(word)?;
     }
-    Ok(())
+    Ok(told.push_str("]")?)
+}
+
+/// Some words, and of each further word a list of a thousand.
+fn thousands(alloc: Global, front: &str, words: &[&str]) -> Result<String, Fail> {
+    let mut told = String::from_str(alloc, front)?;
+    for word in words {
+        tell_thousand(&mut told, word)?;
+    }
+    Ok(told)
+}
+
+/// A stub of the look-up of names is read as what such words say, and written again.
+fn thousands_are_right(
+    rt: &impl Abort,
+    alloc: Global,
+    wire: Wire,
+    stub: &[u8],
+    words: &str,
+) -> Result<(), Fail> {
+    let words = spelled(rt, alloc, words)?;
+    let row = Row {
+        wire,
+        opnum: 17,
+        words: words.as_str(),
+        written: stub,
+    };
+    stub_is_right(rt, alloc, &row, stub)
 }
 
 #[test]
 fn a_thousand_names_are_taken(rt: HostRuntime) -> Result<(), Fail> {
+    let words = thousands(rt.alloc(), "NameList Names", &["'nobody' "])?;
     let stub = names_stub(rt.alloc())?;
-    assert_eq!(rt; stub.len(), 32036);
-    let mut words = String::new(rt.alloc());
-    words.push_str("NameList Names [")?;
-    tell_thousand(&mut words, " 'nobody'")?;
-    words.push_str(" ]")?;
-    let words = spelled(&rt, rt.alloc(), words.as_str())?;
-    let row = Row {
-        wire: Wire::SamrCalls,
-        opnum: 17,
-        words: words.as_str(),
-        written: &stub,
-    };
-    stub_is_right(&rt, rt.alloc(), &row, &stub)
+    assert!(rt; stub.len() == 32036);
+    thousands_are_right(&rt, rt.alloc(), Wire::SamrCalls, &stub, words.as_str())
 }
 
 /// The answer to a thousand names of which none is mapped, as Samba writes it: for each name 0 and SidTypeUnknown (8),
@@ -133,20 +151,8 @@ const NONE_MAPPED: &str =
 
 #[test]
 fn a_thousand_names_are_answered(rt: HostRuntime) -> Result<(), Fail> {
+    let words = thousands(rt.alloc(), "Done 0xc0000073 RidUses", &["0 ", "8 "])?;
     let stub = joined(rt.alloc(), NONE_MAPPED, "")?;
-    assert_eq!(rt; stub.len(), 8028);
-    let mut words = String::new(rt.alloc());
-    words.push_str("Done 0xc0000073 RidUses [")?;
-    tell_thousand(&mut words, " 0")?;
-    words.push_str(" ] [")?;
-    tell_thousand(&mut words, " 8")?;
-    words.push_str(" ]")?;
-    let words = spelled(&rt, rt.alloc(), words.as_str())?;
-    let row = Row {
-        wire: Wire::SamrReplies,
-        opnum: 17,
-        words: words.as_str(),
-        written: &stub,
-    };
-    stub_is_right(&rt, rt.alloc(), &row, &stub)
+    assert!(rt; stub.len() == 8028);
+    thousands_are_right(&rt, rt.alloc(), Wire::SamrReplies, &stub, words.as_str())
 }

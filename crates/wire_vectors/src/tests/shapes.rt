@@ -3,7 +3,7 @@ ghost use Rattle.std.specs.Prelude.{All, IsTrue};
 ghost use Rattle.ndr_types.specs.Bounds.{HasShortName, IsShort, IsShortPlace};
 
 use super::wires::{Heard, told};
-use acct_calls::{Name, Place, RidName};
+use acct_calls::{Name, NoMemory, Place, RidName};
 use ndr_core::{In, NdrError, Out};
 use ndr_types::{
     read_privilege_set, read_referenced, read_rid_list, read_rid_names, read_sid, read_sid_list,
@@ -30,18 +30,20 @@ fn most_of(number: u16) -> u32 {
     u32::from(number)
 }
 
-/// A value that ends where its stub ends.
+/// A value that ends where its stub ends. What writing it answered is looked at here, where no value is held.
 fn whole<T: Debug>(
     alloc: Global,
     end: usize,
     stub: &[u8],
     value: &T,
     to: Out,
+    written: Result<(), NoMemory>,
 ) -> Result<Heard, Fail> {
+    written?;
     if end != stub.len() {
         return Ok(Heard::EndsAt(end));
     }
-    told(alloc, 0, value, to.into_bytes())
+    told(alloc, 0, value, Ok(to.into_bytes()))
 }
 
 // ---- what the writers ask for, looked at before each call
@@ -73,8 +75,8 @@ pub fn text(alloc: Global, stub: &[u8]) -> Result<Heard, Fail> {
     let mut to = Out::new(alloc);
     match read_text(alloc, &mut from) {
         Ok(name) if name.units().len() <= 32767 => {
-            write_text(&mut to, &name)?;
-            whole(alloc, from.place(), stub, &name, to)
+            let written = write_text(&mut to, &name);
+            whole(alloc, from.place(), stub, &name, to, written)
         }
         Ok(_) => Ok(Heard::Long),
         Err(error) => Ok(broken(error)),
@@ -86,8 +88,8 @@ pub fn sid(alloc: Global, stub: &[u8]) -> Result<Heard, Fail> {
     let mut to = Out::new(alloc);
     match read_sid(&mut from) {
         Ok(sid) => {
-            write_sid(&mut to, &sid)?;
-            whole(alloc, from.place(), stub, &sid, to)
+            let written = write_sid(&mut to, &sid);
+            whole(alloc, from.place(), stub, &sid, to, written)
         }
         Err(error) => Ok(broken(error)),
     }
@@ -98,8 +100,8 @@ pub fn sids(alloc: Global, most: u16, stub: &[u8]) -> Result<Heard, Fail> {
     let mut to = Out::new(alloc);
     match read_sid_list(alloc, &mut from, most_of(most)) {
         Ok(sids) if sids.as_slice().len() <= 1000 => {
-            write_sid_list(&mut to, &sids)?;
-            whole(alloc, from.place(), stub, &sids, to)
+            let written = write_sid_list(&mut to, &sids);
+            whole(alloc, from.place(), stub, &sids, to, written)
         }
         Ok(_) => Ok(Heard::Long),
         Err(error) => Ok(broken(error)),
@@ -111,8 +113,8 @@ pub fn rids(alloc: Global, most: u16, stub: &[u8]) -> Result<Heard, Fail> {
     let mut to = Out::new(alloc);
     match read_rid_list(alloc, &mut from, most_of(most)) {
         Ok(rids) if rids.as_slice().len() <= 1000 => {
-            write_rid_list(&mut to, &rids)?;
-            whole(alloc, from.place(), stub, &rids, to)
+            let written = write_rid_list(&mut to, &rids);
+            whole(alloc, from.place(), stub, &rids, to, written)
         }
         Ok(_) => Ok(Heard::Long),
         Err(error) => Ok(broken(error)),
@@ -124,8 +126,8 @@ pub fn texts(alloc: Global, most: u16, stub: &[u8]) -> Result<Heard, Fail> {
     let mut to = Out::new(alloc);
     match read_text_list(alloc, &mut from, most_of(most)) {
         Ok(names) if names.as_slice().len() <= 1000 && are_short(names.as_slice()) => {
-            write_text_list(&mut to, &names)?;
-            whole(alloc, from.place(), stub, &names, to)
+            let written = write_text_list(&mut to, &names);
+            whole(alloc, from.place(), stub, &names, to, written)
         }
         Ok(_) => Ok(Heard::Long),
         Err(error) => Ok(broken(error)),
@@ -137,8 +139,8 @@ pub fn privileges(alloc: Global, stub: &[u8]) -> Result<Heard, Fail> {
     let mut to = Out::new(alloc);
     match read_privilege_set(alloc, &mut from) {
         Ok(set) if set.as_slice().len() <= 1000 => {
-            write_privilege_set(&mut to, &set)?;
-            whole(alloc, from.place(), stub, &set, to)
+            let written = write_privilege_set(&mut to, &set);
+            whole(alloc, from.place(), stub, &set, to, written)
         }
         Ok(_) => Ok(Heard::Long),
         Err(error) => Ok(broken(error)),
@@ -151,12 +153,12 @@ pub fn accounts(alloc: Global, stub: &[u8]) -> Result<Heard, Fail> {
     let mut to = Out::new(alloc);
     match read_rid_names(alloc, &mut from) {
         Ok(None) => {
-            write_rid_names(&mut to, None)?;
-            whole(alloc, from.place(), stub, &None::<u32>, to)
+            let written = write_rid_names(&mut to, None);
+            whole(alloc, from.place(), stub, &None::<u32>, to, written)
         }
         Ok(Some(list)) if list.as_slice().len() <= 1000 && have_short_names(list.as_slice()) => {
-            write_rid_names(&mut to, Some(&list))?;
-            whole(alloc, from.place(), stub, &list, to)
+            let written = write_rid_names(&mut to, Some(&list));
+            whole(alloc, from.place(), stub, &list, to, written)
         }
         Ok(_) => Ok(Heard::Long),
         Err(error) => Ok(broken(error)),
@@ -169,8 +171,8 @@ pub fn domains(alloc: Global, stub: &[u8]) -> Result<Heard, Fail> {
     let mut to = Out::new(alloc);
     match read_referenced(alloc, &mut from) {
         Ok(list) if list.as_slice().len() <= 1000 && are_short_places(list.as_slice()) => {
-            write_referenced(&mut to, Some(&list))?;
-            whole(alloc, from.place(), stub, &list, to)
+            let written = write_referenced(&mut to, Some(&list));
+            whole(alloc, from.place(), stub, &list, to, written)
         }
         Ok(_) => Ok(Heard::Long),
         Err(error) => Ok(broken(error)),

@@ -29,6 +29,18 @@ pub struct Row<'a> {
     pub written: &'a [u8],
 }
 
+/// What a stub was read as is what the row says.
+fn value_is_right(rt: &impl Abort, row: &Row<'_>, handle: u128, words: &str, written: &[u8]) {
+    let number = if row.wire.has_handle(row.opnum) {
+        HANDLE
+    } else {
+        0
+    };
+    assert!(rt; handle == number, "another handle: {}", row.words);
+    assert!(rt; words == row.words, "{} is {words}", row.words);
+    assert!(rt; written == row.written, "another stub: {}", row.words);
+}
+
 /// A stub is read as what the words say, which is written as the first stub.
 pub fn stub_is_right(
     rt: &impl Abort,
@@ -41,20 +53,7 @@ pub fn stub_is_right(
             handle,
             words,
             written,
-        } => {
-            let number = if row.wire.has_handle(row.opnum) {
-                HANDLE
-            } else {
-                0
-            };
-            assert!(rt; handle == number, "another handle: {}", row.words);
-            assert!(rt; words.as_str() == row.words, "{} is {words}", row.words);
-            assert!(rt;
-                written.as_slice() == row.written,
-                "another stub: {}",
-                row.words
-            );
-        }
+        } => value_is_right(rt, row, handle, words.as_str(), &written),
         _ => panic!(rt; "no value: {}", row.words),
     }
     Ok(())
@@ -103,7 +102,7 @@ pub fn beginnings_are_bad(
     fields: &str,
 ) -> Result<(), Fail> {
     let stub = row.written;
-    assert_eq!(rt; place_in(fields, stub.len()), stub.len());
+    assert!(rt; place_in(fields, stub.len()) == stub.len());
     for length in 0..stub.len() {
         let bad = is_bad(
             alloc,
@@ -133,8 +132,21 @@ fn others_are_right(
     Ok(count)
 }
 
-/// A row of a table: each of its stubs is read as the value, which is written as the first of them, and each beginning
-/// of that one is bad at its place. It counts the stubs.
+/// Each stub of a row is read as the value, which is written as the first of them, and each beginning of that one is
+/// bad at its place. It counts the stubs.
+fn stubs_are_right(
+    rt: &impl Abort,
+    alloc: Global,
+    row: &Row<'_>,
+    fields: &str,
+    others: &str,
+) -> Result<u32, Fail> {
+    stub_is_right(rt, alloc, row, row.written)?;
+    beginnings_are_bad(rt, alloc, row, fields)?;
+    Ok(others_are_right(rt, alloc, row, others)?.wrapping_add(1))
+}
+
+/// A row of a table, whose stubs are right. It counts them.
 fn row_is_right(rt: &impl Abort, alloc: Global, wire: Wire, text: &str) -> Result<u32, Fail> {
     let (opnum, rest) = numbered(rt, text);
     let (_, rest) = cut(rest);
@@ -149,10 +161,7 @@ fn row_is_right(rt: &impl Abort, alloc: Global, wire: Wire, text: &str) -> Resul
         words: words.as_str(),
         written: &written,
     };
-    stub_is_right(rt, alloc, &row, &written)?;
-    beginnings_are_bad(rt, alloc, &row, fields)?;
-    let count = others_are_right(rt, alloc, &row, others)?;
-    Ok(count.wrapping_add(1))
+    stubs_are_right(rt, alloc, &row, fields, others)
 }
 
 /// A table whose rows are all right. It counts the rows and their stubs.

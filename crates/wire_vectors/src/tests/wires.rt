@@ -5,7 +5,7 @@ ghost use Rattle.acct_layouts.specs.ReplyShapes.{RefersRightly, domains_of};
 
 use super::shapes;
 use super::words::tell;
-use acct_calls::{Call, Outs, Reply};
+use acct_calls::{NoMemory, Outs, Reply};
 use acct_layouts::is_refusal;
 use samr_wire::WireError;
 use std::alloc::Global;
@@ -58,47 +58,47 @@ fn refused(error: WireError) -> Heard {
     }
 }
 
-/// A value in words, and its stub.
+/// A value in words, and its stub. What writing it answered is looked at here, where no value is held.
 pub fn told<T: Debug>(
     alloc: Global,
     handle: u128,
     value: &T,
-    written: Vec<u8>,
+    written: Result<Vec<u8>, NoMemory>,
 ) -> Result<Heard, Fail> {
     let words = tell(alloc, value)?;
     Ok(Heard::Value {
         handle,
         words,
-        written,
+        written: written?,
     })
-}
-
-fn called(alloc: Global, call: &Call, written: Vec<u8>) -> Result<Heard, Fail> {
-    told(alloc, call.handle.number, &call.args, written)
 }
 
 fn samr_call(alloc: Global, opnum: u16, stub: &[u8]) -> Result<Heard, Fail> {
     match samr_wire::read_call(alloc, opnum, stub) {
-        Ok(call) => called(alloc, &call, samr_wire::write_call(alloc, &call)?),
+        Ok(call) => {
+            let written = samr_wire::write_call(alloc, &call);
+            told(alloc, call.handle.number, &call.args, written)
+        }
         Err(error) => Ok(refused(error)),
     }
 }
 
 fn samr_reply(alloc: Global, opnum: u16, stub: &[u8]) -> Result<Heard, Fail> {
     match samr_wire::read_reply(alloc, opnum, stub) {
-        Ok(reply) => told(
-            alloc,
-            0,
-            &reply,
-            samr_wire::write_reply(alloc, opnum, &reply)?,
-        ),
+        Ok(reply) => {
+            let written = samr_wire::write_reply(alloc, opnum, &reply);
+            told(alloc, 0, &reply, written)
+        }
         Err(error) => Ok(refused(error)),
     }
 }
 
 fn lsa_call(alloc: Global, opnum: u16, stub: &[u8]) -> Result<Heard, Fail> {
     match lsa_wire::read_call(alloc, opnum, stub) {
-        Ok(call) => called(alloc, &call, lsa_wire::write_call(alloc, &call)?),
+        Ok(call) => {
+            let written = lsa_wire::write_call(alloc, &call);
+            told(alloc, call.handle.number, &call.args, written)
+        }
         Err(error) => Ok(refused(error)),
     }
 }
@@ -128,15 +128,12 @@ fn refers_rightly(reply: &Reply) -> bool
 fn lsa_reply(alloc: Global, opnum: u16, stub: &[u8]) -> Result<Heard, Fail> {
     match lsa_wire::read_reply(alloc, opnum, stub) {
         Ok(reply) => {
-            if !refers_rightly(&reply) {
-                return told(alloc, 0, &reply, Vec::new(alloc));
-            }
-            told(
-                alloc,
-                0,
-                &reply,
-                lsa_wire::write_reply(alloc, opnum, &reply)?,
-            )
+            let written = if refers_rightly(&reply) {
+                lsa_wire::write_reply(alloc, opnum, &reply)
+            } else {
+                Ok(Vec::new(alloc))
+            };
+            told(alloc, 0, &reply, written)
         }
         Err(error) => Ok(refused(error)),
     }

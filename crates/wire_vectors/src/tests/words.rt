@@ -36,12 +36,16 @@ fn add_words(told: &mut String, text: &str) -> Result<(), Fail> {
     Ok(())
 }
 
+/// Adds a value in words.
+fn add_value<T: Debug>(told: &mut String, alloc: Global, value: &T) -> Result<(), Fail> {
+    let text = format!(in alloc; "{value:?}")?;
+    add_words(told, text.as_str())
+}
+
 /// A value in words.
 pub fn tell<T: Debug>(alloc: Global, value: &T) -> Result<String, Fail> {
-    let mut text = String::new(alloc);
-    write!(&mut text, "{value:?}")?;
     let mut told = String::new(alloc);
-    add_words(&mut told, text.as_str())?;
+    add_value(&mut told, alloc, value)?;
     Ok(told)
 }
 
@@ -60,7 +64,7 @@ fn spell_digits(told: &mut String, digits: &str) -> Result<(), Fail> {
 fn spell_word(rt: &impl Abort, alloc: Global, told: &mut String, word: &str) -> Result<(), Fail> {
     if word.starts_with("S-1-") {
         return match parse_text(word) {
-            Ok(sid) => Ok(told.push_str(tell(alloc, &sid)?.as_str())?),
+            Ok(sid) => add_value(told, alloc, &sid),
             Err(_) => panic!(rt; "no SID: {word}"),
         };
     }
@@ -81,7 +85,7 @@ pub fn spelled(rt: &impl Abort, alloc: Global, text: &str) -> Result<String, Fai
     for piece in text.split('\'') {
         if quoted {
             let name = Name::from_text(alloc, piece)?;
-            told.push_str(tell(alloc, &name)?.as_str())?;
+            add_value(&mut told, alloc, &name)?;
         } else {
             for word in piece.split(' ') {
                 spell_word(rt, alloc, &mut told, word)?;
