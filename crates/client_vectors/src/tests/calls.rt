@@ -3,8 +3,8 @@ ghost use Rattle.std.specs.Prelude.{◌≤◌, IfOk, None, false, vec_len};
 ghost use Rattle.client_calls.specs.Talks.{IsBegun};
 
 use acct_client::Asker;
-use acct_links::{Failed, Link, MemoryCaller, MemoryLink, SteadyCaller, SteadyLink};
-use acct_streams::{MemorySink, SteadySink};
+use acct_links::{Caller, Failed, Link, MemoryCaller, MemoryLink, SteadyCaller, SteadyLink};
+use acct_streams::MemorySink;
 use client_calls::{Called, TalkEnd, call};
 use std::alloc::Global;
 use std::test::Fail;
@@ -41,23 +41,88 @@ fn asker(alloc: Global) -> Result<Asker, Fail>
     Ok(Asker::new(alloc, &words)?)
 }
 
-// A call to a peer that sends these bytes, over a link of which the listed calls fail.
-fn called(
-    alloc: Global,
-    digits: &str,
-    failing: &[u64],
-    out: &mut MemorySink,
-) -> Result<Called<MemoryLink>, Fail> {
-    let input = SteadyLink::new(bytes_of(alloc, digits)?, 7);
-    let link = MemoryLink::new(alloc, input, 1024, 50, failing.to_vec(alloc)?)?;
-    let mut links = Vec::new(alloc);
-    links.push(link)?;
-    let mut caller = MemoryCaller::new(alloc, links, Vec::new(alloc));
-    Ok(call(alloc, asker(alloc)?, "tcp:h:1", &mut caller, out))
+/// Each row: what the peer sends, which call of its link fails, how the call ends and whether there was a link, and what
+/// is printed, where a slash ends a line. `ALL` stands for the answers above, and `FRONT` for their first hundred bytes. The row that begins with
+/// 48 is HTTP's. Where the second call fails it is the second write of the bind, and the ninth is a read.
+const ENDS: &str = "\
+ALL|0|Done true|CORP/BUILTIN/
+|0|PeerFault true|
+FRONT|0|PeerFault true|
+00000000000000000000000000000000|0|PeerBytes(0) true|
+485454502f312e312034303020426164|0|PeerBytes(0) true|
+05000d03100000001800000001000000000000050000000000000000|0|Refused(0) true|refused 0x00000000/
+ALL|2|PeerFault true|
+ALL|9|PeerFault true|";
+
+/// The front of a row up to a bar, and what is behind the bar.
+fn column(row: &str) -> (&str, &str) {
+    row.split_once('|').unwrap_or((row, ""))
 }
 
-fn sink(alloc: Global) -> Result<MemorySink, Fail> {
-    Ok(MemorySink::new(alloc, 64, 5, Vec::new(alloc))?)
+fn digits_of(word: &str) -> &str {
+    match word {
+        "ALL" => ANSWERS,
+        "FRONT" => &ANSWERS[..200],
+        digits => digits,
+    }
+}
+
+/// A peer that sends these bytes over one link, of whose calls this one fails.
+fn caller_of(alloc: Global, digits: &str, failing: u64) -> Result<MemoryCaller<MemoryLink>, Fail> {
+    let input = SteadyLink::new(bytes_of(alloc, digits)?, 7);
+    let link = MemoryLink::new(alloc, input, 1024, 50, [failing].to_vec(alloc)?)?;
+    let mut links = Vec::new(alloc);
+    links.push(link)?;
+    Ok(MemoryCaller::new(alloc, links, Vec::new(alloc)))
+}
+
+/// A sink with so much room, which takes five bytes at a time.
+fn sink(alloc: Global, room: usize) -> Result<MemorySink, Fail> {
+    Ok(MemorySink::new(alloc, room, 5, Vec::new(alloc))?)
+}
+
+fn called<C: Caller>(
+    alloc: Global,
+    caller: &mut C,
+    out: &mut MemorySink,
+) -> Result<Called<C::L>, Fail> {
+    Ok(call(alloc, asker(alloc)?, "tcp:h:1", caller, out))
+}
+
+/// Whether a call ends so, and its lines are printed or not.
+fn ends<C: Caller>(
+    alloc: Global,
+    caller: &mut C,
+    out: &mut MemorySink,
+    end: &str,
+    is_printed: bool,
+) -> Result<bool, Fail>
+where
+    C::L: Drop,
+{
+    let Called {
+        end: found,
+        printing,
+        link,
+    } = called(alloc, caller, out)?;
+    let told = format!(in alloc; "{found:?} {}", link.is_some())?;
+    Ok(told.as_str() == end && printing.is_ok() == is_printed)
+}
+
+/// Whether these lines were printed.
+fn has(out: &MemorySink, lines: &str) -> bool {
+    let printed = std::str::from_utf8(out.as_slice()).ok().unwrap_or("?");
+    printed.split('\n').eq(lines.split('/'))
+}
+
+fn row_is_right(alloc: Global, row: &str) -> Result<bool, Fail> {
+    let (word, rest) = column(row);
+    let (failing, rest) = column(rest);
+    let (end, lines) = column(rest);
+    let failing = failing.parse::<u32>().ok().unwrap_or(0) as u64;
+    let mut caller = caller_of(alloc, digits_of(word), failing)?;
+    let mut out = sink(alloc, 64)?;
+    Ok(ends(alloc, &mut caller, &mut out, end, true)? && has(&out, lines))
 }
 
 /// Where each request ends in what is sent, in bytes, and its answer in what is answered.
@@ -115,92 +180,49 @@ impl Link for TurnTaker {
     }
 }
 
+/// What a call sends to a peer that answers all.
+fn sent(alloc: Global) -> Result<String, Fail> {
+    let mut caller = caller_of(alloc, ANSWERS, 0)?;
+    let mut out = sink(alloc, 64)?;
+    match called(alloc, &mut caller, &mut out)?.link {
+        Some(link) => Ok(hex::encode(alloc, link.as_slice())?),
+        None => Ok(String::new(alloc)),
+    }
+}
+
 #[test]
-fn requests_are_sent_and_lines_printed(rt: HostRuntime) -> Result<(), Fail> {
-    let alloc = rt.alloc();
-    let mut out = sink(alloc)?;
-    let called = called(alloc, ANSWERS, &[], &mut out)?;
-    assert_eq!(rt; called.end, TalkEnd::Done);
-    assert_eq!(rt; out.as_slice(), b"CORP\nBUILTIN\n".as_slice());
-    let requests = bytes_of(alloc, REQUESTS)?;
-    assert!(rt;
-        called
-            .link
-            .is_some_and(|link| link.as_slice() == requests.as_slice())
-    );
+fn requests_are_sent(rt: HostRuntime) -> Result<(), Fail> {
+    assert!(rt; sent(rt.alloc())?.as_str() == REQUESTS);
     Ok(())
 }
 
 #[test]
 fn each_end_has_its_cause(rt: HostRuntime) -> Result<(), Fail> {
-    let alloc = rt.alloc();
-    for (digits, failing, end, lines) in [
-        ("", 0, TalkEnd::PeerFault, ""),
-        (
-            "00000000000000000000000000000000",
-            0,
-            TalkEnd::PeerBytes(0),
-            "",
-        ),
-        // HTTP/1.1 400 Bad
-        (
-            "485454502f312e312034303020426164",
-            0,
-            TalkEnd::PeerBytes(0),
-            "",
-        ),
-        (
-            "05000d03100000001800000001000000000000050000000000000000",
-            0,
-            TalkEnd::Refused(0),
-            "refused 0x00000000\n",
-        ),
-        (&ANSWERS[..200], 0, TalkEnd::PeerFault, ""),
-        // The second write of the bind fails, and a read.
-        (ANSWERS, 2, TalkEnd::PeerFault, ""),
-        (ANSWERS, 9, TalkEnd::PeerFault, ""),
-    ] {
-        let mut out = sink(alloc)?;
-        let called = called(alloc, digits, &[failing], &mut out)?;
-        assert_eq!(rt; called.end, end);
-        assert_eq!(rt; out.as_slice(), lines.as_bytes());
-        assert!(rt; called.printing.is_ok());
+    for row in ENDS.lines() {
+        assert!(rt; row_is_right(rt.alloc(), row)?, "{row}");
     }
     Ok(())
 }
 
 #[test]
 fn a_caller_without_links_is_a_fault_of_the_peer(rt: HostRuntime) -> Result<(), Fail> {
-    let alloc = rt.alloc();
-    let links: Vec<MemoryLink> = Vec::new(alloc);
-    let mut caller = MemoryCaller::new(alloc, links, Vec::new(alloc));
-    let called = call(
-        alloc,
-        asker(alloc)?,
-        "tcp:h:1",
-        &mut caller,
-        &mut SteadySink,
-    );
-    assert_eq!(rt; called.end, TalkEnd::PeerFault);
-    assert!(rt; called.link.is_none());
+    let links: Vec<MemoryLink> = Vec::new(rt.alloc());
+    let mut caller = MemoryCaller::new(rt.alloc(), links, Vec::new(rt.alloc()));
+    let mut out = sink(rt.alloc(), 64)?;
+    assert!(rt; ends(rt.alloc(), &mut caller, &mut out, "PeerFault false", true)?);
     Ok(())
 }
 
 #[test]
 fn lines_without_room_are_a_fault_of_printing(rt: HostRuntime) -> Result<(), Fail> {
-    let alloc = rt.alloc();
-    let mut caller = SteadyCaller::new(alloc, bytes_of(alloc, ANSWERS)?, 9);
-    let mut out = MemorySink::new(alloc, 8, 8, Vec::new(alloc))?;
-    let called = call(alloc, asker(alloc)?, "tcp:h:1", &mut caller, &mut out);
-    assert_eq!(rt; called.end, TalkEnd::Done);
-    assert!(rt; called.printing.is_err());
+    let mut caller = SteadyCaller::new(rt.alloc(), bytes_of(rt.alloc(), ANSWERS)?, 9);
+    let mut out = sink(rt.alloc(), 8)?;
+    assert!(rt; ends(rt.alloc(), &mut caller, &mut out, "Done true", false)?);
     Ok(())
 }
 
-// It would wait for ever on a read before its request, or behind the last answer.
-#[test]
-fn each_answer_is_read_after_its_request(rt: HostRuntime) -> Result<(), Fail> {
-    let alloc = rt.alloc();
+/// A caller with one link, to a peer that takes turns.
+fn caller_by_turns(alloc: Global) -> Result<MemoryCaller<TurnTaker>, Fail> {
     let mut links = Vec::new(alloc);
     links.push(TurnTaker {
         answers: bytes_of(alloc, ANSWERS)?,
@@ -208,19 +230,27 @@ fn each_answer_is_read_after_its_request(rt: HostRuntime) -> Result<(), Fail> {
         sent: 0,
         read_faults: 0,
     })?;
-    let mut caller = MemoryCaller::new(alloc, links, Vec::new(alloc));
-    let called = call(
-        alloc,
-        asker(alloc)?,
-        "tcp:h:1",
-        &mut caller,
-        &mut SteadySink,
-    );
-    assert_eq!(rt; called.end, TalkEnd::Done);
-    assert!(rt;
-        called
-            .link
-            .is_some_and(|link| (link.sent == 200) & (link.read_faults == 0))
-    );
+    Ok(MemoryCaller::new(alloc, links, Vec::new(alloc)))
+}
+
+/// How much a call sends to a peer that takes turns, and how many of its reads fail.
+fn sent_by_turns(alloc: Global) -> Result<(usize, u64), Fail> {
+    let mut caller = caller_by_turns(alloc)?;
+    let mut out = sink(alloc, 64)?;
+    let Called {
+        end,
+        printing: _,
+        link,
+    } = called(alloc, &mut caller, &mut out)?;
+    match (end, link) {
+        (TalkEnd::Done, Some(link)) => Ok((link.sent, link.read_faults)),
+        _ => Ok((0, 0)),
+    }
+}
+
+// It would wait for ever on a read before its request, or behind the last answer.
+#[test]
+fn each_answer_is_read_after_its_request(rt: HostRuntime) -> Result<(), Fail> {
+    assert!(rt; sent_by_turns(rt.alloc())? == (200, 0));
     Ok(())
 }

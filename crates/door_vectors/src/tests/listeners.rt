@@ -32,20 +32,34 @@ fn split(text: &str, sign: char) -> (&str, &str) {
     text.split_once(sign).unwrap_or((text, ""))
 }
 
+// A listener's lines in a document.
+fn push_listener(document: &mut String, place: usize, listener: &str) -> Result<(), Fail> {
+    let (address, counts) = split(listener, ' ');
+    let (workers, links) = split(counts, ' ');
+    write!(document, "[[listener]]\nname = \"l{place}\"\n")?;
+    write!(document, "address = \"{address}\"\n")?;
+    document.push_str("token = [\"S-1-1-0\"]\nworkers = ")?;
+    document.push_str(workers)?;
+    document.push_str("\nlinks = ")?;
+    document.push_str(links)?;
+    document.push('\n')?;
+    Ok(())
+}
+
+// A document with these listeners.
+fn document_of(alloc: Global, listeners: &str) -> Result<String, Fail> {
+    let mut document = String::from_str(alloc, DOMAIN)?;
+    for (place, listener) in listeners.split(',').enumerate() {
+        push_listener(&mut document, place, listener)?;
+    }
+    Ok(document)
+}
+
 // A configuration with these listeners.
 fn configured(alloc: Global, listeners: &str) -> Result<Config, Fail>
     ensures { IfOk result IsRight }
 {
-    let mut document = String::from_str(alloc, DOMAIN)?;
-    for (place, listener) in listeners.split(',').enumerate() {
-        let (address, counts) = split(listener, ' ');
-        let (workers, links) = split(counts, ' ');
-        write!(
-            document,
-            "[[listener]]\nname = \"l{place}\"\naddress = \"{address}\"\ntoken = [\"S-1-1-0\"]\nworkers = \
-            {workers}\nlinks = {links}\n"
-        )?;
-    }
+    let document = document_of(alloc, listeners)?;
     Ok(read_config(alloc, document.as_str().as_bytes())?)
 }
 
@@ -84,21 +98,37 @@ fn letter_of<D: Door>(door: &mut D) -> char {
     char::from(letter[0])
 }
 
+fn push_number(text: &mut String, number: u64) -> Result<(), Fail> {
+    write!(text, " {number}")?;
+    Ok(())
+}
+
+fn push_address(text: &mut String, listener: u32, address: &[u8]) -> Result<(), Fail> {
+    write!(text, "{listener} ")?;
+    text.push_str(std::str::from_utf8(address).ok().unwrap_or("?"))?;
+    Ok(())
+}
+
 fn push_askings(text: &mut String, askings: &[Asking]) -> Result<(), Fail> {
     for asking in askings {
-        let address = std::str::from_utf8(asking.address.as_slice())
-            .ok()
-            .unwrap_or("?");
-        let (listener, workers, links) = (asking.listener, asking.workers, asking.links);
-        write!(text, "{listener} {address} {workers} {links},")?;
+        push_address(text, asking.listener, asking.address.as_slice())?;
+        push_number(text, asking.workers as u64)?;
+        push_number(text, asking.links)?;
+        text.push(',')?;
     }
+    Ok(())
+}
+
+fn push_door<D: Door>(text: &mut String, door: &mut D) -> Result<(), Fail> {
+    write!(text, "{}", door.listener())?;
+    text.push(letter_of(door))?;
+    text.push(',')?;
     Ok(())
 }
 
 fn push_doors<D: Door>(text: &mut String, doors: &mut Vec<D>) -> Result<(), Fail> {
     for door in doors {
-        let letter = letter_of(door);
-        write!(text, "{}{letter},", door.listener())?;
+        push_door(text, door)?;
     }
     Ok(())
 }
@@ -127,16 +157,16 @@ fn told(alloc: Global, failing: &str, listeners: &str) -> Result<String, Fail> {
     left(alloc, &config, &mut entrance)
 }
 
+fn is_left(alloc: Global, row: &str) -> Result<bool, Fail> {
+    let (failing, rest) = split(row, '|');
+    let (listeners, wanted) = split(rest, '|');
+    Ok(told(alloc, failing, listeners)?.as_str() == wanted)
+}
+
 #[test]
 fn doors_of_listeners(rt: HostRuntime) -> Result<(), Fail> {
     for row in ROWS.lines() {
-        let (failing, rest) = split(row, '|');
-        let (listeners, wanted) = split(rest, '|');
-        assert_eq!(rt;
-            told(rt.alloc(), failing, listeners)?.as_str(),
-            wanted,
-            "{row}"
-        );
+        assert!(rt; is_left(rt.alloc(), row)?, "{row}");
     }
     Ok(())
 }

@@ -5,74 +5,157 @@ ghost use Rattle.acct_links.specs.Memory.{told_by_steady};
 
 use acct_base::Seq;
 use acct_links::{
-    Caller, Door, DoorPlan, Entrance, Failed, Link, MemoryCaller, MemoryEntrance, MemoryLink, Next,
+    Caller, Door, DoorPlan, Entrance, Link, MemoryCaller, MemoryEntrance, MemoryLink, Next,
     SteadyCaller, SteadyLink, TakeError, send,
 };
 use std::alloc::Global;
 use std::test::Fail;
 
-fn link(alloc: Global, room: usize, failing: &[u64]) -> Result<MemoryLink, Fail> {
+// Each row: the room of a link, its calls that fail, what is asked of it, and what it answers; then what was taken. `r`
+// reads at most four bytes, `w` writes a piece and `s` sends one whole. What has no room isn't taken in part.
+const LINKS: &str =
+    "4|2 4|r r wuvw ww wwxy swx r|ab failed Ok(2) Err(Failed) Err(Failed) Ok(()) cd |uvwx
+0||r r r r r|ab cd e   |";
+
+// The front of a text up to a bar, and what is behind the bar.
+fn column(text: &str) -> (&str, &str) {
+    text.split_once('|').unwrap_or((text, ""))
+}
+
+fn number(word: &str) -> u32 {
+    word.parse::<u32>().ok().unwrap_or(0)
+}
+
+fn numbers(alloc: Global, words: &str) -> Result<Vec<u64>, Fail> {
+    let mut numbers = Vec::new(alloc);
+    for word in words.split_whitespace() {
+        numbers.push(u64::from(number(word)))?;
+    }
+    Ok(numbers)
+}
+
+// A link that brings abcde, two bytes at a time, and takes two at a time.
+fn link_of(alloc: Global, room: &str, failing: &str) -> Result<MemoryLink, Fail> {
     let input = SteadyLink::new(b"abcde".to_vec(alloc)?, 2);
-    Ok(MemoryLink::new(alloc, input, room, 2, failing.to_vec(alloc)?)?)
+    let failing = numbers(alloc, failing)?;
+    Ok(MemoryLink::new(alloc, input, number(room) as usize, 2, failing)?)
+}
+
+fn text_of(bytes: &[u8]) -> &str {
+    std::str::from_utf8(bytes).ok().unwrap_or("?")
+}
+
+fn read(told: &mut String, link: &mut MemoryLink) -> Result<(), Fail> {
+    let mut buf = [0u8; 4];
+    match link.read(&mut buf) {
+        Ok(count) => told.push_str(text_of(buf.get(..count).unwrap_or(b"?")))?,
+        Err(_) => told.push_str("failed")?,
+    }
+    Ok(())
+}
+
+fn write(told: &mut String, link: &mut MemoryLink, piece: &str) -> Result<(), Fail> {
+    let answer = link.write(piece.as_bytes());
+    write!(told, "{answer:?}")?;
+    Ok(())
+}
+
+fn send_whole(told: &mut String, link: &mut MemoryLink, piece: &str) -> Result<(), Fail> {
+    let answer = send(link, piece.as_bytes());
+    write!(told, "{answer:?}")?;
+    Ok(())
+}
+
+fn ask(told: &mut String, link: &mut MemoryLink, word: &str) -> Result<(), Fail> {
+    match (word.strip_prefix('w'), word.strip_prefix('s')) {
+        (Some(piece), _) => write(told, link, piece),
+        (_, Some(piece)) => send_whole(told, link, piece),
+        _ => read(told, link),
+    }
+}
+
+// What is answered, and what was taken.
+fn asked(alloc: Global, link: &mut MemoryLink, words: &str) -> Result<String, Fail> {
+    let mut told = String::new(alloc);
+    for word in words.split(' ') {
+        ask(&mut told, link, word)?;
+        told.push(' ')?;
+    }
+    told.push('|')?;
+    told.push_str(text_of(link.as_slice()))?;
+    Ok(told)
+}
+
+fn is_answered(alloc: Global, row: &str) -> Result<bool, Fail> {
+    let (room, rest) = column(row);
+    let (failing, rest) = column(rest);
+    let (words, wanted) = column(rest);
+    let mut link = link_of(alloc, room, failing)?;
+    Ok(asked(alloc, &mut link, words)?.as_str() == wanted)
 }
 
 #[test]
 fn the_listed_calls_of_a_link_fail(rt: HostRuntime) -> Result<(), Fail> {
-    let alloc = rt.alloc();
-    let mut link = link(alloc, 4, &[2, 4])?;
-    let mut buf = [0u8; 4];
-    assert_eq!(rt; link.read(&mut buf), Ok(2));
-    assert_eq!(rt; buf[..2], b"ab"[..]);
-    assert_eq!(rt; link.read(&mut buf), Err(Failed));
-    assert_eq!(rt; link.write(b"uvw"), Ok(2));
-    assert_eq!(rt; link.write(b"w"), Err(Failed));
-    // What has no room isn't taken in part.
-    assert_eq!(rt; link.write(b"wxy"), Err(Failed));
-    assert_eq!(rt; send(&mut link, b"wx"), Ok(()));
-    assert_eq!(rt; link.as_slice(), b"uvwx".as_slice());
-    assert_eq!(rt; link.read(&mut buf), Ok(2));
-    assert_eq!(rt; buf[..2], b"cd"[..]);
-    Ok(())
-}
-
-#[test]
-fn a_link_is_read_to_its_end(rt: HostRuntime) -> Result<(), Fail> {
-    let mut link = link(rt.alloc(), 0, &[])?;
-    let mut buf = [0u8; 8];
-    for want in [2, 2, 1, 0, 0] {
-        assert_eq!(rt; link.read(&mut buf), Ok(want));
+    for row in LINKS.lines() {
+        assert!(rt; is_answered(rt.alloc(), row)?, "{row}");
     }
     Ok(())
 }
 
-#[test]
-fn a_caller_gives_its_links_in_order(rt: HostRuntime) -> Result<(), Fail> {
-    let alloc = rt.alloc();
+// A caller with two links, whose second call fails.
+fn caller(alloc: Global) -> Result<MemoryCaller<SteadyLink>, Fail> {
     let mut links = Vec::new(alloc);
     links.push(SteadyLink::new(b"one".to_vec(alloc)?, 8))?;
     links.push(SteadyLink::new(b"two".to_vec(alloc)?, 8))?;
-    let mut caller = MemoryCaller::new(alloc, links, [2].to_vec(alloc)?);
-    let mut told = Vec::new(alloc);
-    for address in ["tcp:h:1", "tcp:h:2", "unix:s", "tcp:h:3"] {
-        let mut buf = [0u8; 8];
-        match caller.link(address) {
-            Ok(mut link) => {
-                let count = link.read(&mut buf).unwrap_or(0).min(8);
-                told.extend_from_slice(&buf[..count])?;
-            }
-            Err(TakeError::Failed) => told.extend_from_slice(b" failed ")?,
-            Err(TakeError::NoMemory) => told.extend_from_slice(b" memory ")?,
-        }
-    }
-    assert_eq!(rt; told.as_slice(), b"one failed two failed ".as_slice());
-    assert_eq!(rt; caller.addresses().len(), 2);
-    let steady = SteadyCaller::new(alloc, b"x".to_vec(alloc)?, 1).link("tcp:h:1");
-    assert!(rt; steady.is_ok());
+    Ok(MemoryCaller::new(alloc, links, numbers(alloc, "2")?))
+}
+
+// What a link brings first.
+fn push_brought<L: Link + Drop>(told: &mut String, mut link: L) -> Result<(), Fail> {
+    let mut buf = [0u8; 8];
+    let count = link.read(&mut buf).unwrap_or(0);
+    told.push_str(text_of(buf.get(..count).unwrap_or(b"?")))?;
     Ok(())
 }
 
-// A door with two links.
-fn plan(alloc: Global, failing: &[u64]) -> Result<DoorPlan<SteadyLink>, Fail>
+fn call<C: Caller>(told: &mut String, caller: &mut C, address: &str) -> Result<(), Fail>
+where
+    C::L: Drop,
+{
+    match caller.link(address) {
+        Ok(link) => push_brought(told, link)?,
+        Err(TakeError::Failed) => told.push_str("failed")?,
+        Err(TakeError::NoMemory) => told.push_str("memory")?,
+    }
+    told.push(' ')?;
+    Ok(())
+}
+
+// What the links of four calls bring.
+fn called<C: Caller>(alloc: Global, caller: &mut C) -> Result<String, Fail>
+where
+    C::L: Drop,
+{
+    let mut told = String::new(alloc);
+    for address in ["tcp:h:1", "tcp:h:2", "unix:s", "tcp:h:3"] {
+        call(&mut told, caller, address)?;
+    }
+    Ok(told)
+}
+
+#[test]
+fn callers_give_their_links_in_order(rt: HostRuntime) -> Result<(), Fail> {
+    let mut caller = caller(rt.alloc())?;
+    let told = called(rt.alloc(), &mut caller)?;
+    assert!(rt; told.as_str() == "one failed two failed ");
+    assert!(rt; caller.addresses().len() == 2);
+    let mut steady = SteadyCaller::new(rt.alloc(), b"x".to_vec(rt.alloc())?, 1);
+    assert!(rt; called(rt.alloc(), &mut steady)?.as_str().starts_with("x "));
+    Ok(())
+}
+
+// A door with two links, whose calls of these numbers fail.
+fn plan(alloc: Global, failing: &str) -> Result<DoorPlan<SteadyLink>, Fail>
     ensures { IfOk result (λ plan. All (λ link. IsNew (told_by_steady link)) plan.links) }
 {
     let mut links = Vec::new(alloc);
@@ -80,43 +163,66 @@ fn plan(alloc: Global, failing: &[u64]) -> Result<DoorPlan<SteadyLink>, Fail>
     links.push(SteadyLink::new(b"y".to_vec(alloc)?, 1))?;
     Ok(DoorPlan {
         links: Seq::from_vec(links),
-        failing: Seq::from_vec(failing.to_vec(alloc)?),
+        failing: Seq::from_vec(numbers(alloc, failing)?),
     })
 }
 
-// How the calls of a door ended, until it is closed.
-fn opened<D: Door>(alloc: Global, door: &mut D) -> Result<Vec<u8>, Fail> {
-    let mut told = Vec::new(alloc);
-    for conn in 0..5 {
-        match door.next() {
-            Next::Link(link) => {
-                door.finish(conn, link);
-                told.push(b'l')?;
-            }
-            Next::Closed => told.push(b'c')?,
-            Next::Failed => told.push(b'f')?,
+// How a call of a door ended: with a link, which is given back, closed or failed.
+fn opened<D: Door>(door: &mut D, conn: u32) -> char {
+    match door.next() {
+        Next::Link(link) => {
+            door.finish(conn, link);
+            'l'
         }
+        Next::Closed => 'c',
+        Next::Failed => 'f',
     }
-    Ok(told)
 }
 
+fn push_opened<D: Door>(told: &mut String, door: &mut D) -> Result<(), Fail> {
+    for conn in 0..5 {
+        told.push(opened(door, conn))?;
+    }
+    write!(told, "{} ", door.listener())?;
+    Ok(())
+}
+
+// How the calls of each door end, and its listener.
+fn push_doors<D: Door>(told: &mut String, doors: &mut Vec<D>) -> Result<(), Fail> {
+    for door in doors {
+        push_opened(told, door)?;
+    }
+    Ok(())
+}
+
+// An entrance with two doors, whose first asking fails.
+fn entrance(alloc: Global) -> Result<MemoryEntrance<SteadyLink>, Fail> {
+    let mut plans = Vec::new(alloc);
+    plans.push(plan(alloc, "2 4")?)?;
+    plans.push(plan(alloc, "")?)?;
+    Ok(MemoryEntrance::new(alloc, plans, numbers(alloc, "1")?))
+}
+
+// What comes of an asking for three doors.
+fn push_asked(
+    told: &mut String,
+    entrance: &mut MemoryEntrance<SteadyLink>,
+    listener: u32,
+) -> Result<(), Fail> {
+    match entrance.doors(listener, "tcp:h:1", 3, 1) {
+        Ok(mut doors) => push_doors(told, &mut doors),
+        Err(_) => Ok(told.push_str("failed ")?),
+    }
+}
+
+// A closed door never fails.
 #[test]
 fn an_entrance_gives_the_doors_of_its_plans(rt: HostRuntime) -> Result<(), Fail> {
-    let alloc = rt.alloc();
-    let mut plans = Vec::new(alloc);
-    plans.push(plan(alloc, &[2, 4])?)?;
-    plans.push(plan(alloc, &[])?)?;
-    let mut entrance = MemoryEntrance::new(alloc, plans, [1].to_vec(alloc)?);
-    assert!(rt; entrance.doors(0, "unix:s", 3, 1).is_err());
-    let mut doors = entrance.doors(1, "tcp:h:1", 3, 1)?;
-    let mut told = Vec::new(alloc);
-    for door in &mut doors {
-        assert_eq!(rt; door.listener(), 1);
-        told.extend_from_slice(&opened(alloc, door)?)?;
-        told.push(b' ')?;
-    }
-    // A closed door never fails.
-    assert_eq!(rt; told.as_slice(), b"lflcc llccc ccccc ".as_slice());
-    assert_eq!(rt; entrance.askings().len(), 1);
+    let mut entrance = entrance(rt.alloc())?;
+    let mut told = String::new(rt.alloc());
+    push_asked(&mut told, &mut entrance, 0)?;
+    push_asked(&mut told, &mut entrance, 1)?;
+    assert!(rt; told.as_str() == "failed lflcc1 llccc1 ccccc1 ");
+    assert!(rt; entrance.askings().len() == 1);
     Ok(())
 }

@@ -26,6 +26,10 @@ fn answered<D: Door>(door: &mut D) -> [u8; 3] {
     }
 }
 
+fn twice<D: Door>(door: &mut D) -> [[u8; 3]; 2] {
+    [answered(door), answered(door)]
+}
+
 // What a door and its client hear of one another, and how many bytes come then.
 fn exchanged<D: Door, C: Read + Write>(
     door: &mut D,
@@ -44,54 +48,70 @@ fn sent<T: Send>(value: T) -> T {
     value
 }
 
+// Whether a door of the third listener gives one link, at this place, and is closed then.
+fn gives_one_link<D: Door>(rt: &HostRuntime, door: &mut D, place: &str) -> Result<bool, Fail> {
+    let mut client = TcpStream::connect(rt, place)?;
+    let is_heard = exchanged(door, &mut client)? == (*b"ask", *b"yes", 0);
+    Ok(is_heard && door.listener() == 2 && twice(door) == [*b"end", *b"end"])
+}
+
 #[test]
 fn a_door_by_tcp_that_gives_one_link(rt: HostRuntime) -> Result<(), Fail> {
     let mut entrance = HostEntrance::new(&rt, rt.alloc());
     let mut doors = sent(entrance.doors(2, "tcp:127.0.0.1:0", 1, 1)?);
-    let place = entrance.place().unwrap_or("");
-    let mut client = TcpStream::connect(&rt, place.strip_prefix("tcp:").unwrap_or(""))?;
-    assert_eq!(rt; doors.len(), 1);
-    assert_eq!(rt; doors[0].listener(), 2);
-    assert_eq!(rt;
-        exchanged(&mut doors[0], &mut client)?,
-        (*b"ask", *b"yes", 0)
-    );
-    for _ in 0..2 {
-        assert_eq!(rt; answered(&mut doors[0]), *b"end");
-    }
+    let place = entrance
+        .place()
+        .unwrap_or("")
+        .strip_prefix("tcp:")
+        .unwrap_or("");
+    assert!(rt; doors.len() == 1);
+    assert!(rt; gives_one_link(&rt, &mut doors[0], place)?);
     Ok(())
+}
+
+fn make_folder(rt: &HostRuntime, path: &str) -> Result<(), Fail> {
+    let _ = fs::remove_dir_all(rt, path);
+    fs::create_dir(rt, path)?;
+    Ok(())
+}
+
+// Whether a door and a client at this path hear one another.
+fn is_heard<D: Door>(rt: &HostRuntime, door: &mut D, path: &str) -> Result<bool, Fail> {
+    let mut client = UnixStream::connect(rt, path)?;
+    Ok(exchanged(door, &mut client)? == (*b"ask", *b"yes", 0))
+}
+
+fn are_heard<D: Door>(rt: &HostRuntime, doors: &mut Vec<D>, path: &str) -> Result<bool, Fail> {
+    for door in doors {
+        if !is_heard(rt, door, path)? {
+            return Ok(false);
+        }
+    }
+    Ok(true)
+}
+
+// Whether each of so many doors at a path is heard there.
+fn are_served(rt: &HostRuntime, path: &str, workers: u32) -> Result<bool, Fail> {
+    let address = format!(in rt.alloc(); "unix:{path}")?;
+    let mut entrance = HostEntrance::new(rt, rt.alloc());
+    let mut doors = entrance.doors(0, address.as_str(), workers, 0)?;
+    let are_there = doors.len() == workers as usize && entrance.place() == Some(address.as_str());
+    Ok(are_there && are_heard(rt, &mut doors, path)?)
 }
 
 #[test]
 fn two_doors_in_a_folder(rt: HostRuntime) -> Result<(), Fail> {
-    let _ = fs::remove_dir_all(&rt, "host_doors_two");
-    fs::create_dir(&rt, "host_doors_two")?;
-    let mut entrance = HostEntrance::new(&rt, rt.alloc());
-    let mut doors = entrance.doors(0, "unix:host_doors_two/socket", 2, 0)?;
-    assert_eq!(rt; entrance.place(), Some("unix:host_doors_two/socket"));
-    for door in &mut doors {
-        let mut client = UnixStream::connect(&rt, "host_doors_two/socket")?;
-        assert_eq!(rt; exchanged(door, &mut client)?, (*b"ask", *b"yes", 0));
-    }
+    make_folder(&rt, "host_doors_two")?;
+    assert!(rt; are_served(&rt, "host_doors_two/socket", 2)?);
     fs::remove_dir_all(&rt, "host_doors_two")?;
     Ok(())
 }
 
 #[test]
 fn a_socket_that_a_server_left_is_taken_over(rt: HostRuntime) -> Result<(), Fail> {
-    let _ = fs::remove_dir_all(&rt, "host_doors_left");
-    fs::create_dir(&rt, "host_doors_left")?;
+    make_folder(&rt, "host_doors_left")?;
     drop(UnixListener::bind(&rt, "host_doors_left/socket")?);
-    let mut doors = HostEntrance::new(&rt, rt.alloc()).doors(
-        0,
-        "unix:host_doors_left/socket",
-        1,
-        0,
-    )?;
-    let mut client = UnixStream::connect(&rt, "host_doors_left/socket")?;
-    for door in &mut doors {
-        assert_eq!(rt; exchanged(door, &mut client)?, (*b"ask", *b"yes", 0));
-    }
+    assert!(rt; are_served(&rt, "host_doors_left/socket", 1)?);
     fs::remove_dir_all(&rt, "host_doors_left")?;
     Ok(())
 }
@@ -142,18 +162,32 @@ const REFUSED: [(&str, &str); 7] = [
     ),
 ];
 
+// Whether this is said of an address.
+fn is_refused(rt: &HostRuntime, address: &str, why: &str) -> Result<bool, Fail> {
+    let wanted = format!(in rt.alloc(); "no listener at {address} {why}")?;
+    Ok(refused(rt, address)?.as_str() == wanted.as_str())
+}
+
+fn are_refused(rt: &HostRuntime) -> Result<bool, Fail> {
+    for (address, why) in REFUSED {
+        if !is_refused(rt, address, why)? {
+            return Ok(false);
+        }
+    }
+    Ok(true)
+}
+
+fn holds(rt: &HostRuntime, path: &str, text: &str) -> Result<bool, Fail> {
+    Ok(fs::read_to_string(rt, path)?.as_str() == text)
+}
+
 #[test]
 fn addresses_at_which_nothing_can_listen(rt: HostRuntime) -> Result<(), Fail> {
-    let _ = fs::remove_dir_all(&rt, "host_doors_no");
-    fs::create_dir(&rt, "host_doors_no")?;
+    make_folder(&rt, "host_doors_no")?;
     fs::write(&rt, "host_doors_no/notes", "Buy milk.")?;
     let held = UnixListener::bind(&rt, "host_doors_no/held")?;
-    for (address, why) in REFUSED {
-        let want = format!(in rt.alloc(); "no listener at {address} {why}")?;
-        assert_eq!(rt; refused(&rt, address)?.as_str(), want.as_str());
-    }
-    let notes = fs::read_to_string(&rt, "host_doors_no/notes")?;
-    assert_eq!(rt; notes.as_str(), "Buy milk.");
+    assert!(rt; are_refused(&rt)?);
+    assert!(rt; holds(&rt, "host_doors_no/notes", "Buy milk.")?);
     drop(held);
     fs::remove_dir_all(&rt, "host_doors_no")?;
     Ok(())
@@ -171,19 +205,18 @@ fn a_port_that_is_in_use(rt: HostRuntime) -> Result<(), Fail> {
     Ok(())
 }
 
+const NOT_TAKEN: &str =
+    "no connection was taken (Resource temporarily unavailable (os error 11)); raise the limit of open files if that \
+    was reached, and start again";
+
 #[test]
 fn a_connection_that_is_not_taken(rt: HostRuntime) -> Result<(), Fail> {
     let listener = TcpListener::bind(&rt, "127.0.0.1:0")?;
     listener.set_nonblocking(true)?;
     let mut door = HostDoor::new(Arc::new(rt.alloc(), Socket::Tcp(listener))?, 0, 1);
-    for _ in 0..2 {
-        assert_eq!(rt; answered(&mut door), *b"bad");
-    }
+    assert!(rt; twice(&mut door) == [*b"bad", *b"bad"]);
     let trouble = door.trouble().ok_or("no trouble")?;
-    assert_eq!(rt;
-        format!(in rt.alloc(); "{trouble}")?.as_str(),
-        "no connection was taken (Resource temporarily unavailable (os error 11)); raise the limit of open files if \
-        that was reached, and start again"
-    );
+    let said = format!(in rt.alloc(); "{trouble}")?;
+    assert!(rt; said.as_str() == NOT_TAKEN);
     Ok(())
 }
