@@ -162,8 +162,8 @@ fn serve_world<R: Abort + Threads + Wait + Sync>(
     doors: &str,
 ) -> Result<Told, Fail> {
     let config = config_with(alloc, lines)?;
-    let entrance = entrance_of(alloc, doors, number_of(making, 'a'))?;
     let stored = stored_of(rt, alloc, making)?;
+    let entrance = entrance_of(alloc, doors, number_of(making, 'a'))?;
     world_of_entrance(alloc, stored, entrance, config, making_of(making))
 }
 

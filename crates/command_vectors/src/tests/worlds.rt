@@ -16,15 +16,6 @@ pub type Told = MemoryWorld<
     MemoryCaller<MemoryLink>,
 >;
 
-/// Its parts.
-type Parts = MemoryParts<
-    MemorySource,
-    MemorySink,
-    MemoryKeeper,
-    MemoryEntrance<MemoryLink>,
-    MemoryCaller<MemoryLink>,
->;
-
 /// How a run is made: which reads of the configuration and the events, which writes, which calls of the keeper and
 /// of the link and which handings out fail, and how many bytes a read and a write take.
 #[derive(Clone, Copy)]
@@ -85,9 +76,50 @@ fn sink_of(alloc: Global, making: Making) -> Result<MemorySink, Fail> {
     Ok(MemorySink::new(alloc, 65536, making.write_size.max(1), failing)?)
 }
 
-fn keeper_of(alloc: Global, stored: SteadyKeeper, making: Making) -> Result<MemoryKeeper, Fail> {
-    let failing = numbered(alloc, making.keeper_failing)?;
-    Ok(MemoryKeeper::new(stored, failing))
+/// The streams of a world.
+#[derive(Drop)]
+struct Streams {
+    config: MemorySource,
+    events: MemorySource,
+    sink: MemorySink,
+}
+
+fn streams_of(alloc: Global, texts: (String, String), making: Making) -> Result<Streams, Fail> {
+    let (config, events) = texts;
+    Ok(Streams {
+        config: source_of(alloc, config, making.read_size, making.config_failing)?,
+        events: source_of(alloc, events, making.read_size, making.events_failing)?,
+        sink: sink_of(alloc, making)?,
+    })
+}
+
+/// The name of a world's configuration, and which calls of its keeper and which handings out fail.
+#[derive(Drop)]
+struct Failing {
+    name: Vec<u8>,
+    keeper: Vec<u64>,
+    takes: Vec<u64>,
+}
+
+fn failing_of(alloc: Global, making: Making) -> Result<Failing, Fail> {
+    Ok(Failing {
+        name: b"first.toml".to_vec(alloc)?,
+        keeper: numbered(alloc, making.keeper_failing)?,
+        takes: numbered(alloc, making.takes_failing)?,
+    })
+}
+
+/// What of a world takes memory to make.
+#[derive(Drop)]
+struct Frame {
+    streams: Streams,
+    failing: Failing,
+}
+
+fn frame_of(alloc: Global, texts: (String, String), making: Making) -> Result<Frame, Fail> {
+    let streams = streams_of(alloc, texts, making)?;
+    let failing = failing_of(alloc, making)?;
+    Ok(Frame { streams, failing })
 }
 
 /// A caller that has one link, whose peer sends the bytes of these lines.
@@ -114,34 +146,24 @@ fn closed(alloc: Global) -> MemoryEntrance<MemoryLink> {
     MemoryEntrance::new(alloc, Vec::new(alloc), Vec::new(alloc))
 }
 
-/// The parts of a world, over what a keeper holds, an entrance brings and a caller gives.
-fn parts_over(
+/// The world of a frame, over what a keeper holds, an entrance brings and a caller gives.
+fn world_over(
     alloc: Global,
+    frame: Frame,
     stored: SteadyKeeper,
     entrance: MemoryEntrance<MemoryLink>,
     caller: MemoryCaller<MemoryLink>,
-    texts: (String, String),
-    making: Making,
-) -> Result<Parts, Fail> {
-    let (config, events) = texts;
-    let config = source_of(alloc, config, making.read_size, making.config_failing)?;
-    let events = source_of(alloc, events, making.read_size, making.events_failing)?;
-    let sink = sink_of(alloc, making)?;
-    let keeper = keeper_of(alloc, stored, making)?;
-    Ok(MemoryParts {
-        config,
-        events,
-        sink,
-        keeper,
+) -> Told {
+    let Frame { streams, failing } = frame;
+    let parts = MemoryParts {
+        config: streams.config,
+        events: streams.events,
+        sink: streams.sink,
+        keeper: MemoryKeeper::new(stored, failing.keeper),
         entrance,
         caller,
-    })
-}
-
-fn world_over(alloc: Global, parts: Parts, making: Making) -> Result<Told, Fail> {
-    let name = b"first.toml".to_vec(alloc)?;
-    let failing = numbered(alloc, making.takes_failing)?;
-    Ok(MemoryWorld::new(alloc, name, parts, failing))
+    };
+    MemoryWorld::new(alloc, failing.name, parts, failing.takes)
 }
 
 /// A world with these texts of the configuration and of the events, over what a keeper holds.
@@ -151,13 +173,15 @@ pub fn world_of_stored(
     texts: (String, String),
     making: Making,
 ) -> Result<Told, Fail> {
-    let parts = parts_over(alloc, stored, closed(alloc), nobody(alloc), texts, making)?;
-    world_over(alloc, parts, making)
+    let frame = frame_of(alloc, texts, making)?;
+    Ok(world_over(alloc, frame, stored, closed(alloc), nobody(alloc)))
 }
 
 /// The same over a keeper that holds nothing.
 pub fn world_of(alloc: Global, texts: (String, String), making: Making) -> Result<Told, Fail> {
-    world_of_stored(alloc, SteadyKeeper::new(alloc), texts, making)
+    let frame = frame_of(alloc, texts, making)?;
+    let stored = SteadyKeeper::new(alloc);
+    Ok(world_over(alloc, frame, stored, closed(alloc), nobody(alloc)))
 }
 
 /// A world with a caller, whose sources hold nothing.
@@ -167,9 +191,9 @@ pub fn world_of_caller(
     making: Making,
 ) -> Result<Told, Fail> {
     let texts = (String::new(alloc), String::new(alloc));
+    let frame = frame_of(alloc, texts, making)?;
     let stored = SteadyKeeper::new(alloc);
-    let parts = parts_over(alloc, stored, closed(alloc), caller, texts, making)?;
-    world_over(alloc, parts, making)
+    Ok(world_over(alloc, frame, stored, closed(alloc), caller))
 }
 
 /// A world with an entrance and this configuration, over what a keeper holds, whose events are none.
@@ -180,9 +204,8 @@ pub fn world_of_entrance(
     config: String,
     making: Making,
 ) -> Result<Told, Fail> {
-    let texts = (config, String::new(alloc));
-    let parts = parts_over(alloc, stored, entrance, nobody(alloc), texts, making)?;
-    world_over(alloc, parts, making)
+    let frame = frame_of(alloc, (config, String::new(alloc)), making)?;
+    Ok(world_over(alloc, frame, stored, entrance, nobody(alloc)))
 }
 
 /// A world whose parts never fail, but for its entrance.
