@@ -41,9 +41,10 @@ fn asker(alloc: Global) -> Result<Asker, Fail>
     Ok(Asker::new(alloc, &words)?)
 }
 
-/// Each row: what the peer sends, which call of its link fails, how the call ends and whether there was a link, and what
-/// is printed, where a slash ends a line. `ALL` stands for the answers above, and `FRONT` for their first hundred bytes. The row that begins with
-/// 48 is HTTP's. Where the second call fails it is the second write of the bind, and the ninth is a read.
+/// Each row: what the peer sends, which call of its link fails, how the call ends and whether there was a link, and
+/// what is printed, where a slash ends a line. `ALL` stands for the answers above, and `FRONT` for their first hundred
+/// bytes. The row that begins with 48 is HTTP's. Where the second call fails it is the second write of the bind, and
+/// the ninth is a read.
 const ENDS: &str = "\
 ALL|0|Done true|CORP/BUILTIN/
 |0|PeerFault true|

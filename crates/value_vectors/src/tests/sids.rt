@@ -34,7 +34,9 @@ fn texts_and_bytes_spell_one_sid(rt: HostRuntime) -> Result<(), Fail> {
     for (text, bytes) in [
         (
             "S-1-5-21-1-2-3",
-            b"\x01\x04\x00\x00\x00\x00\x00\x05\x15\x00\x00\x00\x01\x00\x00\x00\x02\x00\x00\x00\x03\x00\x00\x00".as_slice(),
+            b"\x01\x04\x00\x00\x00\x00\x00\x05\x15\x00\x00\x00\
+            \x01\x00\x00\x00\x02\x00\x00\x00\x03\x00\x00\x00"
+                .as_slice(),
         ),
         (
             "S-1-1-0",
