@@ -1,6 +1,7 @@
 -- A server's replies are heard, and their lines are printed.
 use Rattle.std.proofs.Common.{◌≡◌, ℕ, zero, suc, ◌+◌, ◌≤◌, ◌==◌, Bool, true, false, ◌&&◌, List, [], ◌∷◌, ◌++◌}
-use Rattle.std.proofs.Common.{length, drop, min, refl, sym, ap, subst, ◌∙◌, arith, append_assoc, length-append, cond, Option, Some}
+use Rattle.std.proofs.Common.{length, drop, min, refl, sym, ap, subst, ◌∙◌, arith, append_assoc, length-append, cond}
+use Rattle.std.proofs.Common.{Option, Some}
 use Rattle.std.proofs.Common.{None, Result, Ok, All}
 use Rattle.std.proofs.Math.Seq.{drop-append_seam}
 use Rattle.std.proofs.lemmas.Bool.{eq-eqb, le-ltb}
@@ -67,7 +68,8 @@ abbrev with_part : PartialReply → List ℕ → PartialReply
 with_part g part = record { place = g.place; stub = g.stub ++ part }
 
 goes_part : (place : ℕ) (part : List ℕ) (g : Gathered)
-    → responds place (first_flag (is_first g)) part g ≡ gathers (first_flag (is_first g)) (with_part (so_far place g) part)
+    → responds place (first_flag (is_first g)) part g ≡ gathers (first_flag (is_first g))
+    (with_part (so_far place g) part)
 goes_part place part None = refl
 goes_part place part (Some g) = refl
 
@@ -133,7 +135,8 @@ parts_heard stable back id context [] part g place more few =
     ∙ ap (λ (x : List ℕ). Answered (answer.Stub p.place p.stub) (listening (place + (24 + length part)) None x))
     (behind r more (24 + length part) long)
     ∙ ap (λ (n : ℕ). Answered (answer.Stub p.place p.stub) (listening (place + n) None more)) (sym long)
-    ∙ ap (λ (x : List ℕ). Answered (answer.Stub p.place (before ++ x)) (listening (place + length r) None more)) (sym all)
+    ∙ ap (λ (x : List ℕ). Answered (answer.Stub p.place (before ++ x)) (listening (place + length r) None more))
+    (sym all)
 parts_heard stable back id context (next ∷ others) part g place more few =
     let before : List ℕ = (so_far place g).stub in
     let flags : ℕ = first_flag (is_first g) in
@@ -289,7 +292,8 @@ replied_is laws step id recv at l r shape =
 replies_print : Laws → (size recv : ℕ) (replies : List Reply) → least_fragment ≤ size → Prints size recv replies
 unfolding bytes_of lines_of told answered hear hear_in AreAnswers
 replies_print laws size recv [] low step id place awaiting lines all =
-    ap Lines (heard_run laws.stable (calling step id recv place awaiting [] lines) (Waits (listening place None [])) refl
+    ap Lines (heard_run laws.stable (calling step id recv place awaiting [] lines) (Waits (listening place None []))
+    refl
     refl)
 replies_print laws size recv (reply.Fault status ∷ replies) low step id place awaiting lines all =
     let more : List ℕ = later_bytes size replies id (after step (reply.Fault status)) in

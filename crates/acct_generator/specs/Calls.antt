@@ -54,8 +54,8 @@ domain_sid = record { authority = security_nt_authority; subs = 21 ∷ 1 ∷ 2 �
 abbrev pub user_sid : ℕ → SidValue
 user_sid k = with_last domain_sid (first_created_rid + k)
 
--- Names are of ASCII characters, a unit each: here `u` and a number. 65,537 is prime, so that 65,536 users have names of
--- their own.
+-- Names are of ASCII characters, a unit each: here `u` and a number. 65,537 is prime, so that 65,536 users have names
+-- of their own.
 unfoldable pub user_name : ℕ → List ℕ
 user_name k = codes "u" ++ decimal ((k * 7919) % 65537)
 

@@ -2,8 +2,8 @@
 //!
 //! It stands on `acct_streams` for the causes of faults, on `acct_keeper` for the errors of what is opened, and on
 //! `acct_base`. The layers above use the contracts of [`Link`], [`Caller`], [`Door`] and [`Entrance`], by which a fault
-//! is answered only where the object's count of faults rose and a link that is given is new, and that of [`send`], which
-//! says which bytes were written also after a fault.
+//! is answered only where the object's count of faults rose and a link that is given is new, and that of [`send`],
+//! which says which bytes were written also after a fault.
 #![tactic(auto)]
 
 mod asking;

@@ -1,5 +1,6 @@
 // Doors in memory.
-ghost use Rattle.std.specs.Prelude.{◌≡◌, ◌+◌, ◌<◌, ◌≤◌, ◌||◌, ◌==◌, ◌∷◌, ◌++◌, [], All, Some, true, false, length, IfOk};
+ghost use Rattle.std.specs.Prelude.{◌≡◌, ◌+◌, ◌<◌, ◌≤◌, ◌||◌, ◌==◌, ◌∷◌, ◌++◌};
+ghost use Rattle.std.specs.Prelude.{[], All, Some, true, false, length, IfOk};
 ghost use Rattle.acct_streams.specs.Causes.{Rose};
 ghost use Rattle.acct_links.specs.Doors.{IfLink, GivesFirst, is_closed, is_failed};
 ghost use Rattle.acct_links.specs.Links.{IsNew};

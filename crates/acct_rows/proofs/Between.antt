@@ -209,7 +209,8 @@ fronts x y lt = by_domain (nat_cmp x.domain y.domain) lt
     by_alias Greater e = cc
 
     by_domain : (r : Ordering)
-        → ordering_then r (ordering_then (nat_cmp x.alias y.alias) (compare (sid_key x.member) (sid_key y.member))) ≡ Less
+        → ordering_then r (ordering_then (nat_cmp x.alias y.alias) (compare (sid_key x.member) (sid_key y.member))) ≡
+        Less
         → is_le (ordering_then r (ordering_then (nat_cmp x.alias y.alias) Equal)) ≡ true
     by_domain Less e = refl
     by_domain Equal e = by_alias (nat_cmp x.alias y.alias) e

@@ -11,7 +11,8 @@ use Rattle.dtyp_sid.specs.Order.{EqualSidsAreOne}
 use Rattle.acct_keeper.specs.declared.pairs.Pair.{Pair}
 use Rattle.acct_keeper.specs.declared.pairs.Change.{Change}
 use Rattle.acct_keeper.specs.Pairs as kept
-use Rattle.acct_rows.specs.Changes.{Follow, row_at, stored_at, same_row_key, is_put, has_value, where_so, removal, removals}
+use Rattle.acct_rows.specs.Changes.{Follow, row_at, stored_at, same_row_key, is_put}
+use Rattle.acct_rows.specs.Changes.{has_value, where_so, removal, removals}
 use Rattle.acct_rows.specs.Changes.{row_written, last_written, rows_written, changes_of, LastFit}
 use Rattle.acct_rows.specs.Keyed.{compare, same_key, by_order, put, is_ascending}
 use Rattle.acct_rows.specs.PairRules.{pair_key, pair_at}
@@ -79,7 +80,8 @@ set_apart k key None ps apart =
 set_ascends : (key : List ℕ) (value : Option (List ℕ)) (ps : List Pair) → is_ascending pair_key ps ≡ true
     → is_ascending pair_key (kept.set_key key value ps) ≡ true
 set_ascends key (Some value) ps up =
-    ap (is_ascending pair_key) (put-kept (pair_made key value) ps) ∙ is_ascending-put pair_key (pair_made key value) ps up
+    ap (is_ascending pair_key) (put-kept (pair_made key value) ps)
+    ∙ is_ascending-put pair_key (pair_made key value) ps up
 set_ascends key None ps up = is_ascending-filter pair_key (λ p. not (same_key key p.key)) ps up
 
 after_ascends : (cs : List Change) (ps : List Pair) → is_ascending pair_key ps ≡ true
@@ -220,7 +222,8 @@ module _ (back : WrittenBytesAreRead) (sizes : WrittenBytesHaveLengths) (only : 
             let key = (at_is_row lists (key_of row) q found.1).1 in
             let test : bytes_eq (stored_value row) (stored_value q) ≡ true =
             ap (λ o. has_value (stored_value row) (option_map (λ r. stored r) o)) (sym found.1) ∙ same in
-            let value : stored_value row ≡ stored_value q = (bytes_eq-Decides (stored_value row) (stored_value q)).0 test in
+            let value : stored_value row ≡ stored_value q =
+            (bytes_eq-Decides (stored_value row) (stored_value q)).0 test in
             ap (option_map (λ r. stored r)) found.1
             ∙ ap (λ k. Some (pair_made (stored_key k) (stored_value q))) key
             ∙ ap (λ v. Some (pair_made (stored_key (key_of row)) v)) (sym value)
@@ -277,7 +280,8 @@ module _ (back : WrittenBytesAreRead) (sizes : WrittenBytesHaveLengths) (only : 
         ]
 
     -- a row of another key leaves what is at the key
-    other_left : (row : Row) (later : List Row) (base : Lists) → with_puts (row ∷ later) base ≡ others → key ≢ key_of row
+    other_left : (row : Row) (later : List Row) (base : Lists) → with_puts (row ∷ later) base ≡ others
+        → key ≢ key_of row
         → (ps : List Pair) → pair_at k (kept.after (last_written lists row later) ps) ≡ pair_at k ps
     other_left row later base is unlike ps =
         elim (last_cases lists row later) [
@@ -338,7 +342,8 @@ module _ (back : WrittenBytesAreRead) (sizes : WrittenBytesHaveLengths) (only : 
               | inl l ↦ elim l.cases [
                 | inl w ↦
                     ap (λ cs. pair_at k (kept.after cs ps)) w.1
-                    ∙ ap (λ i. pair_at (stored_key i) (kept.set_key (stored_key (key_of row)) (Some (stored_value row)) ps)) e
+                    ∙ ap (λ i. pair_at (stored_key i)
+                    (kept.set_key (stored_key (key_of row)) (Some (stored_value row)) ps)) e
                     ∙ set_here (stored_key (key_of row)) (Some (stored_value row)) ps ∙ sym then
                 | inr w ↦
                     ap (λ cs. pair_at k (kept.after cs ps)) w.1 ∙ held ∙ ap (stored_at lists) e
@@ -427,7 +432,8 @@ module _ (back : WrittenBytesAreRead) (sizes : WrittenBytesHaveLengths) (only : 
           let k = stored_key key in
           let middle = kept.after (removals lists plan.puts plan.removes) pairs in
           let was : pair_at k pairs ≡ stored_at lists key = pair_is back sizes only lists pairs fit held key fk in
-          let between : pair_at k middle ≡ cond (is_gone lists plan.puts key && among plan.removes key) None (pair_at k pairs) =
+          let between : pair_at k middle ≡ cond (is_gone lists plan.puts key
+          && among plan.removes key) None (pair_at k pairs) =
           removals_at plan.puts key fk plan.removes pairs in
           ap (pair_at k) (after_append (removals lists plan.puts plan.removes) (rows_written lists plan.puts) pairs)
           ∙ rows_at plan.puts key fk plan.puts (removed plan.removes lists) is middle (λ t.
@@ -438,7 +444,8 @@ module _ (back : WrittenBytesAreRead) (sizes : WrittenBytesHaveLengths) (only : 
             | inl t ↦ ap (λ b. cond b (stored_at others key) (pair_at k middle)) t
             | inr t ↦
                 ap (λ b. cond b (stored_at others key) (pair_at k middle)) t ∙ between
-                ∙ ap (λ b. cond ((is_some (row_at lists key) && not b) && among plan.removes key) None (pair_at k pairs)) t
+                ∙ ap (λ b. cond ((is_some (row_at lists key) && not b)
+                && among plan.removes key) None (pair_at k pairs)) t
                 ∙ ap (cond ((is_some (row_at lists key) && true) && among plan.removes key) None) was
                 ∙ gone_or (row_at lists key) (among plan.removes key)
                 ∙ sym (ap (option_map (λ r. stored r)) (left_at key t))

@@ -105,7 +105,8 @@ module _ (lists : Lists) (sound : IsSoundRows lists) where
         | inr none ↦ absurd (let lt : rid < 0 = subst (λ o. rid < next_rid_of o) none lt in omega arith)
       ]
 
-  second_is : (a : AccountRow) (domain rid : ℕ) → account_key a ≡ domain ∷ rid ∷ [] → (a.domain ≡ domain) × (a.rid ≡ rid)
+  second_is : (a : AccountRow) (domain rid : ℕ) → account_key a ≡ domain ∷ rid ∷ [] → (a.domain ≡ domain)
+      × (a.rid ≡ rid)
   second_is a domain rid e = (cc, cc)
 
   -- an account that is there has a RID of 32 bits, in domain 0 or 1
@@ -188,7 +189,8 @@ ascend_above (x ∷ xs) e = second_so _ _ e
 pub lsa_fits : (l : LsaRow) → IsGoodLsa l → FitsLsa l
 lsa_fits l good =
     let lows : All IsLow l.privileges = λ k d lt. (good.privileges_known k d lt).1 in
-    let few = few_lows 0 l.privileges (omega arith) good.privileges_ascend (recursion_from_All IsLow l.privileges lows) in
+    let few = few_lows 0 l.privileges (omega arith) good.privileges_ascend (recursion_from_All IsLow l.privileges lows)
+    in
     let known = and_le_r l.access known_system_access in
     record {
       sid = good.sid_whole;

@@ -17,13 +17,15 @@ use Rattle.std.specs.FinMap.{nat_cmp-IsAntisymmetric}
 use Rattle.dtyp_sid.specs.Value.{SidValue}
 use Rattle.dtyp_sid.specs.Order.{sid_eq, sid_cmp}
 use Rattle.dtyp_sid.proofs.Equal.{equal_sids}
-use Rattle.acct_rows.specs.Indexes.{held, membership_key, index, membership_of, memberships_of, is_for, alias_of, held_by}
+use Rattle.acct_rows.specs.Indexes.{held, membership_key, index, membership_of}
+use Rattle.acct_rows.specs.Indexes.{memberships_of, is_for, alias_of, held_by}
 use Rattle.acct_rows.specs.Keyed.{compare, at, put, without, place, is_ascending}
 use Rattle.acct_rows.specs.Rows.{alias_key, sid_key, has_one, each_once, each_once_after}
 use Rattle.acct_rows.specs.declared.row.AliasRow.{AliasRow}
 use Rattle.acct_rows.specs.declared.membership.Membership.{Membership}
 use Rattle.acct_rows.proofs.FoldOrder.{alone, squeezed, not_below, then_then, ended-compare, ended-parts}
-use Rattle.acct_rows.proofs.Indexed.{index_ascends, index_put, index_put_over, index_without, without_none, put_over, absent}
+use Rattle.acct_rows.proofs.Indexed.{index_ascends, index_put, index_put_over, index_without, without_none, put_over}
+use Rattle.acct_rows.proofs.Indexed.{absent}
 use Rattle.acct_rows.proofs.Indexed.{in_index, index_in, same_members}
 use Rattle.acct_rows.proofs.Lookups.{tested, there_or_not, key_found}
 use Rattle.acct_rows.proofs.Members.{In, in_map, map_in, in_left, in_right, in_either, contains_in, in_contains}
@@ -109,7 +111,8 @@ module _ (aliases : List AliasRow) (h : is_ascending alias_key aliases ≡ true)
             (index_ascends membership_of alias_key membership_key membership_tells aliases)
             ∙ ap (λ k. put membership_key (membership_of a) (without membership_key k all)) (sym same)
             ∙ ap (put membership_key (membership_of a))
-            (sym (index_without membership_of alias_key membership_key membership_tells (alias_key a) aliases w.0 h w.1))
+            (sym (index_without membership_of alias_key membership_key membership_tells (alias_key a) aliases w.0 h
+            w.1))
             ∙ sym (index_put_over membership_of alias_key membership_key membership_tells a aliases h)
       ]
 
@@ -165,7 +168,8 @@ module _ (d : ℕ) (sid : SidValue) where
             let r = y.member in
             let first = squeezed (nat_cmp sid.authority s.authority)
             (ordering_then (compare sid.subs s.subs) (ordering_then (nat_cmp d x.domain) (nat_cmp 0 x.alias)))
-            (ordering_then (compare s.subs r.subs) (ordering_then (nat_cmp x.domain y.domain) (nat_cmp x.alias y.alias)))
+            (ordering_then (compare s.subs r.subs)
+            (ordering_then (nat_cmp x.domain y.domain) (nat_cmp x.alias y.alias)))
             (λ gt. up (held-compare sid s d x.domain 0 x.alias ∙ gt))
             (ap (λ o. ordering_then o (ordering_then (compare s.subs r.subs)
             (ordering_then (nat_cmp x.domain y.domain) (nat_cmp x.alias y.alias))))

@@ -18,7 +18,8 @@ use Rattle.dtyp_sid.specs.Order.{sid_eq, EqualSidsAreOne}
 use Rattle.acct_calls.specs.Domains.{builtin_name, builtin_sid, is_domain_name, is_domain_sid}
 use Rattle.acct_calls.specs.Validity.{is_valid_name}
 use Rattle.acct_rows.specs.Rows.{same_kind}
-use Rattle.acct_rows.specs.Sound.{IsGoodDomain, IsGoodRow, IsGoodLsa, good_bits, good_primary, good_place, control_is_good}
+use Rattle.acct_rows.specs.Sound.{IsGoodDomain, IsGoodRow, IsGoodLsa, good_bits, good_primary, good_place}
+use Rattle.acct_rows.specs.Sound.{control_is_good}
 use Rattle.acct_rows.specs.Sound.{is_account_kind, are_above}
 use Rattle.acct_rows.specs.Spelled.{FitsDomain, FitsAccount, FitsLsa, ascend}
 use Rattle.acct_rows.specs.PairRules.{has_bad_text, has_bad_control, has_needless_number, has_bad_next}
@@ -241,7 +242,8 @@ good_account a good users =
       | inr t ↦ ap (λ b. b && ((a.rid == domain_group_rid_users) && not (same_kind Group a.kind))) t
     ] in
     both_false (has_bad_text row) _
-    (both_false _ _ (not_true _ good.named) (both_false _ _ (low_false most_text (length a.full_name) good.full_name_most)
+    (both_false _ _ (not_true _ good.named)
+    (both_false _ _ (low_false most_text (length a.full_name) good.full_name_most)
     (low_false most_text (length a.comment) good.comment_most)))
     (both_false (has_bad_control row) _ (control_false a.kind a.bits good.control)
     (both_false (has_needless_number row) _

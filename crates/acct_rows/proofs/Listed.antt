@@ -32,7 +32,8 @@ use Rattle.acct_rows.proofs.Tables.{same_key-is, less}
 use Rattle.acct_rows.proofs.Lookups.{tested, same_Some}
 use Rattle.acct_rows.proofs.Fitting.{all_fit}
 use Rattle.acct_rows.proofs.SpelledRows.{key_again, fits_key}
-use Rattle.acct_rows.proofs.Members.{In, in_map, map_in, in_left, in_right, in_either, in_permutation, at_in, in_at, one_if}
+use Rattle.acct_rows.proofs.Members.{In, in_map, map_in, in_left, in_right}
+use Rattle.acct_rows.proofs.Members.{in_either, in_permutation, at_in, in_at, one_if}
 use Rattle.acct_rows.proofs.Members.{count, count-append, count-permutation, precedes, sorted_ascends, ascending-kept}
 
 -- which list the row of a key is in
@@ -214,15 +215,18 @@ module _ (back : WrittenBytesAreRead) (sizes : WrittenBytesHaveLengths) (only : 
       (at_in domain_key (d.number ∷ []) d lists.domains e)))
   row_listed lists (rows.Account a) e =
       inr (in_right _ (domain_pairs lists.domains) _ (in_left _ (account_pairs lists.accounts) _
-      (in_map (λ x. pair_of (rows.Account x)) a lists.accounts (at_in account_key (a.domain ∷ a.rid ∷ []) a lists.accounts e))))
+      (in_map (λ x. pair_of (rows.Account x)) a lists.accounts
+      (at_in account_key (a.domain ∷ a.rid ∷ []) a lists.accounts e))))
   row_listed lists (rows.Member m) e =
       inr (in_right _ (domain_pairs lists.domains) _ (in_right _ (account_pairs lists.accounts) _
       (in_left _ (member_pairs lists.members) _
-      (in_map (λ x. pair_of (rows.Member x)) m lists.members (at_in member_key (m.group ∷ m.user ∷ []) m lists.members e)))))
+      (in_map (λ x. pair_of (rows.Member x)) m lists.members
+      (at_in member_key (m.group ∷ m.user ∷ []) m lists.members e)))))
   row_listed lists (rows.Alias a) e =
       inr (in_right _ (domain_pairs lists.domains) _ (in_right _ (account_pairs lists.accounts) _
       (in_right _ (member_pairs lists.members) _ (in_left _ (alias_pairs lists.aliases) _
-      (in_map (λ x. pair_of (rows.Alias x)) a lists.aliases (at_in alias_key (a.domain ∷ a.alias ∷ sid_key a.member) a lists.aliases e))))))
+      (in_map (λ x. pair_of (rows.Alias x)) a lists.aliases
+      (at_in alias_key (a.domain ∷ a.alias ∷ sid_key a.member) a lists.aliases e))))))
   row_listed lists (rows.Lsa l) e =
       inr (in_right _ (domain_pairs lists.domains) _ (in_right _ (account_pairs lists.accounts) _
       (in_right _ (member_pairs lists.members) _ (in_right _ (alias_pairs lists.aliases) (lsa_pairs lists.lsa)

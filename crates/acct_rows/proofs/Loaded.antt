@@ -1,6 +1,7 @@
 -- The smallest broken key, and the rows that are loaded of pairs of which none is broken.
 use Rattle.std.proofs.Common.{◌≡◌, ◌≢◌, ℕ, zero, suc, ◌<◌, Bool, true, false, ◌&&◌, ◌||◌, cond, List, [], ◌∷◌}
-use Rattle.std.proofs.Common.{length, get_or, map, All, Option, Some, None, refl, sym, ap, subst, ◌∙◌, arith, inl, inr, ◌⊎◌}
+use Rattle.std.proofs.Common.{length, get_or, map, All, Option, Some, None, refl}
+use Rattle.std.proofs.Common.{sym, ap, subst, ◌∙◌, arith, inl, inr, ◌⊎◌}
 use Rattle.std.proofs.Common.{Ok, ◌+◌, ◌≤◌, drop, nat_lt}
 use Rattle.std.specs.Prelude.{is_some, option_map, not}
 use Rattle.std.specs.List.{list_any, find, AllByRecursion}
@@ -80,7 +81,8 @@ module _ {A : Type 0} (p : A → Bool) where
       ]
 
   -- of those that ascend it is the least
-  pub find_least : (key : A → List ℕ) (xs : List A) (x y : A) → is_ascending key xs ≡ true → find p xs ≡ Some x → In y xs
+  pub find_least : (key : A → List ℕ) (xs : List A) (x y : A) → is_ascending key xs ≡ true → find p xs ≡ Some x
+      → In y xs
       → p y ≡ true → compare (key y) (key x) ≢ Less
   find_least key [] x y up e i so = absurd cc
   find_least key (z ∷ zs) x y up e i so =
@@ -406,7 +408,8 @@ nothing_there (keys.Lsa s) = refl
 
 module _ (equal_sids : EqualSidsAreOne) where
   -- what is found after puts was put, or was there
-  puts_cases : (puts : List Row) (lists : Lists) (key : RowKey) (row : Row) → row_at (with_puts puts lists) key ≡ Some row
+  puts_cases : (puts : List Row) (lists : Lists) (key : RowKey) (row : Row)
+      → row_at (with_puts puts lists) key ≡ Some row
       → In row puts ⊎ (row_at lists key ≡ Some row)
   puts_cases [] lists key row e = inr e
   puts_cases (p ∷ ps) lists key row e =
@@ -441,7 +444,8 @@ module _ (equal_sids : EqualSidsAreOne) where
 
   -- a row of which no other has the key is found after the puts
   one_found : (puts : List Row) (lists : Lists) (row : Row) → In row puts
-      → ((q : Row) → In q puts → key_of q ≡ key_of row → q ≡ row) → row_at (with_puts puts lists) (key_of row) ≡ Some row
+      → ((q : Row) → In q puts → key_of q ≡ key_of row → q ≡ row)
+      → row_at (with_puts puts lists) (key_of row) ≡ Some row
   one_found [] lists row i one = absurd i
   one_found (p ∷ ps) lists row i one =
       elim (tested (is_put ps (key_of row))) [

@@ -78,7 +78,8 @@ any_in p (x ∷ xs) t =
 pub in_any : {A : Type 0} (p : A → Bool) (a : A) (xs : List A) → In a xs → p a ≡ true → list_any p xs ≡ true
 in_any p a [] e t = absurd e
 in_any p a (x ∷ xs) (inl e) t = ap (λ b. b || list_any p xs) (ap p (sym e) ∙ t)
-in_any p a (x ∷ xs) (inr e) t = elim (p x) as (λ b. (b || list_any p xs) ≡ true) [ true ↦ refl | false ↦ in_any p a xs e t ]
+in_any p a (x ∷ xs) (inr e) t =
+    elim (p x) as (λ b. (b || list_any p xs) ≡ true) [ true ↦ refl | false ↦ in_any p a xs e t ]
 
 module _ {A : Type 0} (key : A → List ℕ) where
   -- what is found at a key stands in the list, and what stands in one that ascends is found at its key
@@ -98,7 +99,8 @@ module _ {A : Type 0} (key : A → List ℕ) where
   pub in_at : (a : A) (xs : List A) → is_ascending key xs ≡ true → In a xs → at key (key a) xs ≡ Some a
   in_at a [] up e = absurd e
   in_at a (x ∷ xs) up (inl e) =
-      ap (λ b. cond b (Some x) (at key (key a) xs)) (ap (λ y. same_key (key a) (key y)) (sym e) ∙ same_key-itself (key a))
+      ap (λ b. cond b (Some x) (at key (key a) xs)) (ap (λ y. same_key (key a) (key y)) (sym e)
+      ∙ same_key-itself (key a))
       ∙ ap (λ y. Some y) (sym e)
   in_at a (x ∷ xs) up (inr e) =
       elim (tested (same_key (key a) (key x))) [

@@ -151,7 +151,8 @@ module _ (accounts : List AccountRow) (h : is_ascending account_key accounts ≡
   pub names_ascend_all : is_ascending (key_at accounts) (names_of accounts) ≡ true
   names_ascend_all = names_ascend accounts (λ y e. e)
 
-  pub names_ascend_others : (k : List ℕ) → is_ascending (key_at accounts) (names_of (without account_key k accounts)) ≡ true
+  pub names_ascend_others : (k : List ℕ)
+      → is_ascending (key_at accounts) (names_of (without account_key k accounts)) ≡ true
   names_ascend_others k = names_ascend (without account_key k accounts) (in_filter _ accounts)
 
   -- the pair of a row among those of others

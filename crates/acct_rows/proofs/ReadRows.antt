@@ -15,7 +15,8 @@ use Rattle.acct_rows.specs.Sound.{is_account_kind}
 use Rattle.acct_rows.specs.Spelled.{text_bytes, rid_bytes, number_bytes, held_bytes, kind_byte, stored_key}
 use Rattle.acct_rows.specs.Spelled.{domain_value, account_value, lsa_value, ascend, FitsHeld, IsSpelled}
 use Rattle.acct_rows.specs.Stored.{◌>>=◌, only_if, is_end, byte_at, number_at, rid_at, text_at, sid_at, whole_sid, many}
-use Rattle.acct_rows.specs.Stored.{domain_number_at, held_at, kind_of_byte, domain_key_of, account_key_of, member_key_of}
+use Rattle.acct_rows.specs.Stored.{domain_number_at, held_at, kind_of_byte, domain_key_of, account_key_of}
+use Rattle.acct_rows.specs.Stored.{member_key_of}
 use Rattle.acct_rows.specs.Stored.{alias_key_of, lsa_key_of, lettered, row_key, domain_of, account_of, member_of}
 use Rattle.acct_rows.specs.Stored.{alias_of, lsa_of, valued, row_of, ReadRowsAreSpelled}
 use Rattle.acct_rows.specs.declared.row.Held.{Held}
@@ -23,7 +24,8 @@ use Rattle.acct_rows.specs.declared.row.Row.{Row}
 use Rattle.acct_rows.specs.declared.row.Row.TheVariants as rows
 use Rattle.acct_rows.specs.declared.row.RowKey.{RowKey}
 use Rattle.acct_rows.specs.declared.row.RowKey.TheVariants as keys
-use Rattle.acct_rows.proofs.Taken.{IsBytes, bytes_from_All, bind_some, passed, some_is, at_end, byte_takes, number_takes}
+use Rattle.acct_rows.proofs.Taken.{IsBytes, bytes_from_All, bind_some, passed}
+use Rattle.acct_rows.proofs.Taken.{some_is, at_end, byte_takes, number_takes}
 use Rattle.acct_rows.proofs.Taken.{rid_takes, text_takes, held_takes, many_takes, domain_number_takes, sid_takes}
 
 abbrev pub FitsKey : RowKey → Type 0
@@ -98,7 +100,8 @@ member_key_read bytes key fits e =
 
 -- a field and what is read behind it
 member_read : (group user : ℕ) (value : List ℕ) (row : Row) → FitsKey (keys.Member group user) → IsBytes value
-    → member_of group user value ≡ Some row → IsSpelled (record { key = stored_key (keys.Member group user); value = value }) row
+    → member_of group user value ≡ Some row
+    → IsSpelled (record { key = stored_key (keys.Member group user); value = value }) row
 unfolding member_of
 member_read group user value row key fits e =
     let make : ℕ → Row = λ n. rows.Member (record { group = group; user = user; attributes = n }) in
@@ -111,7 +114,8 @@ member_read group user value row key fits e =
       spelled = ap (λ (v : List ℕ). record { key = stored_key (keys.Member group user); value = v }) is;
     })
 
-alias_read : (domain alias : ℕ) (member : SidValue) (value : List ℕ) (row : Row) → FitsKey (keys.Alias domain alias member)
+alias_read : (domain alias : ℕ) (member : SidValue) (value : List ℕ) (row : Row)
+    → FitsKey (keys.Alias domain alias member)
     → alias_of domain alias member value ≡ Some row
     → IsSpelled (record { key = stored_key (keys.Alias domain alias member); value = value }) row
 unfolding alias_of
@@ -193,7 +197,8 @@ account_read domain rid value row key fits e =
     let e0 = tc.parts ∙ ap (λ (r : List ℕ). number_bytes c.0.0 ++ r) e1 in
     let eb = tb.parts ∙ ap (λ (r : List ℕ). number_bytes b.0.0 ++ r) e0 in
     let is = ta.parts ∙ ap (λ (n : ℕ). n ∷ a.0.1) kind.0 ∙ ap (λ (r : List ℕ). kind_byte k.0 ∷ r)
-    (eb ∙ five_fields (number_bytes b.0.0) (number_bytes c.0.0) (text_bytes d.0.0) (text_bytes f.0.0) (text_bytes h.0.0)) in
+    (eb ∙ five_fields (number_bytes b.0.0) (number_bytes c.0.0) (text_bytes d.0.0) (text_bytes f.0.0)
+    (text_bytes h.0.0)) in
     subst (λ r. IsSpelled (record { key = stored_key (keys.Account domain rid); value = value }) r) g.1 (record {
       fits = record {
         domain = key.0;
@@ -309,7 +314,8 @@ module _ (back : WrittenBytesAreRead) (sizes : WrittenBytesHaveLengths) (only : 
       let e1 = tc.parts ∙ ap (λ (r : List ℕ). bytes_of c.0.0 ++ r) e2 in
       let e0 = tb.parts ∙ ap (λ (n : ℕ). n ∷ b.0.1) size ∙ ap (λ (r : List ℕ). length (bytes_of c.0.0) ∷ r) e1 in
       let is = ta.parts ∙ ap (λ (r : List ℕ). number_bytes a.0.0 ++ r) e0
-      ∙ four_fields (number_bytes a.0.0) (length (bytes_of c.0.0) ∷ bytes_of c.0.0) (text_bytes d.0.0) (text_bytes f.0.0) in
+      ∙ four_fields (number_bytes a.0.0) (length (bytes_of c.0.0) ∷ bytes_of c.0.0) (text_bytes d.0.0)
+      (text_bytes f.0.0) in
       subst (λ r. IsSpelled (record { key = stored_key (keys.Domain number); value = value }) r) g.1 (record {
         fits = record { number = key; sid = tc.fits; name = td.fits; oem = tf.fits; next_rid = ta.fits };
         spelled = ap (λ (v : List ℕ). record { key = stored_key (keys.Domain number); value = v }) is;

@@ -48,7 +48,8 @@ account_found_fits lists domain rid a fit e =
     all_in FitsAccount a lists.accounts (recursion_from_All FitsAccount lists.accounts fit.accounts)
     (at_in account_key (domain ∷ rid ∷ []) a lists.accounts e)
 
-pub lsa_found_fits : (lists : Lists) (sid : SidValue) (l : LsaRow) → AllFit lists → lsa_at lists sid ≡ Some l → FitsLsa l
+pub lsa_found_fits : (lists : Lists) (sid : SidValue) (l : LsaRow) → AllFit lists → lsa_at lists sid ≡ Some l
+    → FitsLsa l
 lsa_found_fits lists sid l fit e =
     all_in FitsLsa l lists.lsa (recursion_from_All FitsLsa lists.lsa fit.lsa)
     (at_in lsa_key (sid_key sid) l lists.lsa e)

@@ -1,5 +1,6 @@
 -- Rows that pass a test stand together where the keys of these are a range
-use Rattle.std.proofs.Common.{◌≡◌, ◌≢◌, ℕ, zero, suc, ◌+◌, ◌<◌, ◌≤◌, Bool, true, false, cond, List, [], ◌∷◌, length, get_or}
+use Rattle.std.proofs.Common.{◌≡◌, ◌≢◌, ℕ, zero, suc, ◌+◌, ◌<◌, ◌≤◌, Bool}
+use Rattle.std.proofs.Common.{true, false, cond, List, [], ◌∷◌, length, get_or}
 use Rattle.std.proofs.Common.{drop, arith, Option, Some, None}
 use Rattle.std.proofs.Common.{Result, Ok, Err, refl, sym, ap, ◌∙◌, inl, inr}
 use Rattle.std.specs.List.{filter, find}
@@ -64,7 +65,8 @@ module _ {A : Type 0} (key : A → List ℕ) (p : A → Bool) (q : List ℕ)
   higher x y up lt gt =
       let under : compare (key y) q ≡ Less = nat_list_cmp_total.antisymm (key y) q ∙ ap ordering_reverse gt in
       let turned : compare q (key x) ≡ Greater =
-      nat_list_cmp_total.antisymm q (key x) ∙ ap ordering_reverse (nat_list_cmp_total.trans (key x) (key y) q lt under) in
+      nat_list_cmp_total.antisymm q (key x)
+      ∙ ap ordering_reverse (nat_list_cmp_total.trans (key x) (key y) q lt under) in
       up turned
 
   run_here : (x : A) (xs : List A) → is_ascending key (x ∷ xs) ≡ true → compare q (key x) ≢ Greater

@@ -187,7 +187,8 @@ module _ (ps qs : List Pair) (differ : keys_differ ps ≡ true) (perm : IsPermut
   among_alike (rows.Account a) =
       ap (λ o. is_past a.rid o || (has_taken_name ps (rows.Account a) || (false || (lacks_primary ps (rows.Account a)
       || false)))) (domain_alike a.domain)
-      ∙ ap (λ b. is_past a.rid (domain_in qs a.domain) || (b || (false || (lacks_primary ps (rows.Account a) || false))))
+      ∙ ap (λ b. is_past a.rid (domain_in qs a.domain)
+      || (b || (false || (lacks_primary ps (rows.Account a) || false))))
       (any_alike (λ pair. is_earlier a (row_of pair)))
       ∙ ap (λ b. is_past a.rid (domain_in qs a.domain) || (has_taken_name qs (rows.Account a) || (false
       || ((same_kind User a.kind && (b || not (is_there ps (keys.Member a.primary a.rid)))) || false))))

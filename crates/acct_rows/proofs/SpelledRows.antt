@@ -51,13 +51,15 @@ kind_again Account e = absurd cc
 same_number : (n : ℕ) → (n == n) ≡ true
 same_number n = grind (arith, nat_tests)
 
-account_value_again : (a : AccountRow) → FitsAccount a → account_of a.domain a.rid (account_value a) ≡ Some (rows.Account a)
+account_value_again : (a : AccountRow) → FitsAccount a
+    → account_of a.domain a.rid (account_value a) ≡ Some (rows.Account a)
 unfolding account_of account_value
 account_value_again a fits =
     let tail = number_bytes a.bits ++ (number_bytes a.primary ++ (text_bytes a.name ++ (text_bytes a.full_name
     ++ text_bytes a.comment))) in
     let grouped = ap (λ (r : List ℕ). account_of a.domain a.rid (kind_byte a.kind ∷ r)) (sym (five_fields
-    (number_bytes a.bits) (number_bytes a.primary) (text_bytes a.name) (text_bytes a.full_name) (text_bytes a.comment))) in
+    (number_bytes a.bits) (number_bytes a.primary) (text_bytes a.name) (text_bytes a.full_name) (text_bytes a.comment)))
+    in
     let rest : Kind → List ℕ → Option Row = λ kind bytes. number_at bytes >>= λ bits.
     number_at bits.1 >>= λ primary. text_at primary.1 >>= λ name. text_at name.1 >>= λ full_name.
     text_at full_name.1 >>= λ comment. only_if (is_end comment.1) (rows.Account (record {

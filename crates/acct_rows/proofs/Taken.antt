@@ -1,6 +1,8 @@
 -- What a reader of fields takes is what is written of the value, and what is written is read again.
-use Rattle.std.proofs.Common.{◌≡◌, ℕ, zero, suc, ◌+◌, ◌*◌, ◌^◌, ◌<◌, ◌≤◌, Bool, true, false, cond, ltb, List, [], ◌∷◌, ◌++◌}
-use Rattle.std.proofs.Common.{length, get_or, take, drop, All, Option, Some, None, Result, Ok, Err, refl, sym, ap, subst, ◌∙◌}
+use Rattle.std.proofs.Common.{◌≡◌, ℕ, zero, suc, ◌+◌, ◌*◌, ◌^◌, ◌<◌, ◌≤◌}
+use Rattle.std.proofs.Common.{Bool, true, false, cond, ltb, List, [], ◌∷◌, ◌++◌}
+use Rattle.std.proofs.Common.{length, get_or, take, drop, All, Option, Some, None, Result, Ok, Err, refl, sym, ap}
+use Rattle.std.proofs.Common.{subst, ◌∙◌}
 use Rattle.std.proofs.Common.{append_assoc, arith, inl, inr}
 use Rattle.std.specs.Prelude.{slice_index, nat_le}
 use Rattle.std.specs.Result.{result_ok}
@@ -17,7 +19,8 @@ use Rattle.std.proofs.lemmas.Nat.{le_bytes_2, le_bytes_4, be_bytes_4, from_le_by
 use Rattle.std.proofs.lemmas.Nat.{from_le_bytes-to_le_bytes_4, from_be_bytes-to_be_bytes_4}
 use Rattle.dtyp_sid.specs.declared.errors.BytesError.{BytesError}
 use Rattle.dtyp_sid.specs.Value.{SidValue, IsSid}
-use Rattle.dtyp_sid.specs.Bytes.{bytes_of, sid_of_bytes, WrittenBytesAreRead, WrittenBytesHaveLengths, ReadBytesAreWritten}
+use Rattle.dtyp_sid.specs.Bytes.{bytes_of, sid_of_bytes, WrittenBytesAreRead, WrittenBytesHaveLengths}
+use Rattle.dtyp_sid.specs.Bytes.{ReadBytesAreWritten}
 use Rattle.acct_rows.specs.Spelled.{text_bytes, rid_bytes, number_bytes, held_bytes, FitsText, FitsHeld}
 use Rattle.acct_rows.specs.Stored.{Reader, ◌>>=◌, only_if, is_end, front_at, many, byte_at, unit_at, number_at, rid_at}
 use Rattle.acct_rows.specs.Stored.{text_at, sid_at, domain_number_at, held_at}
@@ -74,10 +77,11 @@ pub at_end : (bytes : List ℕ) → is_end bytes ≡ true → bytes ≡ []
 at_end bytes e = nil_from_length bytes (eqb-true _ _ e)
 
 -- what a reader took from the front
-pub record Taken {A : Type 0} (write : A → List ℕ) (P : A → Type 0) (bytes : List ℕ) (x : A) (rest : List ℕ) : Type 0 where
-  pub parts : bytes ≡ write x ++ rest
-  pub fits : P x
-  pub rest_bytes : IsBytes rest
+pub record Taken {A : Type 0} (write : A → List ℕ) (P : A → Type 0) (bytes : List ℕ) (x : A) (rest : List ℕ) : Type 0
+  where
+    pub parts : bytes ≡ write x ++ rest
+    pub fits : P x
+    pub rest_bytes : IsBytes rest
 
 abbrev pub Takes : {A : Type 0} → Reader A → (A → List ℕ) → (A → Type 0) → Type 0
 Takes {A} one write P = (bytes : List ℕ) (x : A) (rest : List ℕ) → IsBytes bytes → one bytes ≡ Some (x, rest)
@@ -145,7 +149,9 @@ byte_takes = made 1 (λ front. slice_index front 0) single (λ byte. byte < 256)
 
 pub byte_again : (byte : ℕ) (rest : List ℕ) → byte_at (byte ∷ rest) ≡ Some (byte, rest)
 unfolding byte_at
-byte_again byte rest = ap (λ (o : Option (List ℕ × List ℕ)). o >>= λ front. Some (slice_index front.0 0, front.1)) (front_again 1 (byte ∷ []) rest refl)
+byte_again byte rest =
+    ap (λ (o : Option (List ℕ × List ℕ)). o
+    >>= λ front. Some (slice_index front.0 0, front.1)) (front_again 1 (byte ∷ []) rest refl)
 
 pub unit_takes : Takes unit_at (to_le_bytes w16) (λ n. n < 2 ^ 16)
 unfolding unit_at
@@ -253,7 +259,8 @@ held_takes bytes held rest fits e =
     let low = byte_takes bytes a.0.0 a.0.1 fits a.1 in
     let attributes = number_takes a.0.1 b.0.0 b.0.1 low.rest_bytes b.1 in
     let is : Held = record { low = a.0.0; attributes = b.0.0 } in
-    subst (λ (p : Held × List ℕ). Taken held_bytes FitsHeld bytes p.0 p.1) (some_is (is, b.0.1) (held, rest) b.2) (record {
+    subst (λ (p : Held × List ℕ). Taken held_bytes FitsHeld bytes p.0 p.1) (some_is (is, b.0.1) (held, rest) b.2)
+    (record {
       parts = low.parts ∙ ap (λ (r : List ℕ). a.0.0 ∷ r) attributes.parts;
       fits = record { low = low.fits; attributes = attributes.fits };
       rest_bytes = attributes.rest_bytes;
@@ -262,7 +269,8 @@ held_takes bytes held rest fits e =
 pub held_again : Again held_at held_bytes FitsHeld
 unfolding held_at held_bytes
 held_again held rest fits =
-    rw (byte_again held.low (number_bytes held.attributes ++ rest), number_again held.attributes rest fits.attributes) refl
+    rw (byte_again held.low (number_bytes held.attributes ++ rest), number_again held.attributes rest fits.attributes)
+    refl
 
 pub domain_number_takes : Takes domain_number_at single (λ n. n ≤ 1)
 unfolding domain_number_at
@@ -305,6 +313,7 @@ module _ (back : WrittenBytesAreRead) (sizes : WrittenBytesHaveLengths) (only : 
   sid_again sid rest fits =
       let behind : drop (8 + 4 * length sid.subs) (bytes_of sid ++ rest) ≡ rest =
       ap (λ (n : ℕ). drop n (bytes_of sid ++ rest)) (sym (sizes sid)) ∙ drop-append_seam (bytes_of sid) rest in
-      ap (λ (r : Result SidValue BytesError). result_ok r >>= λ s. Some (s, drop (8 + 4 * length s.subs) (bytes_of sid ++ rest)))
+      ap (λ (r : Result SidValue BytesError). result_ok r
+      >>= λ s. Some (s, drop (8 + 4 * length s.subs) (bytes_of sid ++ rest)))
       (back sid rest fits)
       ∙ ap (λ (r : List ℕ). Some (sid, r)) behind

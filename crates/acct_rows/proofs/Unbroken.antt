@@ -129,7 +129,8 @@ module _ (back : WrittenBytesAreRead) (sizes : WrittenBytesHaveLengths) (only : 
         some_mapped (λ d. rows.Domain d) (domain_at lists 1) (key_there (keys.Domain 1) le refl)
     domain_there (suc (suc n)) le = absurd (omega arith)
 
-    missing_false : (kind : Kind) (domain rid : ℕ) → domain ≤ 1 → rid < 2 ^ 32 → is_missing kind pairs domain rid ≡ false
+    missing_false : (kind : Kind) (domain rid : ℕ) → domain ≤ 1 → rid < 2 ^ 32
+        → is_missing kind pairs domain rid ≡ false
         → is_of kind (account_at lists domain rid) ≡ true
     missing_false kind domain rid one fits e =
         not_false _ (sym (missing_is back sizes only lists pairs fit held kind domain rid one fits) ∙ e)
@@ -159,7 +160,8 @@ module _ (back : WrittenBytesAreRead) (sizes : WrittenBytesHaveLengths) (only : 
           primary_group = λ t. missing_false Group 0 a.primary (omega arith) fits.primary
               (either_false (is_missing Group pairs 0 a.primary) _ (user t)).0;
           primary_member = λ t. some_mapped (λ m. rows.Member m) (member_at lists a.primary a.rid)
-              (sym (there_is back sizes only lists pairs fit held (keys.Member a.primary a.rid) (fits.primary, fits.rid))
+              (sym (there_is back sizes only lists pairs fit held (keys.Member a.primary a.rid)
+              (fits.primary, fits.rid))
               ∙ not_false _ (either_false (is_missing Group pairs 0 a.primary) _ (user t)).1);
         }
 
@@ -169,7 +171,8 @@ module _ (back : WrittenBytesAreRead) (sizes : WrittenBytesHaveLengths) (only : 
         (row_there back sizes only lists pairs fit held (rows.Account a) e)
 
     -- no account of the domain with a smaller RID has its name
-    not_taken : (a b : AccountRow) → IsRowOf lists (rows.Account a) → IsRowOf lists (rows.Account b) → b.domain ≡ a.domain
+    not_taken : (a b : AccountRow) → IsRowOf lists (rows.Account a) → IsRowOf lists (rows.Account b)
+        → b.domain ≡ a.domain
         → b.rid < a.rid → is_same b.name a.name ≡ false
     not_taken a b ea eb domain lt =
         let row = rows.Account a in
@@ -177,7 +180,8 @@ module _ (back : WrittenBytesAreRead) (sizes : WrittenBytesHaveLengths) (only : 
         let taken = either_false (has_taken_name pairs row) _ past.1 in
         let one : is_earlier a (row_of (pair_of (rows.Account b))) ≡ false =
         any_false (λ p. is_earlier a (row_of p)) (pair_of (rows.Account b)) pairs taken.0 (account_pair_in b eb) in
-        let test : is_earlier a (Some (rows.Account b)) ≡ false = ap (is_earlier a) (sym (row_read (rows.Account b) eb)) ∙ one in
+        let test : is_earlier a (Some (rows.Account b)) ≡ false = ap (is_earlier a) (sym (row_read (rows.Account b) eb))
+        ∙ one in
         let same : (b.domain == a.domain) ≡ true = grind (arith, nat_tests) in
         let low : nat_lt b.rid a.rid ≡ true = grind (arith, nat_tests) in
         ap (λ t. t && is_same b.name a.name) (sym low)
@@ -228,8 +232,10 @@ module _ (back : WrittenBytesAreRead) (sizes : WrittenBytesHaveLengths) (only : 
         let parts = either_false (is_missing Group pairs 0 m.group) (is_missing User pairs 0 m.user) lacks.0 in
         let g : m.group ≡ group = (let k = found.1 in cc) in
         let u : m.user ≡ user = (let k = found.1 in cc) in (
-          subst (λ n. is_of Group (account_at lists 0 n) ≡ true) g (missing_false Group 0 m.group (omega arith) fits.group parts.0),
-          subst (λ n. is_of User (account_at lists 0 n) ≡ true) u (missing_false User 0 m.user (omega arith) fits.user parts.1),
+          subst (λ n. is_of Group (account_at lists 0 n) ≡ true) g
+              (missing_false Group 0 m.group (omega arith) fits.group parts.0),
+          subst (λ n. is_of User (account_at lists 0 n) ≡ true) u
+              (missing_false User 0 m.user (omega arith) fits.user parts.1),
         )
 
     alias_whole : (domain alias : ℕ) (sid : SidValue) (a : AliasRow) → alias_row_at lists domain alias sid ≡ Some a
@@ -244,7 +250,8 @@ module _ (back : WrittenBytesAreRead) (sizes : WrittenBytesHaveLengths) (only : 
         (subst (λ n. is_of Alias (account_at lists a.domain n) ≡ true) r
         (missing_false Alias a.domain a.alias fits.domain fits.alias (row_unbroken row found.0).1))
 
-    pub unbroken_is_sound : is_ascending domain_key lists.domains ≡ true → is_ascending account_key lists.accounts ≡ true
+    pub unbroken_is_sound : is_ascending domain_key lists.domains ≡ true
+        → is_ascending account_key lists.accounts ≡ true
         → is_ascending member_key lists.members ≡ true → is_ascending alias_key lists.aliases ≡ true
         → is_ascending lsa_key lists.lsa ≡ true → IsSoundRows lists
     unbroken_is_sound d a m l s = record {
@@ -294,7 +301,8 @@ module _ (back : WrittenBytesAreRead) (sizes : WrittenBytesHaveLengths) (only : 
               let there : is_there pairs (keys.Member a.primary a.rid) ≡ true =
               there_is back sizes only lists pairs fit held (keys.Member a.primary a.rid) (fits.primary, fits.rid)
               ∙ mapped_some (λ m. rows.Member m) (member_at lists a.primary a.rid) (good.primary_member t) in
-              ap (λ b. b && (is_missing Group pairs 0 a.primary || not (is_there pairs (keys.Member a.primary a.rid)))) t
+              ap (λ b. b && (is_missing Group pairs 0 a.primary || not (is_there pairs (keys.Member a.primary a.rid))))
+              t
               ∙ both_false _ _ group (not_true _ there)
           | inr t ↦ ap (λ b. b && (is_missing Group pairs 0 a.primary
               || not (is_there pairs (keys.Member a.primary a.rid)))) t

@@ -1,5 +1,6 @@
 -- The askings for the first listeners and for one more, and doors that all have one listener.
-use Rattle.std.proofs.Common.{◌≡◌, ℕ, zero, suc, ◌+◌, ◌<◌, ◌≤◌, arith, List, [], ◌∷◌, ◌++◌, length, take, map, replicate, All}
+use Rattle.std.proofs.Common.{◌≡◌, ℕ, zero, suc, ◌+◌, ◌<◌, ◌≤◌, arith, List, [], ◌∷◌, ◌++◌, length, take, map}
+use Rattle.std.proofs.Common.{replicate, All}
 use Rattle.std.proofs.Common.{refl, sym, ◌∙◌, ap, get_or, append_assoc, Option, Some, None, Bool, true, false, ◌&&◌}
 use Rattle.std.specs.Prelude.{IfSome, nat_le}
 use Rattle.std.specs.List.{list_all}

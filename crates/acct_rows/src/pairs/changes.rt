@@ -1,6 +1,7 @@
 // What a plan changes of the stored pairs.
 ghost use Rattle.std.specs.Prelude.{◌≡◌, ◌↔◌, ◌++◌, [], false, is_some, IfOk, OnOk};
-ghost use Rattle.acct_rows.specs.Changes.{Follow, row_at, stored_at, same_row_key, is_put, has_value, removal, removals};
+ghost use Rattle.acct_rows.specs.Changes.{Follow, row_at, stored_at, same_row_key};
+ghost use Rattle.acct_rows.specs.Changes.{is_put, has_value, removal, removals};
 ghost use Rattle.acct_rows.specs.Changes.{row_written, last_written, rows_written, LastFit};
 ghost use Rattle.acct_rows.specs.PairsOf.{AllFit};
 ghost use Rattle.acct_rows.specs.Rows.{after};

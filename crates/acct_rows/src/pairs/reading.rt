@@ -2,7 +2,8 @@
 ghost use Rattle.std.specs.Prelude.{◌≡◌, List};
 ghost use Rattle.acct_rows.specs.Spelled.{ascend};
 ghost use Rattle.acct_rows.specs.Sound.{are_above};
-ghost use Rattle.acct_rows.specs.Stored.{Reads, ReadsWhole, only_if, is_end, domain_number_at, whole_sid, kind_of_byte, lettered, row_key};
+ghost use Rattle.acct_rows.specs.Stored.{Reads, ReadsWhole, only_if, is_end, domain_number_at, whole_sid, kind_of_byte};
+ghost use Rattle.acct_rows.specs.Stored.{lettered, row_key};
 ghost use Rattle.acct_rows.specs.Stored.{domain_key_of, account_key_of, member_key_of, alias_key_of, lsa_key_of};
 ghost use Rattle.acct_rows.specs.Stored.{domain_of, account_of, member_of, alias_of, lsa_of, valued, row_of};
 

@@ -18,7 +18,8 @@ pub returns-then-ne : goal.returns-then-ne
 returns-then-ne c =
     let ours = c.in-Some.our_first in
     let theirs = c.in-Some-first_point.their_first in
-    let is : c.point_order-order.result ≡ nat_cmp (folded_point ours.point) (folded_point theirs.point) = search rules in
+    let is : c.point_order-order.result ≡ nat_cmp (folded_point ours.point) (folded_point theirs.point) =
+    search rules in
     let differ : c.point_order-order.result ≢ Equal = search rules in
     sym (sym c.loop-our_first.invariant
     ∙ order_first c.loop-our_first.ours.now c.loop-our_first.theirs.now ours.rest.now theirs.rest.now ours.point

@@ -25,5 +25,6 @@ returns-clause-members c =
     λ rid. (
       λ h. subst (λ ns. Contains ns rid) all
           (Contains-permutation _ _ rid (IsPermutation-sym _ _ moved) (Contains-from_dedup _ _ rid (rw is at h))),
-      λ h. rw is (Contains-dedup_nat _ rid (Contains-permutation _ _ rid moved (subst (λ ns. Contains ns rid) (sym all) h))),
+      λ h. rw is (Contains-dedup_nat _ rid
+          (Contains-permutation _ _ rid moved (subst (λ ns. Contains ns rid) (sym all) h))),
     )

@@ -1,5 +1,6 @@
 -- `push_aliases` meets its contract: what the search leaves open.
-use Rattle.std.proofs.Common.{◌≡◌, ◌+◌, ◌-◌, true, [], ◌∷◌, ◌++◌, length, take, drop, map, sym, ap, ◌∙◌, append_assoc, rules}
+use Rattle.std.proofs.Common.{◌≡◌, ◌+◌, ◌-◌, true, [], ◌∷◌, ◌++◌, length}
+use Rattle.std.proofs.Common.{take, drop, map, sym, ap, ◌∙◌, append_assoc, rules}
 use Rattle.std.proofs.lemmas.List.{append-nil, take_rest}
 use Rattle.acct_rows.specs.Indexes.{held, membership_key, is_for, alias_of}
 use Rattle.acct_rows.specs.Keyed.{place}

@@ -8,5 +8,6 @@ use Rattle.acct_rows.proofs.naming.push_memberships.Given as goal
 abbrev pub invariant-loop-row : goal.invariant-loop-row
 invariant-loop-row l =
     l.keys
-    ++ map key_of_alias (filter (is_beside_alias l.fn.above l.fn.domain l.fn.alias) (map alias_row (drop l.row-index l.rows)))
+    ++ map key_of_alias (filter (is_beside_alias l.fn.above l.fn.domain l.fn.alias)
+    (map alias_row (drop l.row-index l.rows)))
     ≡ l.fn.keys ++ map key_of_alias (filter (is_beside_alias l.fn.above l.fn.domain l.fn.alias) (map alias_row l.rows))

@@ -28,5 +28,6 @@ returns c =
     (below_alias_turns d a c.args.rows.now c.requires) (λ a r q k. search rules) in
     let high = IsPartitionPoint-from_clause (up_to_alias d a) _ _ c.partition_point-last.ensures.partitioned
     (up_to_alias_turns d a c.args.rows.now c.requires) (λ a r q k. search rules) in
-    together (below_alias d a) (up_to_alias d a) (is_in_alias d a) (in_alias_is d a) (alias_later d a) c.args.rows.now _ _
+    together (below_alias d a) (up_to_alias d a) (is_in_alias d a) (in_alias_is d a) (alias_later d a) c.args.rows.now _
+    _
     c.partition_point-first.ensures.bound c.partition_point-last.ensures.bound low high

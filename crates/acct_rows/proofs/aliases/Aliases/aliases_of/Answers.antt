@@ -16,7 +16,8 @@ returns-clause-rids c =
     let sids = c.args.sids.now in
     let h : is_ascending alias_key aliases ≡ true = search rules in
     let index : c.rows.result.now ≡ memberships_of aliases = search rules in
-    let members : IfOk c.aliases_among.result (λ ns. (n : ℕ) → Contains ns n ↔ Contains (held_by d (memberships_of aliases) sids) n) =
+    let members : IfOk c.aliases_among.result (λ ns. (n : ℕ)
+    → Contains ns n ↔ Contains (held_by d (memberships_of aliases) sids) n) =
     subst (λ ms. IfOk c.aliases_among.result (λ ns. (n : ℕ) → Contains ns n ↔ Contains (held_by d ms sids) n)) index
     c.aliases_among.ensures.members in
     held_are_found d sids aliases c.aliases_among.result h c.aliases_among.ensures.rising members

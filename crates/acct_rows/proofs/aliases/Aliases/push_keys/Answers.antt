@@ -19,7 +19,8 @@ returns c =
     let index : c.rows.result.now ≡ memberships_of aliases = search rules in
     let own = filter (is_held sid) aliases in
     let held : map alias_row c.memberships_among-held.result.now ≡ own =
-    ap (map alias_row) (c.memberships_among-held.ensures ∙ ap (filter (has_sid sid)) index) ∙ held_found sid aliases h in
+    ap (map alias_row) (c.memberships_among-held.ensures ∙ ap (filter (has_sid sid)) index)
+    ∙ held_found sid aliases h in
     let side = λ (above : Bool). ap (λ xs. map key_of_alias (filter (is_beside_alias above d rid) xs)) held in
     pushed key_of_alias (filter (is_alias_row_of d rid sid) aliases) (filter (is_beside_alias false d rid) own)
     (filter (is_in_alias d rid) aliases) (filter (is_beside_alias true d rid) own) _ _ _ _

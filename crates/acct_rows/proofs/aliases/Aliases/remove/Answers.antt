@@ -11,7 +11,8 @@ invariant_of-self c =
     let key = c.args.key.now in
     let h : is_ascending alias_key c.self.inside.rows.0 ≡ true = search rules in (
       c.remove.ensures.rows ∙ ap (without membership_key (held key.2 key.0 key.1)) c.self.invariant.0
-          ∙ memberships_without c.self.inside.rows.0 h key.0 key.1 key.2 ∙ ap memberships_of (sym c.remove-2.ensures.rows),
+          ∙ memberships_without c.self.inside.rows.0 h key.0 key.1 key.2
+          ∙ ap memberships_of (sym c.remove-2.ensures.rows),
       search rules,
       search rules,
     )

@@ -24,7 +24,8 @@ returns c =
     let here : (c.args.domain == 0) ≡ true = grind (arith, nat_tests) in
     let h : is_ascending member_key members ≡ true = search rules in
     let own = filter (is_of_user rid) members in
-    let side = λ (above : Bool). ap (λ ms. map key_of_member (filter (is_beside_group above rid) ms)) c.groups-groups.ensures in
+    let side = λ (above : Bool). ap (λ ms. map key_of_member (filter (is_beside_group above rid) ms))
+    c.groups-groups.ensures in
     pushed key_of_member (filter (is_member_of c.args.domain rid) members) (filter (is_beside_group false rid) own)
     (filter (is_in_group rid) members) (filter (is_beside_group true rid) own) _ _ _ _
     (members_are c.args.domain rid members here h)

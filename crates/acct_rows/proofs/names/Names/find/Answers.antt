@@ -1,5 +1,6 @@
 -- `Names::find` meets its contract: what the search leaves open.
-use Rattle.std.proofs.Common.{◌≡◌, ◌≤◌, ◌<◌, [], ◌∷◌, true, false, cond, drop, length, get_or, Some, None, sym, ap, subst, ◌∙◌}
+use Rattle.std.proofs.Common.{◌≡◌, ◌≤◌, ◌<◌, [], ◌∷◌, true, false, cond, drop, length, get_or, Some, None, sym, ap}
+use Rattle.std.proofs.Common.{subst, ◌∙◌}
 use Rattle.std.proofs.Common.{rules}
 use Rattle.acct_rows.specs.Indexes.{named, key_at, names_of, by_name}
 use Rattle.acct_rows.specs.Keyed.{at, place, is_ascending}
@@ -28,7 +29,8 @@ returns-then-i-len c =
     let at_end : spot c.place.result ≡ c.match-place.i =
     elim c.match-place.branch [ in-Ok w ↦ search rules | in-Ok-2 w ↦ search rules ] in
     let past : length (names_of accounts) ≤ spot c.place.result = search rules in
-    sym (name_found c.test_tells_same.ensures c.args.domain c.args.name.now accounts c.requires.rows c.place.result placed
+    sym (name_found c.test_tells_same.ensures c.args.domain c.args.name.now accounts c.requires.rows c.place.result
+    placed
     ∙ first_past_names p (spot c.place.result) accounts past)
 
 pub returns-in_default : goal.returns-in_default

@@ -5,4 +5,5 @@ use Rattle.acct_rows.specs.PairRules.{is_broken_pair}
 use Rattle.acct_rows.proofs.pairs.loading.first_broken.Given as goal
 
 abbrev pub invariant-loop-pair : goal.invariant-loop-pair
-invariant-loop-pair l = find (is_broken_pair l.store) (drop l.pair-index l.pairs) ≡ find (is_broken_pair l.store) l.pairs
+invariant-loop-pair l =
+    find (is_broken_pair l.store) (drop l.pair-index l.pairs) ≡ find (is_broken_pair l.store) l.pairs

@@ -16,10 +16,12 @@ loop-pair-preserved c =
     let pairs = c.args.pairs.now in
     let i = c.loop-pair.pair-index in
     record {
-      rest = ap (λ (lists : Lists). with_puts (somes (map row_of (drop (i + 1) pairs))) lists) c.in_ok-put_read.ensures.rows
+      rest = ap (λ (lists : Lists). with_puts (somes (map row_of (drop (i + 1) pairs))) lists)
+          c.in_ok-put_read.ensures.rows
           ∙ next_loaded pairs i c.pair-item.result c.loop-pair.rows.lists c.loop-pair-test.true c.pair-item.is
           ∙ c.loop-pair.invariant.rest;
-      spelled = next_read pairs i c.pair-item.result c.loop-pair-test.true c.pair-item.is c.in_ok-put_read.ensures.spelled
+      spelled = next_read pairs i c.pair-item.result c.loop-pair-test.true c.pair-item.is
+          c.in_ok-put_read.ensures.spelled
           c.loop-pair.invariant.spelled;
       room = search rules;
     }

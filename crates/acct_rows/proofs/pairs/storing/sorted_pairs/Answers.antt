@@ -13,6 +13,7 @@ all_pairs-requires c = all_fit c.args.rows.now.lists c.requires
 pub returns : goal.returns
 returns c =
     let sorted = c.in_ok-sort_by.ensures in
-    sorted_are_pairs c.written_bytes_are_read.ensures c.written_bytes_have_lengths.ensures c.read_bytes_are_written.ensures
+    sorted_are_pairs c.written_bytes_are_read.ensures c.written_bytes_have_lengths.ensures
+    c.read_bytes_are_written.ensures
     c.args.rows.now.lists _ _ c.requires c.in_ok-pairs.ensures sorted.permutation
     (sorted.sorted _ (ranks_by nat_list_cmp_total pair_key) (answers_always _ _ _ (λ f a r f' k. search rules)))
