@@ -139,7 +139,8 @@ config-step s (Opened conn listener) = refl
 config-step s (Called conn call verdict bytes) = config-acted s conn call verdict
 config-step s (Gone conn) = refl
 
-begins-same : (s s' : State) (rows : Lists) (since : ℕ) (e : Entry) → s' ≡ step s e → begins s rows since ≡ begins s' rows since
+begins-same : (s s' : State) (rows : Lists) (since : ℕ) (e : Entry) → s' ≡ step s e
+    → begins s rows since ≡ begins s' rows since
 begins-same s s' rows since e is =
     ap (λ (x : Config). let y : Start = record { config = x; rows = rows; faults = since } in y)
     (sym (config-step s e) ∙ ap (λ (x : State). x.config) (sym is))
@@ -160,16 +161,19 @@ pub kept-more : (s s' : State) (rows : Lists) (since : ℕ) (history more : List
     → May (begins s rows since) history e → s' ≡ step s e → more ≡ history ++ e ∷ []
     → calls + call_count (e ∷ []) ≡ calls' → bytes + stub_bytes (e ∷ []) ≡ bytes' → capacity ≤ capacity'
     → IsKept (begins s' rows since) more s' calls' bytes' capacity'
-kept-more s s' rows since history more calls bytes capacity calls' bytes' capacity' e kept may is longer counts adds grows =
+kept-more s s' rows since history more calls bytes capacity calls' bytes' capacity' e kept may is longer counts adds
+    grows =
     rw longer (subst (λ (x : Start). IsKept x (history ++ e ∷ []) s' calls' bytes' capacity')
     (begins-same s s' rows since e is)
-    (IsKept-push (begins s rows since) history s calls bytes capacity e s' calls' bytes' capacity' kept may (sym is) counts
+    (IsKept-push (begins s rows since) history s calls bytes capacity e s' calls' bytes' capacity' kept may (sym is)
+    counts
     adds grows))
 
 -- the state that a machine shows
 pub state-shown : (old : Past) (s : State) (rows : Lists) (since : ℕ) (history : List Entry) (calls bytes capacity : ℕ)
     → shown s rows since history ≡ old → IsKept (begins s rows since) history s calls bytes capacity → state_of old ≡ s
-state-shown old s rows since history calls bytes capacity view kept = subst (λ (m : Past). state_of m ≡ s) view kept.state
+state-shown old s rows since history calls bytes capacity view kept =
+    subst (λ (m : Past). state_of m ≡ s) view kept.state
 
 -- how many connections were opened, by the parts
 pub opened-kept : (start : Start) (history : List Entry) (s : State) (calls bytes capacity : ℕ)

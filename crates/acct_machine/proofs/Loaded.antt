@@ -29,4 +29,5 @@ pub opened-of : (config : Config) (held : Option (List Pair)) (pairs slice : Lis
     → slice ≡ pairs → AreUnbroken slice → HoldPairs rows slice → IfSome held (λ told. OpensRows config told rows)
 opened-of config held pairs slice rows count counted some same ascending value unbroken holds =
     opened-with config held pairs rows count counted some same ascending
-    (subst (λ (ps : List Pair). AreUnbroken ps) value unbroken) (subst (λ (ps : List Pair). HoldPairs rows ps) value holds)
+    (subst (λ (ps : List Pair). AreUnbroken ps) value unbroken)
+    (subst (λ (ps : List Pair). HoldPairs rows ps) value holds)

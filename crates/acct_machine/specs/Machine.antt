@@ -111,8 +111,8 @@ ActsCalls old conn call bytes (acts.FullBytes sum) new = SameCalls old new
 abbrev pub Stored : Shown → Type 0
 Stored m = HoldsRows m.keeper.held (state_of m.past).rows
 
--- A call was entered. The keeper's count stays, but is one more where a commit failed, and then the verdict has it. Where
--- the call, if it ran, would change no row, nothing was committed: the keeper is as it was.
+-- A call was entered. The keeper's count stays, but is one more where a commit failed, and then the verdict has it.
+-- Where the call, if it ran, would change no row, nothing was committed: the keeper is as it was.
 pub record CommitsCall (old : Shown) (conn : ℕ) (call : Call) (bytes : ℕ) (new : Shown) : Type 0 where
   pub verdict : Verdict
   pub entered : new.past ≡ with_entry old.past (Called conn call verdict bytes)

@@ -14,8 +14,8 @@ use Rattle.acct_machine.specs.declared.opened.OpenError.TheVariants.{StoreFault,
 use Rattle.acct_rows.specs.PairsOf.{ArePairsOf}
 use Rattle.acct_rows.specs.PairRules.{AreUnbroken, IsSmallestBroken}
 
--- The rows that a store is opened with: the seed rows of the configured domain where it has no pair, and else those whose
--- pairs it has, which break no rule.
+-- The rows that a store is opened with: the seed rows of the configured domain where it has no pair, and else those
+-- whose pairs it has, which break no rule.
 abbrev pub OpensRows : Config → List Pair → Lists → Type 0
 OpensRows config [] rows = rows ≡ seed_lists config.name config.sid
 OpensRows config (pair ∷ pairs) rows = AreUnbroken (pair ∷ pairs) × ArePairsOf rows (pair ∷ pairs)

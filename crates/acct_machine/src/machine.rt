@@ -18,7 +18,7 @@ use crate::laws::{
 };
 use crate::room::most_entries;
 use crate::store::Store;
-use crate::{Call, Config, Entry, Keeper, NoMemory, Reply, Rows};
+use crate::{Call, Config, Entry, Keeper, Limits, NoMemory, Reply, Rows};
 use std::alloc::Global;
 use std::marker::Model;
 
@@ -81,6 +81,26 @@ impl<K: Keeper + Drop> Model for Machine<K> {
         × IsStored (K.held m.keeper) m.store.rows (K.faults m.keeper) start m.history.items };
 }
 
+// Room for a history under these limits.
+fn history_room(alloc: Global, limits: &Limits) -> Result<Vec<Entry>, NoMemory>
+    ensures history { IfOk result (λ history. history.items ≡ []) }
+    ensures room { IfOk result (λ history. most_entries limits.now ≤ vec_capacity history) }
+{
+    let mut history = Vec::new(alloc);
+    history.reserve(most_entries(limits))?;
+    Ok(history)
+}
+
+// The state where a history begins, under a copy of the configuration.
+fn store_over(alloc: Global, config: &Config, rows: Rows) -> Result<Store, NoMemory>
+    requires { IsRight config.now }
+    ensures { IfOk result (λ store. store
+        ≡ record { config = config.now; rows = rows.lists; conns = []; handles = [] }) }
+{
+    let config = config.copy(alloc)?;
+    Store::new(alloc, config, rows)
+}
+
 // What a machine is made of: its opening rows, room for its history, and the state where that begins.
 fn begun(alloc: Global, config: &Config, rows: Rows) -> Result<(Rows, Vec<Entry>, Store), NoMemory>
     requires { IsRight config.now }
@@ -90,11 +110,10 @@ fn begun(alloc: Global, config: &Config, rows: Rows) -> Result<(Rows, Vec<Entry>
     ensures store { IfOk result (λ parts. parts.2
         ≡ record { config = config.now; rows = rows.lists; conns = []; handles = [] }) }
 {
+    let history = history_room(alloc, &config.limits)?;
     let opening = rows.copy(alloc)?;
-    let config = config.copy(alloc)?;
-    let mut history = Vec::new(alloc);
-    history.reserve(most_entries(&config.limits))?;
-    Ok((opening, history, Store::new(alloc, config, rows)?))
+    let store = store_over(alloc, config, rows)?;
+    Ok((opening, history, store))
 }
 
 impl<K: Keeper + Drop> Machine<K> {

@@ -1,5 +1,6 @@
 // What the machine keeps. A contract sees it as the state.
-ghost use Rattle.std.specs.Prelude.{◌≡◌, ◌≢◌, ◌<◌, ◌≤◌, ◌-◌, ◌^◌, ◌+◌, length, [], nat_lt, true, IfOk, IfErr, OnOk, OnErr};
+ghost use Rattle.std.specs.Prelude.{◌≡◌, ◌≢◌, ◌<◌, ◌≤◌, ◌-◌, ◌^◌, ◌+◌, length};
+ghost use Rattle.std.specs.Prelude.{[], Some, nat_lt, true, IfOk, IfErr, OnOk, OnErr};
 ghost use Rattle.std.specs.Prelude.{if◌then◌else◌};
 ghost use Rattle.acct_config.specs.Right.{IsRight};
 ghost use Rattle.acct_calls.specs.declared.replies.Reply.TheVariants.{Done};
@@ -325,7 +326,58 @@ impl Store {
         Ok(())
     }
 
-    // What comes of an opening that was granted: the handle's number, and the change.
+    // What comes of a plan whose opening was granted this access: the handle's number, and the change.
+    fn open_granted<K: Keeper>(
+        &mut self,
+        alloc: Global,
+        keeper: &mut K,
+        conn: u32,
+        call: &Call,
+        planned: Planned,
+        opening: Opening,
+        serial: u64,
+        granted: u32,
+    ) -> (Verdict, Reply)
+        requires opens { planned.effect ≡ effects.Opens opening }
+        requires serial { serial ≡ last_serial conn self.old.conns + 1 }
+        requires granted { granted_to self.old.config (find_conn conn self.old.conns) opening.object opening.desired
+            ≡ Some granted }
+        requires before { IsSoundRows self.old.rows }
+        requires behind { IsSoundRows (after planned.plan self.old.rows) }
+        ensures state { self.new ≡ (concluded_by self.old conn call.now planned result.0).0 }
+        ensures reply { result.1 ≡ (concluded_by self.old conn call.now planned result.0).1 }
+        ensures wants { WantsRoom self.old conn planned result.0 }
+        ensures stored { HoldsRows (K.held keeper.old) self.old.rows → HoldsRows (K.held keeper.new) self.new.rows }
+        ensures counts { Counts (K.faults keeper.old) (K.faults keeper.new) result.0 }
+        ensures later { K.faults keeper.old ≤ K.faults keeper.new }
+        ensures quiet { (concluded self.old conn call.now planned).0.rows ≡ self.old.rows
+            → keeper.new ≡ keeper.old }
+    {
+        let Planned {
+            status,
+            mut outs,
+            plan,
+            effect: _,
+        } = planned;
+        match self.open(alloc, keeper, conn, serial, opening.object, granted, plan) {
+            Ok(()) => {
+                let handle = Handle {
+                    number: number_of(conn, serial),
+                };
+                fill_outs(&mut outs, call, handle, granted);
+                (Verdict::Ran, replied(alloc, call, status, outs))
+            }
+            Err(KeepError::Failed) => (
+                Verdict::StoreFault(keeper.faults()),
+                refusal(alloc, call, STATUS_INTERNAL_DB_ERROR),
+            ),
+            Err(KeepError::NoMemory) => {
+                (Verdict::NoMemory, refusal(alloc, call, STATUS_NO_MEMORY))
+            }
+        }
+    }
+
+    // What comes of a plan that opens.
     fn open_to<K: Keeper>(
         &mut self,
         alloc: Global,
@@ -349,32 +401,12 @@ impl Store {
             → keeper.new ≡ keeper.old }
     {
         let found = find_conn(&self.conns, conn);
-        let Some(granted) = self.granted(found, &opening) else {
-            return (Verdict::Ran, refusal(alloc, call, STATUS_ACCESS_DENIED));
-        };
-        let Planned {
-            status,
-            outs,
-            plan,
-            effect: _,
-        } = planned;
-        let mut outs = outs;
-        let serial = serial_of(found) + 1;
-        match self.open(alloc, keeper, conn, serial, opening.object, granted, plan) {
-            Ok(()) => {
-                let handle = Handle {
-                    number: number_of(conn, serial),
-                };
-                fill_outs(&mut outs, call, handle, granted);
-                (Verdict::Ran, replied(alloc, call, status, outs))
+        match self.granted(found, &opening) {
+            Some(granted) => {
+                let serial = serial_of(found) + 1;
+                self.open_granted(alloc, keeper, conn, call, planned, opening, serial, granted)
             }
-            Err(KeepError::Failed) => (
-                Verdict::StoreFault(keeper.faults()),
-                refusal(alloc, call, STATUS_INTERNAL_DB_ERROR),
-            ),
-            Err(KeepError::NoMemory) => {
-                (Verdict::NoMemory, refusal(alloc, call, STATUS_NO_MEMORY))
-            }
+            None => (Verdict::Ran, refusal(alloc, call, STATUS_ACCESS_DENIED)),
         }
     }
 

@@ -13,8 +13,7 @@ ghost use Rattle.acct_requests.specs.Answering.{AnswersRequest, BeginsRequest, I
 
 use crate::gate::Gate;
 use acct_codes::fault::{NCA_S_OP_RNG_ERROR, RPC_X_BAD_STUB_DATA};
-use acct_machine::{Acted, Call, Face, Reply};
-use acct_operations::calls_have_operations;
+use acct_machine::{Acted, Call, Face, Reply, calls_have_operations};
 use acct_stubs::WireError;
 use rpc_session::{fault_bytes, reply_bytes};
 use std::alloc::{AllocError, Global};

@@ -1,5 +1,6 @@
 -- `Machine::act` meets its contract: what the search leaves open.
-use Rattle.std.proofs.Common.{◌≡◌, refl, ℕ, ◌+◌, ◌^◌, ◌<◌, ◌≤◌, List, [], ◌∷◌, ◌++◌, true, sym, ◌∙◌, ap, subst, arith, length}
+use Rattle.std.proofs.Common.{◌≡◌, refl, ℕ, ◌+◌, ◌^◌, ◌<◌, ◌≤◌, List, []}
+use Rattle.std.proofs.Common.{◌∷◌, ◌++◌, true, sym, ◌∙◌, ap, subst, arith, length}
 use Rattle.std.specs.Vec.{vec_capacity}
 use Rattle.std.proofs.lemmas.Grind.{common_steps}
 use Rattle.acct_calls.specs.declared.calls.Call.{Call}
@@ -46,13 +47,16 @@ run-verdict-requires-clause-sound g c =
     c.self.invariant.0.legal)
 
 -- the call may come after the history
-may-be-entered : (old : Past) (s : State) (rows : Lists) (since : ℕ) (history : List Entry) (calls stubs capacity conn bytes : ℕ)
+may-be-entered : (old : Past) (s : State) (rows : Lists) (since : ℕ) (history : List Entry)
+    (calls stubs capacity conn bytes : ℕ)
     (call : Call) (verdict : Verdict)
     → shown s rows since history ≡ old → IsKept (begins s rows since) history s calls stubs capacity
     → is_live conn (state_of old).conns ≡ true → IsCall call
-    → bytes < 2 ^ 32 → MayHave s conn call verdict → TakesCall (begins s rows since) history bytes → Rises (begins s rows since) history verdict
+    → bytes < 2 ^ 32 → MayHave s conn call verdict → TakesCall (begins s rows since) history bytes
+    → Rises (begins s rows since) history verdict
     → May (begins s rows since) history (Called conn call verdict bytes)
-may-be-entered old s rows since history calls stubs most conn bytes call v view kept live spelled small may taken rises =
+may-be-entered old s rows since history calls stubs most conn bytes call v view kept live spelled small may taken
+    rises =
     let inside : is_live conn s.conns ≡ true =
     subst (λ (x : State). is_live conn x.conns ≡ true) (state-shown old s rows since history calls stubs most view
     kept) live in
@@ -74,7 +78,8 @@ invariant_of-self g c =
     let short : c.self.inside.bytes + c.args.bytes ≤ start.config.limits.max_bytes = grind (arith, common_steps) in
     let taken : TakesCall start c.self.inside.history.items c.args.bytes =
     takes-call start c.self.inside.history.items s _ _ _ c.args.bytes c.self.invariant.0 few short in
-    let may = may-be-entered c.args.self.now.past s c.self.inside.opening.lists c.self.inside.since c.self.inside.history.items _ _ _
+    let may = may-be-entered c.args.self.now.past s c.self.inside.opening.lists c.self.inside.since
+    c.self.inside.history.items _ _ _
     c.args.conn
     c.args.bytes c.args.call
     verdict past c.self.invariant.0 c.requires.live c.requires.spelled c.ranges.bytes.fits
@@ -82,7 +87,8 @@ invariant_of-self g c =
     (rises-called _ _ start c.self.inside.history.items verdict c.self.invariant.1.counts
     c.run-verdict.ensures.counts) in
     let grows : vec_capacity c.self.inside.history ≤ vec_capacity c.push.new.self = grind (arith, common_steps) in (
-      kept-more s new c.self.inside.opening.lists c.self.inside.since c.self.inside.history.items _ _ _ _ _ _ _ _ c.self.invariant.0 may
+      kept-more s new c.self.inside.opening.lists c.self.inside.since c.self.inside.history.items _ _ _ _ _ _ _ _
+          c.self.invariant.0 may
           c.run-verdict.ensures.state history (omega arith) (omega arith) grows,
       stored-called _ _ s.rows new.rows _ _ start (begins new c.self.inside.opening.lists c.self.inside.since)
           c.self.inside.history.items _ c.args.conn c.args.call verdict c.args.bytes c.self.invariant.1
@@ -113,7 +119,8 @@ returns-clause-shaped g c =
     let taken : TakesCall start entries c.args.bytes =
     takes-call start entries s _ _ _ c.args.bytes c.self.invariant.0 few little in
     let may : May start entries (Called c.args.conn c.args.call verdict c.args.bytes) =
-    may-be-entered c.args.self.now.past s c.self.inside.opening.lists c.self.inside.since entries _ _ _ c.args.conn c.args.bytes c.args.call
+    may-be-entered c.args.self.now.past s c.self.inside.opening.lists c.self.inside.since entries _ _ _ c.args.conn
+    c.args.bytes c.args.call
     verdict past c.self.invariant.0 c.requires.live c.requires.spelled c.ranges.bytes.fits
     c.run-verdict.ensures.verdict taken
     (rises-called _ _ start entries verdict c.self.invariant.1.counts c.run-verdict.ensures.counts) in
@@ -141,7 +148,8 @@ returns-clause-acts g c =
     let history : c.push.new.self.items ≡ c.self.inside.history.items ++ Called c.args.conn c.args.call verdict
     c.args.bytes ∷ [] = grind (arith, common_steps) in
     let is_here : state_of c.args.self.now.past ≡ s =
-    state-shown c.args.self.now.past s c.self.inside.opening.lists c.self.inside.since c.self.inside.history.items _ _ _ past
+    state-shown c.args.self.now.past s c.self.inside.opening.lists c.self.inside.since c.self.inside.history.items _ _ _
+    past
     c.self.invariant.0 in
     let start : Start = begins s c.self.inside.opening.lists c.self.inside.since in
     let few : c.self.inside.calls < start.config.limits.max_calls = grind (arith, common_steps) in
@@ -151,7 +159,8 @@ returns-clause-acts g c =
     record {
       taken = subst (λ (m : Past). TakesCall m.start m.history c.args.bytes) past taken;
       verdict = verdict;
-      entered = sym (shown-more c.args.self.now.past s c.run-verdict.new.self c.self.inside.opening.lists c.self.inside.since _ _ _
+      entered = sym (shown-more c.args.self.now.past s c.run-verdict.new.self c.self.inside.opening.lists
+          c.self.inside.since _ _ _
           past c.run-verdict.ensures.state history);
       reply = c.run-verdict.ensures.reply ∙ ap (λ (x : State). (acted x c.args.conn c.args.call verdict).1)
           (sym is_here);
@@ -162,16 +171,19 @@ returns-clause-keeper g c =
     let verdict = c.run-verdict.result.0 in
     let s : State = c.self.inside.store in
     let later : ℕ = g.K.Keeper.faults c.run-verdict.new.keeper in
-    let past : shown s c.self.inside.opening.lists c.self.inside.since c.self.inside.history.items ≡ c.args.self.now.past =
+    let past : shown s c.self.inside.opening.lists c.self.inside.since c.self.inside.history.items ≡
+    c.args.self.now.past =
     ap (λ (m : Shown). m.past) c.self.view_is in
     let history : c.push.new.self.items ≡ c.self.inside.history.items ++ Called c.args.conn c.args.call verdict
     c.args.bytes ∷ [] = grind (arith, common_steps) in
     let is_here : state_of c.args.self.now.past ≡ s =
-    state-shown c.args.self.now.past s c.self.inside.opening.lists c.self.inside.since c.self.inside.history.items _ _ _ past
+    state-shown c.args.self.now.past s c.self.inside.opening.lists c.self.inside.since c.self.inside.history.items _ _ _
+    past
     c.self.invariant.0 in
     record {
       verdict = verdict;
-      entered = sym (shown-more c.args.self.now.past s c.run-verdict.new.self c.self.inside.opening.lists c.self.inside.since _ _ _ past
+      entered = sym (shown-more c.args.self.now.past s c.run-verdict.new.self c.self.inside.opening.lists
+          c.self.inside.since _ _ _ past
           c.run-verdict.ensures.state history);
       later = subst (λ (m : Shown). m.keeper.faults ≤ later) c.self.view_is c.run-verdict.ensures.later;
       counts = subst (λ (m : Shown). Counts m.keeper.faults later verdict) c.self.view_is c.run-verdict.ensures.counts;
@@ -190,7 +202,8 @@ returns-clause-live g c =
     let history : c.push.new.self.items ≡ c.self.inside.history.items ++ Called c.args.conn c.args.call verdict
     c.args.bytes ∷ [] = grind (arith, common_steps) in
     subst (λ (m : Past). SameLive (state_of c.args.self.now.past) (state_of m))
-    (shown-more c.args.self.now.past c.self.inside.store c.run-verdict.new.self c.self.inside.opening.lists c.self.inside.since _ _ _
+    (shown-more c.args.self.now.past c.self.inside.store c.run-verdict.new.self c.self.inside.opening.lists
+    c.self.inside.since _ _ _
     past c.run-verdict.ensures.state history)
     (same_live-push c.args.self.now.past.start c.args.self.now.past.history c.args.conn c.args.call verdict
     c.args.bytes)
@@ -205,7 +218,8 @@ returns-clause-calls g c =
     let history : c.push.new.self.items ≡ c.self.inside.history.items ++ Called c.args.conn c.args.call verdict
     c.args.bytes ∷ [] = grind (arith, common_steps) in
     let is_here : state_of c.args.self.now.past ≡ s =
-    state-shown c.args.self.now.past s c.self.inside.opening.lists c.self.inside.since c.self.inside.history.items _ _ _ past
+    state-shown c.args.self.now.past s c.self.inside.opening.lists c.self.inside.since c.self.inside.history.items _ _ _
+    past
     c.self.invariant.0 in
     let reply : (acted (state_of c.args.self.now.past) c.args.conn c.args.call verdict).1 ≡ c.run-verdict.result.1 =
     ap (λ (x : State). (acted x c.args.conn c.args.call verdict).1) is_here ∙ sym c.run-verdict.ensures.reply in

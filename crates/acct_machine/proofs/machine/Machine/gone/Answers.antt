@@ -16,11 +16,13 @@ use Rattle.acct_machine.proofs.Storing.{stored-quiet}
 use Rattle.acct_machine.proofs.machine.Machine.gone.Goals as goal
 
 -- the connection is live, by the parts
-is-live-inside : (old : Past) (s : State) (rows : Lists) (since : ℕ) (history : List Entry) (calls bytes capacity conn : ℕ)
+is-live-inside : (old : Past) (s : State) (rows : Lists) (since : ℕ) (history : List Entry)
+    (calls bytes capacity conn : ℕ)
     → shown s rows since history ≡ old → IsKept (begins s rows since) history s calls bytes capacity
     → is_live conn (state_of old).conns ≡ true → is_live conn s.conns ≡ true
 is-live-inside old s rows since history calls bytes capacity conn view kept alive =
-    subst (λ (x : State). is_live conn x.conns ≡ true) (state-shown old s rows since history calls bytes capacity view kept)
+    subst (λ (x : State). is_live conn x.conns ≡ true)
+    (state-shown old s rows since history calls bytes capacity view kept)
     alive
 
 pub invariant_of-self : goal.invariant_of-self
@@ -33,13 +35,15 @@ invariant_of-self g c =
     let history : c.push.new.self.items ≡ c.self.inside.history.items ++ Gone c.args.conn ∷ [] =
     grind (arith, common_steps) in
     let inside : is_live c.args.conn s.conns ≡ true =
-    is-live-inside c.args.self.now.past s c.self.inside.opening.lists c.self.inside.since c.self.inside.history.items _ _ _ c.args.conn
+    is-live-inside c.args.self.now.past s c.self.inside.opening.lists c.self.inside.since c.self.inside.history.items _
+    _ _ c.args.conn
     past c.self.invariant.0 c.requires in
     let alive : is_live c.args.conn
     (state_at (begins s c.self.inside.opening.lists c.self.inside.since) c.self.inside.history.items).conns ≡ true =
     subst (λ (x : State). is_live c.args.conn x.conns ≡ true) (sym c.self.invariant.0.state) inside in
     let grows : vec_capacity c.self.inside.history ≤ vec_capacity c.push.new.self = grind (arith, common_steps) in (
-      kept-more s new c.self.inside.opening.lists c.self.inside.since c.self.inside.history.items _ _ _ _ _ _ _ _ c.self.invariant.0 alive
+      kept-more s new c.self.inside.opening.lists c.self.inside.since c.self.inside.history.items _ _ _ _ _ _ _ _
+          c.self.invariant.0 alive
           c.end_conn.ensures history (omega arith) (omega arith) grows,
       stored-quiet _ s.rows new.rows _ (begins s c.self.inside.opening.lists c.self.inside.since)
           (begins new c.self.inside.opening.lists c.self.inside.since) c.self.inside.history.items _ (Gone c.args.conn)
@@ -54,7 +58,8 @@ unreachable-requires g c =
     let room : length c.self.inside.history.items < vec_capacity c.self.inside.history =
     room-to-end (begins c.self.inside.store c.self.inside.opening.lists c.self.inside.since) c.self.inside.history.items
     c.self.inside.store _ _ _ c.args.conn c.self.invariant.0
-    (is-live-inside c.args.self.now.past c.self.inside.store c.self.inside.opening.lists c.self.inside.since c.self.inside.history.items
+    (is-live-inside c.args.self.now.past c.self.inside.store c.self.inside.opening.lists c.self.inside.since
+    c.self.inside.history.items
     _ _ _
     c.args.conn past c.self.invariant.0 c.requires) in
     grind (arith, common_steps)
@@ -67,7 +72,8 @@ returns-clause-live g c =
     let history : c.push.new.self.items ≡ c.self.inside.history.items ++ Gone c.args.conn ∷ [] =
     grind (arith, common_steps) in
     subst (λ (m : Past). OneLessLive (state_of c.args.self.now.past) (state_of m) c.args.conn)
-    (shown-more c.args.self.now.past c.self.inside.store c.end_conn.new.self c.self.inside.opening.lists c.self.inside.since _ _ _
+    (shown-more c.args.self.now.past c.self.inside.store c.end_conn.new.self c.self.inside.opening.lists
+    c.self.inside.since _ _ _
     past c.end_conn.ensures history)
     (one_less-push c.args.self.now.past.start c.args.self.now.past.history c.args.conn)
 
@@ -79,7 +85,8 @@ returns-clause-calls g c =
     let history : c.push.new.self.items ≡ c.self.inside.history.items ++ Gone c.args.conn ∷ [] =
     grind (arith, common_steps) in
     subst (λ (m : Past). SameCalls c.args.self.now.past m)
-    (shown-more c.args.self.now.past c.self.inside.store c.end_conn.new.self c.self.inside.opening.lists c.self.inside.since _ _ _
+    (shown-more c.args.self.now.past c.self.inside.store c.end_conn.new.self c.self.inside.opening.lists
+    c.self.inside.since _ _ _
     past c.end_conn.ensures history)
     (same_calls-gone c.args.self.now.past.start c.args.self.now.past.history c.args.conn)
 

@@ -42,7 +42,8 @@ invariant_of-self g c =
     may-opened start c.self.inside.history.items s conn c.args.listener c.self.invariant.0.state count small fits
     taken in
     let grows : vec_capacity c.self.inside.history ≤ vec_capacity c.push.new.self = grind (arith, common_steps) in (
-      kept-more s new c.self.inside.opening.lists c.self.inside.since c.self.inside.history.items _ _ _ _ _ _ _ _ c.self.invariant.0 may is
+      kept-more s new c.self.inside.opening.lists c.self.inside.since c.self.inside.history.items _ _ _ _ _ _ _ _
+          c.self.invariant.0 may is
           history (omega arith) (omega arith) grows,
       stored-quiet _ s.rows new.rows _ start (begins new c.self.inside.opening.lists c.self.inside.since)
           c.self.inside.history.items _ (Opened conn c.args.listener) c.self.invariant.1 refl
@@ -61,7 +62,8 @@ returns-clause-fresh g c =
     grind (arith, common_steps) in
     let new : with_entry c.args.self.now.past (Opened conn c.args.listener) ≡ shown c.add_conn.new.self
     c.self.inside.opening.lists c.self.inside.since c.push.new.self.items =
-    shown-more c.args.self.now.past c.self.inside.store c.add_conn.new.self c.self.inside.opening.lists c.self.inside.since _ _ _
+    shown-more c.args.self.now.past c.self.inside.store c.add_conn.new.self c.self.inside.opening.lists
+    c.self.inside.since _ _ _
     past is history in
     c.connections_are_opened_once.ensures c.args.self.now.past.start conn c.args.listener
     c.args.self.now.past.history []
@@ -79,14 +81,16 @@ returns-clause-live g c =
     let is : c.add_conn.new.self ≡ step s (Opened conn c.args.listener) = grind (arith, common_steps) in
     let count : conn ≡ length s.conns + 1 = grind (arith, common_steps) in
     let is_here : state_of c.args.self.now.past ≡ s =
-    state-shown c.args.self.now.past s c.self.inside.opening.lists c.self.inside.since c.self.inside.history.items _ _ _ past
+    state-shown c.args.self.now.past s c.self.inside.opening.lists c.self.inside.since c.self.inside.history.items _ _ _
+    past
     c.self.invariant.0 in
     let number : conn ≡ length (state_of c.args.self.now.past).conns + 1 =
     omega (arith, count, ap (λ (x : State). length x.conns) is_here) in
     let legal : Legal c.args.self.now.past.start c.args.self.now.past.history =
     subst (λ (m : Past). Legal m.start m.history) past c.self.invariant.0.legal in
     subst (λ (m : Past). OneMoreLive (state_of c.args.self.now.past) (state_of m) conn)
-    (shown-more c.args.self.now.past s c.add_conn.new.self c.self.inside.opening.lists c.self.inside.since _ _ _ past is history)
+    (shown-more c.args.self.now.past s c.add_conn.new.self c.self.inside.opening.lists c.self.inside.since _ _ _ past is
+    history)
     (one_more-push c.connections_are_numbered.ensures.state c.args.self.now.past.start c.args.self.now.past.history conn
     c.args.listener legal number)
 
@@ -101,7 +105,8 @@ returns-clause-calls g c =
     grind (arith, common_steps) in
     let is : c.add_conn.new.self ≡ step s (Opened conn c.args.listener) = grind (arith, common_steps) in
     subst (λ (m : Past). SameCalls c.args.self.now.past m)
-    (shown-more c.args.self.now.past s c.add_conn.new.self c.self.inside.opening.lists c.self.inside.since _ _ _ past is history)
+    (shown-more c.args.self.now.past s c.add_conn.new.self c.self.inside.opening.lists c.self.inside.since _ _ _ past is
+    history)
     (same_calls-opened c.args.self.now.past.start c.args.self.now.past.history conn c.args.listener)
 
 pub returns-clause-legal : goal.returns-clause-legal
@@ -149,12 +154,14 @@ returns-clause-opens g c =
     takes-conn start c.self.inside.history.items (length s.conns)
     (opened-kept start c.self.inside.history.items s _ _ _ c.self.invariant.0) below in
     let is_here : state_of c.args.self.now.past ≡ s =
-    state-shown c.args.self.now.past s c.self.inside.opening.lists c.self.inside.since c.self.inside.history.items _ _ _ past
+    state-shown c.args.self.now.past s c.self.inside.opening.lists c.self.inside.since c.self.inside.history.items _ _ _
+    past
     c.self.invariant.0 in
     let count : conn ≡ length s.conns + 1 = grind (arith, common_steps) in (
       subst (λ (m : Past). conns_full m.start m.history ≡ None) past taken,
       omega (arith, count, ap (λ (x : State). length x.conns) is_here),
-      sym (shown-more c.args.self.now.past s c.add_conn.new.self c.self.inside.opening.lists c.self.inside.since _ _ _ past is
+      sym (shown-more c.args.self.now.past s c.add_conn.new.self c.self.inside.opening.lists c.self.inside.since _ _ _
+          past is
           history),
     )
 
