@@ -6,7 +6,7 @@ ghost use Rattle.acct_keeper.specs.Counts.{counted, after_call};
 
 use acct_base::Seq;
 use acct_keeper::{Change, KeepError, Keeper, Pair, is_ascending};
-use sqlite::{Connection, Error, ErrorCode, File, FileStore, Row, Transaction, params};
+use sqlite::{Alter, Connection, Error, ErrorCode, File, FileStore, Row, Transaction, params};
 use std::alloc::Global;
 use std::marker::Model;
 
@@ -42,6 +42,12 @@ fn cause_of(error: Error) -> KeepError {
     }
 }
 
+// The connection, once its file has the table.
+fn with_table<S: Alter + Drop>(mut connection: Connection<S>) -> Result<Connection<S>, Error> {
+    connection.execute(TABLE, &[])?;
+    Ok(connection)
+}
+
 fn pair_of(row: &Row) -> Result<Pair, Error> {
     Ok(Pair {
         key: Seq::from_vec(row.get(0)?),
@@ -50,7 +56,7 @@ fn pair_of(row: &Row) -> Result<Pair, Error> {
 }
 
 // All pairs, where the rows of the answer come by strictly ascending key.
-fn load(alloc: Global, connection: &mut Connection<FileStore<File>>) -> Result<Vec<Pair>, Error>
+fn load<S: Alter>(alloc: Global, connection: &mut Connection<S>) -> Result<Vec<Pair>, Error>
     ensures { IfOk result (λ pairs. is_ascending pairs.items ≡ true) }
 {
     let rows = connection.query_all(LOAD, &[])?;
@@ -64,10 +70,7 @@ fn load(alloc: Global, connection: &mut Connection<FileStore<File>>) -> Result<V
     Ok(pairs)
 }
 
-fn make(
-    transaction: &mut Transaction<'_, FileStore<File>>,
-    change: &Change,
-) -> Result<usize, Error> {
+fn make<S: Alter>(transaction: &mut Transaction<'_, S>, change: &Change) -> Result<usize, Error> {
     let key = change.key.as_slice();
     match &change.value {
         Some(value) => transaction.execute(PUT, params![key, value.as_slice()]),
@@ -76,7 +79,7 @@ fn make(
 }
 
 // One transaction, which is rolled back where a statement fails.
-fn commit(connection: &mut Connection<FileStore<File>>, changes: &[Change]) -> Result<(), Error> {
+fn commit<S: Alter>(connection: &mut Connection<S>, changes: &[Change]) -> Result<(), Error> {
     if !connection.is_autocommit() {
         return Err(Error::SqliteFailure(ErrorCode::TransactionState));
     }
@@ -93,8 +96,9 @@ impl SqliteKeeper {
     pub fn new(rt: &HostRuntime, path: &str) -> Result<SqliteKeeper, KeepError>
         ensures { IfOk result (λ faults. faults ≡ 0) }
     {
-        let mut connection = Connection::open(rt, path).map_err(cause_of)?;
-        connection.execute(TABLE, &[]).map_err(cause_of)?;
+        let connection = Connection::open(rt, path)
+            .and_then(with_table)
+            .map_err(cause_of)?;
         Ok(SqliteKeeper {
             alloc: rt.alloc(),
             connection,
