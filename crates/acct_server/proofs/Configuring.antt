@@ -14,7 +14,8 @@ use Rattle.acct_machine.specs.declared.entry.Entry.{Entry}
 use Rattle.acct_server.specs.declared.status.Status.{Status}
 use Rattle.acct_server.specs.declared.status.Status.TheVariants.{Done, NoMemory, Usage, Config as ConfigBroken}
 use Rattle.acct_server.specs.declared.status.Status.TheVariants.{ReadFault, WriteFault, StoreFault, StoredPair}
-use Rattle.acct_server.specs.declared.status.Status.TheVariants.{EventLine, DoorFault, HistoryFull, PeerBytes, PeerFault}
+use Rattle.acct_server.specs.declared.status.Status.TheVariants.{EventLine, DoorFault, HistoryFull, PeerBytes}
+use Rattle.acct_server.specs.declared.status.Status.TheVariants.{PeerFault}
 use Rattle.acct_server.specs.declared.status.Status.TheVariants.{InputTooLong, Refused}
 use Rattle.acct_streams.specs.declared.whole.WholeError.{WholeError}
 use Rattle.acct_streams.specs.declared.whole.WholeError.TheVariants.{Fault, TooLong, Memory}

@@ -7,7 +7,8 @@ use Rattle.acct_config.specs.Rules.{first_broken}
 use Rattle.acct_machine.specs.declared.entry.Entry.{Entry}
 use Rattle.acct_server.specs.declared.status.Status.{Status}
 use Rattle.acct_server.specs.declared.status.Status.TheVariants.{Done, NoMemory, Config as ConfigBroken, ReadFault}
-use Rattle.acct_server.specs.declared.status.Status.TheVariants.{WriteFault, StoreFault, StoredPair, EventLine, HistoryFull}
+use Rattle.acct_server.specs.declared.status.Status.TheVariants.{WriteFault, StoreFault, StoredPair, EventLine}
+use Rattle.acct_server.specs.declared.status.Status.TheVariants.{HistoryFull}
 use Rattle.acct_server.specs.declared.status.Status.TheVariants.{InputTooLong}
 use Rattle.acct_streams.specs.declared.whole.WholeError.{WholeError}
 use Rattle.acct_streams.specs.declared.whole.WholeError.TheVariants.{Fault, TooLong, Memory}

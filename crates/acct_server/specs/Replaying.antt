@@ -104,9 +104,9 @@ pub record RunsLines {K : Type 0} (start : Start) (events : List ℕ) (held now 
   pub denies : DeniesExactlyIn start left.history
 
 -- The lines were run, under the one configuration that the document spells and over the bytes of the events, from the
--- rows whose pairs the keeper held, or the seed rows where it held none; where a source or the keeper doesn't tell, under
--- some right configuration, over some bytes, from some sound rows. The keeper holds the pairs of the rows after them, and
--- no count at a commit that failed lies above its count.
+-- rows whose pairs the keeper held, or the seed rows where it held none; where a source or the keeper doesn't tell,
+-- under some right configuration, over some bytes, from some sound rows. The keeper holds the pairs of the rows after
+-- them, and no count at a commit that failed lies above its count.
 pub record HasRunLines {S T K : Type 0} (told : Telling S T K) (old new : Parts S T K) (left : Replayed K) : Type 0
   where
     pub config : Config

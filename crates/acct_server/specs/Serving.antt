@@ -32,8 +32,8 @@ pub record Telling (D L K : Type 0) : Type 1 where
   pub pairs : K → Option (List Pair)
   pub faults : K → ℕ
 
--- The store wasn't opened, or no machine was made: no link was taken, nothing has happened, and the keeper holds what it
--- held, but for the seed rows where memory was wanted.
+-- The store wasn't opened, or no machine was made: no link was taken, nothing has happened, and the keeper holds what
+-- it held, but for the seed rows where memory was wanted.
 pub record HasNotServed {D L K : Type 0} (telling : Telling D L K) (config : Config) (before now : List D) (keeper : K)
     (left : Served K) : Type 0 where
   pub opening : left.opening ≡ None

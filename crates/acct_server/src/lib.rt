@@ -10,8 +10,8 @@
 //! the events untouched.
 //!
 //! Of [`serve`] the contract is `IsServe`: the doors are served side by side; what was written on each link is the
-//! transcript of the acts of what was read, with the replies of its calls in the one history; each link goes back to its
-//! door; and every end and status has its cause. The configuration of either is read by [`read_configuration`].
+//! transcript of the acts of what was read, with the replies of its calls in the one history; each link goes back to
+//! its door; and every end and status has its cause. The configuration of either is read by [`read_configuration`].
 //!
 //! In rooms: `beginning` opens the store, `running` does what a line says, `replays` a whole replay, `serving` serves.
 //!
@@ -30,8 +30,7 @@ mod serving;
 mod status;
 
 pub use acct_requests::{Answer, Asked, Gate, Peer, read_request, request};
-pub use acct_serving::Ended;
-pub use acct_sessions::{SessionEnd, session};
+pub use acct_sessions::{Ended, SessionEnd, session};
 pub use acct_streams::{
     Failed, MemorySink, MemorySource, Sink, Source, SteadySink, SteadySource, WholeError,
     read_whole, write_all,

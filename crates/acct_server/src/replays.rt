@@ -22,8 +22,8 @@ use acct_machine::{
 use rpc_session::streams_are_cut_anywhere;
 use std::alloc::Global;
 
-/// What a replay leaves: how it ended, the rows from which the history of its machine began, the history, the rows after
-/// it, and the keeper. There are rows exactly where the machine was made, so that lines were run.
+/// What a replay leaves: how it ended, the rows from which the history of its machine began, the history, the rows
+/// after it, and the keeper. There are rows exactly where the machine was made, so that lines were run.
 #[derive(Drop)]
 pub struct Replayed<K: Drop> {
     pub status: Status,

@@ -17,9 +17,9 @@ use std::alloc::Global;
 use std::sync::Wait;
 use std::thread::Threads;
 
-/// What a period of serving leaves: how it ended, the rows from which the history of its machine began, the history, the
-/// rows after it, how each session ended, by the number of its connection, and the keeper. There are rows exactly where
-/// the machine was made, so that doors were served.
+/// What a period of serving leaves: how it ended, the rows from which the history of its machine began, the history,
+/// the rows after it, how each session ended, by the number of its connection, and the keeper. There are rows exactly
+/// where the machine was made, so that doors were served.
 #[derive(Drop)]
 pub struct Served<K: Drop> {
     pub status: Status,
@@ -86,8 +86,8 @@ fn left<K: Keeper + Drop>(served: DoorsServed<K>) -> Served<K>
     }
 }
 
-/// Serves all doors side by side, each in a thread of its own, on one machine over a keeper of its rows, until no worker
-/// takes a further link: its door is closed, or failed, or the history is full. The doors stay in their order.
+/// Serves all doors side by side, each in a thread of its own, on one machine over a keeper of its rows, until no
+/// worker takes a further link: its door is closed, or failed, or the history is full. The doors stay in their order.
 pub fn serve<R: Threads + Wait + Sync, D: Door + Drop + Send, K: Keeper + Drop + Send>(
     rt: &R,
     alloc: Global,

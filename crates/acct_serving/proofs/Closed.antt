@@ -15,7 +15,7 @@ use Rattle.acct_requests.specs.Turns.{IsFrontOf}
 use Rattle.acct_gates.specs.Passing.{start_under}
 use Rattle.acct_gates.specs.declared.kept.Begun.{Begun}
 use Rattle.acct_gates.specs.declared.kept.Locked.{Locked}
-use Rattle.acct_workers.specs.declared.ends.Ended.{Ended}
+use Rattle.acct_sessions.specs.declared.ends.Ended.{Ended}
 use Rattle.acct_workers.specs.Joining.{ServesAll}
 use Rattle.acct_workers.specs.Working.{IsJoined}
 use Rattle.acct_workers.proofs.Places.{at-within, at-behind}

@@ -1,5 +1,6 @@
 -- One worker more is joined.
-use Rattle.std.proofs.Common.{◌≡◌, ◌≢◌, ℕ, zero, suc, ◌+◌, ◌<◌, List, [], ◌∷◌, ◌++◌, length, map, refl, sym, ap, ◌∙◌, subst}
+use Rattle.std.proofs.Common.{◌≡◌, ◌≢◌, ℕ, zero, suc, ◌+◌, ◌<◌, List, []}
+use Rattle.std.proofs.Common.{◌∷◌, ◌++◌, length, map, refl, sym, ap, ◌∙◌, subst}
 use Rattle.std.proofs.Common.{arith, get_or, Some}
 use Rattle.std.specs.List.{flat_map}
 use Rattle.std.specs.List.Sorted.{IsPermutation, IsNonDecreasingBy}
@@ -17,7 +18,7 @@ use Rattle.acct_links.specs.declared.doors.Door.{Ghosts}
 use Rattle.acct_gates.specs.declared.kept.Begun.{Begun}
 use Rattle.acct_workers.specs.declared.ends.DoorEnd.{DoorEnd}
 use Rattle.acct_workers.specs.declared.ends.DoorEnd.TheVariants as stop
-use Rattle.acct_workers.specs.declared.ends.Ended.{Ended}
+use Rattle.acct_sessions.specs.declared.ends.Ended.{Ended}
 use Rattle.acct_workers.specs.Services.{Service, end_of}
 use Rattle.acct_workers.specs.Joining.{TakesIn, WorksAlone, JoinsLinks}
 use Rattle.acct_workers.specs.Serving.{IsServing}

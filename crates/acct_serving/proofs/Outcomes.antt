@@ -7,7 +7,7 @@ use Rattle.std.proofs.lemmas.List.{append-nil, map-append}
 use Rattle.std.proofs.lemmas.List.Concat.{flat_map-append}
 use Rattle.acct_workers.specs.declared.ends.DoorEnd.{DoorEnd}
 use Rattle.acct_workers.specs.declared.ends.DoorEnd.TheVariants as stop
-use Rattle.acct_workers.specs.declared.ends.Ended.{Ended}
+use Rattle.acct_sessions.specs.declared.ends.Ended.{Ended}
 use Rattle.acct_workers.specs.Services.{Service, end_of}
 use Rattle.acct_serving.specs.declared.outcome.Outcome.{Outcome}
 use Rattle.acct_serving.specs.declared.outcome.Outcome.TheVariants as outcome

@@ -8,7 +8,7 @@ use Rattle.acct_machine.specs.declared.entry.Entry.{Entry}
 use Rattle.acct_links.specs.Links.{Told}
 use Rattle.acct_links.specs.declared.doors.Door.{Ghosts}
 use Rattle.acct_workers.specs.declared.ends.DoorEnd.{DoorEnd}
-use Rattle.acct_workers.specs.declared.ends.Ended.{Ended}
+use Rattle.acct_sessions.specs.declared.ends.Ended.{Ended}
 use Rattle.acct_workers.specs.Services.{Service, end_of}
 use Rattle.acct_workers.specs.Serving.{Runs, StopsAt}
 use Rattle.acct_workers.specs.Working.{AreServed}

@@ -18,7 +18,7 @@ use Rattle.acct_gates.specs.declared.kept.Locked.{Locked}
 use Rattle.std.specs.List.{flat_map}
 use Rattle.acct_workers.specs.declared.ends.DoorEnd.{DoorEnd}
 use Rattle.acct_workers.specs.declared.ends.DoorEnd.TheVariants as stop
-use Rattle.acct_workers.specs.declared.ends.Ended.{Ended}
+use Rattle.acct_sessions.specs.declared.ends.Ended.{Ended}
 use Rattle.acct_workers.specs.Services.{Service, end_of}
 use Rattle.acct_workers.specs.Serving.{IsServing, Runs, StopsAt}
 use Rattle.acct_workers.specs.Working.{IsJoined}

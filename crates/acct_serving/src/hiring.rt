@@ -1,5 +1,6 @@
 // A worker for each door.
-ghost use Rattle.std.specs.Prelude.{◌≡◌, ◌+◌, ◌-◌, ◌^◌, ◌<◌, ◌≤◌, ℕ, [], None, length, vec_len, vec_capacity, slice_index_or};
+ghost use Rattle.std.specs.Prelude.{◌≡◌, ◌+◌, ◌-◌, ◌^◌, ◌<◌, ◌≤◌, ℕ};
+ghost use Rattle.std.specs.Prelude.{[], None, length, vec_len, vec_capacity, slice_index_or};
 ghost use Rattle.hist_lock.specs.Passes.{view};
 ghost use Rattle.acct_gates.specs.Passing.{start_under};
 ghost use Rattle.acct_serving.specs.Hiring.{IsIdle, IsHired};

@@ -16,6 +16,6 @@ mod outcome;
 mod serving;
 mod working;
 
-pub use acct_workers::Ended;
+pub use acct_sessions::Ended;
 pub use outcome::Outcome;
 pub use serving::{DoorsServed, serve_doors};

@@ -58,7 +58,8 @@ module _ (start : Start) (k : ℕ) where
       let front = (passes enters.found enters.finds_it).0 in
       let passed = (passes enters.found enters.finds_it).1 in
       let decoded = request-decoded asked stub call is in record {
-        grows = front-then known enters.found left front (Called k call enters.verdict (length stub) ∷ [], enters.entered);
+        grows = front-then known enters.found left front
+            (Called k call enters.verdict (length stub) ∷ [], enters.entered);
         given = reply ∷ [];
         calls =
             enters.more.calls k

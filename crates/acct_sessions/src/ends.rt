@@ -19,6 +19,14 @@ pub enum SessionEnd {
     NoMemory,
 }
 
+/// A connection that was served: its number, the place of its door among the doors, from 0, and how its session ended.
+#[derive(Clone, Copy, Debug, PartialEq, Eq)]
+pub struct Ended {
+    pub conn: u32,
+    pub door: u32,
+    pub end: SessionEnd,
+}
+
 /// Why acts weren't answered to the end.
 #[derive(Clone, Copy, Debug, PartialEq, Eq)]
 pub enum Stop {

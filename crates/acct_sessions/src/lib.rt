@@ -1,8 +1,8 @@
 //! Sessions: one connection, from the first byte of its link to its end.
 //!
-//! It stands on `acct_links` for what is read and written, on `acct_requests` for the [`Gate`] and requests over it, and
-//! on `rpc_session` for the acts of the bytes that come. It knows no lock, no thread, no socket and no store: what it
-//! promises is proved once for every link and every gate.
+//! It stands on `acct_links` for what is read and written, on `acct_requests` for the [`Gate`] and requests over it,
+//! and on `rpc_session` for the acts of the bytes that come. It knows no lock, no thread, no socket and no store: what
+//! it promises is proved once for every link and every gate.
 //!
 //! The layer above uses [`session`], for a connection that the gate serves and that has made no call: by the session's
 //! end ([`SessionEnd`]), each with its cause, what was written is the transcript of the acts of what was read, with the
@@ -19,5 +19,5 @@ mod sessions;
 
 pub use acct_requests::Gate;
 pub use answers::answer_all;
-pub use ends::{SessionEnd, Stop};
+pub use ends::{Ended, SessionEnd, Stop};
 pub use sessions::session;

@@ -8,7 +8,7 @@ use Rattle.acct_links.specs.Links.{Told, IsNew}
 use Rattle.acct_links.specs.declared.doors.Door.{Ghosts}
 use Rattle.acct_gates.specs.declared.kept.Begun.{Begun}
 use Rattle.acct_gates.specs.Passing.{OwnsLanes}
-use Rattle.acct_workers.specs.declared.ends.Ended.{Ended}
+use Rattle.acct_sessions.specs.declared.ends.Ended.{Ended}
 use Rattle.acct_workers.specs.declared.ends.DoorEnd.{DoorEnd}
 use Rattle.acct_workers.specs.declared.ends.DoorEnd.TheVariants as stop
 use Rattle.acct_workers.specs.Services.{Served, Serves, Unopened}

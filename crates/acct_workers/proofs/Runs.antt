@@ -16,7 +16,7 @@ use Rattle.acct_links.specs.declared.doors.Next.TheVariants as next
 use Rattle.acct_sessions.specs.declared.ends.SessionEnd.{SessionEnd}
 use Rattle.acct_sessions.specs.declared.ends.SessionEnd.TheVariants as end
 use Rattle.acct_gates.specs.declared.kept.Begun.{Begun}
-use Rattle.acct_workers.specs.declared.ends.Ended.{Ended}
+use Rattle.acct_sessions.specs.declared.ends.Ended.{Ended}
 use Rattle.acct_workers.specs.declared.ends.DoorEnd.{DoorEnd}
 use Rattle.acct_workers.specs.declared.ends.DoorEnd.TheVariants as stop
 use Rattle.acct_workers.specs.Services.{Service, Served, Serves, given_of, finished_of, IsAtListener, full_count}

@@ -9,7 +9,7 @@ use Rattle.acct_requests.specs.Turns.{IsFrontOf}
 use Rattle.acct_sessions.specs.Sessions.{IsConversation}
 use Rattle.acct_sessions.specs.declared.ends.SessionEnd.{SessionEnd}
 use Rattle.acct_sessions.specs.declared.ends.SessionEnd.TheVariants as end
-use Rattle.acct_workers.specs.declared.ends.Ended.{Ended}
+use Rattle.acct_sessions.specs.declared.ends.Ended.{Ended}
 
 -- ---- links
 

@@ -13,7 +13,7 @@ use Rattle.acct_sessions.specs.declared.ends.SessionEnd.{SessionEnd}
 use Rattle.acct_sessions.specs.declared.ends.SessionEnd.TheVariants as end
 use Rattle.acct_gates.specs.declared.kept.Begun.{Begun}
 use Rattle.acct_gates.specs.Passing.{MovesOn}
-use Rattle.acct_workers.specs.declared.ends.Ended.{Ended}
+use Rattle.acct_sessions.specs.declared.ends.Ended.{Ended}
 use Rattle.acct_workers.specs.declared.ends.DoorEnd.{DoorEnd}
 use Rattle.acct_workers.specs.declared.ends.DoorEnd.TheVariants as stop
 use Rattle.acct_workers.specs.Services.{Service, given_of, finished_of, IsAtListener, full_count, NoneFull, LastIsFull}

@@ -1,13 +1,4 @@
-// How sessions and workers end.
-use acct_sessions::SessionEnd;
-
-/// A connection that was served: its number, the place of its door among the doors, from 0, and how its session ended.
-#[derive(Clone, Copy, Debug, PartialEq, Eq)]
-pub struct Ended {
-    pub conn: u32,
-    pub door: u32,
-    pub end: SessionEnd,
-}
+// How workers end.
 
 /// Why a worker takes no further link from its door.
 #[derive(Clone, Copy, Debug, PartialEq, Eq)]

@@ -7,7 +7,7 @@
 //! worker's pass knows; and why no further link was taken (`IsServing`). What is said of a connection is the same in
 //! every history that goes on from there by the entries of others.
 //!
-//! In rooms: `ends` says how sessions and workers end, `laws` what the count of a full history says and what stands of
+//! In rooms: `ends` says how workers end, `laws` what the count of a full history says and what stands of
 //! all links where passes are joined, `workers` has the worker.
 #![tactic(auto)]
 
@@ -15,6 +15,7 @@ mod ends;
 mod laws;
 mod workers;
 
-pub use ends::{DoorEnd, Ended};
+pub use acct_sessions::Ended;
+pub use ends::DoorEnd;
 pub use laws::{full_counts, links_are_joined};
 pub use workers::Worker;

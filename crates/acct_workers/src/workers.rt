@@ -7,12 +7,12 @@ ghost use Rattle.acct_gates.specs.Passing.{start_under, OwnsLanes, Serves};
 ghost use Rattle.acct_workers.specs.Opening.{OpensAt};
 ghost use Rattle.acct_workers.specs.Serving.{IsServing, HandlesLink, ServesLink, door_end};
 
-use crate::ends::{DoorEnd, Ended};
+use crate::ends::DoorEnd;
 use acct_gates::{LockGate, Locked};
 use acct_links::{Door, Next};
 use acct_machine::{Keeper, Opened};
 use acct_requests::Gate;
-use acct_sessions::{SessionEnd, session};
+use acct_sessions::{Ended, SessionEnd, session};
 use hist_lock::Kept;
 use std::alloc::Global;
 use std::sync::Wait;

@@ -53,8 +53,8 @@ pub struct MemoryParts<S: Drop, T: Drop, K: Drop, E: Drop, C: Drop> {
     pub caller: C,
 }
 
-/// A world with one configuration under its name, the events, a sink, one keeper, under the empty name, an entrance, the
-/// doors that were given back with it, a caller, the link that was given back with it, and the periods that it was
+/// A world with one configuration under its name, the events, a sink, one keeper, under the empty name, an entrance,
+/// the doors that were given back with it, a caller, the link that was given back with it, and the periods that it was
 /// given. Its handings out are numbered from 1, and those of the given numbers fail; so does one of a part that isn't
 /// there. It tells what it holds, and what it was asked for.
 #[derive(Drop)]

@@ -1,5 +1,6 @@
 // The world, which hands out what a command needs and takes it back.
-ghost use Rattle.acct_world.specs.World.{Seen, TakesSource, GivesSource, TakesSink, GivesSink, TakesKeeper, GivesKeeper};
+ghost use Rattle.acct_world.specs.World.{Seen, TakesSource, GivesSource, TakesSink, GivesSink, TakesKeeper};
+ghost use Rattle.acct_world.specs.World.{GivesKeeper};
 ghost use Rattle.acct_world.specs.World.{TakesEntrance, GivesEntrance, TakesCaller, GivesCaller, KeepsPeriod};
 
 use crate::period::Period;
@@ -9,8 +10,8 @@ use acct_streams::{Sink, Source};
 use std::alloc::AllocError;
 
 /// What the program meets: sources and keepers by name, the sink, the entrance, the caller, and a place for the periods
-/// that it leaves. The source `-` is the standard input. The keeper with the empty name is one in memory, which holds no
-/// pair in the real world. A world in memory tells what it holds, the real one doesn't.
+/// that it leaves. The source `-` is the standard input. The keeper with the empty name is one in memory, which holds
+/// no pair in the real world. A world in memory tells what it holds, the real one doesn't.
 pub trait World {
     type S: Source;
 

@@ -22,8 +22,8 @@ use std::fs::File;
 use std::io::{self, Input, Print, Printer, Read, Write};
 use std::net::Net;
 
-/// The standard input or a file. It tells what is left where its reader tells it: over the system's it doesn't. It keeps
-/// what went wrong last.
+/// The standard input or a file. It tells what is left where its reader tells it: over the system's it doesn't. It
+/// keeps what went wrong last.
 #[derive(Drop)]
 pub struct HostSource<I: Read + Drop> {
     opened: Opened<I>,
@@ -114,9 +114,9 @@ impl<W: Write + Drop> Sink for HostSink<W> {
 }
 
 /// The real world. The name `-` is the standard input, each other name of a source a file's path. The keeper with the
-/// empty name is a new one in memory each time, that with another name one in the file at that path. It keeps no period,
-/// but what went wrong with the last link or caller that was given back, and what answered over it, what went wrong with
-/// the last entrance or door, and why the last source that wasn't read wasn't.
+/// empty name is a new one in memory each time, that with another name one in the file at that path. It keeps no
+/// period, but what went wrong with the last link or caller that was given back, and what answered over it, what went
+/// wrong with the last entrance or door, and why the last source that wasn't read wasn't.
 #[derive(Drop)]
 pub struct HostWorld<'a> {
     rt: &'a HostRuntime,

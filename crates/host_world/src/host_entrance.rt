@@ -10,8 +10,8 @@ use std::fs::Files;
 use std::io::{Eprint, Read, Write};
 use std::net::{Net, OpenListener, OpenStream};
 
-/// The entrance of the system. It says on the standard error where each listener listens, once it does and before a link
-/// is taken there.
+/// The entrance of the system. It says on the standard error where each listener listens, once it does and before a
+/// link is taken there.
 #[derive(Drop)]
 pub struct SpokenEntrance<'a, R: Net + Files + Eprint> {
     rt: &'a R,

@@ -131,7 +131,8 @@ returns-in-Ok-begin g c =
       short = c.in-Ok.ensures.short;
       whole = subst (λ (bs : List ℕ). IsWhole (s.left a.events.now) bs) (sym c.deref.ensures.value)
           c.in-Ok-read_whole.ensures.whole;
-      begun = subst (λ (r : Running). IsBegun c.in-Ok.configuration (k.held a.keeper) (k.faults a.keeper) r.machine.start)
+      begun = subst (λ (r : Running). IsBegun c.in-Ok.configuration (k.held a.keeper) (k.faults a.keeper)
+          r.machine.start)
           (sym c.new.ensures) c.in-Ok-begin.ensures.begun;
       runs = run.ensures.runs;
       stored = run.ensures.stored;

@@ -5,7 +5,7 @@ use Rattle.acct_machine.specs.State.{Start}
 use Rattle.acct_machine.specs.Step.{state_at}
 use Rattle.acct_machine.specs.Storing.{HoldsRows, AreUpTo}
 use Rattle.acct_serving.specs.Doors.{IsServed}
-use Rattle.acct_workers.specs.declared.ends.Ended.{Ended}
+use Rattle.acct_sessions.specs.declared.ends.Ended.{Ended}
 use Rattle.acct_server.specs.Denied.{DeniesExactlyIn}
 use Rattle.acct_server.proofs.Configuring.{up-to-first}
 use Rattle.acct_server.proofs.serving.serve.Goals as goal
@@ -44,5 +44,6 @@ returns-in-Ok g c =
             (subst (λ (s : Start). HoldsRows (k.held left.keeper) (state_at s past.history).rows) same l.stored);
         counts = counts;
       });
-      later = up-to-first (k.faults left.keeper) start left.history (k.faults a.keeper) counts c.in-Ok.ensures.begun.later;
+      later = up-to-first (k.faults left.keeper) start left.history (k.faults a.keeper) counts
+          c.in-Ok.ensures.begun.later;
     }

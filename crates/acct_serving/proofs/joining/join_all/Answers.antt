@@ -108,6 +108,7 @@ loop-hired-preserved g c =
           (one-joined door told start a.max_read c.loop-hired.first.seat.me.0 c.join_one-door.new.first.seat.me.0 given
           ds hired.worker.place b left.door left.end left.ends.items c.loop-hired.sum.outcome c.add.new.self.outcome
           c.loop-hired.sum.ends.items c.add.new.self.ends.items inv.all (j.one b worked) at
-          (λ d. ap (λ m. get_or given m d) (sym at) ∙ get_or_default given hired.worker.place d hired.worker.door within)
+          (λ d. ap (λ m. get_or given m d) (sym at)
+          ∙ get_or_default given hired.worker.place d hired.worker.door within)
           c.add.ensures);
     }

@@ -1,7 +1,7 @@
 -- The ends are sorted by the numbers of their connections.
 use Rattle.std.proofs.Common.{refl, rules}
 use Rattle.std.proofs.lemmas.List.Sorted.{IsNonDecreasingBy-from_sort_by_key}
-use Rattle.acct_workers.specs.declared.ends.Ended.{Ended}
+use Rattle.acct_sessions.specs.declared.ends.Ended.{Ended}
 use Rattle.acct_serving.proofs.Outcomes.{is-no-want}
 use Rattle.acct_serving.proofs.joining.Sum.sort.Goals as goal
 
