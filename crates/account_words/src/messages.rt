@@ -55,8 +55,8 @@ fn of_output(alloc: Global) -> Result<String, AllocError> {
 
 fn of_store(alloc: Global, store: &str) -> Result<String, AllocError> {
     format!(in alloc;
-        "the store {store} can't be opened, read or written, is no database, or another process holds it; see which, or \
-        name another"
+        "the store {store} can't be opened, read or written, is no database, or another process holds it; see \
+        which, or name another"
     )
 }
 

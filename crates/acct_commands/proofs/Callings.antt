@@ -1,5 +1,6 @@
 -- What a world shows over the command `call`.
-use Rattle.std.proofs.Common.{◌≡◌, ◌≤◌, List, ℕ, ◌∷◌, [], Result, Ok, Err, Option, Some, None, refl, sym, ◌∙◌, ap, subst}
+use Rattle.std.proofs.Common.{◌≡◌, ◌≤◌, List, ℕ, ◌∷◌, [], Result, Ok, Err}
+use Rattle.std.proofs.Common.{Option, Some, None, refl, sym, ◌∙◌, ap, subst}
 use Rattle.std.proofs.Common.{arith, IfSome, IfNone, Bool, true, get_or, drop, option_map, if◌then◌else◌}
 use Rattle.std.specs.Option.{option_or}
 use Rattle.acct_streams.specs.declared.outside.Failed.{Failed}

@@ -1,5 +1,6 @@
 -- Over a keeper that tells its pairs, a period opens from the rows that the one before it left.
-use Rattle.std.proofs.Common.{◌≡◌, ℕ, inl, inr, Bool, true, false, List, ◌∷◌, [], Option, Some, None, refl, sym, ap, ◌∙◌, subst}
+use Rattle.std.proofs.Common.{◌≡◌, ℕ, inl, inr, Bool, true, false, List, ◌∷◌, [], Option, Some, None, refl, sym, ap}
+use Rattle.std.proofs.Common.{◌∙◌, subst}
 use Rattle.std.specs.Prelude.{IfSome, IsSome, if◌then◌else◌}
 use Rattle.acct_config.specs.declared.config.Config.{Config}
 use Rattle.acct_keeper.specs.declared.pairs.Pair.{Pair}
@@ -94,7 +95,8 @@ module _ {D F K : Type 0} (telling : Telling D F K) (config : Config) where
     | inl none ↦ absurd (not-full (telling.pairs keeper) (telling.faults keeper) (telling.faults last.left.keeper)
         last.left.status none.cause (as-it-ended last.kept last.left.status full))
     | inr has ↦ elim is_next.serves.leaves [
-      | inl none ↦ with-none (telling.pairs last.left.keeper) _ (none-opened next.left.opening last.left.rows none.opening)
+      | inl none ↦ with-none (telling.pairs last.left.keeper) _
+          (none-opened next.left.opening last.left.rows none.opening)
       | inr has_next ↦ with-fact (telling.pairs last.left.keeper) _ _
           (both-served doors last.doors next.doors keeper last.left next.left one keeps has has_next)
           (λ same some. same)

@@ -18,7 +18,8 @@ use Rattle.acct_server.specs.declared.status.Status.TheVariants.{Usage}
 use Rattle.acct_world.specs.declared.period.Period.{Period}
 use Rattle.acct_world.specs.World.{Seen}
 use Rattle.acct_commands.specs.Commanded.{period_between, Keeps}
-use Rattle.acct_commands.specs.Serving.{Round, IsRound, GoesOn, Follow, AreRounds, KeepsRounds, ending, is_full, kept_in}
+use Rattle.acct_commands.specs.Serving.{Round, IsRound, GoesOn, Follow, AreRounds}
+use Rattle.acct_commands.specs.Serving.{KeepsRounds, ending, is_full, kept_in}
 use Rattle.acct_commands.specs.Rounds.{RunsRound}
 
 module _ {S T K E D F C L : Type 0} (telling : Telling D F K) (config : Config) where

@@ -1,4 +1,5 @@
--- What a world shows over the command `serve`: parts that are out are given back, and those that were handed out before.
+-- What a world shows over the command `serve`: parts that are out are given back, and those that were handed out
+-- before.
 use Rattle.std.proofs.Common.{◌≡◌, List, ◌∷◌, [], ◌++◌, Ok, refl, sym, ◌∙◌, ap}
 use Rattle.std.specs.List.{flat_map}
 use Rattle.acct_server.specs.declared.status.Status.{Status}
@@ -104,13 +105,15 @@ has-served told names w0 w1 w2 w3 w7 config keeper entrance status source store 
           ∙ ap (λ (s : Seen _ _ _ _ _ _ _). s.caller) store.others
           ∙ ap (λ (s : Seen _ _ _ _ _ _ _). s.caller) source.others;
       asked = λ tells.
-          let first = asked-ok (part.Source names.config) w0.asked w1.asked config (Ok config) refl (source.asked tells) in
+          let first = asked-ok (part.Source names.config) w0.asked w1.asked config (Ok config) refl (source.asked tells)
+          in
           let second = asked-ok (part.Keeper names.store) w1.asked w2.asked keeper (Ok keeper) refl
           (store.asked (tells1 ∙ tells)) in
           let third = asked-ok part.Entrance w2.asked w3.asked entrance (Ok entrance) refl
           (door.asked (tells2 ∙ tells)) in
           back.asked
-          ∙ asked-more w0.asked w2.asked w3.asked (part.Source names.config ∷ part.Keeper names.store ∷ []) part.Entrance
+          ∙ asked-more w0.asked w2.asked w3.asked (part.Source names.config ∷ part.Keeper names.store ∷ [])
+          part.Entrance
           (asked-more w0.asked w1.asked w2.asked (part.Source names.config ∷ []) (part.Keeper names.store) first second)
           third;
       periods = λ tells. back.periods (tells3 ∙ tells)

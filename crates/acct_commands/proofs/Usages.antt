@@ -36,7 +36,8 @@ replay-not-usage told old new left by is = elim by.leaves [
 ]
 
 -- what is answered once the world was asked to keep a period
-pub kept-not-usage : {S T K E D C L : Type 0} (old new : Seen S T K E D C L) (period : Option Period) (ended status : Status)
+pub kept-not-usage : {S T K E D C L : Type 0} (old new : Seen S T K E D C L) (period : Option Period)
+    (ended status : Status)
     → Keeps old new period ended status → ended ≢ Usage → status ≢ Usage
 kept-not-usage old new None ended status keeps other is = other (sym keeps.0 ∙ is)
 kept-not-usage old new (Some period) ended status (inl keeps) other is = other (sym keeps.0 ∙ is)

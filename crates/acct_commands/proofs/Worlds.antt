@@ -156,7 +156,8 @@ gives-sink-later w0 w1 p gives = record {
       (ap (λ (s : Seen _ _ _ _ _ _ _). s.caller_faults) gives.others);
 }
 
-takes-keeper-later : {S T K E D C L : Type 0} (pairs : K → Option (List Pair)) (w0 w1 : Seen S T K E D C L) (name : List ℕ)
+takes-keeper-later : {S T K E D C L : Type 0} (pairs : K → Option (List Pair)) (w0 w1 : Seen S T K E D C L)
+    (name : List ℕ)
     (answer : Result K TakeError)
     → TakesKeeper pairs w0 w1 name answer → CountsLater w0 w1
 takes-keeper-later pairs w0 w1 name answer takes = record {
@@ -391,7 +392,8 @@ source-back name others w0 w1 w2 w3 p status takes fails gives =
     }
 
 pub keeper-back : {S T K E D C L : Type 0} (pairs : K → Option (List Pair)) (name : List ℕ) (others : List Part)
-    (w0 w1 w2 w3 : Seen S T K E D C L) (p : K) (status : Status) → TakesKeeper pairs w0 w1 name (Ok p) → NotHandedOut others w1 w2 status
+    (w0 w1 w2 w3 : Seen S T K E D C L) (p : K) (status : Status) → TakesKeeper pairs w0 w1 name (Ok p)
+    → NotHandedOut others w1 w2 status
     → GivesKeeper w2 w3 name p
     → NotHandedOut (part.Keeper name ∷ others) w0 w3 status
 keeper-back pairs name others w0 w1 w2 w3 p status takes fails gives =
@@ -500,13 +502,15 @@ kept-one old new period ended status answer keeps is =
     record { periods = keeps-one old new period ended status answer keeps is; others = keeps.others }
 
 -- what is kept is told by the periods alone
-pub keeps-later : {S T K E D C L : Type 0} (old mid new : Seen S T K E D C L) (period : Option Period) (ended status : Status)
+pub keeps-later : {S T K E D C L : Type 0} (old mid new : Seen S T K E D C L) (period : Option Period)
+    (ended status : Status)
     → new.periods ≡ mid.periods → Keeps old mid period ended status → Keeps old new period ended status
 keeps-later old mid new None ended status same keeps = (keeps.0, same ∙ keeps.1)
 keeps-later old mid new (Some period) ended status same (inl is) = inl (is.0, λ tells. same ∙ is.1 tells)
 keeps-later old mid new (Some period) ended status same (inr is) = inr (is.0, same ∙ is.1)
 
-pub keeps-earlier : {S T K E D C L : Type 0} (old mid new : Seen S T K E D C L) (period : Option Period) (ended status : Status)
+pub keeps-earlier : {S T K E D C L : Type 0} (old mid new : Seen S T K E D C L) (period : Option Period)
+    (ended status : Status)
     → mid.periods ≡ old.periods → mid.tells ≡ old.tells → Keeps mid new period ended status
     → Keeps old new period ended status
 keeps-earlier old mid new None ended status same telling keeps = (keeps.0, keeps.1 ∙ same)

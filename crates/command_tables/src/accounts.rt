@@ -275,8 +275,8 @@ NOT-IN-ALIAS-14 out 1 05000203100000001c0000000e0000000400000000000000520100c0";
 /// Each row: how the run is made, the words, the configuration, the events, the lines written, the status, the history.
 /// Names that are free, taken, too long, empty and no text. A domain that was opened to look up creates nothing. Users
 /// are listed while one is deleted. A special account stays, and its handle. What a user shows, and what is set. A
-/// group and an alias of BUILTIN, from creation to deletion; BUILTIN has no group. What a domain shows. A deletion ends the
-/// handles of each connection. Members of groups and aliases come and go.
+/// group and an alias of BUILTIN, from creation to deletion; BUILTIN has no group. What a domain shows. A deletion ends
+/// the handles of each connection. Members of groups and aliases come and go.
 pub const ACCOUNTS: &str =
     "|replay first.toml||OPEN BIND CONNECT OPEN-CORP CREATE-ALICE CREATE-ALICE-AGAIN CREATE-20 CREATE-21 \
     CREATE-UNNAMED CREATE-SURROGATE CREATE-TYPE|ACK CONNECTED DOMAIN-2 ALICE-1000 USER-EXISTS-9 USER-1001 \

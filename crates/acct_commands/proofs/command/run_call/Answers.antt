@@ -41,8 +41,10 @@ returns g c =
       }) (record { address = c.args.address.now; command = command }) (w.seen c.args.world.now)
           (w.seen c.take_caller.new.self) (w.seen c.take_sink.new.self) (w.seen c.give_sink.new.self)
           (w.seen c.give_caller-2.new.self) c.in-Ok.caller n.caller c.in-Ok-take_sink.out n.out r.end r.printing r.link
-          c.talk_status.result c.dialogues_come_to_their_ends.ensures c.talk_status.ensures c.in-Ok.ensures.takes c.in-Ok-take_sink.ensures.takes
-          (c.call-end.ensures.talks command begun) c.call-end.ensures.none c.call-end.ensures.called c.call-end.ensures.later
+          c.talk_status.result c.dialogues_come_to_their_ends.ensures c.talk_status.ensures c.in-Ok.ensures.takes
+          c.in-Ok-take_sink.ensures.takes
+          (c.call-end.ensures.talks command begun) c.call-end.ensures.none c.call-end.ensures.called
+          c.call-end.ensures.later
           c.give_sink.ensures.gives c.give_caller-2.ensures.gives);
       not_usage = talk-not-usage r.end r.printing c.talk_status.result c.talk_status.ensures;
     }

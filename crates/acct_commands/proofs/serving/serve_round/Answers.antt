@@ -30,9 +30,11 @@ returns g c =
     kept.periods kept.others in
     record {
       runs = rw p.keeper one;
-      few = let stay = doors-stay telling config before now c.args.keeper left serves in let had = c.args.doors.now.ok.0 in
+      few = let stay = doors-stay telling config before now c.args.keeper left serves in
+          let had = c.args.doors.now.ok.0 in
           let has = c.serve.new.doors.ok.0 in let most = c.requires.few in omega arith;
-      configured = λ i d lt. listeners-stay telling config before now c.args.keeper left (length config.listeners) serves
+      configured = λ i d lt. listeners-stay telling config before now c.args.keeper left (length config.listeners)
+          serves
           (λ j e less. c.requires.configured j e (subst (λ n. j < n) (sym c.args.doors.now.ok.0) less)) i d
           (subst (λ n. i < n) c.serve.new.doors.ok.0 lt);
       not_usage = kept-not-usage old new period left.status c.keep.result kept.periods
