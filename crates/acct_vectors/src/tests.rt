@@ -22,8 +22,9 @@ mod settings;
 mod translations;
 mod words;
 
-use acct_calls::NoMemory;
-use acct_rows::Rows;
+use acct_base::Seq;
+use acct_calls::Args;
+use acct_rows::{Object, Plan, Rows};
 use acct_rules::Planned;
 use asked::{args_of, object_of};
 use operations::run;
@@ -31,9 +32,21 @@ use parts::part;
 use rows::{add, seeded};
 use samr_objects::laws;
 use std::alloc::Global;
+use std::mem;
 use std::process::Abort;
 use std::test::Fail;
 use words::{spelled, tell, tell_ends};
+
+/// What an operation decides.
+fn answered(
+    alloc: Global,
+    rows: &Rows,
+    operation: &str,
+    object: Object,
+    args: &Args,
+) -> Result<Planned, Fail> {
+    Ok(run(alloc, rows, operation, object, args)?)
+}
 
 /// What the operation of a row decides.
 fn decided(alloc: Global, rows: &Rows, row: &str) -> Result<Planned, Fail> {
@@ -41,44 +54,75 @@ fn decided(alloc: Global, rows: &Rows, row: &str) -> Result<Planned, Fail> {
     let (kind, fields) = asked.split_once(',').unwrap_or((asked, ""));
     let object = object_of(part(row, '|', 2))?;
     let args = args_of(alloc, kind, fields)?;
-    Ok(run(alloc, rows, part(row, '|', 1), object, &args)?)
+    answered(alloc, rows, part(row, '|', 1), object, &args)
 }
 
-/// Does what is planned to the rows.
-fn apply(rows: &mut Rows, planned: Planned) -> Result<(), NoMemory> {
+fn empty_plan(alloc: Global) -> Plan {
+    Plan {
+        puts: Seq::new(alloc),
+        removes: Seq::new(alloc),
+    }
+}
+
+/// What the operation of a row decides, once the rows have what it adds.
+fn decided_behind(alloc: Global, rows: &mut Rows, row: &str) -> Result<Planned, Fail> {
+    add(alloc, rows, part(row, '|', 0))?;
+    decided(alloc, rows, row)
+}
+
+/// Tells what is planned, and does it to the rows.
+fn apply(alloc: Global, rows: &mut Rows, planned: &mut Planned) -> Result<String, Fail> {
+    let text = tell(alloc, planned)?;
     rows.reserve(planned.plan.puts.as_slice().len())?;
-    rows.apply(planned.plan);
-    Ok(())
+    rows.apply(mem::replace(&mut planned.plan, empty_plan(alloc)));
+    Ok(text)
 }
 
 /// Tells what a row does, and does it to the rows.
 fn told(alloc: Global, rows: &mut Rows, row: &str) -> Result<String, Fail> {
-    add(alloc, rows, part(row, '|', 0))?;
-    let planned = decided(alloc, rows, row)?;
-    let text = tell(alloc, &planned)?;
-    apply(rows, planned)?;
-    Ok(text)
+    let mut planned = decided_behind(alloc, rows, row)?;
+    apply(alloc, rows, &mut planned)
+}
+
+/// Begins with the first rows again.
+fn begin_again(rt: &impl Abort, alloc: Global, rows: &mut Rows) -> Result<(), Fail> {
+    *rows = seeded(rt, alloc)?;
+    Ok(())
+}
+
+/// A row is told as what is wanted.
+fn row_is_right(rt: &impl Abort, alloc: Global, rows: &mut Rows, row: &str) -> Result<(), Fail> {
+    if !row.starts_with('+') {
+        begin_again(rt, alloc, rows)?;
+    }
+    let told = told(alloc, rows, row)?;
+    let wanted = spelled(alloc, part(row, '|', 4))?;
+    assert_eq!(rt; told.as_str(), wanted.as_str(), "{row}");
+    Ok(())
+}
+
+fn rows_are_right(
+    rt: &impl Abort,
+    alloc: Global,
+    rows: &mut Rows,
+    table: &str,
+) -> Result<(), Fail> {
+    for row in table.lines() {
+        row_is_right(rt, alloc, rows, row)?;
+    }
+    Ok(())
 }
 
 /// Each row of a table is told as what is wanted.
 fn table_is_right(rt: &impl Abort, alloc: Global, table: &str) -> Result<(), Fail> {
     let mut rows = seeded(rt, alloc)?;
-    for row in table.lines() {
-        if !row.starts_with('+') {
-            rows = seeded(rt, alloc)?;
-        }
-        let told = told(alloc, &mut rows, row)?;
-        let wanted = spelled(alloc, part(row, '|', 4))?;
-        assert_eq!(rt; told.as_str(), wanted.as_str(), "{row}");
-    }
-    Ok(())
+    rows_are_right(rt, alloc, &mut rows, table)
 }
 
 /// What the operation of a row decides on the first rows and those that are added.
 fn decided_first(rt: &impl Abort, alloc: Global, row: &str) -> Result<Planned, Fail> {
     let mut rows = seeded(rt, alloc)?;
-    add(alloc, &mut rows, part(row, '|', 0))?;
-    decided(alloc, &rows, row)
+    decided_behind(alloc, &mut rows, row)
 }
 
 /// What a large translation of a row answers.
