@@ -21,8 +21,8 @@ use std::thread::Threads;
 /// How often a link looks for the other one, and lets other threads run.
 const LOOKS: u32 = 1_000_000;
 
-/// A link that raises its flag at its first read, and gives its bytes once the other flag is raised. Where that isn't so
-/// within the looks, each read fails.
+/// A link that raises its flag at its first read, and gives its bytes once the other flag is raised. Where that isn't
+/// so within the looks, each read fails.
 #[derive(Drop)]
 struct MeetingLink {
     link: MemoryLink,

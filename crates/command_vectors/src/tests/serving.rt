@@ -1,5 +1,5 @@
-// Servers over worlds in memory: what is asked of the entrance, which periods the world is given, and what becomes of the
-// links of its doors. Only one door of a row brings links, so that connections have their numbers by their order.
+// Servers over worlds in memory: what is asked of the entrance, which periods the world is given, and what becomes of
+// the links of its doors. Only one door of a row brings links, so that connections have their numbers by their order.
 ghost use Rattle.std.specs.Prelude.{◌≡◌, All, false, IfOk};
 ghost use Rattle.acct_links.specs.Links.{IsNew};
 ghost use Rattle.acct_links.specs.Memory.{told_by};
@@ -25,25 +25,29 @@ use std::thread::Threads;
 pub const LINES: &str =
     "THIRD out 1 050002031000000030000000020000001800000000000000000000000000000000000100000000000000000300000000";
 
-/// Each row: how the world is made; the words; what the configuration says more; the links of each door; the status; the
-/// parts that the world was asked for; the askings of the entrance; the periods, each by the numbers of accounts before
-/// and after it, its history and its ends; and what was finished on each door, each link by its connection and what was
-/// written on it. `aN` has asking N fail, `b` a store that is broken, `f` a world without memory for periods.
+/// Each row: how the world is made; the words; what the configuration says more; the links of each door; the status;
+/// the parts that the world was asked for; the askings of the entrance; the periods, each by the numbers of accounts
+/// before and after it, its history and its ends; and what was finished on each door, each link by its connection and
+/// what was written on it. `aN` has asking N fail, `b` a store that is broken, `f` a world without memory for periods.
 const ROWS: &str =
     "|serve first.toml ''|workers = 2;[limits];max_calls = 4;max_periods = 2|BIND CONNECT CONNECT CONNECT,BIND CONNECT \
-    CONNECT CONNECT,BIND CONNECT CONNECT CONNECT;|Done|source first.toml;keeper ;entrance;|0 tcp:127.0.0.1:4045 2 0;|8>8 \
+    CONNECT CONNECT,BIND CONNECT CONNECT CONNECT;|Done|source first.toml;keeper ;entrance;|0 tcp:127.0.0.1:4045 2 \
+    0;|8>8 \
     opened 1 0;called 1 57 Ran 8;called 1 57 Ran 8;called 1 57 Ran 8;gone 1;opened 2 0;called 2 57 Ran 8;gone 2; 1 0 \
     End,2 0 Full(4),/8>8 opened 1 0;called 1 57 Ran 8;called 1 57 Ran 8;called 1 57 Ran 8;gone 1; 1 0 End,/|1 ACK \
     CONNECTED AGAIN THIRD,2 ACK-2 CONNECTED-2 BUSY,1 ACK CONNECTED AGAIN THIRD,;;
 |serve first.toml ''|[limits];max_calls = 2|BIND CONNECT CONNECT CONNECT,BIND|HistoryFull(2)|source first.toml;keeper \
-    ;entrance;|0 tcp:127.0.0.1:4045 1 0;|8>8 opened 1 0;called 1 57 Ran 8;called 1 57 Ran 8;gone 1; 1 0 Full(2),/|1 ACK \
+    ;entrance;|0 tcp:127.0.0.1:4045 1 0;|8>8 opened 1 0;called 1 57 Ran 8;called 1 57 Ran 8;gone 1; 1 0 Full(2),/|1 \
+    ACK \
     CONNECTED AGAIN BUSY,;
 |serve first.toml ''|[limits];max_calls = 4;max_periods = 3|BIND CONNECT OPEN-CORP CREATE-ALICE,BIND CONNECT \
     CONNECT,BIND|Done|source first.toml;keeper ;entrance;|0 tcp:127.0.0.1:4045 1 0;|8>9 opened 1 0;called 1 57 Ran \
-    8;called 1 7 Ran 52;called 1 50 Ran 60;gone 1;opened 2 0;called 2 57 Ran 8;gone 2; 1 0 End,2 0 Full(4),/9>9 opened 1 \
+    8;called 1 7 Ran 52;called 1 50 Ran 60;gone 1;opened 2 0;called 2 57 Ran 8;gone 2; 1 0 End,2 0 Full(4),/9>9 \
+    opened 1 \
     0;gone 1; 1 0 End,/|1 ACK CONNECTED DOMAIN-2 ALICE-1000,2 ACK-2 CONNECTED-2 BUSY,1 ACK,;
 |serve first.toml ''|workers = 2;links = 7;[[listener]];name = \"b\";address = \"unix:b\";token = [\"S-1-1-0\"]|;;BIND|\
-    Done|source first.toml;keeper ;entrance;|0 tcp:127.0.0.1:4045 2 7;1 unix:b 1 0;|8>8 opened 1 1;gone 1; 1 2 End,/|;;1 \
+    Done|source first.toml;keeper ;entrance;|0 tcp:127.0.0.1:4045 2 7;1 unix:b 1 0;|8>8 opened 1 1;gone 1; 1 2 \
+    End,/|;;1 \
     ACK,;
 a2|serve first.toml ''|[[listener]];name = \"b\";address = \"unix:b\";token = [\"S-1-1-0\"]|BIND|DoorFault|source \
     first.toml;keeper ;entrance;|0 tcp:127.0.0.1:4045 1 0;||;
