@@ -29,13 +29,19 @@ pub const DENY_FIRST: &str = r#"["deny 0x00000010 0 S-1-5-32-545", "allow 0x000F
 /// The same entries exchanged.
 pub const ALLOW_FIRST: &str = r#"["allow 0x000F003F 0 S-1-1-0", "deny 0x00000010 0 S-1-5-32-545"]"#;
 
+fn has_two_listeners(rt: &impl Abort, config: &Config)
+    ensures { length config.now.listeners ≡ 2 }
+{
+    assert_eq!(rt; config.listeners.as_slice().len(), 2);
+}
+
 /// The configuration of a document with two listeners.
 pub fn configured(rt: &impl Abort, alloc: Global, document: &str) -> Result<Config, Fail>
     ensures right { IfOk result IsRight }
     ensures listeners { IfOk result (λ config. length config.listeners ≡ 2) }
 {
     let config = read_config(alloc, document.as_bytes())?;
-    assert_eq!(rt; config.listeners.as_slice().len(), 2);
+    has_two_listeners(rt, &config);
     Ok(config)
 }
 

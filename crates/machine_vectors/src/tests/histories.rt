@@ -106,12 +106,10 @@ const INTERFACES_LEFT: &str =
 
 #[test]
 fn handles_are_opened_and_closed(rt: HostRuntime) -> Result<(), Fail> {
-    let alloc = rt.alloc();
-    assert_eq!(rt; told(&rt, alloc, "", &[], HANDLES)?.as_str(), HANDLES_LEFT);
-    assert_eq!(rt;
-        told(&rt, alloc, "", &[], INTERFACES)?.as_str(),
-        INTERFACES_LEFT
-    );
+    for (script, wanted) in [(HANDLES, HANDLES_LEFT), (INTERFACES, INTERFACES_LEFT)] {
+        let told = told(&rt, rt.alloc(), "", &[], script)?;
+        assert_eq!(rt; told.as_str(), wanted);
+    }
     Ok(())
 }
 
@@ -172,12 +170,10 @@ const TWICE_LEFT: &str = "opened 1 0;opened 2 1;1 Lsa 44 Ran 22;1 Lsa 10 Ran 22;
 
 #[test]
 fn a_commit_that_fails_changes_nothing(rt: HostRuntime) -> Result<(), Fail> {
-    let alloc = rt.alloc();
-    assert_eq!(rt;
-        told(&rt, alloc, "", &[3, 5], FAILING)?.as_str(),
-        FAILING_LEFT
-    );
-    assert_eq!(rt; told(&rt, alloc, "", &[3, 4], TWICE)?.as_str(), TWICE_LEFT);
+    for (last, script, wanted) in [(5, FAILING, FAILING_LEFT), (4, TWICE, TWICE_LEFT)] {
+        let told = told(&rt, rt.alloc(), "", &[3, last], script)?;
+        assert_eq!(rt; told.as_str(), wanted);
+    }
     Ok(())
 }
 

@@ -1,7 +1,9 @@
 // The words of a profile by kind and by class, what openings ask for, and what an operation of the table decides.
+ghost use Rattle.acct_config.specs.Right.{IsRight};
+
 use super::configs::{PLAIN, configured};
 use acct_codes::Kind;
-use acct_machine::{Args, NoMemory, Object, Rows, seed_rows};
+use acct_machine::{Args, Config, NoMemory, Object, Rows, seed_rows};
 use acct_operations::{Work, decide};
 use acct_rules::{Effect, Kinds, Needs, Planned, class_of, desired_access, needed_bits};
 use dtyp_sid::parse_text;
@@ -69,10 +71,16 @@ fn an_opening_by_a_sid_asks_for_an_access(rt: HostRuntime) -> Result<(), Fail> {
     Ok(())
 }
 
+fn seeded(alloc: Global, config: &Config) -> Result<Rows, Fail>
+    requires { IsRight config.now }
+{
+    Ok(seed_rows(alloc, config)?)
+}
+
 /// The rows of a new database.
 fn first_rows(rt: &impl Abort, alloc: Global) -> Result<Rows, Fail> {
     let config = configured(rt, alloc, PLAIN)?;
-    Ok(seed_rows(alloc, &config)?)
+    seeded(alloc, &config)
 }
 
 /// The bits that are needed of a grant: some, or those of one class and those of the others.
@@ -110,10 +118,13 @@ fn opens_the_user(alloc: Global, rows: &Rows, rid: u32) -> Result<bool, NoMemory
 }
 
 /// There is a user 500; 512 is a group.
+fn opens_users_alone(alloc: Global, rows: &Rows) -> Result<bool, NoMemory> {
+    Ok(opens_the_user(alloc, rows, 500)? && !opens_the_user(alloc, rows, 512)?)
+}
+
 #[test]
 fn users_are_opened(rt: HostRuntime) -> Result<(), Fail> {
     let rows = first_rows(&rt, rt.alloc())?;
-    assert!(rt; opens_the_user(rt.alloc(), &rows, 500)?);
-    assert!(rt; !opens_the_user(rt.alloc(), &rows, 512)?);
+    assert!(rt; opens_users_alone(rt.alloc(), &rows)?);
     Ok(())
 }

@@ -7,6 +7,7 @@ use acct_base::Seq;
 use acct_keeper::{Change, Keeper, MemoryKeeper};
 use acct_machine::{Config, OpenError, Rows, open_store};
 use std::alloc::Global;
+use std::process::Abort;
 use std::test::Fail;
 
 fn push_opening(text: &mut String, opening: &Result<Rows, OpenError>) -> Result<(), Fail> {
@@ -65,25 +66,42 @@ fn break_store(alloc: Global, keeper: &mut MemoryKeeper) -> Result<(), Fail> {
     Ok(())
 }
 
+/// Whether an opening answers so.
+fn is_opened(
+    alloc: Global,
+    config: &Config,
+    keeper: &mut MemoryKeeper,
+    wanted: &str,
+) -> Result<bool, Fail>
+    requires { IsRight config.now }
+{
+    Ok(opened(alloc, config, keeper)?.as_str() == wanted)
+}
+
+/// The fourth call fails, behind two loads and the seeding: the second opening commits nothing.
+fn opened_again(
+    rt: &impl Abort,
+    alloc: Global,
+    config: &Config,
+    keeper: &mut MemoryKeeper,
+) -> Result<(), Fail>
+    requires { IsRight config.now }
+{
+    for time in ["first", "second"] {
+        assert!(rt;
+            is_opened(alloc, config, keeper, "8 accounts, 19 pairs")?,
+            "{time}"
+        );
+    }
+    assert!(rt; keeper.commit(&[]).is_err());
+    break_store(alloc, keeper)?;
+    assert!(rt; is_opened(alloc, config, keeper, "bad pair [102], 18 pairs")?);
+    Ok(())
+}
+
 #[test]
 fn stores_are_opened_again_as_they_were_left(rt: HostRuntime) -> Result<(), Fail> {
-    let alloc = rt.alloc();
-    let config = configured(&rt, alloc, PLAIN)?;
-    // The fourth call fails, behind two loads and the seeding: the second opening commits nothing.
-    let mut keeper = keeper_with(alloc, &[4])?;
-    assert_eq!(rt;
-        opened(alloc, &config, &mut keeper)?.as_str(),
-        "8 accounts, 19 pairs"
-    );
-    assert_eq!(rt;
-        opened(alloc, &config, &mut keeper)?.as_str(),
-        "8 accounts, 19 pairs"
-    );
-    assert!(rt; keeper.commit(&[]).is_err());
-    break_store(alloc, &mut keeper)?;
-    assert_eq!(rt;
-        opened(alloc, &config, &mut keeper)?.as_str(),
-        "bad pair [102], 18 pairs"
-    );
-    Ok(())
+    let config = configured(&rt, rt.alloc(), PLAIN)?;
+    let mut keeper = keeper_with(rt.alloc(), &[4])?;
+    opened_again(&rt, rt.alloc(), &config, &mut keeper)
 }
