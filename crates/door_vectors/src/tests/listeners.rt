@@ -55,12 +55,18 @@ fn document_of(alloc: Global, listeners: &str) -> Result<String, Fail> {
     Ok(document)
 }
 
+fn read(alloc: Global, document: &str) -> Result<Config, Fail>
+    ensures { IfOk result IsRight }
+{
+    Ok(read_config(alloc, document.as_bytes())?)
+}
+
 // A configuration with these listeners.
 fn configured(alloc: Global, listeners: &str) -> Result<Config, Fail>
     ensures { IfOk result IsRight }
 {
     let document = document_of(alloc, listeners)?;
-    Ok(read_config(alloc, document.as_str().as_bytes())?)
+    read(alloc, document.as_str())
 }
 
 // A door with a link that brings this letter.

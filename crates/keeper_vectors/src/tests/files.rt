@@ -108,16 +108,16 @@ fn push_pairs(told: &mut String, pairs: &[Pair]) -> Result<(), Fail> {
     Ok(())
 }
 
-fn load(keeper: &mut SqliteKeeper, told: &mut String) -> Result<(), Fail> {
+fn load<K: Keeper>(keeper: &mut K, told: &mut String) -> Result<(), Fail> {
     match keeper.load() {
         Ok(pairs) => push_pairs(told, &pairs),
         Err(error) => Ok(write!(told, "Err({error:?})")?),
     }
 }
 
-fn commit(
+fn commit<K: Keeper>(
     alloc: Global,
-    keeper: &mut SqliteKeeper,
+    keeper: &mut K,
     words: &str,
     told: &mut String,
 ) -> Result<(), Fail> {
@@ -153,7 +153,7 @@ fn put(alloc: Global, key: &[u8], value: &[u8]) -> Result<Change, Fail> {
 }
 
 // A commit of two pairs: the number's own, and which number came last.
-fn commit_number(alloc: Global, keeper: &mut SqliteKeeper, number: u16) -> Result<(), Fail> {
+fn commit_number<K: Keeper>(alloc: Global, keeper: &mut K, number: u16) -> Result<(), Fail> {
     let key = number.to_be_bytes();
     let mut changes = Vec::new(alloc);
     changes.push(put(alloc, &key, b"1")?)?;
@@ -161,7 +161,7 @@ fn commit_number(alloc: Global, keeper: &mut SqliteKeeper, number: u16) -> Resul
     Ok(keeper.commit(&changes)?)
 }
 
-fn commit_numbers(alloc: Global, keeper: &mut SqliteKeeper) -> Result<(), Fail> {
+fn commit_numbers<K: Keeper>(alloc: Global, keeper: &mut K) -> Result<(), Fail> {
     for number in 0..COMMIT_COUNT {
         commit_number(alloc, keeper, number)?;
     }
@@ -169,9 +169,9 @@ fn commit_numbers(alloc: Global, keeper: &mut SqliteKeeper) -> Result<(), Fail> 
 }
 
 // What a word has done: a load, a second opening, the commits of many numbers, or one of changes.
-fn act(
+fn act<K: Keeper>(
     rt: &HostRuntime,
-    keeper: &mut SqliteKeeper,
+    keeper: &mut K,
     word: &str,
     told: &mut String,
 ) -> Result<(), Fail> {
@@ -184,9 +184,9 @@ fn act(
 }
 
 // What is done at one opening.
-fn serve(
+fn serve<K: Keeper>(
     rt: &HostRuntime,
-    keeper: &mut SqliteKeeper,
+    keeper: &mut K,
     words: &str,
     told: &mut String,
 ) -> Result<(), Fail> {

@@ -67,6 +67,12 @@ pub fn link_of(alloc: Global, words: &str) -> Result<MemoryLink, Fail>
     Ok(MemoryLink::new(alloc, input, 65535, 4096, failing)?)
 }
 
+fn read(alloc: Global, document: &str) -> Result<Config, Fail>
+    ensures { IfOk result IsRight }
+{
+    Ok(read_config(alloc, document.as_bytes())?)
+}
+
 /// The configuration, where the history has limits or none.
 pub fn configured(alloc: Global, limits: &str) -> Result<Config, Fail>
     ensures { IfOk result IsRight }
@@ -75,7 +81,7 @@ pub fn configured(alloc: Global, limits: &str) -> Result<Config, Fail>
     if !limits.is_empty() {
         write!(document, "[limits]\n{limits}\n")?;
     }
-    Ok(read_config(alloc, document.as_str().as_bytes())?)
+    read(alloc, document.as_str())
 }
 
 /// The first column, and those behind it.

@@ -136,6 +136,12 @@ fn link_of(alloc: Global, making: Making, came: Vec<u8>) -> Result<MemoryLink, F
     Ok(MemoryLink::new(alloc, input, making.room as usize, write_size, failing)?)
 }
 
+fn read(alloc: Global, document: &str) -> Result<Config, Fail>
+    ensures { IfOk result IsRight }
+{
+    Ok(read_config(alloc, document.as_bytes())?)
+}
+
 /// The configuration, where the history has a limit or none.
 fn configured(alloc: Global, limit: &str) -> Result<Config, Fail>
     ensures { IfOk result IsRight }
@@ -145,7 +151,7 @@ fn configured(alloc: Global, limit: &str) -> Result<Config, Fail>
     } else {
         format!(in alloc; "{CONFIG}[limits]\n{limit}\n")?
     };
-    Ok(read_config(alloc, document.as_str().as_bytes())?)
+    read(alloc, document.as_str())
 }
 
 fn made(rt: &impl Abort, alloc: Global, config: &Config) -> Result<Machine<SteadyKeeper>, Fail>

@@ -1,3 +1,4 @@
+-- A privilege is put where it stands, or before the first with a higher number.
 use Rattle.std.proofs.Common.{◌∙◌, arith}
 use Rattle.std.proofs.lemmas.List.Sums.{prefix_len-le-length}
 use Rattle.lsad_rights.specs.Held.{is_below}

@@ -1,3 +1,4 @@
+-- What is left of the privileges is what is kept of them.
 use Rattle.std.proofs.Common.{rules}
 use Rattle.std.proofs.lemmas.Fn.{filter_same}
 use Rattle.lsad_rights.proofs.held.remove_held.Goals as goal

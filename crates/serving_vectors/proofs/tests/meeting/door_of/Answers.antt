@@ -1,6 +1,6 @@
+-- The link of the door is new.
 use Rattle.serving_vectors.proofs.tests.meeting.door_of.Goals as goal
 
--- The link of the door is new.
 pub new-requires : goal.new-requires
 new-requires c k d lt =
     let new = c.in_ok-links.ensures k d lt in
