@@ -1,5 +1,6 @@
 // What is answered on a connection without a call.
 ghost use Rattle.std.specs.Prelude.{◌≡◌, ◌≤◌, length, IfOk};
+ghost use Rattle.rpc_pdu.specs.Written.{HasFewParts, size_of, written};
 ghost use Rattle.rpc_session.specs.Answers.{size_for, sizes_for, bind_answer, alter_answer, refusal_bytes, closing};
 
 use crate::contexts::outcomes;
@@ -10,7 +11,7 @@ use acct_codes::cause::CAUSE_VERSION;
 use acct_codes::fault::NCA_S_PROTO_ERROR;
 use acct_codes::limit::{LEAST_FRAGMENT, MOST_FRAGMENT};
 use rpc_pdu::{Element, NoMemory, Pdu, write_pdu};
-use std::alloc::Global;
+use std::alloc::{AllocError, Global};
 
 fn size_for(asked: u16) -> u16
     ensures { result ≡ size_for asked }
@@ -25,6 +26,18 @@ pub fn sizes_for(xmit: u16, recv: u16) -> Sizes
     Sizes {
         xmit: size_for(recv),
         recv: size_for(xmit),
+    }
+}
+
+/// The bytes of an answer.
+fn bytes_of(alloc: Global, answer: Pdu) -> Result<Seq<u8>, NoMemory>
+    requires parts { HasFewParts answer }
+    requires size { size_of answer ≤ 65535 }
+    ensures { IfOk result (λ bytes. bytes ≡ written answer) }
+{
+    match write_pdu(alloc, &answer) {
+        Ok(bytes) => Ok(Seq::from_vec(bytes)),
+        Err(AllocError) => Err(AllocError),
     }
 }
 
@@ -47,7 +60,7 @@ pub fn bind_answer(
         group: conn,
         outcomes: outcomes(alloc, elements)?,
     };
-    Ok(Seq::from_vec(write_pdu(alloc, &answer)?))
+    bytes_of(alloc, answer)
 }
 
 /// The answer to an alter_context.
@@ -69,7 +82,7 @@ pub fn alter_answer(
         group: conn,
         outcomes: outcomes(alloc, elements)?,
     };
-    Ok(Seq::from_vec(write_pdu(alloc, &answer)?))
+    bytes_of(alloc, answer)
 }
 
 #[tactic(auto, unfolding(crate::specs::Answers::refusal_bytes))]
@@ -78,8 +91,7 @@ fn refusal_bytes(alloc: Global, cause: u8, ptype: u8, id: u32) -> Result<Seq<u8>
 {
     if ptype == 11 {
         let reason = if cause == CAUSE_VERSION { 4 } else { 0 };
-        let answer = Pdu::BindNak { id, reason };
-        return Ok(Seq::from_vec(write_pdu(alloc, &answer)?));
+        return bytes_of(alloc, Pdu::BindNak { id, reason });
     }
     Seq::copy_of(alloc, &fault_bytes(id, 0, NCA_S_PROTO_ERROR))
 }

@@ -15,7 +15,7 @@ use std::marker::Model;
 use std::mem;
 
 /// What stands in front of the bytes that are left.
-#[derive(Debug, Drop)]
+#[derive(Drop)]
 pub enum Next {
     /// No whole PDU, and no refusal.
     Waits(Session),

@@ -80,7 +80,7 @@ pub enum Session {
 }
 
 /// What a whole PDU does.
-#[derive(Debug, Drop)]
+#[derive(Drop)]
 pub enum Step {
     /// It is refused with this cause.
     Refuses(u8),

@@ -1,0 +1,12 @@
+-- `outcomes` meets its contract: what the search leaves open.
+use Rattle.std.proofs.Common.{◌∙◌, ◌++◌, [], ◌∷◌, ap, sym}
+use Rattle.std.proofs.lemmas.List.{map_more}
+use Rattle.rpc_session.specs.Contexts.{outcome}
+use Rattle.rpc_session.proofs.contexts.outcomes.Goals as goal
+
+pub loop-element-preserved : goal.loop-element-preserved
+loop-element-preserved c =
+    c.in_ok-push.ensures.items
+    ∙ (λ i. c.loop-element.invariant i ++ (c.outcome.ensures ∙ ap outcome c.element-item.is) i ∷ [])
+    ∙ sym (map_more outcome c.args.elements.now c.loop-element.element-index c.element-item.result
+    c.loop-element-test.true)
