@@ -9,7 +9,7 @@ use acct_codes::cause::{
 };
 
 /// The types of PDUs that are read.
-#[derive(Clone, Copy, Debug, PartialEq, Eq)]
+#[derive(Clone, Copy)]
 pub enum Kind {
     Request,
     Response,

@@ -14,7 +14,7 @@ use std::marker::Model;
 use uuid::Uuid;
 
 /// Why nothing was read.
-#[derive(Debug, Drop)]
+#[derive(Drop)]
 pub enum Lack {
     /// Memory ran out.
     Memory,

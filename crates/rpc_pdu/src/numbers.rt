@@ -39,14 +39,21 @@ pub fn u32_bytes(number: u32) -> [u8; 4]
     ]
 }
 
+/// Bytes, behind those that are there.
+pub fn push_bytes(out: &mut Vec<u8>, bytes: &[u8]) -> Result<(), AllocError>
+    ensures { OnOk result (out.new.items ≡ out.old.items ++ bytes.now) }
+{
+    out.extend_from_slice(bytes)
+}
+
 pub fn push_u16(out: &mut Vec<u8>, number: u16) -> Result<(), AllocError>
     ensures { OnOk result (out.new.items ≡ out.old.items ++ u16_bytes number) }
 {
-    out.extend_from_slice(&u16_bytes(number))
+    push_bytes(out, &u16_bytes(number))
 }
 
 pub fn push_u32(out: &mut Vec<u8>, number: u32) -> Result<(), AllocError>
     ensures { OnOk result (out.new.items ≡ out.old.items ++ u32_bytes number) }
 {
-    out.extend_from_slice(&u32_bytes(number))
+    push_bytes(out, &u32_bytes(number))
 }

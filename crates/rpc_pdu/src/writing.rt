@@ -1,5 +1,5 @@
 // The bytes of a PDU.
-ghost use Rattle.std.specs.Prelude.{◌≡◌, ◌∷◌, ◌≤◌, ◌++◌, length, All, IfOk, OnOk};
+ghost use Rattle.std.specs.Prelude.{◌≡◌, [], ◌∷◌, ◌≤◌, ◌++◌, length, All, IfOk, OnOk};
 ghost use Rattle.std.specs.List.{flat_map};
 ghost use Rattle.rpc_pdu.specs.Written.{type_of, flags_of, call_id, size_of, header_bytes, element_bytes};
 ghost use Rattle.rpc_pdu.specs.Written.{outcome_bytes, sizes_bytes, elements_bytes, outcomes_bytes, body_bytes};
@@ -10,7 +10,7 @@ ghost use Rattle.rpc_pdu.specs.Syntaxes.{syntax_bytes};
 ghost use Rattle.uuid.specs.Parts.{swap_fields};
 ghost use Rattle.rpc_pdu.specs.Laws.{IsReadBack};
 
-use crate::numbers::{push_u16, push_u32};
+use crate::numbers::{push_bytes, push_u16, push_u32};
 use crate::pdus::{Element, Outcome, Pdu};
 use crate::syntaxes::Syntax;
 use std::alloc::{AllocError, Global};
@@ -73,7 +73,7 @@ fn push_header(
 ) -> Result<(), AllocError>
     ensures { OnOk result (out.new.items ≡ out.old.items ++ header_bytes ptype flags size id) }
 {
-    out.extend_from_slice(&[5, 0, ptype, flags, 0x10, 0, 0, 0])?;
+    push_bytes(out, &[5, 0, ptype, flags, 0x10, 0, 0, 0])?;
     push_u16(out, size)?;
     push_u16(out, 0)?;
     push_u32(out, id)
@@ -84,8 +84,7 @@ fn push_uuid(out: &mut Vec<u8>, id: &[u8; 16]) -> Result<(), AllocError>
     ensures bytes { OnOk result (out.new.items ≡ out.old.items ++ swap_fields id.now) }
     ensures whole { length id.now ≡ 16 }
 {
-    out.extend_from_slice(&Uuid::from_bytes_le(*id).into_bytes())?;
-    Ok(())
+    push_bytes(out, &Uuid::from_bytes_le(*id).into_bytes())
 }
 
 #[tactic(auto, unfolding(crate::specs::Syntaxes::syntax_bytes))]
@@ -116,8 +115,7 @@ fn push_element(out: &mut Vec<u8>, element: &Element) -> Result<(), AllocError>
 {
     let transfers = element.transfers.as_slice();
     push_u16(out, element.context)?;
-    out.push(transfers.len() as u8)?;
-    out.push(0)?;
+    push_bytes(out, &[transfers.len() as u8, 0])?;
     push_syntax(out, &element.subject)?;
     push_syntaxes(out, transfers)
 }
@@ -170,7 +168,7 @@ fn push_element_list(out: &mut Vec<u8>, elements: &[Element]) -> Result<(), Allo
     ensures bytes { OnOk result (out.new.items ≡ out.old.items ++ elements_bytes elements.now) }
     ensures whole { OnOk result (All IsWholeElement elements.now) }
 {
-    out.extend_from_slice(&[elements.len() as u8, 0, 0, 0])?;
+    push_bytes(out, &[elements.len() as u8, 0, 0, 0])?;
     push_elements(out, elements)
 }
 
@@ -180,7 +178,7 @@ fn push_outcome_list(out: &mut Vec<u8>, outcomes: &[Outcome]) -> Result<(), Allo
     ensures bytes { OnOk result (out.new.items ≡ out.old.items ++ outcomes_bytes outcomes.now) }
     ensures whole { OnOk result (All IsWholeOutcome outcomes.now) }
 {
-    out.extend_from_slice(&[outcomes.len() as u8, 0, 0, 0])?;
+    push_bytes(out, &[outcomes.len() as u8, 0, 0, 0])?;
     push_outcomes(out, outcomes)
 }
 
@@ -192,8 +190,7 @@ fn push_request(out: &mut Vec<u8>, context: u16, opnum: u16, stub: &[u8]) -> Res
     push_u32(out, stub.len() as u32)?;
     push_u16(out, context)?;
     push_u16(out, opnum)?;
-    out.extend_from_slice(stub)?;
-    Ok(())
+    push_bytes(out, stub)
 }
 
 fn push_response(out: &mut Vec<u8>, context: u16, hint: u32, stub: &[u8]) -> Result<(), AllocError>
@@ -202,9 +199,8 @@ fn push_response(out: &mut Vec<u8>, context: u16, hint: u32, stub: &[u8]) -> Res
 {
     push_u32(out, hint)?;
     push_u16(out, context)?;
-    out.extend_from_slice(&[0, 0])?;
-    out.extend_from_slice(stub)?;
-    Ok(())
+    push_bytes(out, &[0, 0])?;
+    push_bytes(out, stub)
 }
 
 fn push_fault(out: &mut Vec<u8>, context: u16, status: u32) -> Result<(), AllocError>
@@ -213,9 +209,56 @@ fn push_fault(out: &mut Vec<u8>, context: u16, status: u32) -> Result<(), AllocE
 {
     push_u32(out, 0)?;
     push_u16(out, context)?;
-    out.extend_from_slice(&[0, 0])?;
+    push_bytes(out, &[0, 0])?;
     push_u32(out, status)?;
     push_u32(out, 0)
+}
+
+/// What stands behind the header of a bind and of an alter_context.
+fn push_binding(
+    out: &mut Vec<u8>,
+    xmit: u16,
+    recv: u16,
+    group: u32,
+    elements: &[Element],
+) -> Result<(), AllocError>
+    requires few { length elements.now ≤ 255 }
+    requires few_transfers { All HasFewTransfers elements.now }
+    ensures bytes { OnOk result
+        (out.new.items ≡ out.old.items ++ (sizes_bytes xmit recv group ++ elements_bytes elements.now)) }
+    ensures whole { OnOk result (All IsWholeElement elements.now) }
+{
+    push_sizes(out, xmit, recv, group)?;
+    push_element_list(out, elements)
+}
+
+/// What stands behind the header of the answers to them, with the length of the secondary address, which is 0 or a
+/// zero byte's.
+fn push_answer(
+    out: &mut Vec<u8>,
+    xmit: u16,
+    recv: u16,
+    group: u32,
+    address: u8,
+    outcomes: &[Outcome],
+) -> Result<(), AllocError>
+    requires { length outcomes.now ≤ 255 }
+    ensures bytes { OnOk result (out.new.items ≡ out.old.items
+        ++ (sizes_bytes xmit recv group ++ address ∷ 0 ∷ 0 ∷ 0 ∷ outcomes_bytes outcomes.now)) }
+    ensures whole { OnOk result (All IsWholeOutcome outcomes.now) }
+{
+    push_sizes(out, xmit, recv, group)?;
+    push_bytes(out, &[address, 0, 0, 0])?;
+    push_outcome_list(out, outcomes)
+}
+
+/// What stands behind the header of a bind_nak.
+fn push_nak(out: &mut Vec<u8>, reason: u16) -> Result<(), AllocError>
+    ensures { OnOk result
+        (out.new.items ≡ out.old.items ++ (u16_bytes reason ++ 1 ∷ 5 ∷ 0 ∷ 0 ∷ 0 ∷ 0 ∷ [])) }
+{
+    push_u16(out, reason)?;
+    push_bytes(out, &[1, 5, 0, 0, 0, 0])
 }
 
 /// What stands behind the header.
@@ -257,37 +300,22 @@ fn push_body(out: &mut Vec<u8>, pdu: &Pdu) -> Result<(), AllocError>
             group,
             elements,
             ..
-        } => {
-            push_sizes(out, *xmit, *recv, *group)?;
-            push_element_list(out, elements.as_slice())
-        }
+        } => push_binding(out, *xmit, *recv, *group, elements.as_slice()),
         Pdu::BindAck {
             xmit,
             recv,
             group,
             outcomes,
             ..
-        } => {
-            push_sizes(out, *xmit, *recv, *group)?;
-            out.extend_from_slice(&[1, 0, 0, 0])?;
-            push_outcome_list(out, outcomes.as_slice())
-        }
+        } => push_answer(out, *xmit, *recv, *group, 1, outcomes.as_slice()),
         Pdu::AlterResp {
             xmit,
             recv,
             group,
             outcomes,
             ..
-        } => {
-            push_sizes(out, *xmit, *recv, *group)?;
-            out.extend_from_slice(&[0, 0, 0, 0])?;
-            push_outcome_list(out, outcomes.as_slice())
-        }
-        Pdu::BindNak { reason, .. } => {
-            push_u16(out, *reason)?;
-            out.extend_from_slice(&[1, 5, 0, 0, 0, 0])?;
-            Ok(())
-        }
+        } => push_answer(out, *xmit, *recv, *group, 0, outcomes.as_slice()),
+        Pdu::BindNak { reason, .. } => push_nak(out, *reason),
         Pdu::Cancel { .. } | Pdu::Orphaned { .. } => Ok(()),
     }
 }
@@ -308,6 +336,6 @@ pub fn write_pdu(alloc: Global, pdu: &Pdu) -> Result<Vec<u8>, NoMemory>
     let mut out = Vec::new(alloc);
     let size = (16 + body.len()) as u16;
     push_header(&mut out, type_of(pdu), flags_of(pdu), size, call_id(pdu))?;
-    out.extend_from_slice(&body)?;
+    push_bytes(&mut out, &body)?;
     Ok(out)
 }

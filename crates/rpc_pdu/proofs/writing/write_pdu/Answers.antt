@@ -19,7 +19,7 @@ returns-clause-bytes c =
     let body : c.push_body.new.out.items ≡ body_bytes c.args.pdu.now = c.in_ok-push_body.ensures.bytes
     ∙ ap (λ (x : List ℕ). x ++ body_bytes c.args.pdu.now) c.new-body.ensures.items in
     let counted : c.len.result ≡ length c.push_body.new.out.items = search rules in
-    c.in_ok-extend_from_slice.ensures.items
+    c.in_ok-push_bytes.ensures
     ∙ ap (λ (x : List ℕ). c.push_header.new.out.items ++ x) c.deref.ensures.value
     ∙ written_from c.args.pdu.now c.type_of.result c.flags_of.result c.len.result c.call_id.result
     c.push_body.new.out.items c.push_header.new.out.items body counted c.type_of.ensures c.flags_of.ensures
