@@ -232,8 +232,8 @@ fn push_binding(
     push_element_list(out, elements)
 }
 
-/// What stands behind the header of the answers to them, with the length of the secondary address, which is 0 or a
-/// zero byte's.
+/// What stands behind the header of their answers. `address` is the length of the secondary address: 1 for the empty
+/// text with its zero byte, 0 where it is left out.
 fn push_answer(
     out: &mut Vec<u8>,
     xmit: u16,
