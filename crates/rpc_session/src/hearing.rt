@@ -2,6 +2,8 @@
 ghost use Rattle.std.specs.Prelude.{◌≡◌, ◌++◌, ◌+◌, ◌^◌, ◌<◌, ◌≤◌, [], length, drop, List, ℕ, OnOk, OnErr, IfOk, IsErr};
 ghost use Rattle.std.specs.Prelude.{IsOk};
 ghost use Rattle.rpc_session.specs.declared.hearing.Hearing.TheVariants.{Going, Ended, Lost};
+ghost use Rattle.rpc_session.specs.declared.hearing.Next.TheVariants.{Ends};
+ghost use Rattle.rpc_session.specs.Answers.{closing};
 ghost use Rattle.rpc_session.specs.Hearings.{Heard, heard_next, joined, listed, hear, is_going, on, Begins, HasRoom};
 ghost use Rattle.rpc_session.specs.Acts.{acts, IsSoFar};
 
@@ -46,6 +48,13 @@ pub enum Hearing {
     Lost,
 }
 
+/// The end after a refusal.
+fn refused(alloc: Global, place: u64, cause: u8, ptype: u8, id: u32) -> Result<Next, NoMemory>
+    ensures { IfOk result (λ last. last ≡ Ends (closing place cause ptype id)) }
+{
+    Ok(Next::Ends(closing(alloc, place, cause, ptype, id)?))
+}
+
 /// What stands in front of the bytes that are left, the first of which has this place in the stream.
 #[tactic(auto, unfolding(crate::specs::Hearings::heard_next))]
 fn heard_next(
@@ -66,18 +75,16 @@ fn heard_next(
             cause,
             ptype,
             id,
-        } => {
-            let act = closing(alloc, place + at as u64, cause, ptype, id)?;
-            Ok(Next::Ends(act))
-        }
+        } => refused(alloc, place + at as u64, cause, ptype, id),
         ReadPdu::Got {
             pdu,
             ptype,
             id,
             used: size,
-        } => match take_pdu(alloc, conn, session, pdu)? {
-            Step::Refuses(cause) => Ok(Next::Ends(closing(alloc, place, cause, ptype, id)?)),
-            Step::Goes { act, session } => Ok(Next::Goes { act, session, size }),
+        } => match take_pdu(alloc, conn, session, pdu) {
+            Ok(Step::Refuses(cause)) => refused(alloc, place, cause, ptype, id),
+            Ok(Step::Goes { act, session }) => Ok(Next::Goes { act, session, size }),
+            Err(AllocError) => Err(AllocError),
         },
     }
 }
