@@ -1,5 +1,6 @@
 // Callers in memory.
-ghost use Rattle.std.specs.Prelude.{◌≡◌, ◌<◌, ◌≤◌, [], ◌∷◌, ◌++◌, All, Some, IfOk, IfErr, OnOk, OnErr};
+ghost use Rattle.std.specs.Prelude.{◌≡◌, ◌<◌, ◌≤◌, ◌||◌, ◌==◌, [], ◌∷◌, ◌++◌, All, Some, IfOk, IfErr, OnOk, OnErr, length};
+ghost use Rattle.acct_streams.specs.Memory.{is_among};
 ghost use Rattle.acct_links.specs.Callers.{TakeCause, called_after};
 ghost use Rattle.acct_links.specs.declared.callers.TakeError.TheVariants.{NoMemory};
 ghost use Rattle.acct_links.specs.Links.{IsNew};
@@ -20,6 +21,23 @@ fn add_address(alloc: Global, called: &mut Vec<Seq<u8>>, address: &str) -> Resul
 {
     called.push(Seq::copy_of(alloc, address.as_bytes())?)?;
     Ok(())
+}
+
+// Whether a call fails: its number is one of those that fail, or no link is left.
+fn must_fail<L>(failing: &[u64], call: u64, links: &VecDeque<L>) -> bool
+    ensures { result ≡ (is_among failing.now call || length links.now.items == 0) }
+{
+    failing.contains(&call) || links.is_empty()
+}
+
+fn take_first<L>(links: &mut VecDeque<L>) -> L
+    requires { 0 < length links.old.items }
+    ensures { links.old.items ≡ result ∷ links.new.items }
+{
+    match links.pop_front() {
+        Some(link) => link,
+        None => unreachable!(),
+    }
 }
 
 /// A caller in memory, which gives its links one after another, whatever the address. Its calls are numbered from 1,
@@ -97,15 +115,12 @@ impl<L: Link + Drop> Caller for MemoryCaller<L> {
         ensures call { CallsInMemory self.old self.new result }
     {
         self.calls = one_more(self.calls);
-        if self.failing.contains(&self.calls) || self.links.is_empty() {
+        if must_fail(&self.failing, self.calls, &self.links) {
             self.fault_count = one_more(self.fault_count);
             return Err(TakeError::Failed);
         }
         add_address(self.alloc, &mut self.called, address)?;
-        match self.links.pop_front() {
-            Some(link) => Ok(link),
-            None => unreachable!(),
-        }
+        Ok(take_first(&mut self.links))
     }
 }
 

@@ -1,7 +1,8 @@
 -- `next` meets its contract: what the search leaves open.
-use Rattle.std.proofs.Common.{List, drop, ap, arith, length-drop}
+use Rattle.std.proofs.Common.{List, drop, length, sym, ap, ◌∙◌, arith, length-drop}
 use Rattle.std.proofs.lemmas.List.Elements.{All-drop}
 use Rattle.acct_links.specs.Links.{IsNew}
+use Rattle.acct_links.specs.MemoryDoors.{SteadyDoorInMemory}
 use Rattle.acct_links.proofs.memory_doors.SteadyDoorDoor.next.Goals as goal
 
 pub invariant_of-self : goal.invariant_of-self
@@ -18,3 +19,16 @@ invariant_of-self g c =
 pub returns-in-Some-clause-to_come : goal.returns-in-Some-clause-to_come
 returns-in-Some-clause-to_come g c = rw c.pop_front.ensures.rest
     (All-drop (λ link. IsNew (g.L.Link.told link)) 1 c.self.inside.links.items c.self.invariant.3)
+
+pub returns-in-Some-clause-coming : goal.returns-in-Some-clause-coming
+returns-in-Some-clause-coming g c =
+    sym (ap (λ (shown : SteadyDoorInMemory g.row.L.Denot). shown.coming) c.self.view_is) ∙ c.in-Some.ensures.items
+
+pub returns-in-Some-clause-always : goal.returns-in-Some-clause-always
+returns-in-Some-clause-always g c closed =
+    let is_closed = ap (λ (shown : SteadyDoorInMemory g.row.L.Denot). shown.closed) c.self.view_is ∙ closed in
+    cc (c.self.invariant.2 is_closed, c.in-Some.ensures.items)
+
+pub returns-in-Some-clause-lent : goal.returns-in-Some-clause-lent
+returns-in-Some-clause-lent g c =
+    omega (arith, c.self.invariant.0, ap (λ (xs : List g.row.L.Denot). length xs) c.in-Some.ensures.items)
