@@ -1,7 +1,12 @@
 -- Doors that are made by plans one after another.
 use Rattle.std.proofs.Common.{◌≡◌, ℕ, zero, suc, arith, ◌∷◌, ◌+◌, ◌-◌, ◌<◌, List, [], ◌++◌, drop, length, All}
-use Rattle.std.proofs.Common.{refl, sym, ◌∙◌, ap, append_assoc}
+use Rattle.std.proofs.Common.{refl, sym, ◌∙◌, ap, append_assoc, subst, false, Result, Ok, Err, IfOk, IfErr}
 use Rattle.std.proofs.lemmas.List.Elements.{All-nil, All-cons, All-head}
+use Rattle.std.proofs.lemmas.Bool.{false≢true}
+use Rattle.acct_keeper.specs.Causes.{KeepCause}
+use Rattle.acct_keeper.specs.Memory.{is_fault}
+use Rattle.acct_keeper.specs.declared.keeper.KeepError.{KeepError}
+use Rattle.acct_keeper.specs.declared.keeper.KeepError.TheVariants.{Failed, NoMemory}
 use Rattle.acct_links.specs.MemoryDoors.{dealt, first_or}
 
 module _ {P D : Type 0} (make : P → D) (other : P) where
@@ -45,3 +50,16 @@ pub first-has : {P : Type 0} (Q : P → Type 0) (other : P) (plans : List P) →
     → Q (first_or other plans)
 first-has Q other [] of_other each = of_other
 first-has Q other (plan ∷ plans) of_other each = All-head Q plan plans each
+
+-- what holds of the doors that were made holds of those that are given
+pub given-are : {V D E : Type 0} (result : Result V E) (items : V → List D) (Q : List D → Type 0) (made : List D)
+    → Q made → IfOk result (λ given. items given ≡ made) → IfOk result (λ given. Q (items given))
+given-are (Ok given) items Q made holds same = subst Q (sym same) holds
+given-are (Err e) items Q made holds same = tt
+
+-- what isn't a fault has its cause
+pub free-cause : {T : Type 0} (result : Result T KeepError) (before now : ℕ) → is_fault result ≡ false
+    → IfErr result (KeepCause before now)
+free-cause (Ok x) before now free = tt
+free-cause (Err Failed) before now free = absurd (false≢true (sym free))
+free-cause (Err NoMemory) before now free = tt

@@ -1,6 +1,7 @@
 // Entrances in memory.
 ghost use Rattle.std.specs.Prelude.{◌≡◌, ◌<◌, ◌≤◌, [], ◌∷◌, All, Some, false, length, drop, IfOk, IfErr, OnErr};
 ghost use Rattle.acct_keeper.specs.Causes.{KeepCause};
+ghost use Rattle.acct_keeper.specs.Memory.{is_fault};
 ghost use Rattle.acct_keeper.specs.declared.keeper.KeepError.TheVariants.{NoMemory};
 ghost use Rattle.acct_links.specs.Doors.{asked_after};
 ghost use Rattle.acct_links.specs.Links.{IsNew};
@@ -66,6 +67,26 @@ fn make_doors<L: Link + Drop>(
         let plan = next_plan(alloc, plans);
         doors.push(make_door(alloc, listener, plan)?)?;
     }
+    Ok(doors)
+}
+
+// Notes an asking that is answered with doors, and gives them back. After want of memory nothing is noted.
+fn answer_with<D: Drop>(
+    alloc: Global,
+    asked: &mut Vec<Asking>,
+    listener: u32,
+    address: &str,
+    workers: u32,
+    links: u64,
+    doors: Vec<D>,
+) -> Result<Vec<D>, KeepError>
+    ensures doors { IfOk result (λ given. given.items ≡ doors.items) }
+    ensures asked { Some asked.new.items ≡ asked_after (Some asked.old.items)
+        (record { listener = listener; address = address.now; workers = workers; links = links }) result }
+    ensures cause { IfErr result (λ e. e ≡ NoMemory) }
+    ensures free { is_fault result ≡ false }
+{
+    add_asking(alloc, asked, listener, address, workers, links)?;
     Ok(doors)
 }
 
@@ -160,16 +181,16 @@ impl<L: Link + Drop> Entrance for MemoryEntrance<L> {
             self.fault_count = one_more(self.fault_count);
             return Err(KeepError::Failed);
         }
-        let doors = make_doors(self.alloc, listener, workers, &mut self.plans)?;
-        add_asking(
+        let made = make_doors(self.alloc, listener, workers, &mut self.plans)?;
+        answer_with(
             self.alloc,
             &mut self.asked,
             listener,
             address,
             workers,
             links,
-        )?;
-        Ok(doors)
+            made,
+        )
     }
 }
 
@@ -260,15 +281,15 @@ impl<L: Link + Drop> Entrance for SteadyEntrance<L> {
             (record { listener = listener; address = address.now; workers = workers; links = links }) result }
         ensures cause { IfErr result (λ e. e ≡ NoMemory) }
     {
-        let doors = steady_doors(self.alloc, listener, workers, &mut self.plans)?;
-        add_asking(
+        let made = steady_doors(self.alloc, listener, workers, &mut self.plans)?;
+        answer_with(
             self.alloc,
             &mut self.asked,
             listener,
             address,
             workers,
             links,
-        )?;
-        Ok(doors)
+            made,
+        )
     }
 }
