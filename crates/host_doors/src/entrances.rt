@@ -6,7 +6,7 @@ ghost use Rattle.acct_keeper.specs.Causes.{KeepCause};
 ghost use Rattle.acct_keeper.specs.Memory.{is_fault};
 ghost use Rattle.acct_links.specs.Memory.{faults_after};
 ghost use Rattle.host_doors.specs.Doors.{IsDoor};
-ghost use Rattle.host_doors.specs.Troubles.{advice_of, answered};
+ghost use Rattle.host_doors.specs.Troubles.{advice_of, answered, keep_error_of};
 
 use crate::binding::listen;
 use crate::doors::HostDoor;
@@ -103,6 +103,15 @@ fn open<R: Net + Files>(
     Ok((place, doors))
 }
 
+fn keep_error_of(error: io::Error) -> KeepError
+    ensures { result ≡ keep_error_of (error_kind error) }
+{
+    match error.kind() {
+        io::ErrorKind::OutOfMemory => KeepError::NoMemory,
+        _ => KeepError::Failed,
+    }
+}
+
 impl<'a, R: Net + Files> HostEntrance<'a, R> {
     // What is answered where a listener has its doors, or none by the system's reason.
     fn answer(
@@ -123,16 +132,18 @@ impl<'a, R: Net + Files> HostEntrance<'a, R> {
                 self.place = Some(place);
                 Ok(doors)
             }
-            Err(error) if error.kind() == io::ErrorKind::OutOfMemory => Err(KeepError::NoMemory),
-            Err(error) => {
-                self.fault_count = self.fault_count.saturating_add(1);
-                self.trouble = Some(DoorTrouble::NotBound {
-                    address,
-                    error,
-                    advice: advice_of(error),
-                });
-                Err(KeepError::Failed)
-            }
+            Err(error) => match keep_error_of(error) {
+                KeepError::NoMemory => Err(KeepError::NoMemory),
+                KeepError::Failed => {
+                    self.fault_count = self.fault_count.saturating_add(1);
+                    self.trouble = Some(DoorTrouble::NotBound {
+                        address,
+                        error,
+                        advice: advice_of(error),
+                    });
+                    Err(KeepError::Failed)
+                }
+            },
         }
     }
 }
