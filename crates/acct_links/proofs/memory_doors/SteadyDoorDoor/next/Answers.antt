@@ -1,6 +1,6 @@
 -- `next` meets its contract: what the search leaves open.
-use Rattle.std.proofs.Common.{List, drop, length, sym, ap, ◌∙◌, arith, length-drop}
-use Rattle.std.proofs.lemmas.List.Elements.{All-drop}
+use Rattle.std.proofs.Common.{List, All, drop, length, sym, subst, ap, ◌∙◌, arith, length-drop}
+use Rattle.std.proofs.lemmas.List.Elements.{All-drop, All-head}
 use Rattle.acct_links.specs.Links.{IsNew}
 use Rattle.acct_links.specs.MemoryDoors.{SteadyDoorInMemory}
 use Rattle.acct_links.proofs.memory_doors.SteadyDoorDoor.next.Goals as goal
@@ -32,3 +32,8 @@ returns-in-Some-clause-always g c closed =
 pub returns-in-Some-clause-lent : goal.returns-in-Some-clause-lent
 returns-in-Some-clause-lent g c =
     omega (arith, c.self.invariant.0, ap (λ (xs : List g.row.L.Denot). length xs) c.in-Some.ensures.items)
+
+pub returns-in-Some-clause-new : goal.returns-in-Some-clause-new
+returns-in-Some-clause-new g c = All-head (λ link. IsNew (g.L.Link.told link)) c.in-Some.link c.pop_front.new.self.items
+    (subst (λ (links : List g.row.L.Denot). All (λ link. IsNew (g.L.Link.told link)) links) c.in-Some.ensures.items
+    c.self.invariant.3)
