@@ -1,5 +1,6 @@
 // Callers in memory.
-ghost use Rattle.std.specs.Prelude.{◌≡◌, ◌<◌, ◌≤◌, ◌||◌, ◌==◌, [], ◌∷◌, ◌++◌, All, Some, IfOk, IfErr, OnOk, OnErr, length};
+ghost use Rattle.std.specs.Prelude.{◌≡◌, ◌<◌, ◌≤◌, ◌||◌, ◌==◌, [], ◌∷◌, ◌++◌, All, length};
+ghost use Rattle.std.specs.Prelude.{Some, IfOk, IfErr, OnOk, OnErr};
 ghost use Rattle.acct_streams.specs.Memory.{is_among};
 ghost use Rattle.acct_links.specs.Callers.{TakeCause, called_after};
 ghost use Rattle.acct_links.specs.declared.callers.TakeError.TheVariants.{NoMemory};

@@ -15,19 +15,22 @@ returns-clause-count g c = given-are c.answer_with.result (λ doors. doors.items
 pub returns-clause-listener : goal.returns-clause-listener
 returns-clause-listener g c = given-are c.answer_with.result (λ doors. doors.items)
     (λ doors. All (λ door. door.door.listener ≡ c.args.listener) doors) c.in_ok-made.made.items
-    (rw c.in_ok-made.ensures.doors (dealt-each (door_of c.args.listener) plain (λ door. door.door.listener ≡ c.args.listener) c.args.workers
+    (rw c.in_ok-made.ensures.doors (dealt-each (door_of c.args.listener) plain
+    (λ door. door.door.listener ≡ c.args.listener) c.args.workers
     c.self.inside.plans.items (λ plan. refl))) c.answer_with.ensures.doors
 
 pub returns-clause-open : goal.returns-clause-open
 returns-clause-open g c = given-are c.answer_with.result (λ doors. doors.items)
     (λ doors. All (λ door. door.door.closed ≡ false) doors) c.in_ok-made.made.items
-    (rw c.in_ok-made.ensures.doors (dealt-each (door_of c.args.listener) plain (λ door. door.door.closed ≡ false) c.args.workers
+    (rw c.in_ok-made.ensures.doors (dealt-each (door_of c.args.listener) plain
+    (λ door. door.door.closed ≡ false) c.args.workers
     c.self.inside.plans.items (λ plan. refl))) c.answer_with.ensures.doors
 
 pub returns-clause-unused : goal.returns-clause-unused
 returns-clause-unused g c = given-are c.answer_with.result (λ doors. doors.items)
     (λ doors. All (λ door. door.door.finished ≡ []) doors) c.in_ok-made.made.items
-    (rw c.in_ok-made.ensures.doors (dealt-each (door_of c.args.listener) plain (λ door. door.door.finished ≡ []) c.args.workers
+    (rw c.in_ok-made.ensures.doors (dealt-each (door_of c.args.listener) plain
+    (λ door. door.door.finished ≡ []) c.args.workers
     c.self.inside.plans.items (λ plan. refl))) c.answer_with.ensures.doors
 
 pub returns-clause-doors : goal.returns-clause-doors

@@ -15,7 +15,8 @@ returns-clause-count g c = given-are c.answer_with.result (λ doors. doors.items
 pub returns-clause-listener : goal.returns-clause-listener
 returns-clause-listener g c = given-are c.answer_with.result (λ doors. doors.items)
     (λ doors. All (λ door. door.listener ≡ c.args.listener) doors) c.in_ok-made.made.items
-    (rw c.in_ok-made.ensures.doors (dealt-each (opened c.args.listener) [] (λ door. door.listener ≡ c.args.listener) c.args.workers
+    (rw c.in_ok-made.ensures.doors (dealt-each (opened c.args.listener) []
+    (λ door. door.listener ≡ c.args.listener) c.args.workers
     c.self.inside.plans.items (λ plan. refl))) c.answer_with.ensures.doors
 
 pub returns-clause-open : goal.returns-clause-open
@@ -34,7 +35,8 @@ pub returns-clause-doors : goal.returns-clause-doors
 returns-clause-doors g c = given-are c.answer_with.result (λ doors. doors.items)
     (λ doors. doors ≡ dealt (opened c.args.listener) [] c.args.workers c.args.self.now.plans)
     c.in_ok-made.made.items (c.in_ok-made.ensures.doors
-    ∙ ap (λ (shown : SteadyEntranceInMemory g.row.L.Denot). dealt (opened c.args.listener) [] c.args.workers shown.plans)
+    ∙ ap (λ (shown : SteadyEntranceInMemory g.row.L.Denot).
+    dealt (opened c.args.listener) [] c.args.workers shown.plans)
     c.self.view_is) c.answer_with.ensures.doors
 
 pub returns-clause-asked : goal.returns-clause-asked
