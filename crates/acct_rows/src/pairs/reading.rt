@@ -6,6 +6,7 @@ ghost use Rattle.acct_rows.specs.Stored.{Reads, ReadsWhole, only_if, is_end, dom
 ghost use Rattle.acct_rows.specs.Stored.{lettered, row_key};
 ghost use Rattle.acct_rows.specs.Stored.{domain_key_of, account_key_of, member_key_of, alias_key_of, lsa_key_of};
 ghost use Rattle.acct_rows.specs.Stored.{domain_of, account_of, member_of, alias_of, lsa_of, valued, row_of};
+ghost use Rattle.acct_rows.specs.Behind.{named_domain, named_account};
 
 use super::fields::{Fields, Unread};
 use crate::row::{AccountRow, AliasRow, DomainRow, Held, LsaRow, MemberRow, Row, RowKey};
@@ -142,13 +143,28 @@ fn read_value(alloc: Global, key: &RowKey, value: &[u8]) -> Result<Row, Unread>
     }
 }
 
-#[tactic(auto, unfolding(crate::specs::Stored::domain_of))]
+#[tactic(auto, unfolding(crate::specs::Stored::domain_of, crate::specs::Behind::named_domain))]
 fn read_domain(alloc: Global, number: u8, mut fields: Fields<'_>) -> Result<Row, Unread>
     ensures { ReadsWhole result (domain_of number fields.entry) }
 {
     let next_rid = fields.number()?;
     let size = fields.byte()?;
     let sid = fields.sid()?;
+    read_named_domain(alloc, number, next_rid, size, sid, fields)
+}
+
+// The domain with its texts, which stand behind its other fields.
+#[tactic(auto, unfolding(crate::specs::Behind::named_domain))]
+fn read_named_domain(
+    alloc: Global,
+    number: u8,
+    next_rid: u32,
+    size: u8,
+    sid: Sid,
+    mut fields: Fields<'_>,
+) -> Result<Row, Unread>
+    ensures { ReadsWhole result (named_domain number next_rid size sid fields.entry) }
+{
     let name = fields.text(alloc)?;
     let oem = fields.text(alloc)?;
     if usize::from(size) != 8 + 4 * sid.subs().len() {
@@ -175,7 +191,7 @@ fn kind_of_byte(byte: u8) -> Result<Kind, Unread>
     }
 }
 
-#[tactic(auto, unfolding(crate::specs::Stored::account_of))]
+#[tactic(auto, unfolding(crate::specs::Stored::account_of, crate::specs::Behind::named_account))]
 fn read_account(alloc: Global, domain: u8, rid: u32, mut fields: Fields<'_>) -> Result<Row, Unread>
     ensures { ReadsWhole result (account_of domain rid fields.entry) }
 {
@@ -183,6 +199,22 @@ fn read_account(alloc: Global, domain: u8, rid: u32, mut fields: Fields<'_>) -> 
     let kind = kind_of_byte(byte)?;
     let bits = fields.number()?;
     let primary = fields.number()?;
+    read_named_account(alloc, domain, rid, kind, bits, primary, fields)
+}
+
+// The account with its texts, which stand behind its other fields.
+#[tactic(auto, unfolding(crate::specs::Behind::named_account))]
+fn read_named_account(
+    alloc: Global,
+    domain: u8,
+    rid: u32,
+    kind: Kind,
+    bits: u32,
+    primary: u32,
+    mut fields: Fields<'_>,
+) -> Result<Row, Unread>
+    ensures { ReadsWhole result (named_account domain rid kind bits primary fields.entry) }
+{
     let name = fields.text(alloc)?;
     let full_name = fields.text(alloc)?;
     let comment = fields.text(alloc)?;

@@ -59,41 +59,42 @@ fn push_sid(out: &mut Vec<u8>, sid: &Sid) -> Result<(), AllocError>
     out.extend_from_slice(&bytes[..size])
 }
 
-/// The key of a row in its pair.
-pub fn key_bytes(alloc: Global, key: &RowKey) -> Result<Seq<u8>, AllocError>
-    ensures { IfOk result (λ bytes. bytes ≡ stored_key key.now) }
+fn push_key(out: &mut Vec<u8>, key: &RowKey) -> Result<(), AllocError>
+    ensures { OnOk result (out.new.items ≡ out.old.items ++ stored_key key.now) }
 {
-    let mut out = Vec::new(alloc);
     match *key {
-        RowKey::Domain(number) => {
-            out.push(b'd')?;
-            out.push(number)?;
-        }
+        RowKey::Domain(number) => out.extend_from_slice(&[b'd', number]),
         RowKey::Account { domain, rid } => {
-            out.push(b'a')?;
-            out.push(domain)?;
-            push_rid(&mut out, rid)?;
+            out.extend_from_slice(&[b'a', domain])?;
+            push_rid(out, rid)
         }
         RowKey::Member { group, user } => {
             out.push(b'm')?;
-            push_rid(&mut out, group)?;
-            push_rid(&mut out, user)?;
+            push_rid(out, group)?;
+            push_rid(out, user)
         }
         RowKey::Alias {
             domain,
             alias,
             member,
         } => {
-            out.push(b'l')?;
-            out.push(domain)?;
-            push_rid(&mut out, alias)?;
-            push_sid(&mut out, &member)?;
+            out.extend_from_slice(&[b'l', domain])?;
+            push_rid(out, alias)?;
+            push_sid(out, &member)
         }
         RowKey::Lsa(sid) => {
             out.push(b's')?;
-            push_sid(&mut out, &sid)?;
+            push_sid(out, &sid)
         }
     }
+}
+
+/// The key of a row in its pair.
+pub fn key_bytes(alloc: Global, key: &RowKey) -> Result<Seq<u8>, AllocError>
+    ensures { IfOk result (λ bytes. bytes ≡ stored_key key.now) }
+{
+    let mut out = Vec::new(alloc);
+    push_key(&mut out, key)?;
     Ok(Seq::from_vec(out))
 }
 
