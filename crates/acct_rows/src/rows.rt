@@ -24,12 +24,12 @@ use crate::groups::{ByUser, Members};
 use crate::keyed::Table;
 use crate::plan::Plan;
 use crate::row::{AccountRow, AliasRow, DomainRow, LsaRow, MemberRow, Row, RowKey};
-use crate::seed::{seed_accounts, seed_aliases, seed_domains, seed_members};
 use acct_base::Seq;
 use acct_calls::{Name, NoMemory, Rids, Sids};
 use dtyp_sid::Sid;
 use std::alloc::Global;
 use std::marker::Model;
+use tables::Tables;
 
 /// The rows of the account database. A contract sees their lists by ascending key, and for how many more rows there
 /// is room.
@@ -77,28 +77,37 @@ impl Rows {
     {
         name.has_units();
         sid.keeps_limits();
-        Ok(Rows {
-            domains: Table::from_rows(seed_domains(alloc, name, sid)?),
-            accounts: Accounts::from_rows(alloc, seed_accounts(alloc)?)?,
-            members: Members::from_rows(alloc, seed_members(alloc)?)?,
-            aliases: Aliases::from_rows(alloc, seed_aliases(alloc, sid)?)?,
-            lsa: Table::new(alloc),
-            spare: 0,
-        })
+        let tables = Tables::seed(alloc, name, sid)?;
+        tables.into_rows(alloc)
     }
 
     /// Rows with equal lists of their own. It takes time as there are rows.
     pub fn copy(&self, alloc: Global) -> Result<Rows, NoMemory>
         ensures { IfOk result (λ copy. copy.lists ≡ self.now.lists) }
     {
+        let domains = Table::from_rows(copy_domains(alloc, self.domains.rows())?);
+        let lsa = Table::from_rows(copy_lsa(alloc, self.lsa.rows())?);
+        let (accounts, members, aliases) = self.copy_indexed(alloc)?;
         Ok(Rows {
-            domains: Table::from_rows(copy_domains(alloc, self.domains.rows())?),
-            accounts: self.accounts.copy(alloc)?,
-            members: self.members.copy(alloc)?,
-            aliases: self.aliases.copy(alloc)?,
-            lsa: Table::from_rows(copy_lsa(alloc, self.lsa.rows())?),
+            domains,
+            accounts,
+            members,
+            aliases,
+            lsa,
             spare: 0,
         })
+    }
+
+    // Copies of the lists that have indexes.
+    fn copy_indexed(&self, alloc: Global) -> Result<(Accounts, Members, Aliases), NoMemory>
+        ensures accounts { IfOk result (λ copies. copies.0.0 ≡ self.now.lists.accounts) }
+        ensures members { IfOk result (λ copies. copies.1.0 ≡ self.now.lists.members) }
+        ensures aliases { IfOk result (λ copies. copies.2.0 ≡ self.now.lists.aliases) }
+    {
+        let aliases = self.aliases.copy(alloc)?;
+        let members = self.members.copy(alloc)?;
+        let accounts = self.accounts.copy(alloc)?;
+        Ok((accounts, members, aliases))
     }
 }
 

@@ -1,7 +1,9 @@
 // The rows as they are loaded: tables alone, whose indexes are made at once when all rows are there.
-ghost use Rattle.std.specs.Prelude.{◌≡◌, ◌+◌, ◌<◌, ◌≤◌, IfOk, OnOk};
+ghost use Rattle.std.specs.Prelude.{◌≡◌, ◌+◌, ◌<◌, ◌≤◌, true, IfOk, OnOk};
+ghost use Rattle.acct_calls.specs.Domains.{is_domain_name, is_domain_sid};
 ghost use Rattle.acct_rows.specs.Loading.{no_lists};
 ghost use Rattle.acct_rows.specs.Rows.{put_row};
+ghost use Rattle.acct_rows.specs.Seed.{seed_lists};
 
 use super::Rows;
 use crate::accounts::Accounts;
@@ -9,7 +11,9 @@ use crate::aliases::Aliases;
 use crate::groups::Members;
 use crate::keyed::Table;
 use crate::row::{AccountRow, AliasRow, DomainRow, LsaRow, MemberRow, Row};
-use acct_calls::NoMemory;
+use crate::seed::{seed_accounts, seed_aliases, seed_domains, seed_members};
+use acct_calls::{Name, NoMemory};
+use dtyp_sid::Sid;
 use std::alloc::Global;
 use std::marker::Model;
 
@@ -64,6 +68,22 @@ impl Tables {
         }
     }
 
+    /// The rows that a database without rows begins with, for an account domain of that name and SID.
+    pub fn seed(alloc: Global, name: &Name, sid: Sid) -> Result<Tables, NoMemory>
+        requires name { is_domain_name name.now ≡ true }
+        requires sid { is_domain_sid sid ≡ true }
+        ensures { IfOk result (λ tables. tables.lists ≡ seed_lists name.now sid) }
+    {
+        Ok(Tables {
+            domains: Table::from_rows(seed_domains(alloc, name, sid)?),
+            accounts: Table::from_rows(seed_accounts(alloc)?),
+            members: Table::from_rows(seed_members(alloc)?),
+            aliases: Table::from_rows(seed_aliases(alloc, sid)?),
+            lsa: Table::new(alloc),
+            spare: 0,
+        })
+    }
+
     /// Makes room for as many puts.
     pub fn reserve(&mut self, puts: usize) -> Result<(), NoMemory>
         ensures lists { self.new.lists ≡ self.old.lists }
@@ -100,13 +120,36 @@ impl Tables {
     pub fn into_rows(self, alloc: Global) -> Result<Rows, NoMemory>
         ensures { IfOk result (λ rows. rows.lists ≡ self.lists) }
     {
+        let (accounts, members, aliases) = indexed(
+            alloc,
+            self.accounts,
+            self.members,
+            self.aliases,
+        )?;
         Ok(Rows {
             domains: self.domains,
-            accounts: Accounts::from_rows(alloc, self.accounts.into_rows())?,
-            members: Members::from_rows(alloc, self.members.into_rows())?,
-            aliases: Aliases::from_rows(alloc, self.aliases.into_rows())?,
+            accounts,
+            members,
+            aliases,
             lsa: self.lsa,
             spare: 0,
         })
     }
+}
+
+// The tables that have indexes, with those.
+fn indexed(
+    alloc: Global,
+    accounts: Table<AccountRow>,
+    members: Table<MemberRow>,
+    aliases: Table<AliasRow>,
+) -> Result<(Accounts, Members, Aliases), NoMemory>
+    ensures accounts { IfOk result (λ indexed. indexed.0.0 ≡ accounts.0) }
+    ensures members { IfOk result (λ indexed. indexed.1.0 ≡ members.0) }
+    ensures aliases { IfOk result (λ indexed. indexed.2.0 ≡ aliases.0) }
+{
+    let aliases = Aliases::from_rows(alloc, aliases.into_rows())?;
+    let members = Members::from_rows(alloc, members.into_rows())?;
+    let accounts = Accounts::from_rows(alloc, accounts.into_rows())?;
+    Ok((accounts, members, aliases))
 }
