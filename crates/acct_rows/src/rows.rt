@@ -24,12 +24,12 @@ use crate::groups::{ByUser, Members};
 use crate::keyed::Table;
 use crate::plan::Plan;
 use crate::row::{AccountRow, AliasRow, DomainRow, LsaRow, MemberRow, Row, RowKey};
+use crate::rows::tables::Tables;
 use acct_base::Seq;
 use acct_calls::{Name, NoMemory, Rids, Sids};
 use dtyp_sid::Sid;
 use std::alloc::Global;
 use std::marker::Model;
-use tables::Tables;
 
 /// The rows of the account database. A contract sees their lists by ascending key, and for how many more rows there
 /// is room.

@@ -1,6 +1,6 @@
 // Pairs as rows.
-ghost use Rattle.std.specs.Prelude.{◌≡◌, ◌+◌, ◌^◌, ◌<◌, ◌≤◌, true, [], ◌∷◌, All, find, option_map};
-ghost use Rattle.std.specs.Prelude.{IfOk, IfErr, OnOk};
+ghost use Rattle.std.specs.Prelude.{◌≡◌, ◌+◌, ◌^◌, ◌<◌, ◌≤◌, true, [], ◌∷◌, All, find, length, map, option_map};
+ghost use Rattle.std.specs.Prelude.{not, is_some, IfOk, IfErr, OnOk};
 ghost use Rattle.acct_keeper.specs.Pairs.{same_key};
 ghost use Rattle.std.specs.List.{list_any};
 ghost use Rattle.std.specs.List.Sorted.{IsPermutation};
@@ -9,7 +9,7 @@ ghost use Rattle.acct_rows.specs.declared.pairs.loading.PairsError.TheVariants.{
 ghost use Rattle.acct_rows.specs.Keyed.{is_ascending};
 ghost use Rattle.acct_rows.specs.Loading.{BadPairs, IsReadWell, IsLoaded, somes, loaded, smaller, first_missing};
 ghost use Rattle.acct_rows.specs.Loading.{smallest_broken};
-ghost use Rattle.acct_rows.specs.PairRules.{pair_key, is_format, is_broken_pair, AreUnbroken};
+ghost use Rattle.acct_rows.specs.PairRules.{pair_key, pair_at, is_format, is_broken_pair, AreUnbroken};
 ghost use Rattle.acct_rows.specs.PairsOf.{HoldPairs, keys_differ};
 ghost use Rattle.acct_rows.specs.Rows.{with_puts};
 ghost use Rattle.acct_rows.specs.Sound.{IsSoundRows};
@@ -91,6 +91,18 @@ fn put_read(alloc: Global, rows: &mut Tables, pair: &Pair) -> Result<(), NoMemor
     }
 }
 
+// The rows with those that pairs spell, each put in its place, for which there must be room.
+fn put_reads(alloc: Global, rows: &mut Tables, pairs: &[Pair]) -> Result<(), NoMemory>
+    requires { length pairs.now ≤ rows.old.spare }
+    ensures rows { OnOk result (rows.new.lists ≡ with_puts (somes (map row_of pairs.now)) rows.old.lists) }
+    ensures spelled { OnOk result (All IsReadWell pairs.now) }
+{
+    for pair in pairs {
+        put_read(alloc, rows, pair)?;
+    }
+    Ok(())
+}
+
 // The rows that the pairs spell, each put in its place, and then their indexes.
 fn load(alloc: Global, pairs: &[Pair]) -> Result<Rows, NoMemory>
     ensures rows { IfOk result (λ rows. rows.lists ≡ loaded pairs.now) }
@@ -98,9 +110,7 @@ fn load(alloc: Global, pairs: &[Pair]) -> Result<Rows, NoMemory>
 {
     let mut rows = Tables::new(alloc);
     rows.reserve(pairs.len())?;
-    for pair in pairs {
-        put_read(alloc, &mut rows, pair)?;
-    }
+    put_reads(alloc, &mut rows, pairs)?;
     rows.into_rows(alloc)
 }
 
@@ -138,6 +148,16 @@ fn first_broken<'a>(
     Ok(None)
 }
 
+// The key, where no pair has it.
+fn missing(store: &Store<'_>, key: Seq<u8>) -> Option<Seq<u8>>
+    ensures { result ≡ find (λ k. not (is_some (pair_at k store.now))) (key ∷ []) }
+{
+    if store.has(key.as_slice()) {
+        return None;
+    }
+    Some(key)
+}
+
 // The first needed key that has no pair.
 fn first_missing(alloc: Global, store: &Store<'_>) -> Result<Option<Seq<u8>>, NoMemory>
     ensures { IfOk result (λ key. key ≡ first_missing store.now) }
@@ -146,23 +166,16 @@ fn first_missing(alloc: Global, store: &Store<'_>) -> Result<Option<Seq<u8>>, No
         domain: ACCOUNT_DOMAIN,
         rid: DOMAIN_GROUP_RID_USERS,
     };
-    let users = key_bytes(alloc, &users)?;
-    if !store.has(users.as_slice()) {
-        return Ok(Some(users));
+    if let Some(key) = missing(store, key_bytes(alloc, &users)?) {
+        return Ok(Some(key));
     }
-    let account = key_bytes(alloc, &RowKey::Domain(ACCOUNT_DOMAIN))?;
-    if !store.has(account.as_slice()) {
-        return Ok(Some(account));
+    if let Some(key) = missing(store, key_bytes(alloc, &RowKey::Domain(ACCOUNT_DOMAIN))?) {
+        return Ok(Some(key));
     }
-    let builtin = key_bytes(alloc, &RowKey::Domain(BUILTIN_DOMAIN))?;
-    if !store.has(builtin.as_slice()) {
-        return Ok(Some(builtin));
+    if let Some(key) = missing(store, key_bytes(alloc, &RowKey::Domain(BUILTIN_DOMAIN))?) {
+        return Ok(Some(key));
     }
-    let format = format_pair(alloc)?.key;
-    if !store.has(format.as_slice()) {
-        return Ok(Some(format));
-    }
-    Ok(None)
+    Ok(missing(store, format_pair(alloc)?.key))
 }
 
 fn key_of(alloc: Global, pair: Option<&Pair>) -> Result<Option<Seq<u8>>, NoMemory>

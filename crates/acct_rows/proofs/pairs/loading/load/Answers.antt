@@ -1,39 +1,18 @@
--- `load` meets its contract: pairs are loaded one by one.
-use Rattle.std.proofs.Common.{◌≡◌, ◌+◌, drop, map, sym, ap, ◌∙◌, rules}
+-- `load` meets its contract: what is put in its place are the rows that are loaded.
+use Rattle.std.proofs.Common.{◌≡◌, rules}
 use Rattle.std.specs.Prelude.{All, OnOk, Result, Ok, Err}
-use Rattle.acct_rows.specs.Loading.{IsReadWell, loaded, somes}
-use Rattle.acct_rows.specs.Rows.{Lists, with_puts}
-use Rattle.acct_rows.specs.Stored.{row_of}
-use Rattle.acct_rows.proofs.Loaded.{next_loaded, all_loaded, next_read}
+use Rattle.acct_rows.specs.Loading.{IsReadWell, loaded}
 use Rattle.acct_rows.proofs.pairs.loading.load.Goals as goal
 
 either_way : {T E : Type 0} (r : Result T E) (P : Type 0) → P → OnOk r P
 either_way (Ok x) P p = p
 either_way (Err e) P p = tt
 
-pub loop-pair-preserved : goal.loop-pair-preserved
-loop-pair-preserved c =
-    let pairs = c.args.pairs.now in
-    let i = c.loop-pair.pair-index in
-    record {
-      rest = ap (λ (lists : Lists). with_puts (somes (map row_of (drop (i + 1) pairs))) lists)
-          c.in_ok-put_read.ensures.rows
-          ∙ next_loaded pairs i c.pair-item.result c.loop-pair.rows.lists c.loop-pair-test.true c.pair-item.is
-          ∙ c.loop-pair.invariant.rest;
-      spelled = next_read pairs i c.pair-item.result c.loop-pair-test.true c.pair-item.is
-          c.in_ok-put_read.ensures.spelled
-          c.loop-pair.invariant.spelled;
-      room = search rules;
-    }
-
 pub returns-clause-rows : goal.returns-clause-rows
 returns-clause-rows c =
-    let all : c.loop-pair.rows.lists ≡ loaded c.args.pairs.now =
-    sym (all_loaded c.args.pairs.now c.loop-pair.pair-index c.loop-pair.rows.lists c.loop-pair-test.false)
-    ∙ c.loop-pair.invariant.rest in
+    let all : c.put_reads.new.rows.lists ≡ loaded c.args.pairs.now = search rules in
     search rules
 
 pub returns-clause-spelled : goal.returns-clause-spelled
 returns-clause-spelled c =
-    let all : All IsReadWell c.args.pairs.now = search rules in
-    either_way c.into_rows.result (All IsReadWell c.args.pairs.now) all
+    either_way c.into_rows.result (All IsReadWell c.args.pairs.now) c.in_ok-put_reads.ensures.spelled
