@@ -1,5 +1,5 @@
 -- The row that is read of a pair is the one that the pair spells.
-use Rattle.std.proofs.Common.{◌≡◌, ℕ, ◌+◌, ◌*◌, ◌^◌, ◌<◌, ◌≤◌, ◌==◌, Bool, true, false, cond, List, [], ◌∷◌, ◌++◌}
+use Rattle.std.proofs.Common.{◌≡◌, ℕ, ◌^◌, ◌<◌, ◌≤◌, ◌==◌, Bool, true, false, cond, List, [], ◌∷◌, ◌++◌}
 use Rattle.std.proofs.Common.{length, Option, Some, None, refl, sym, ap, subst, ◌∙◌, arith, inl, inr, ◌⊎◌}
 use Rattle.std.specs.List.{flat_map}
 use Rattle.std.specs.Cmp.{first_so, second_so}
@@ -13,13 +13,12 @@ use Rattle.dtyp_sid.specs.Value.{SidValue, IsSid}
 use Rattle.dtyp_sid.specs.Bytes.{bytes_of, WrittenBytesAreRead, WrittenBytesHaveLengths, ReadBytesAreWritten}
 use Rattle.acct_rows.specs.Sound.{is_account_kind}
 use Rattle.acct_rows.specs.Spelled.{text_bytes, rid_bytes, number_bytes, held_bytes, kind_byte, stored_key}
-use Rattle.acct_rows.specs.Spelled.{domain_value, account_value, lsa_value, ascend, FitsHeld, IsSpelled}
-use Rattle.acct_rows.specs.Stored.{Reader, ◌>>=◌, is_end, sid_at, whole_sid, many}
+use Rattle.acct_rows.specs.Spelled.{domain_value, account_value, lsa_value, FitsHeld, IsSpelled}
+use Rattle.acct_rows.specs.Stored.{Reader, ◌>>=◌, is_end, whole_sid}
 use Rattle.acct_rows.specs.Stored.{held_at, kind_of_byte, domain_key_of, account_key_of}
 use Rattle.acct_rows.specs.Stored.{member_key_of}
 use Rattle.acct_rows.specs.Stored.{alias_key_of, lsa_key_of, lettered, row_key, domain_of, account_of, member_of}
 use Rattle.acct_rows.specs.Stored.{alias_of, lsa_of, valued, row_of, ReadRowsAreSpelled}
-use Rattle.acct_rows.specs.declared.row.Held.{Held}
 use Rattle.acct_rows.specs.declared.row.Row.{Row}
 use Rattle.acct_rows.specs.declared.row.Row.TheVariants as rows
 use Rattle.acct_rows.specs.declared.row.RowKey.{RowKey}

@@ -1,0 +1,7 @@
+-- `copy_accounts` meets its contract: the copies so far are equal to the rows so far.
+use Rattle.std.proofs.Common.{arith}
+use Rattle.std.proofs.lemmas.Grind.{common_steps}
+use Rattle.acct_rows.proofs.copies.copy_accounts.Goals as goal
+
+pub loop-row-preserved : goal.loop-row-preserved
+loop-row-preserved c = grind (arith, common_steps)
