@@ -1,0 +1,7 @@
+-- `push_aliases` meets its contract: what is pushed are the aliases one by one.
+use Rattle.std.proofs.Common.{arith}
+use Rattle.std.proofs.lemmas.Grind.{common_steps}
+use Rattle.acct_rows.proofs.seed.push_aliases.Goals as goal
+
+pub returns : goal.returns
+returns c = grind (arith, common_steps)
