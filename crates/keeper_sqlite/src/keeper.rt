@@ -42,8 +42,17 @@ fn cause_of(error: Error) -> KeepError {
     }
 }
 
-// The connection, once its file has the table.
-fn with_table<S: Alter + Drop>(mut connection: Connection<S>) -> Result<Connection<S>, Error> {
+// What is asked of a file that is open: all its pairs, or that changes are made.
+enum Request<'a> {
+    Load(Global),
+    Commit(&'a [Change]),
+}
+
+// The connection to a file, once the file has the table.
+fn with_table<S: Alter + Drop>(
+    opened: Result<Connection<S>, Error>,
+) -> Result<Connection<S>, Error> {
+    let mut connection = opened?;
     connection.execute(TABLE, &[])?;
     Ok(connection)
 }
@@ -55,19 +64,17 @@ fn pair_of(row: &Row) -> Result<Pair, Error> {
     })
 }
 
-// All pairs, where the rows of the answer come by strictly ascending key.
-fn load<S: Alter>(alloc: Global, connection: &mut Connection<S>) -> Result<Vec<Pair>, Error>
-    ensures { IfOk result (λ pairs. is_ascending pairs.items ≡ true) }
-{
-    let rows = connection.query_all(LOAD, &[])?;
+fn pairs_of(alloc: Global, rows: &[Row]) -> Result<Vec<Pair>, Error> {
     let mut pairs = Vec::with_capacity(alloc, rows.len())?;
-    for row in &rows {
+    for row in rows {
         pairs.push(pair_of(row)?)?;
     }
-    if !is_ascending(&pairs) {
-        return Err(Error::SqliteFailure(ErrorCode::DatabaseCorrupt));
-    }
     Ok(pairs)
+}
+
+fn query<S: Alter>(alloc: Global, connection: &mut Connection<S>) -> Result<Vec<Pair>, Error> {
+    let rows = connection.query_all(LOAD, &[])?;
+    pairs_of(alloc, &rows)
 }
 
 fn make<S: Alter>(transaction: &mut Transaction<'_, S>, change: &Change) -> Result<usize, Error> {
@@ -79,7 +86,7 @@ fn make<S: Alter>(transaction: &mut Transaction<'_, S>, change: &Change) -> Resu
 }
 
 // One transaction, which is rolled back where a statement fails.
-fn commit<S: Alter>(connection: &mut Connection<S>, changes: &[Change]) -> Result<(), Error> {
+fn make_all<S: Alter>(connection: &mut Connection<S>, changes: &[Change]) -> Result<(), Error> {
     if !connection.is_autocommit() {
         return Err(Error::SqliteFailure(ErrorCode::TransactionState));
     }
@@ -90,15 +97,51 @@ fn commit<S: Alter>(connection: &mut Connection<S>, changes: &[Change]) -> Resul
     transaction.commit()
 }
 
+// What comes of a request: pairs where they were asked for.
+fn answer<S: Alter>(
+    connection: &mut Connection<S>,
+    request: Request<'_>,
+) -> Result<Option<Vec<Pair>>, Error> {
+    match request {
+        Request::Load(alloc) => Ok(Some(query(alloc, connection)?)),
+        Request::Commit(changes) => {
+            make_all(connection, changes)?;
+            Ok(None)
+        }
+    }
+}
+
+// Each request of a keeper goes through here, so what is to be proved of this kind of connection is proved once.
+fn ask(
+    connection: &mut Connection<FileStore<File>>,
+    request: Request<'_>,
+) -> Result<Option<Vec<Pair>>, Error> {
+    answer(connection, request)
+}
+
+// All pairs, where the rows of the answer come by strictly ascending key.
+fn load(alloc: Global, connection: &mut Connection<FileStore<File>>) -> Result<Vec<Pair>, Error>
+    ensures { IfOk result (λ pairs. is_ascending pairs.items ≡ true) }
+{
+    let pairs = ask(connection, Request::Load(alloc))?.unwrap_or(Vec::new(alloc));
+    if !is_ascending(&pairs) {
+        return Err(Error::SqliteFailure(ErrorCode::DatabaseCorrupt));
+    }
+    Ok(pairs)
+}
+
+fn commit(connection: &mut Connection<FileStore<File>>, changes: &[Change]) -> Result<(), Error> {
+    ask(connection, Request::Commit(changes))?;
+    Ok(())
+}
+
 impl SqliteKeeper {
     /// Opens the file at a path, or makes it. It fails where there is no folder for it, another program has it open, or
     /// it is no database.
     pub fn new(rt: &HostRuntime, path: &str) -> Result<SqliteKeeper, KeepError>
         ensures { IfOk result (λ faults. faults ≡ 0) }
     {
-        let connection = Connection::open(rt, path)
-            .and_then(with_table)
-            .map_err(cause_of)?;
+        let connection = with_table(Connection::open(rt, path)).map_err(cause_of)?;
         Ok(SqliteKeeper {
             alloc: rt.alloc(),
             connection,
