@@ -2,7 +2,7 @@
 use acct_base::Seq;
 use acct_keeper::{Change, KeepError, Keeper, Pair};
 use keeper_sqlite::SqliteKeeper;
-use sqlite::Connection;
+use sqlite::{Alter, Connection, Error};
 use std::alloc::Global;
 use std::fs;
 use std::test::Fail;
@@ -225,11 +225,13 @@ fn make_folder(rt: &HostRuntime, path: &str) -> Result<(), Fail> {
     Ok(())
 }
 
+// The connection is closed at the end.
+fn run_batch<S: Alter + Drop>(mut connection: Connection<S>, text: &str) -> Result<(), Error> {
+    connection.execute_batch(text)
+}
+
 fn make_table(rt: &HostRuntime, path: &str, text: &str) -> Result<(), Fail> {
-    let mut connection = Connection::open(rt, path)?;
-    let made = connection.execute_batch(text);
-    drop(connection);
-    Ok(made?)
+    Ok(run_batch(Connection::open(rt, path)?, text)?)
 }
 
 // What is answered at a file that another program has made or not.

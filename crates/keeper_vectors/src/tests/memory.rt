@@ -59,6 +59,12 @@ fn run<K: Keeper>(alloc: Global, keeper: &mut K, commits: &[&str]) -> Result<Vec
     Ok(told)
 }
 
+// Whether that is told of one commit.
+fn makes(alloc: Global, words: &str, want: &str) -> Result<bool, Fail> {
+    let told = run(alloc, &mut SteadyKeeper::new(alloc), &[words])?;
+    Ok(told.as_slice() == want.as_bytes())
+}
+
 #[test]
 fn a_commit_makes_its_changes_in_order(rt: HostRuntime) -> Result<(), Fail> {
     let alloc = rt.alloc();
@@ -71,17 +77,20 @@ fn a_commit_makes_its_changes_in_order(rt: HostRuntime) -> Result<(), Fail> {
         ("ab=1 b=2 a=3 aa=4", " made a=3 aa=4 ab=1 b=2"),
         ("c=1 a=2 b=3 b", " made a=2 c=1"),
     ] {
-        let told = run(alloc, &mut SteadyKeeper::new(alloc), &[words])?;
-        assert_eq!(rt; told.as_slice(), want.as_bytes(), "{words}");
+        assert!(rt; makes(alloc, words, want)?, "{words}");
     }
     Ok(())
 }
 
+// Whether that is told of three commits and a load, the fourth call, and that many faults are counted.
+fn fails(alloc: Global, failing: &[u64], want: &str, faults: u64) -> Result<bool, Fail> {
+    let mut keeper = MemoryKeeper::new(SteadyKeeper::new(alloc), failing.to_vec(alloc)?);
+    let told = run(alloc, &mut keeper, &["a=1 b=2", "b=3 a", "c=4"])?;
+    Ok(told.as_slice() == want.as_bytes() && keeper.faults() == faults)
+}
+
 #[test]
 fn the_listed_calls_fail(rt: HostRuntime) -> Result<(), Fail> {
-    let alloc = rt.alloc();
-    let commits = ["a=1 b=2", "b=3 a", "c=4"];
-    // The load is the fourth call.
     for (failing, want, faults) in [
         ([0u64, 9], " made made made b=3 c=4", 0),
         ([1, 9], " failed made made b=3 c=4", 1),
@@ -89,26 +98,42 @@ fn the_listed_calls_fail(rt: HostRuntime) -> Result<(), Fail> {
         ([3, 1], " failed made failed b=3", 2),
         ([4, 2], " made failed made failed", 2),
     ] {
-        let mut keeper = MemoryKeeper::new(SteadyKeeper::new(alloc), failing.to_vec(alloc)?);
-        let told = run(alloc, &mut keeper, &commits)?;
-        assert_eq!(rt; told.as_slice(), want.as_bytes());
-        assert_eq!(rt; keeper.faults(), faults);
+        assert!(rt; fails(rt.alloc(), &failing, want, faults)?, "{want}");
     }
     Ok(())
+}
+
+// A commit of one pair.
+fn keeps_one(alloc: Global, keeper: &mut SteadyKeeper) -> Result<bool, Fail> {
+    run(alloc, keeper, &["a=1"])?;
+    Ok(keeper.faults() == 0 && keeper.as_slice().len() == 1)
+}
+
+// The first load fails, and the second has the pair.
+fn loads_at_last(keeper: &mut MemoryKeeper) -> bool {
+    matches!(keeper.load(), Err(KeepError::Failed))
+        && keeper.as_slice().len() == 1
+        && keeper.load().is_ok_and(|pairs| pairs.len() == 1)
 }
 
 #[test]
 fn a_failed_load_leaves_the_pairs(rt: HostRuntime) -> Result<(), Fail> {
     let alloc = rt.alloc();
     let mut held = SteadyKeeper::new(alloc);
-    run(alloc, &mut held, &["a=1"])?;
-    assert_eq!(rt; held.faults(), 0);
-    assert_eq!(rt; held.as_slice().len(), 1);
+    assert!(rt; keeps_one(alloc, &mut held)?);
     let mut keeper = MemoryKeeper::new(held, [1].to_vec(alloc)?);
-    assert!(rt; matches!(keeper.load(), Err(KeepError::Failed)));
-    assert_eq!(rt; keeper.as_slice().len(), 1);
-    assert!(rt; keeper.load().is_ok_and(|pairs| pairs.len() == 1));
+    assert!(rt; loads_at_last(&mut keeper));
     Ok(())
+}
+
+fn pairs_put(alloc: Global, words: &str) -> Result<Vec<Pair>, Fail> {
+    let mut pairs = Vec::new(alloc);
+    for Change { key, value } in changes(alloc, words)? {
+        if let Some(value) = value {
+            pairs.push(Pair { key, value })?;
+        }
+    }
+    Ok(pairs)
 }
 
 #[test]
@@ -122,12 +147,7 @@ fn ascending_keys_are_told(rt: HostRuntime) -> Result<(), Fail> {
         ("ab=1 a=1", false),
         ("a=1 b=1 a=1", false),
     ] {
-        let mut pairs = Vec::new(alloc);
-        for Change { key, value } in changes(alloc, words)? {
-            if let Some(value) = value {
-                pairs.push(Pair { key, value })?;
-            }
-        }
+        let pairs = pairs_put(alloc, words)?;
         assert_eq!(rt; is_ascending(&pairs), want, "{words}");
     }
     Ok(())
