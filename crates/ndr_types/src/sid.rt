@@ -1,8 +1,11 @@
 // SIDs.
-ghost use Rattle.std.specs.Prelude.{◌≡◌, ◌<◌, ◌^◌, IfOk, OnOk};
+ghost use Rattle.std.specs.Prelude.{◌≡◌, ◌<◌, ◌≤◌, ◌^◌, IfOk, OnOk};
 ghost use Rattle.ndr_core.specs.Cursor.{Reads};
+ghost use Rattle.ndr_core.specs.Parts.{times};
+ghost use Rattle.ndr_core.specs.Shapes.{chain, made, u8, u32};
 ghost use Rattle.ndr_types.specs.Bounds.{AnyValue};
-ghost use Rattle.ndr_types.specs.Sids.{authority, sid, sid_pointer};
+ghost use Rattle.ndr_types.specs.Digits.{then_small};
+ghost use Rattle.ndr_types.specs.Sids.{authority, parts_of_sid, sid, sid_of, sid_pointer};
 
 use crate::number::{read_numbers, write_numbers};
 use crate::{Embedded, NoMemory};
@@ -10,18 +13,43 @@ use dtyp_sid::Sid;
 use ndr_core::{In, NdrError, Out};
 use std::alloc::Global;
 
+/// The upper three bytes of an identifier authority, as one number.
+fn read_upper(from: &mut In<'_>) -> Result<u32, NdrError>
+    ensures gives { Reads result from.new ((then_small (then_small u8)).read from.old) }
+    ensures below { IfOk result (λ n. n < 2 ^ 24) }
+{
+    let n = from.u8()? as u32;
+    let n = n * 0x100 + from.u8()? as u32;
+    let n = n * 0x100 + from.u8()? as u32;
+    Ok(n)
+}
+
 #[tactic(auto, unfolding(crate::specs::Sids::authority))]
 fn read_authority(from: &mut In<'_>) -> Result<u64, NdrError>
     ensures gives { Reads result from.new (authority.read from.old) }
     ensures below { IfOk result (λ n. n < 2 ^ 48) }
 {
-    let n = from.u8()? as u64;
-    let n = n * 0x100 + from.u8()? as u64;
-    let n = n * 0x100 + from.u8()? as u64;
+    let n = read_upper(from)? as u64;
     let n = n * 0x100 + from.u8()? as u64;
     let n = n * 0x100 + from.u8()? as u64;
     let n = n * 0x100 + from.u8()? as u64;
     Ok(n)
+}
+
+/// A SID behind its counts: the authority, and so many sub-authorities.
+fn read_counted(from: &mut In<'_>, count: u32) -> Result<Sid, NdrError>
+    requires { count ≤ 15 }
+    ensures { Reads result from.new
+        ((made sid_of parts_of_sid (chain authority (λ _. times count u32))).read from.old) }
+{
+    let authority = read_authority(from)?;
+    let mut slots = [0; 15];
+    let subs = &mut slots[..count as usize];
+    read_numbers(from, subs)?;
+    let Ok(sid) = Sid::new(authority, subs) else {
+        unreachable!()
+    };
+    Ok(sid)
 }
 
 /// A SID.
@@ -37,14 +65,7 @@ pub fn read_sid(from: &mut In<'_>) -> Result<Sid, NdrError>
     if same as u32 != count || same > 15 {
         return Err(from.broken(1));
     }
-    let authority = read_authority(from)?;
-    let mut slots = [0; 15];
-    let subs = &mut slots[..count as usize];
-    read_numbers(from, subs)?;
-    let Ok(sid) = Sid::new(authority, subs) else {
-        unreachable!()
-    };
-    Ok(sid)
+    read_counted(from, count)
 }
 
 #[tactic(auto, unfolding(crate::specs::Sids::authority))]

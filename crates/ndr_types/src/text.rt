@@ -3,7 +3,7 @@ ghost use Rattle.std.specs.Prelude.{◌≡◌, OnOk};
 ghost use Rattle.ndr_core.specs.Parts.{whole};
 ghost use Rattle.ndr_types.specs.Bounds.{IsShort};
 ghost use Rattle.ndr_types.specs.Outcomes.{ReadsIfRoom};
-ghost use Rattle.ndr_types.specs.Texts.{text};
+ghost use Rattle.ndr_types.specs.Texts.{text, units};
 
 use crate::array::read_heads;
 use crate::number::write_units;
@@ -11,6 +11,18 @@ use crate::{Embedded, NoMemory};
 use acct_calls::Name;
 use ndr_core::{In, NdrError, Out};
 use std::alloc::Global;
+
+/// The units of a text of so many, behind their counts.
+fn read_counted(alloc: Global, from: &mut In<'_>, count: u32) -> Result<Name, NdrError>
+    ensures { ReadsIfRoom result from.new ((units count).read from.old) }
+{
+    let maximum = from.conformant()?;
+    if from.varying(maximum)? != count {
+        return Err(from.broken(4));
+    }
+    let units = read_heads::<u16>(alloc, from, count)?;
+    Ok(Name::from_units(units.into_vec()))
+}
 
 impl Embedded for Name {
     type Head = (u16, bool);
@@ -38,13 +50,7 @@ impl Embedded for Name {
         if !head.1 {
             return Ok(Name::from_units(Vec::new(alloc)));
         }
-        let count = (head.0 / 2) as u32;
-        let maximum = from.conformant()?;
-        if from.varying(maximum)? != count {
-            return Err(from.broken(4));
-        }
-        let units = read_heads::<u16>(alloc, from, count)?;
-        Ok(Name::from_units(units.into_vec()))
+        read_counted(alloc, from, (head.0 / 2) as u32)
     }
 
     #[tactic(auto, unfolding(crate::specs::Texts::text))]
