@@ -1,7 +1,12 @@
 // Classes of information.
 ghost use Rattle.std.specs.Prelude.{◌≡◌, OnOk, false};
 ghost use Rattle.ndr_core.specs.Cursor.{Reads};
+ghost use Rattle.ndr_core.specs.Parts.{flat, join, whole};
+ghost use Rattle.ndr_core.specs.Shapes.{u32};
+ghost use Rattle.ndr_types.specs.Bounds.{IsShort};
 ghost use Rattle.ndr_types.specs.Outcomes.{ReadsIfRoom};
+ghost use Rattle.ndr_types.specs.Sids.{sid_pointer};
+ghost use Rattle.ndr_types.specs.Texts.{text};
 ghost use Rattle.acct_layouts.specs.Classes.{is_password_class, set_arm, shown_arm};
 ghost use Rattle.acct_stubs.specs.Infos.{class_set, class_shown, empty_text, value_of};
 
@@ -12,6 +17,12 @@ use dtyp_sid::Sid;
 use ndr_core::{In, NdrError, Out};
 use ndr_types::{Embedded, read_text, write_text};
 use std::alloc::Global;
+
+/// The heads of a name and a full name, a primary group, and the heads of a comment and a user's comment.
+type UserHead = (
+    (u16, bool),
+    ((u16, bool), (u32, ((u16, bool), (u16, bool)))),
+);
 
 #[tactic(auto, unfolding(crate::specs::Infos::empty_text))]
 fn read_empty_head(from: &mut In<'_>) -> Result<(u16, bool), NdrError>
@@ -79,15 +90,24 @@ fn read_alias(alloc: Global, from: &mut In<'_>) -> Result<Info, NdrError>
     Ok(Info::Alias(name, members, comment))
 }
 
-#[tactic(auto, unfolding(crate::specs::Infos::value_of))]
-fn read_user(alloc: Global, from: &mut In<'_>) -> Result<Info, NdrError>
-    ensures { ReadsIfRoom result from.new ((value_of Arm.User).read from.old) }
+/// What stands of a user in the structure: the heads of its texts, and its primary group.
+fn read_user_head(from: &mut In<'_>) -> Result<UserHead, NdrError>
+    ensures { Reads result from.new
+        ((join text (join text (join (flat u32) (join text empty_text)))).head.read from.old) }
 {
     let name = Name::read_head(from)?;
     let full_name = Name::read_head(from)?;
     let primary = from.u32()?;
     let comment = Name::read_head(from)?;
     let user_comment = read_empty_head(from)?;
+    Ok((name, (full_name, (primary, (comment, user_comment)))))
+}
+
+#[tactic(auto, unfolding(crate::specs::Infos::value_of))]
+fn read_user(alloc: Global, from: &mut In<'_>) -> Result<Info, NdrError>
+    ensures { ReadsIfRoom result from.new ((value_of Arm.User).read from.old) }
+{
+    let (name, (full_name, (primary, (comment, user_comment)))) = read_user_head(from)?;
     let name = Name::read_tail(alloc, from, &name)?;
     let full_name = Name::read_tail(alloc, from, &full_name)?;
     let comment = Name::read_tail(alloc, from, &comment)?;
@@ -127,7 +147,85 @@ fn read_value(alloc: Global, from: &mut In<'_>, arm: Arm) -> Result<Info, NdrErr
     }
 }
 
-#[tactic(auto, using(crate::proofs::Asked::value_asked), unfolding(crate::specs::Infos::value_of, crate::specs::Infos::empty_text))]
+fn write_two_texts(to: &mut Out, name: &Name, full_name: &Name) -> Result<(), NoMemory>
+    requires short_name { IsShort name.now }
+    requires short_full_name { IsShort full_name.now }
+    ensures { OnOk result (to.new ≡ (whole (join text text)).write (name.now, full_name.now) to.old) }
+{
+    name.write_head(to)?;
+    full_name.write_head(to)?;
+    name.write_tail(to)?;
+    full_name.write_tail(to)
+}
+
+fn write_group(
+    to: &mut Out,
+    name: &Name,
+    attributes: u32,
+    members: u32,
+    comment: &Name,
+) -> Result<(), NoMemory>
+    requires short_name { IsShort name.now }
+    requires short_comment { IsShort comment.now }
+    ensures { OnOk result (to.new ≡ (whole (join text (join (flat u32) (join (flat u32) text)))).write
+        (name.now, (attributes, (members, comment.now))) to.old) }
+{
+    name.write_head(to)?;
+    to.u32(attributes)?;
+    to.u32(members)?;
+    comment.write_head(to)?;
+    name.write_tail(to)?;
+    comment.write_tail(to)
+}
+
+fn write_alias(to: &mut Out, name: &Name, members: u32, comment: &Name) -> Result<(), NoMemory>
+    requires short_name { IsShort name.now }
+    requires short_comment { IsShort comment.now }
+    ensures { OnOk result (to.new ≡ (whole (join text (join (flat u32) text))).write
+        (name.now, (members, comment.now)) to.old) }
+{
+    name.write_head(to)?;
+    to.u32(members)?;
+    comment.write_head(to)?;
+    name.write_tail(to)?;
+    comment.write_tail(to)
+}
+
+#[tactic(auto, unfolding(crate::specs::Infos::empty_text))]
+fn write_user(
+    to: &mut Out,
+    name: &Name,
+    full_name: &Name,
+    primary: u32,
+    comment: &Name,
+) -> Result<(), NoMemory>
+    requires short_name { IsShort name.now }
+    requires short_full_name { IsShort full_name.now }
+    requires short_comment { IsShort comment.now }
+    ensures { OnOk result (to.new ≡ (whole (join text (join text (join (flat u32) (join text empty_text))))).write
+        (name.now, (full_name.now, (primary, (comment.now, tt)))) to.old) }
+{
+    name.write_head(to)?;
+    full_name.write_head(to)?;
+    to.u32(primary)?;
+    comment.write_head(to)?;
+    write_empty_head(to)?;
+    name.write_tail(to)?;
+    full_name.write_tail(to)?;
+    comment.write_tail(to)
+}
+
+fn write_place(to: &mut Out, name: &Name, sid: &Sid) -> Result<(), NoMemory>
+    requires { IsShort name.now }
+    ensures { OnOk result (to.new ≡ (whole (join text sid_pointer)).write (name.now, sid.now) to.old) }
+{
+    name.write_head(to)?;
+    sid.write_head(to)?;
+    name.write_tail(to)?;
+    sid.write_tail(to)
+}
+
+#[tactic(auto, using(crate::proofs::Asked::value_asked), unfolding(crate::specs::Infos::value_of))]
 fn write_value(to: &mut Out, arm: Arm, value: &Info) -> Result<(), NoMemory>
     requires { (value_of arm).Fits value.now }
     ensures { OnOk result (to.new ≡ (value_of arm).write value.now to.old) }
@@ -135,43 +233,17 @@ fn write_value(to: &mut Out, arm: Arm, value: &Info) -> Result<(), NoMemory>
     match (arm, value) {
         (Arm::Number, Info::Number(number)) => to.u32(*number),
         (Arm::Text, Info::Text(text)) => write_text(to, text),
-        (Arm::TwoTexts, Info::TwoTexts(name, full_name)) => {
-            name.write_head(to)?;
-            full_name.write_head(to)?;
-            name.write_tail(to)?;
-            full_name.write_tail(to)
-        }
+        (Arm::TwoTexts, Info::TwoTexts(name, full_name)) => write_two_texts(to, name, full_name),
         (Arm::Group, Info::Group(name, attributes, members, comment)) => {
-            name.write_head(to)?;
-            to.u32(*attributes)?;
-            to.u32(*members)?;
-            comment.write_head(to)?;
-            name.write_tail(to)?;
-            comment.write_tail(to)
+            write_group(to, name, *attributes, *members, comment)
         }
         (Arm::Alias, Info::Alias(name, members, comment)) => {
-            name.write_head(to)?;
-            to.u32(*members)?;
-            comment.write_head(to)?;
-            name.write_tail(to)?;
-            comment.write_tail(to)
+            write_alias(to, name, *members, comment)
         }
         (Arm::User, Info::User(name, full_name, primary, comment)) => {
-            name.write_head(to)?;
-            full_name.write_head(to)?;
-            to.u32(*primary)?;
-            comment.write_head(to)?;
-            write_empty_head(to)?;
-            name.write_tail(to)?;
-            full_name.write_tail(to)?;
-            comment.write_tail(to)
+            write_user(to, name, full_name, *primary, comment)
         }
-        (Arm::Place, Info::Place(name, sid)) => {
-            name.write_head(to)?;
-            sid.write_head(to)?;
-            name.write_tail(to)?;
-            sid.write_tail(to)
-        }
+        (Arm::Place, Info::Place(name, sid)) => write_place(to, name, sid),
         _ => unreachable!(),
     }
 }

@@ -1,11 +1,13 @@
 // The members of a group.
 ghost use Rattle.std.specs.Prelude.{◌≡◌, IfOk, OnOk, length, map};
+ghost use Rattle.ndr_core.specs.Cursor.{Reads};
 ghost use Rattle.ndr_core.specs.Parts.{times, whole};
 ghost use Rattle.ndr_core.specs.Shapes.{u32};
 ghost use Rattle.acct_layouts.specs.Bounds.{IfThere, IsListed};
 ghost use Rattle.ndr_types.specs.Bounds.{AnyValue};
 ghost use Rattle.ndr_types.specs.Outcomes.{ReadsIfRoom};
-ghost use Rattle.acct_stubs.specs.Members.{bits_of, members, members_buffer, numbers, paired, rid_of};
+ghost use Rattle.acct_stubs.specs.Members.{bits_of, members, members_buffer, members_head, numbers, paired};
+ghost use Rattle.acct_stubs.specs.Members.{pointer_for, rid_of};
 
 use crate::NoMemory;
 use acct_base::Seq;
@@ -39,19 +41,32 @@ fn pair(alloc: Global, rids: &[u32], attributes: &[u32]) -> Result<RidBitsList, 
     Ok(list)
 }
 
+/// Whether an array of so many is there, which it may not be only where there is nothing.
+fn read_pointer_for(from: &mut In<'_>, count: u32) -> Result<bool, NdrError>
+    ensures { Reads result from.new ((pointer_for count).read from.old) }
+{
+    let there = from.pointer()?;
+    if !there && count != 0 {
+        return Err(from.broken(4));
+    }
+    Ok(there)
+}
+
+/// The count of members, and whether each of the two arrays is there.
+fn read_buffer_head(from: &mut In<'_>) -> Result<(u32, (bool, bool)), NdrError>
+    ensures { Reads result from.new (members_head.read from.old) }
+{
+    let count = from.u32()?;
+    let rids_there = read_pointer_for(from, count)?;
+    let attributes_there = read_pointer_for(from, count)?;
+    Ok((count, (rids_there, attributes_there)))
+}
+
 #[tactic(auto, unfolding(crate::specs::Members::members_buffer))]
 fn read_buffer(alloc: Global, from: &mut In<'_>) -> Result<RidBitsList, NdrError>
     ensures { ReadsIfRoom result from.new ((whole members_buffer).read from.old) }
 {
-    let count = from.u32()?;
-    let rids_there = from.pointer()?;
-    if !rids_there && count != 0 {
-        return Err(from.broken(4));
-    }
-    let attributes_there = from.pointer()?;
-    if !attributes_there && count != 0 {
-        return Err(from.broken(4));
-    }
+    let (count, (rids_there, attributes_there)) = read_buffer_head(from)?;
     let rids = read_numbers(alloc, from, count, rids_there)?;
     let attributes = read_numbers(alloc, from, count, attributes_there)?;
     let list = pair(alloc, rids.as_slice(), attributes.as_slice())?;
