@@ -1,11 +1,12 @@
 // Context handles.
-ghost use Rattle.std.specs.Prelude.{◌≡◌, ◌<◌, ◌^◌, IfOk, OnOk};
+ghost use Rattle.std.specs.Prelude.{◌≡◌, OnOk};
 ghost use Rattle.ndr_core.specs.Cursor.{Reads};
 ghost use Rattle.ndr_core.specs.Shapes.{u32};
-ghost use Rattle.ndr_types.specs.Digits.{then_short, then_small};
+ghost use Rattle.ndr_types.specs.Digits.{then_short};
 ghost use Rattle.ndr_types.specs.Handles.{handle, uuid};
 
 use crate::NoMemory;
+use crate::smalls::{read_four_smalls, write_four_smalls};
 use acct_calls::Handle;
 use ndr_core::{In, NdrError, Out};
 
@@ -19,30 +20,13 @@ fn read_time(from: &mut In<'_>) -> Result<u64, NdrError>
     Ok(n)
 }
 
-/// The time of a UUID and the four smalls behind it, as one number.
-fn read_upper(from: &mut In<'_>) -> Result<u128, NdrError>
-    ensures gives { Reads result from.new
-        ((then_small (then_small (then_small (then_small (then_short (then_short u32)))))).read from.old) }
-    ensures below { IfOk result (λ n. n < 2 ^ 96) }
-{
-    let n = read_time(from)? as u128;
-    let n = n * 0x100 + from.u8()? as u128;
-    let n = n * 0x100 + from.u8()? as u128;
-    let n = n * 0x100 + from.u8()? as u128;
-    let n = n * 0x100 + from.u8()? as u128;
-    Ok(n)
-}
-
 #[tactic(auto, unfolding(crate::specs::Handles::uuid))]
 fn read_uuid(from: &mut In<'_>) -> Result<u128, NdrError>
     ensures { Reads result from.new (uuid.read from.old) }
 {
-    let n = read_upper(from)?;
-    let n = n * 0x100 + from.u8()? as u128;
-    let n = n * 0x100 + from.u8()? as u128;
-    let n = n * 0x100 + from.u8()? as u128;
-    let n = n * 0x100 + from.u8()? as u128;
-    Ok(n)
+    let time = read_time(from)?;
+    let upper = read_four_smalls(from, time as u128)?;
+    read_four_smalls(from, upper)
 }
 
 /// A context handle. Its attributes aren't looked at.
@@ -64,35 +48,15 @@ fn write_time(to: &mut Out, number: u64) -> Result<(), NoMemory>
     to.u16((number % 0x10000) as u16)
 }
 
-fn write_upper(to: &mut Out, number: u128) -> Result<(), NoMemory>
-    requires { number < 2 ^ 96 }
-    ensures { OnOk result (to.new
-        ≡ (then_small (then_small (then_small (then_small (then_short (then_short u32)))))).write number to.old) }
-{
-    let n3 = number / 0x100;
-    let n2 = n3 / 0x100;
-    let n1 = n2 / 0x100;
-    let time = n1 / 0x100;
-    write_time(to, time as u64)?;
-    to.u8((n1 % 0x100) as u8)?;
-    to.u8((n2 % 0x100) as u8)?;
-    to.u8((n3 % 0x100) as u8)?;
-    to.u8((number % 0x100) as u8)
-}
-
 #[tactic(auto, unfolding(crate::specs::Handles::uuid))]
 fn write_uuid(to: &mut Out, number: u128) -> Result<(), NoMemory>
     ensures { OnOk result (to.new ≡ uuid.write number to.old) }
 {
-    let n3 = number / 0x100;
-    let n2 = n3 / 0x100;
-    let n1 = n2 / 0x100;
-    let upper = n1 / 0x100;
-    write_upper(to, upper)?;
-    to.u8((n1 % 0x100) as u8)?;
-    to.u8((n2 % 0x100) as u8)?;
-    to.u8((n3 % 0x100) as u8)?;
-    to.u8((number % 0x100) as u8)
+    let upper = number / 0x100 / 0x100 / 0x100 / 0x100;
+    let time = upper / 0x100 / 0x100 / 0x100 / 0x100;
+    write_time(to, time as u64)?;
+    write_four_smalls(to, upper)?;
+    write_four_smalls(to, number)
 }
 
 /// A context handle, with attributes of 0.

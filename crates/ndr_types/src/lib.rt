@@ -23,6 +23,7 @@ mod pointers;
 mod privilege_names;
 mod privileges;
 mod sid;
+mod smalls;
 mod text;
 mod translations;
 

@@ -2,38 +2,26 @@
 ghost use Rattle.std.specs.Prelude.{◌≡◌, ◌<◌, ◌≤◌, ◌^◌, IfOk, OnOk};
 ghost use Rattle.ndr_core.specs.Cursor.{Reads};
 ghost use Rattle.ndr_core.specs.Parts.{times};
-ghost use Rattle.ndr_core.specs.Shapes.{chain, made, u8, u32};
+ghost use Rattle.ndr_core.specs.Shapes.{chain, made, u32};
 ghost use Rattle.ndr_types.specs.Bounds.{AnyValue};
-ghost use Rattle.ndr_types.specs.Digits.{then_small};
 ghost use Rattle.ndr_types.specs.Sids.{authority, parts_of_sid, sid, sid_of, sid_pointer};
 
 use crate::number::{read_numbers, write_numbers};
+use crate::smalls::{read_four_smalls, write_four_smalls};
 use crate::{Embedded, NoMemory};
 use dtyp_sid::Sid;
 use ndr_core::{In, NdrError, Out};
 use std::alloc::Global;
-
-/// The upper three bytes of an identifier authority, as one number.
-fn read_upper(from: &mut In<'_>) -> Result<u32, NdrError>
-    ensures gives { Reads result from.new ((then_small (then_small u8)).read from.old) }
-    ensures below { IfOk result (λ n. n < 2 ^ 24) }
-{
-    let n = from.u8()? as u32;
-    let n = n * 0x100 + from.u8()? as u32;
-    let n = n * 0x100 + from.u8()? as u32;
-    Ok(n)
-}
 
 #[tactic(auto, unfolding(crate::specs::Sids::authority))]
 fn read_authority(from: &mut In<'_>) -> Result<u64, NdrError>
     ensures gives { Reads result from.new (authority.read from.old) }
     ensures below { IfOk result (λ n. n < 2 ^ 48) }
 {
-    let n = read_upper(from)? as u64;
-    let n = n * 0x100 + from.u8()? as u64;
-    let n = n * 0x100 + from.u8()? as u64;
-    let n = n * 0x100 + from.u8()? as u64;
-    Ok(n)
+    let n = from.u8()? as u128;
+    let n = n * 0x100 + from.u8()? as u128;
+    let n = read_four_smalls(from, n)?;
+    Ok(n as u64)
 }
 
 /// A SID behind its counts: the authority, and so many sub-authorities.
@@ -73,17 +61,10 @@ fn write_authority(to: &mut Out, number: u64) -> Result<(), NoMemory>
     requires { number < 2 ^ 48 }
     ensures { OnOk result (to.new ≡ authority.write number to.old) }
 {
-    let n4 = number / 0x100;
-    let n3 = n4 / 0x100;
-    let n2 = n3 / 0x100;
-    let n1 = n2 / 0x100;
-    let n0 = n1 / 0x100;
-    to.u8(n0 as u8)?;
+    let n1 = number / 0x100 / 0x100 / 0x100 / 0x100;
+    to.u8((n1 / 0x100) as u8)?;
     to.u8((n1 % 0x100) as u8)?;
-    to.u8((n2 % 0x100) as u8)?;
-    to.u8((n3 % 0x100) as u8)?;
-    to.u8((n4 % 0x100) as u8)?;
-    to.u8((number % 0x100) as u8)
+    write_four_smalls(to, number as u128)
 }
 
 /// A SID, with its count of sub-authorities before it and in it.
