@@ -1,6 +1,7 @@
 // The outputs of replies.
 ghost use Rattle.std.specs.Prelude.{◌≡◌, OnOk};
 ghost use Rattle.ndr_core.specs.Cursor.{Reads};
+ghost use Rattle.ndr_core.specs.Shapes.{chain, given, u32};
 ghost use Rattle.ndr_types.specs.Outcomes.{ReadsIfRoom};
 ghost use Rattle.acct_stubs.specs.Outputs.{listed_outs, plain_outs, reply_stub, revision_answered, shown_outs};
 
@@ -226,6 +227,14 @@ fn write_shown(to: &mut Out, subject: Subject, outs: &Outs) -> Result<(), NoMemo
     write_class_shown(to, subject, *class, value)
 }
 
+/// A value that was read, and the number behind it.
+fn with_number<T: Drop>(from: &mut In<'_>, value: T) -> Result<(T, u32), NdrError>
+    ensures { Reads result from.new ((chain (given value) (λ _. u32)).read from.old) }
+{
+    let number = from.u32()?;
+    Ok((value, number))
+}
+
 /// A whole reply: the outputs and the status.
 #[tactic(auto, unfolding(crate::specs::Outputs::reply_stub, crate::specs::Outputs::with_status))]
 pub fn read_done<I: Interface>(
@@ -242,7 +251,7 @@ pub fn read_done<I: Interface>(
         Outputs::Policy(_) => return I::read_reply(alloc, from, outputs),
         Outputs::Translation(_) => return I::read_reply(alloc, from, outputs),
     };
-    let status = from.u32()?;
+    let (outs, status) = with_number(from, outs)?;
     Ok(Reply::Done { status, outs })
 }
 
