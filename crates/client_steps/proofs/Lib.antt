@@ -1,4 +1,5 @@
 mod Fitting
+pub mod Forms
 mod Listed
 mod Names
 mod Reading

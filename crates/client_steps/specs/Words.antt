@@ -29,6 +29,16 @@ is_short name = nat_le (length name) most_units
 abbrev pub name_of : List ℕ → Option (List ℕ)
 name_of word = if is_short (name_in word) then Some (name_in word) else None
 
+abbrev pub pair_of : Option (List ℕ) → Option (List ℕ) → Option (List ℕ × List ℕ)
+pair_of None second = None
+pair_of (Some first) None = None
+pair_of (Some first) (Some second) = Some (first, second)
+
+-- the names of words that are two
+abbrev pub two_names : List (List ℕ) → Option (List ℕ × List ℕ)
+two_names (first ∷ second ∷ []) = pair_of (name_of first) (name_of second)
+two_names _ = None
+
 -- so many names at most, each of them short
 unfoldable pub names_of : ℕ → List (List ℕ) → Option (List (List ℕ))
 names_of most words =

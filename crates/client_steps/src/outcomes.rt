@@ -13,7 +13,10 @@ ghost use Rattle.client_steps.specs.Outcomes.{entry_or_unmapped, with_domain, af
 ghost use Rattle.client_steps.specs.Outcomes.{after_grant};
 ghost use Rattle.client_steps.specs.Fit.{IsFitCommand, IsFitTask, IsFitNamed, IsFitQuery, IsFitGroup, IsFitStep};
 ghost use Rattle.client_steps.specs.Fit.{IsFitOutcome};
+ghost use Rattle.client_steps.specs.Texts.{name_text};
+ghost use Rattle.dtyp_sid.specs.Text.{text_of};
 ghost use Rattle.acct_codes.specs.Statuses.{status_more_entries};
+ghost use Rattle.acct_codes.specs.Uses.{sid_type_unknown};
 ghost use Rattle.acct_layouts.specs.Bounds.{IsHandle, IsLong, IfThere};
 
 use crate::NoMemory;
@@ -43,15 +46,45 @@ pub enum Outcome {
     Unfit,
 }
 
+/// Adds a number that ends a line.
+fn end_with_number(lines: &mut Text, number: u32) -> Result<(), NoMemory>
+    ensures { OnOk result (lines.new ≡ lines.old ++ decimal number ++ 10 ∷ []) }
+{
+    lines.push_number(number)?;
+    lines.push("\n")
+}
+
+/// Adds a name that ends a line.
+fn end_with_name(lines: &mut Text, name: &Name) -> Result<(), NoMemory>
+    ensures { OnOk result (lines.new ≡ lines.old ++ name_text name.now ++ 10 ∷ []) }
+{
+    lines.push_name(name.units())?;
+    lines.push("\n")
+}
+
+/// Adds a number with a space behind it.
+fn push_column(lines: &mut Text, number: u32) -> Result<(), NoMemory>
+    ensures { OnOk result (lines.new ≡ lines.old ++ decimal number ++ 32 ∷ []) }
+{
+    lines.push_number(number)?;
+    lines.push(" ")
+}
+
 fn domain_lines(alloc: Global, entries: &[RidName]) -> Result<Text, NoMemory>
     ensures { IfOk result (λ lines. lines ≡ flat_map domain_line entries.now) }
 {
     let mut lines = Text::new(alloc);
     for entry in entries {
-        lines.push_name(entry.name.units())?;
-        lines.push("\n")?;
+        end_with_name(&mut lines, &entry.name)?;
     }
     Ok(lines)
+}
+
+fn push_user_line(lines: &mut Text, entry: &RidName) -> Result<(), NoMemory>
+    ensures { OnOk result (lines.new ≡ lines.old ++ user_line entry.now) }
+{
+    push_column(lines, entry.rid)?;
+    end_with_name(lines, &entry.name)
 }
 
 fn user_lines(alloc: Global, entries: &[RidName]) -> Result<Text, NoMemory>
@@ -59,12 +92,16 @@ fn user_lines(alloc: Global, entries: &[RidName]) -> Result<Text, NoMemory>
 {
     let mut lines = Text::new(alloc);
     for entry in entries {
-        lines.push_number(entry.rid)?;
-        lines.push(" ")?;
-        lines.push_name(entry.name.units())?;
-        lines.push("\n")?;
+        push_user_line(&mut lines, entry)?;
     }
     Ok(lines)
+}
+
+fn push_member_line(lines: &mut Text, member: RidBits) -> Result<(), NoMemory>
+    ensures { OnOk result (lines.new ≡ lines.old ++ member_line member) }
+{
+    push_column(lines, member.rid)?;
+    end_with_number(lines, member.bits)
 }
 
 fn member_lines(alloc: Global, members: &[RidBits]) -> Result<Text, NoMemory>
@@ -72,10 +109,7 @@ fn member_lines(alloc: Global, members: &[RidBits]) -> Result<Text, NoMemory>
 {
     let mut lines = Text::new(alloc);
     for member in members {
-        lines.push_number(member.rid)?;
-        lines.push(" ")?;
-        lines.push_number(member.bits)?;
-        lines.push("\n")?;
+        push_member_line(&mut lines, *member)?;
     }
     Ok(lines)
 }
@@ -85,8 +119,7 @@ fn right_lines(alloc: Global, rights: &[Name]) -> Result<Text, NoMemory>
 {
     let mut lines = Text::new(alloc);
     for right in rights {
-        lines.push_name(right.units())?;
-        lines.push("\n")?;
+        end_with_name(&mut lines, right)?;
     }
     Ok(lines)
 }
@@ -95,8 +128,7 @@ fn done_line(alloc: Global, word: &str, rid: u32) -> Result<Text, NoMemory>
     ensures { IfOk result (λ line. line ≡ done_line word.now rid) }
 {
     let mut line = Text::of(alloc, word)?;
-    line.push_number(rid)?;
-    line.push("\n")?;
+    end_with_number(&mut line, rid)?;
     Ok(line)
 }
 
@@ -127,18 +159,31 @@ fn entry_at(entries: &[TranslatedSid], place: usize) -> TranslatedSid
     }
 }
 
+/// Adds the use of a SID between spaces.
+fn push_use(lines: &mut Text, usage: u32) -> Result<(), NoMemory>
+    ensures { OnOk result (lines.new ≡ lines.old ++ 32 ∷ decimal usage ++ 32 ∷ []) }
+{
+    lines.push(" ")?;
+    push_column(lines, usage)
+}
+
+/// Adds the index of a domain behind a space, which ends a line.
+fn end_with_index(lines: &mut Text, index: i32) -> Result<(), NoMemory>
+    ensures { OnOk result (lines.new ≡ lines.old ++ 32 ∷ signed_decimal index ++ 10 ∷ []) }
+{
+    lines.push(" ")?;
+    lines.push_signed(index)?;
+    lines.push("\n")
+}
+
 #[tactic(auto, unfolding(crate::specs::Outcomes::name_line))]
 fn push_name_line(lines: &mut Text, name: &Name, entry: TranslatedSid) -> Result<(), NoMemory>
     ensures { OnOk result (lines.new ≡ lines.old ++ name_line name.now entry) }
 {
     lines.push_name(name.units())?;
-    lines.push(" ")?;
-    lines.push_number(entry.usage as u32)?;
-    lines.push(" ")?;
+    push_use(lines, entry.usage as u32)?;
     lines.push_number(entry.rid)?;
-    lines.push(" ")?;
-    lines.push_signed(entry.index)?;
-    lines.push("\n")
+    end_with_index(lines, entry.index)
 }
 
 fn name_lines(alloc: Global, names: &[Name], entries: &[TranslatedSid]) -> Result<Text, NoMemory>
@@ -151,6 +196,27 @@ fn name_lines(alloc: Global, names: &[Name], entries: &[TranslatedSid]) -> Resul
     Ok(lines)
 }
 
+/// Adds what stands behind the SID that was translated to an entry.
+fn end_translated(lines: &mut Text, entry: &TranslatedName) -> Result<(), NoMemory>
+    ensures { OnOk result (lines.new ≡ lines.old ++ 32 ∷ decimal entry.now.usage ++ 32 ∷ []
+        ++ name_text entry.now.name ++ 32 ∷ [] ++ signed_decimal entry.now.index ++ 10 ∷ []) }
+{
+    push_use(lines, entry.usage as u32)?;
+    lines.push_name(entry.name.units())?;
+    end_with_index(lines, entry.index)
+}
+
+/// Adds what stands behind a SID that wasn't translated.
+fn end_untranslated(alloc: Global, lines: &mut Text, sid: &Sid) -> Result<(), NoMemory>
+    ensures { OnOk result (lines.new ≡ lines.old ++ 32 ∷ decimal sid_type_unknown ++ 32 ∷ []
+        ++ text_of sid.now ++ 32 ∷ [] ++ signed_decimal (negsuc 0) ++ 10 ∷ []) }
+{
+    let text = sid.text(alloc)?;
+    push_use(lines, SID_TYPE_UNKNOWN)?;
+    lines.push(&text)?;
+    end_with_index(lines, -1)
+}
+
 #[tactic(auto, unfolding(crate::specs::Outcomes::sid_line))]
 fn push_sid_line(
     alloc: Global,
@@ -161,24 +227,10 @@ fn push_sid_line(
     ensures { OnOk result (lines.new ≡ lines.old ++ sid_line sid.now (option_copied entry.entry)) }
 {
     lines.push(sid.word.as_str())?;
-    lines.push(" ")?;
     match entry {
-        Some(entry) => {
-            lines.push_number(entry.usage as u32)?;
-            lines.push(" ")?;
-            lines.push_name(entry.name.units())?;
-            lines.push(" ")?;
-            lines.push_signed(entry.index)?;
-        }
-        None => {
-            lines.push_number(SID_TYPE_UNKNOWN)?;
-            lines.push(" ")?;
-            lines.push(&sid.sid.text(alloc)?)?;
-            lines.push(" ")?;
-            lines.push_signed(-1)?;
-        }
+        Some(entry) => end_translated(lines, entry),
+        None => end_untranslated(alloc, lines, &sid.sid),
     }
-    lines.push("\n")
 }
 
 fn named_at(entries: &[TranslatedName], place: usize) -> Option<&TranslatedName>

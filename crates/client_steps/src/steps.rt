@@ -1,5 +1,5 @@
 // The calls of a command, one after the other.
-ghost use Rattle.std.specs.Prelude.{◌≡◌, ◌++◌, map, IfOk};
+ghost use Rattle.std.specs.Prelude.{◌≡◌, ◌∷◌, ◌++◌, [], map, IfOk, OnOk};
 ghost use Rattle.client_steps.specs.Steps.{samr_call, lsa_call, domain_access, policy_access, group_access};
 ghost use Rattle.client_steps.specs.Steps.{asked_names, sid_of_word, page};
 ghost use Rattle.acct_calls.specs.declared.handle.Handle.{Handle};
@@ -190,16 +190,25 @@ fn page(context: u32) -> Args
     }
 }
 
+/// Adds a copy of a name.
+fn push_copy(alloc: Global, names: &mut Names, name: &Name) -> Result<(), NoMemory>
+    ensures { OnOk result (names.new ≡ names.old ++ name.now ∷ []) }
+{
+    names.push(name.copy(alloc)?)
+}
+
 /// The names that a task looks up.
 fn asked_names(alloc: Global, task: &NamedTask) -> Result<Names, NoMemory>
     ensures { IfOk result (λ names. names ≡ asked_names task.now) }
 {
     let mut names = Names::new(alloc);
     match task {
-        NamedTask::DeleteUser(name) | NamedTask::Members(name) => names.push(name.copy(alloc)?)?,
+        NamedTask::DeleteUser(name) | NamedTask::Members(name) => {
+            push_copy(alloc, &mut names, name)?;
+        }
         NamedTask::AddMember { group, user } => {
-            names.push(group.copy(alloc)?)?;
-            names.push(user.copy(alloc)?)?;
+            push_copy(alloc, &mut names, group)?;
+            push_copy(alloc, &mut names, user)?;
         }
     }
     Ok(names)

@@ -4,11 +4,12 @@ ghost use Rattle.std.specs.String.{string_bytes};
 ghost use Rattle.std.specs.List.{list_all};
 ghost use Rattle.client_steps.specs.declared.words.WordError.TheVariants.{NoMemory, Refused};
 ghost use Rattle.client_steps.specs.Words.{name_in, is_short, name_of, names_of, sid_word, all_sids, sids_of};
+ghost use Rattle.client_steps.specs.Words.{pair_of, two_names, in_domain, adding, granting};
 ghost use Rattle.client_steps.specs.Words.{domains_form, users_form, create_form, delete_form, members_form, add_form};
 ghost use Rattle.client_steps.specs.Words.{names_form, sids_form, rights_form, grant_form, verb_form, command_of};
 ghost use Rattle.dtyp_sid.specs.Reading.{sid_of_text};
 ghost use Rattle.acct_calls.specs.CodePoints.{AreUnits};
-ghost use Rattle.acct_codes.specs.Limits.{most_translated_names};
+ghost use Rattle.acct_codes.specs.Limits.{most_rights, most_translated_names};
 ghost use Rattle.acct_layouts.specs.Bounds.{IsText};
 ghost use Rattle.dtyp_sid.specs.Value.{IsSid};
 ghost use Rattle.client_steps.specs.Fit.{IsFitCommand};
@@ -56,17 +57,49 @@ fn are_short(names: &[Name]) -> bool
     names.iter().all(|name| is_short(name))
 }
 
+/// The name that a word spells.
+fn spelled_name(alloc: Global, word: &str) -> Result<Name, AllocError>
+    ensures value { IfOk result (λ name. name ≡ name_in word.now) }
+    ensures fit { IfOk result AreUnits }
+{
+    let name = Name::from_text(alloc, word)?;
+    name.has_units();
+    Ok(name)
+}
+
 fn name_of(alloc: Global, word: &str) -> Result<Name, WordError>
     ensures found { IfOk result (λ name. name_of word.now ≡ Some name) }
     ensures refused { result ≡ Err Refused → name_of word.now ≡ None }
     ensures fit { IfOk result IsText }
 {
-    let name = Name::from_text(alloc, word)?;
-    name.has_units();
+    let name = spelled_name(alloc, word)?;
     if is_short(&name) {
         Ok(name)
     } else {
         Err(WordError::Refused)
+    }
+}
+
+/// The names of two words.
+fn pair_of(alloc: Global, first: &str, second: &str) -> Result<(Name, Name), WordError>
+    ensures found { IfOk result (λ names. pair_of (name_of first.now) (name_of second.now) ≡ Some names) }
+    ensures refused { result ≡ Err Refused → pair_of (name_of first.now) (name_of second.now) ≡ None }
+    ensures fit { IfOk result (λ names. IsText names.0 × IsText names.1) }
+{
+    let first = name_of(alloc, first)?;
+    let second = name_of(alloc, second)?;
+    Ok((first, second))
+}
+
+/// The names of words that are two.
+fn two_names(alloc: Global, words: &[String]) -> Result<(Name, Name), WordError>
+    ensures found { IfOk result (λ names. two_names (map string_bytes words.now) ≡ Some names) }
+    ensures refused { result ≡ Err Refused → two_names (map string_bytes words.now) ≡ None }
+    ensures fit { IfOk result (λ names. IsText names.0 × IsText names.1) }
+{
+    match words {
+        [first, second] => pair_of(alloc, first, second),
+        _ => Err(WordError::Refused),
     }
 }
 
@@ -75,13 +108,11 @@ fn all_names(alloc: Global, words: &[String]) -> Result<Names, AllocError>
     ensures fit { IfOk result (λ names. All AreUnits names) }
     ensures count { IfOk result (λ names. length names ≡ length words.now) }
 {
-    let mut names = Vec::with_capacity(alloc, words.len())?;
+    let mut names = Names::new(alloc);
     for word in words {
-        let name = Name::from_text(alloc, word)?;
-        name.has_units();
-        names.push(name)?;
+        names.push(spelled_name(alloc, word)?)?;
     }
-    Ok(Names::from_vec(names))
+    Ok(names)
 }
 
 #[tactic(auto, unfolding(crate::specs::Words::names_of))]
@@ -165,45 +196,58 @@ fn users(alloc: Global, words: &[String]) -> Result<Command, WordError>
     })
 }
 
+#[tactic(auto, using(crate::proofs::Forms::create_form_is))]
 fn create_user(alloc: Global, words: &[String]) -> Result<Command, WordError>
     ensures found { IfOk result (λ command. create_form (map string_bytes words.now) ≡ Some command) }
     ensures refused { result ≡ Err Refused → create_form (map string_bytes words.now) ≡ None }
     ensures fit { IfOk result IsFitCommand }
 {
-    let [domain, name] = words else {
-        return Err(WordError::Refused);
-    };
+    let (domain, name) = two_names(alloc, words)?;
     Ok(Command::InDomain {
-        domain: name_of(alloc, domain)?,
-        task: Task::CreateUser(name_of(alloc, name)?),
+        domain,
+        task: Task::CreateUser(name),
     })
 }
 
+#[tactic(auto, using(crate::proofs::Forms::delete_form_is))]
 fn delete_user(alloc: Global, words: &[String]) -> Result<Command, WordError>
     ensures found { IfOk result (λ command. delete_form (map string_bytes words.now) ≡ Some command) }
     ensures refused { result ≡ Err Refused → delete_form (map string_bytes words.now) ≡ None }
     ensures fit { IfOk result IsFitCommand }
 {
-    let [domain, name] = words else {
-        return Err(WordError::Refused);
-    };
+    let (domain, name) = two_names(alloc, words)?;
     Ok(Command::InDomain {
-        domain: name_of(alloc, domain)?,
-        task: Task::Named(NamedTask::DeleteUser(name_of(alloc, name)?)),
+        domain,
+        task: Task::Named(NamedTask::DeleteUser(name)),
     })
 }
 
+#[tactic(auto, using(crate::proofs::Forms::members_form_is))]
 fn members(alloc: Global, words: &[String]) -> Result<Command, WordError>
     ensures found { IfOk result (λ command. members_form (map string_bytes words.now) ≡ Some command) }
     ensures refused { result ≡ Err Refused → members_form (map string_bytes words.now) ≡ None }
     ensures fit { IfOk result IsFitCommand }
 {
-    let [domain, group] = words else {
-        return Err(WordError::Refused);
-    };
+    let (domain, name) = two_names(alloc, words)?;
     Ok(Command::InDomain {
-        domain: name_of(alloc, domain)?,
-        task: Task::Named(NamedTask::Members(name_of(alloc, group)?)),
+        domain,
+        task: Task::Named(NamedTask::Members(name)),
+    })
+}
+
+/// The command that adds the user of a word to the group of a word.
+#[tactic(auto, using(crate::proofs::Forms::adding_is))]
+fn adding(alloc: Global, domain: Name, group: &str, user: &str) -> Result<Command, WordError>
+    ensures found { IfOk result (λ command.
+        in_domain (Some domain) (adding (name_of group.now) (name_of user.now)) ≡ Some command) }
+    ensures refused { result ≡ Err Refused →
+        in_domain (Some domain) (adding (name_of group.now) (name_of user.now)) ≡ None }
+    ensures fit { IsText domain → IfOk result IsFitCommand }
+{
+    let (group, user) = pair_of(alloc, group, user)?;
+    Ok(Command::InDomain {
+        domain,
+        task: Task::Named(NamedTask::AddMember { group, user }),
     })
 }
 
@@ -215,13 +259,8 @@ fn add_member(alloc: Global, words: &[String]) -> Result<Command, WordError>
     let [domain, group, user] = words else {
         return Err(WordError::Refused);
     };
-    Ok(Command::InDomain {
-        domain: name_of(alloc, domain)?,
-        task: Task::Named(NamedTask::AddMember {
-            group: name_of(alloc, group)?,
-            user: name_of(alloc, user)?,
-        }),
-    })
+    let domain = name_of(alloc, domain)?;
+    adding(alloc, domain, group, user)
 }
 
 fn names(alloc: Global, words: &[String]) -> Result<Command, WordError>
@@ -258,6 +297,19 @@ fn rights(words: &[String]) -> Result<Command, WordError>
     Ok(Command::AtPolicy(Query::Rights(sid_of(sid)?)))
 }
 
+/// The command that gives the account of a word the rights of words.
+fn granting(alloc: Global, sid: &str, rights: &[String]) -> Result<Command, WordError>
+    ensures found { IfOk result (λ command.
+        granting (sid_of_text sid.now) (names_of most_rights (map string_bytes rights.now)) ≡ Some command) }
+    ensures refused { result ≡ Err Refused →
+        granting (sid_of_text sid.now) (names_of most_rights (map string_bytes rights.now)) ≡ None }
+    ensures fit { IfOk result IsFitCommand }
+{
+    let sid = sid_of(sid)?;
+    let rights = names_of(alloc, MOST_RIGHTS, rights)?;
+    Ok(Command::AtPolicy(Query::Grant { sid, rights }))
+}
+
 fn grant(alloc: Global, words: &[String]) -> Result<Command, WordError>
     ensures found { IfOk result (λ command. grant_form (map string_bytes words.now) ≡ Some command) }
     ensures refused { result ≡ Err Refused → grant_form (map string_bytes words.now) ≡ None }
@@ -269,10 +321,7 @@ fn grant(alloc: Global, words: &[String]) -> Result<Command, WordError>
     if rights.is_empty() {
         return Err(WordError::Refused);
     }
-    Ok(Command::AtPolicy(Query::Grant {
-        sid: sid_of(sid)?,
-        rights: names_of(alloc, MOST_RIGHTS, rights)?,
-    }))
+    granting(alloc, sid, rights)
 }
 
 #[tactic(auto, unfolding(crate::specs::Words::verb_form))]

@@ -6,7 +6,7 @@ use Rattle.client_steps.proofs.words.all_names.Given as goal
 
 abbrev pub invariant-loop-word : goal.invariant-loop-word
 invariant-loop-word l = record {
-  names : l.names.items ≡ map name_in (map string_bytes (take l.word-index l.words));
-  units : All AreUnits l.names.items;
-  count : length l.names.items ≡ l.word-index;
+  names : l.names ≡ map name_in (map string_bytes (take l.word-index l.words));
+  units : All AreUnits l.names;
+  count : length l.names ≡ l.word-index;
 }
