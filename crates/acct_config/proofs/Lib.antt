@@ -2,6 +2,7 @@ pub mod AddressSpelling
 pub mod Broken
 pub mod Decimals
 pub mod Digits
+mod Found
 pub mod Kept
 pub mod Parsed
 pub mod Parts

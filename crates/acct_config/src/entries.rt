@@ -1,7 +1,9 @@
 // The texts of access control entries.
 ghost use Rattle.std.specs.Prelude.{◌≡◌};
 ghost use Rattle.dtyp_sid.specs.Reading.{sid_of_text};
+ghost use Rattle.acct_base.specs.Words.{parted};
 ghost use Rattle.acct_config.specs.Entries.{kind_of_word, mask_of_word, flags_of_word, ace_of_text};
+ghost use Rattle.acct_config.specs.Entries.{ace_of, ace_behind_mask, ace_behind_kind};
 
 use crate::words::{decimal_of, hexadecimal_of, parted};
 use acct_base::rest_of;
@@ -49,18 +51,40 @@ fn flags_of_word(word: &[u8]) -> Option<u8>
     }
 }
 
-/// The entry that a text spells: `allow MASK FLAGS SID` or `deny MASK FLAGS SID`.
-#[tactic(auto, unfolding(crate::specs::Entries::ace_of_text))]
-pub fn ace_of_text(text: &str) -> Option<Ace>
-    ensures { result ≡ ace_of_text text.now }
+/// The entry of its four words, where each is one.
+fn ace_of(kind: &str, mask: &str, flags: &str, sid: &str) -> Option<Ace>
+    ensures { result ≡ ace_of (kind_of_word kind.now) (mask_of_word mask.now) (flags_of_word flags.now)
+        (sid_of_text sid.now) }
 {
-    let (kind, rest) = parted(text, ' ')?;
-    let (mask, rest) = parted(rest, ' ')?;
-    let (flags, sid) = parted(rest, ' ')?;
     Some(Ace {
         kind: kind_of_word(kind)?,
         flags: flags_of_word(flags.as_bytes())?,
         mask: mask_of_word(mask.as_bytes())?,
         sid: sid_of_text(sid)?,
     })
+}
+
+/// The entry whose flags and SID stand in a text.
+fn ace_behind_mask(kind: &str, mask: &str, text: &str) -> Option<Ace>
+    ensures { result ≡ ace_behind_mask kind.now mask.now (parted 32 text.now) }
+{
+    let (flags, sid) = parted(text, ' ')?;
+    ace_of(kind, mask, flags, sid)
+}
+
+/// The entry whose mask, flags and SID stand in a text.
+fn ace_behind_kind(kind: &str, text: &str) -> Option<Ace>
+    ensures { result ≡ ace_behind_kind kind.now (parted 32 text.now) }
+{
+    let (mask, rest) = parted(text, ' ')?;
+    ace_behind_mask(kind, mask, rest)
+}
+
+/// The entry that a text spells: `allow MASK FLAGS SID` or `deny MASK FLAGS SID`.
+#[tactic(auto, unfolding(crate::specs::Entries::ace_of_text))]
+pub fn ace_of_text(text: &str) -> Option<Ace>
+    ensures { result ≡ ace_of_text text.now }
+{
+    let (kind, rest) = parted(text, ' ')?;
+    ace_behind_kind(kind, rest)
 }
