@@ -1,7 +1,9 @@
 // What one whole PDU does in a session.
-ghost use Rattle.std.specs.Prelude.{◌≡◌, ◌==◌, ◌++◌, ◌≤◌, not, bit_and, IfOk, length, Some, None};
+ghost use Rattle.std.specs.Prelude.{◌≡◌, ◌==◌, ◌++◌, ◌≤◌, [], not, bit_and, IfOk, length, Some, None};
 ghost use Rattle.acct_codes.specs.Limits.{most_stub};
 ghost use Rattle.rpc_pdu.specs.Written.{HasFewParts};
+ghost use Rattle.rpc_session.specs.Answers.{bind_answer, alter_answer};
+ghost use Rattle.rpc_session.specs.Contexts.{with_elements};
 ghost use Rattle.rpc_session.specs.Sessions.{binds, asked, gathers, begins, goes_on, requests, without, taken_first};
 ghost use Rattle.rpc_session.specs.Sessions.{taken_later, taken};
 
@@ -16,8 +18,8 @@ use acct_codes::cause::{
 };
 use acct_codes::fault::NCA_S_UNK_IF;
 use acct_codes::limit::{MOST_CONTEXTS, MOST_STUB};
-use rpc_pdu::{NoMemory, Pdu};
-use std::alloc::Global;
+use rpc_pdu::{Element, NoMemory, Pdu};
+use std::alloc::{AllocError, Global};
 
 /// What a client's PDU asks for.
 #[derive(Debug, Drop)]
@@ -92,6 +94,8 @@ fn binds(after: Association, answer: Seq<u8>) -> Step
     ensures { result ≡ binds after answer }
 {
     if after.contexts.as_slice().len() > MOST_CONTEXTS {
+        drop(after);
+        drop(answer);
         return Step::Refuses(CAUSE_TOO_MANY_CONTEXTS);
     }
     Step::Goes {
@@ -109,12 +113,13 @@ fn asked(
     ensures { IfOk result (λ act. act ≡ asked request size context) }
 {
     match context {
-        None => Ok(Act::Answered {
-            bytes: Seq::copy_of(
-                alloc,
-                &fault_bytes(request.id, request.context, NCA_S_UNK_IF),
-            )?,
-        }),
+        None => {
+            let fault = fault_bytes(request.id, request.context, NCA_S_UNK_IF);
+            drop(request);
+            Ok(Act::Answered {
+                bytes: Seq::copy_of(alloc, &fault)?,
+            })
+        }
         Some(c) => Ok(Act::Call {
             id: request.id,
             context: request.context,
@@ -151,8 +156,9 @@ fn put(
     let Association {
         sizes,
         contexts,
-        ..
+        partial,
     } = association;
+    drop(partial);
     if !is_last(flags) {
         return Ok(Step::Goes {
             act: None,
@@ -164,15 +170,20 @@ fn put(
         });
     }
     let context = face_at(request.context, contexts.as_slice());
-    let act = asked(alloc, request, sizes.xmit, context)?;
-    Ok(Step::Goes {
-        act: Some(act),
-        session: Session::Bound(Association {
-            sizes,
-            contexts,
-            partial: None,
+    match asked(alloc, request, sizes.xmit, context) {
+        Ok(act) => Ok(Step::Goes {
+            act: Some(act),
+            session: Session::Bound(Association {
+                sizes,
+                contexts,
+                partial: None,
+            }),
         }),
-    })
+        Err(AllocError) => {
+            drop(contexts);
+            Err(AllocError)
+        }
+    }
 }
 
 /// The first fragment of a request.
@@ -185,9 +196,13 @@ fn begins(
     ensures { IfOk result (λ step. step ≡ begins association flags request association.partial) }
 {
     if association.partial.is_some() {
+        drop(association);
+        drop(request);
         return Ok(Step::Refuses(CAUSE_FIRST_TWICE));
     }
     if request.stub.as_slice().len() > MOST_STUB {
+        drop(association);
+        drop(request);
         return Ok(Step::Refuses(CAUSE_STUB_TOO_LONG));
     }
     put(alloc, association, flags, request)
@@ -214,18 +229,36 @@ fn more(
     ensures { IfOk result (λ step. step ≡ goes_on association flags id stub.now (Some request)) }
 {
     if request.id != id {
+        drop(association);
+        drop(request);
         return Ok(Step::Refuses(CAUSE_NO_FIRST));
     }
     if stub.len() > MOST_STUB || request.stub.as_slice().len() > MOST_STUB - stub.len() {
+        drop(association);
+        drop(request);
         return Ok(Step::Refuses(CAUSE_STUB_TOO_LONG));
     }
-    let request = PartialRequest {
-        id: request.id,
-        context: request.context,
-        opnum: request.opnum,
-        stub: extended(request.stub, stub)?,
-    };
-    put(alloc, association, flags, request)
+    let PartialRequest {
+        id,
+        context,
+        opnum,
+        stub: gathered,
+    } = request;
+    match extended(gathered, stub) {
+        Ok(stub) => {
+            let request = PartialRequest {
+                id,
+                context,
+                opnum,
+                stub,
+            };
+            put(alloc, association, flags, request)
+        }
+        Err(AllocError) => {
+            drop(association);
+            Err(AllocError)
+        }
+    }
 }
 
 fn goes_on(
@@ -248,7 +281,10 @@ fn goes_on(
         partial: None,
     };
     match partial {
-        None => Ok(Step::Refuses(CAUSE_NO_FIRST)),
+        None => {
+            drop(association);
+            Ok(Step::Refuses(CAUSE_NO_FIRST))
+        }
         Some(request) => more(alloc, association, flags, request, id, stub),
     }
 }
@@ -279,6 +315,81 @@ fn dropped(association: Association, id: u32) -> Association
     }
 }
 
+/// An association with the contexts of these elements, and the answer to them.
+fn accepts(
+    association: Association,
+    elements: &[Element],
+    answer: Seq<u8>,
+) -> Result<Step, NoMemory>
+    ensures { IfOk result (λ step. step ≡ binds
+        (record association { contexts = with_elements association.contexts elements.now }) answer) }
+{
+    let Association {
+        sizes,
+        contexts,
+        partial,
+    } = association;
+    match with_elements(contexts, elements) {
+        Ok(contexts) => {
+            let after = Association {
+                sizes,
+                contexts,
+                partial,
+            };
+            Ok(binds(after, answer))
+        }
+        Err(AllocError) => {
+            drop(partial);
+            drop(answer);
+            Err(AllocError)
+        }
+    }
+}
+
+/// What a bind does where there is no association yet.
+fn bound(
+    alloc: Global,
+    conn: u32,
+    id: u32,
+    sizes: Sizes,
+    elements: &[Element],
+) -> Result<Step, NoMemory>
+    requires { length elements.now ≤ 255 }
+    ensures { IfOk result (λ step. step ≡ binds
+        (record { sizes = sizes; contexts = with_elements [] elements.now; partial = None })
+        (bind_answer conn id sizes elements.now)) }
+{
+    let answer = bind_answer(alloc, conn, id, sizes, elements)?;
+    let fresh = Association {
+        sizes,
+        contexts: Seq::new(alloc),
+        partial: None,
+    };
+    accepts(fresh, elements, answer)
+}
+
+/// What an alter_context does to an association.
+fn altered(
+    alloc: Global,
+    conn: u32,
+    id: u32,
+    association: Association,
+    elements: &[Element],
+) -> Result<Step, NoMemory>
+    requires { length elements.now ≤ 255 }
+    ensures { IfOk result (λ step. step ≡ binds
+        (record association { contexts = with_elements association.contexts elements.now })
+        (alter_answer conn id association.sizes elements.now)) }
+{
+    match alter_answer(alloc, conn, id, association.sizes, elements) {
+        Ok(answer) => accepts(association, elements, answer),
+        Err(AllocError) => {
+            drop(association);
+            Err(AllocError)
+        }
+    }
+}
+
 #[tactic(auto, unfolding(crate::specs::Sessions::taken_first))]
 fn taken_first(alloc: Global, conn: u32, pdu: Pdu) -> Result<Step, NoMemory>
     requires { HasFewParts pdu }
@@ -292,16 +403,14 @@ fn taken_first(alloc: Global, conn: u32, pdu: Pdu) -> Result<Step, NoMemory>
             elements,
             ..
         } => {
-            let sizes = sizes_for(xmit, recv);
-            let answer = bind_answer(alloc, conn, id, sizes, elements.as_slice())?;
-            let after = Association {
-                sizes,
-                contexts: with_elements(Seq::new(alloc), elements.as_slice())?,
-                partial: None,
-            };
-            Ok(binds(after, answer))
+            let step = bound(alloc, conn, id, sizes_for(xmit, recv), elements.as_slice());
+            drop(elements);
+            step
         }
-        _ => Ok(Step::Refuses(CAUSE_BIND_ORDER)),
+        _ => {
+            drop(pdu);
+            Ok(Step::Refuses(CAUSE_BIND_ORDER))
+        }
     }
 }
 
@@ -317,19 +426,9 @@ fn taken_later(
 {
     match pdu {
         Pdu::Alter { id, elements, .. } => {
-            let sizes = association.sizes;
-            let answer = alter_answer(alloc, conn, id, sizes, elements.as_slice())?;
-            let Association {
-                contexts,
-                partial,
-                ..
-            } = association;
-            let after = Association {
-                sizes,
-                contexts: with_elements(contexts, elements.as_slice())?,
-                partial,
-            };
-            Ok(binds(after, answer))
+            let step = altered(alloc, conn, id, association, elements.as_slice());
+            drop(elements);
+            step
         }
         Pdu::Request {
             id,
@@ -339,7 +438,9 @@ fn taken_later(
             stub,
         } => {
             if !is_first(flags) {
-                return goes_on(alloc, association, flags, id, stub.as_slice());
+                let step = goes_on(alloc, association, flags, id, stub.as_slice());
+                drop(stub);
+                return step;
             }
             let request = PartialRequest {
                 id,
@@ -349,15 +450,25 @@ fn taken_later(
             };
             begins(alloc, association, flags, request)
         }
-        Pdu::Cancel { .. } => Ok(Step::Goes {
-            act: None,
-            session: Session::Bound(association),
-        }),
-        Pdu::Orphaned { id } => Ok(Step::Goes {
-            act: None,
-            session: Session::Bound(dropped(association, id)),
-        }),
-        _ => Ok(Step::Refuses(CAUSE_BIND_ORDER)),
+        Pdu::Cancel { .. } => {
+            drop(pdu);
+            Ok(Step::Goes {
+                act: None,
+                session: Session::Bound(association),
+            })
+        }
+        Pdu::Orphaned { id } => {
+            drop(pdu);
+            Ok(Step::Goes {
+                act: None,
+                session: Session::Bound(dropped(association, id)),
+            })
+        }
+        _ => {
+            drop(pdu);
+            drop(association);
+            Ok(Step::Refuses(CAUSE_BIND_ORDER))
+        }
     }
 }
 
