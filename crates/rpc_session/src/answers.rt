@@ -35,7 +35,9 @@ fn bytes_of(alloc: Global, answer: Pdu) -> Result<Seq<u8>, NoMemory>
     requires size { size_of answer ≤ 65535 }
     ensures { IfOk result (λ bytes. bytes ≡ written answer) }
 {
-    match write_pdu(alloc, &answer) {
+    let written = write_pdu(alloc, &answer);
+    drop(answer);
+    match written {
         Ok(bytes) => Ok(Seq::from_vec(bytes)),
         Err(AllocError) => Err(AllocError),
     }

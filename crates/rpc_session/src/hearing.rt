@@ -67,25 +67,43 @@ fn heard_next(
     requires { place + length bytes.now < 2 ^ 64 }
     ensures { IfOk result (λ next. next ≡ heard_next conn place session bytes.now) }
 {
-    match read_pdu(alloc, Side::Server, bytes) {
-        ReadPdu::NoMemory => Err(AllocError),
-        ReadPdu::More => Ok(Next::Waits(session)),
+    let found = read_pdu(alloc, Side::Server, bytes);
+    match found {
+        ReadPdu::NoMemory => {
+            drop(found);
+            drop(session);
+            Err(AllocError)
+        }
+        ReadPdu::More => {
+            drop(found);
+            Ok(Next::Waits(session))
+        }
         ReadPdu::Refused {
             place: at,
             cause,
             ptype,
             id,
-        } => refused(alloc, place + at as u64, cause, ptype, id),
+        } => {
+            drop(found);
+            drop(session);
+            refused(alloc, place + at as u64, cause, ptype, id)
+        }
         ReadPdu::Got {
             pdu,
             ptype,
             id,
             used: size,
-        } => match take_pdu(alloc, conn, session, pdu) {
-            Ok(Step::Refuses(cause)) => refused(alloc, place, cause, ptype, id),
-            Ok(Step::Goes { act, session }) => Ok(Next::Goes { act, session, size }),
-            Err(AllocError) => Err(AllocError),
-        },
+        } => {
+            let step = take_pdu(alloc, conn, session, pdu);
+            match step {
+                Ok(Step::Refuses(cause)) => {
+                    drop(step);
+                    refused(alloc, place, cause, ptype, id)
+                }
+                Ok(Step::Goes { act, session }) => Ok(Next::Goes { act, session, size }),
+                Err(AllocError) => Err(AllocError),
+            }
+        }
     }
 }
 
@@ -135,14 +153,21 @@ fn hear(
         let here = place + at as u64;
         match heard_next(alloc, conn, here, session, rest_of(bytes.as_slice(), at))? {
             Next::Waits(waiting) => {
-                return Ok(Hearing::Going {
-                    conn,
-                    place: here,
-                    session: waiting,
-                    rest: kept(alloc, bytes, at)?,
-                });
+                return match kept(alloc, bytes, at) {
+                    Ok(rest) => Ok(Hearing::Going {
+                        conn,
+                        place: here,
+                        session: waiting,
+                        rest,
+                    }),
+                    Err(AllocError) => {
+                        drop(waiting);
+                        Err(AllocError)
+                    }
+                };
             }
             Next::Ends(act) => {
+                drop(bytes);
                 acts.push(act)?;
                 return Ok(Hearing::Ended);
             }
@@ -151,9 +176,17 @@ fn hear(
                 session: after,
                 size,
             } => {
-                add(acts, act)?;
-                session = after;
-                at += size;
+                match add(acts, act) {
+                    Ok(()) => {
+                        session = after;
+                        at += size;
+                    }
+                    Err(AllocError) => {
+                        drop(after);
+                        drop(bytes);
+                        return Err(AllocError);
+                    }
+                }
             }
         }
     }
@@ -221,6 +254,13 @@ impl Bytes2Acts {
     }
 }
 
+/// Puts a value in the place of another.
+fn set<T: Drop>(place: &mut T, value: T)
+    ensures { place.new ≡ value }
+{
+    *place = value;
+}
+
 fn fed(
     alloc: Global,
     hearing: &mut Hearing,
@@ -235,10 +275,12 @@ fn fed(
     ensures lost { hearing.old ≡ Lost → IsErr result }
     ensures ended { hearing.old ≡ Ended → IsOk result × (hearing.new ≡ Ended) × (acts.new.items ≡ acts.old.items) }
 {
-    match mem::replace(hearing, Hearing::Lost) {
+    let found = mem::replace(hearing, Hearing::Lost);
+    match found {
         Hearing::Lost => Err(AllocError),
         Hearing::Ended => {
-            *hearing = Hearing::Ended;
+            drop(found);
+            set(hearing, Hearing::Ended);
             Ok(())
         }
         Hearing::Going {
@@ -247,9 +289,17 @@ fn fed(
             session,
             rest,
         } => {
-            let bytes = extended(rest, piece)?;
-            *hearing = hear(alloc, conn, place, session, bytes, acts)?;
-            Ok(())
+            match extended(rest, piece) {
+                Ok(bytes) => {
+                    let left = hear(alloc, conn, place, session, bytes, acts)?;
+                    set(hearing, left);
+                    Ok(())
+                }
+                Err(AllocError) => {
+                    drop(session);
+                    Err(AllocError)
+                }
+            }
         }
     }
 }

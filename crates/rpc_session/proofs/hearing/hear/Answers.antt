@@ -32,13 +32,12 @@ returns-in_err-waiting-clause-err c =
     (c.args.place + c.loop-bytes.at) c.loop-bytes.session
     (drop c.loop-bytes.at c.loop-bytes.bytes) all c.loop-bytes.invariant.hearing)
 
-pub returns-in_err-kept-in-Waits-clause-err : goal.returns-in_err-kept-in-Waits-clause-err
-returns-in_err-kept-in-Waits-clause-err c =
+pub returns-in-Err-clause-err : goal.returns-in-Err-clause-err
+returns-in-Err-clause-err c =
     let all = hear c.args.conn c.args.place c.args.session c.args.bytes in
-    on_err c.from_residual-in_err-kept-in-Waits.result (Begins c.args.acts.now.items c.loop-bytes.acts.items all.acts)
-    (stopped c.args.acts.now.items c.loop-bytes.acts.items c.args.conn
+    stopped c.args.acts.now.items c.loop-bytes.acts.items c.args.conn
     (c.args.place + c.loop-bytes.at) c.loop-bytes.session
-    (drop c.loop-bytes.at c.loop-bytes.bytes) all c.loop-bytes.invariant.hearing)
+    (drop c.loop-bytes.at c.loop-bytes.bytes) all c.loop-bytes.invariant.hearing
 
 pub returns-in_err-push-in-Ends-clause-err : goal.returns-in_err-push-in-Ends-clause-err
 returns-in_err-push-in-Ends-clause-err c =
@@ -49,17 +48,16 @@ returns-in_err-push-in-Ends-clause-err c =
     (c.args.place + c.loop-bytes.at) c.loop-bytes.session
     (drop c.loop-bytes.at c.loop-bytes.bytes) all c.loop-bytes.invariant.hearing))
 
-pub returns-in_err-add-in-Goes-clause-err : goal.returns-in_err-add-in-Goes-clause-err
-returns-in_err-add-in-Goes-clause-err c =
+pub returns-in-Err-add-clause-err : goal.returns-in-Err-add-clause-err
+returns-in-Err-add-clause-err c =
     let all = hear c.args.conn c.args.place c.args.session c.args.bytes in
-    on_err c.from_residual-in_err-add-in-Goes.result (Begins c.args.acts.now.items c.add.new.acts.items all.acts)
-    (rw c.in_err-add-in-Goes.ensures.err
+    rw c.in-Err-add.ensures.err
     (stopped c.args.acts.now.items c.loop-bytes.acts.items c.args.conn
     (c.args.place + c.loop-bytes.at) c.loop-bytes.session
-    (drop c.loop-bytes.at c.loop-bytes.bytes) all c.loop-bytes.invariant.hearing))
+    (drop c.loop-bytes.at c.loop-bytes.bytes) all c.loop-bytes.invariant.hearing)
 
-pub returns-in-Waits-clause-ok : goal.returns-in-Waits-clause-ok
-returns-in-Waits-clause-ok c =
+pub returns-in-Ok-clause-ok : goal.returns-in-Ok-clause-ok
+returns-in-Ok-clause-ok c =
     let all = hear c.args.conn c.args.place c.args.session c.args.bytes in
     let here = c.args.place + c.loop-bytes.at in
     let rest = drop c.loop-bytes.at c.loop-bytes.bytes in
@@ -69,7 +67,7 @@ returns-in-Waits-clause-ok c =
     ap (λ (x : List ℕ). record {
       acts = c.loop-bytes.acts.items;
       leaves = Going c.args.conn here c.in-Waits.waiting x;
-    }) c.in_ok-kept-in-Waits.ensures
+    }) c.in-Ok.ensures
     ∙ waiting c.front_is_stable.ensures c.args.acts.now.items c.loop-bytes.acts.items c.args.conn here
     c.loop-bytes.session c.in-Waits.waiting rest all c.loop-bytes.invariant.hearing e
 
@@ -138,7 +136,7 @@ loop-bytes-preserved c =
     let more = goes c.front_is_stable.ensures c.args.acts.now.items c.loop-bytes.acts.items c.args.conn here
     c.loop-bytes.session c.in-Goes.after rest all c.in-Goes.act c.in-Goes.size c.loop-bytes.invariant.hearing e in
     let told : IsHearing c.args.acts.now.items c.add.new.acts.items c.args.conn (here + c.in-Goes.size) c.in-Goes.after
-    (drop c.in-Goes.size rest) all = rw c.in_ok-add-in-Goes.ensures.ok more in
+    (drop c.in-Goes.size rest) all = rw c.in-Ok-add.ensures.ok more in
     record {
       within = omega (arith, there, left, long, seen);
       same = c.loop-bytes.invariant.same;
