@@ -77,10 +77,13 @@ impl Accounts {
     pub fn copy(&self, alloc: Global) -> Result<Accounts, NoMemory>
         ensures { IfOk result (λ copy. copy ≡ (self.now.0, 0)) }
     {
+        let names = self.names.copy(alloc)?;
+        let primaries = self.primaries.rows().to_vec(alloc)?;
+        let rows = copy_accounts(alloc, self.rows.rows())?;
         Ok(Accounts {
-            rows: Table::from_rows(copy_accounts(alloc, self.rows.rows())?),
-            names: self.names.copy(alloc)?,
-            primaries: Table::from_rows(self.primaries.rows().to_vec(alloc)?),
+            rows: Table::from_rows(rows),
+            names,
+            primaries: Table::from_rows(primaries),
             spare: 0,
         })
     }

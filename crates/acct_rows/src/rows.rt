@@ -86,8 +86,21 @@ impl Rows {
         ensures { IfOk result (λ copy. copy.lists ≡ self.now.lists) }
     {
         let domains = Table::from_rows(copy_domains(alloc, self.domains.rows())?);
-        let lsa = Table::from_rows(copy_lsa(alloc, self.lsa.rows())?);
-        let (accounts, members, aliases) = self.copy_indexed(alloc)?;
+        let lsa = match copy_lsa(alloc, self.lsa.rows()) {
+            Ok(rows) => Table::from_rows(rows),
+            Err(error) => {
+                drop(domains);
+                return Err(error);
+            }
+        };
+        let (accounts, members, aliases) = match self.copy_indexed(alloc) {
+            Ok(copies) => copies,
+            Err(error) => {
+                drop(domains);
+                drop(lsa);
+                return Err(error);
+            }
+        };
         Ok(Rows {
             domains,
             accounts,

@@ -1,5 +1,5 @@
 // What a plan changes of the stored pairs.
-ghost use Rattle.std.specs.Prelude.{◌≡◌, ◌↔◌, ◌++◌, [], false, is_some, IfOk, OnOk};
+ghost use Rattle.std.specs.Prelude.{◌≡◌, ◌↔◌, ◌++◌, [], ◌∷◌, false, Some, is_some, IfOk, OnOk};
 ghost use Rattle.acct_rows.specs.Changes.{Follow, row_at, stored_at, same_row_key};
 ghost use Rattle.acct_rows.specs.Changes.{is_put, has_value, removal, removals};
 ghost use Rattle.acct_rows.specs.Changes.{row_written, last_written, rows_written, LastFit};
@@ -166,6 +166,18 @@ fn has_value(value: &[u8], pair: &Option<Pair>) -> bool
     }
 }
 
+// The change that writes a pair.
+fn push_pair(changes: &mut Vec<Change>, pair: Pair) -> Result<(), NoMemory>
+    ensures { OnOk result (changes.new.items
+        ≡ changes.old.items ++ record { key = pair.key; value = Some pair.value } ∷ []) }
+{
+    changes.push(Change {
+        key: pair.key,
+        value: Some(pair.value),
+    })?;
+    Ok(())
+}
+
 #[tactic(auto, unfolding(crate::specs::Changes::row_written))]
 fn push_row(
     alloc: Global,
@@ -177,15 +189,22 @@ fn push_row(
     requires row { Fits row.now }
     ensures { OnOk result (changes.new.items ≡ changes.old.items ++ row_written rows.now.lists row.now) }
 {
-    let Pair { key, value } = row_pair(alloc, row)?;
-    let stored = stored_at(alloc, rows, row_key(row))?;
-    if !has_value(value.as_slice(), &stored) {
-        changes.push(Change {
-            key,
-            value: Some(value),
-        })?;
+    let pair = row_pair(alloc, row)?;
+    match stored_at(alloc, rows, row_key(row)) {
+        Ok(stored) => {
+            let is_stored = has_value(pair.value.as_slice(), &stored);
+            drop(stored);
+            if is_stored {
+                drop(pair);
+                return Ok(());
+            }
+            push_pair(changes, pair)
+        }
+        Err(error) => {
+            drop(pair);
+            Err(error)
+        }
     }
-    Ok(())
 }
 
 #[tactic(auto, unfolding(crate::specs::Changes::last_written))]

@@ -1,6 +1,6 @@
 // Pairs as rows.
 ghost use Rattle.std.specs.Prelude.{◌≡◌, ◌+◌, ◌^◌, ◌<◌, ◌≤◌, true, [], ◌∷◌, All, find, length, map, option_map};
-ghost use Rattle.std.specs.Prelude.{not, is_some, IfOk, IfErr, OnOk};
+ghost use Rattle.std.specs.Prelude.{not, Some, is_some, IfOk, IfErr, OnOk};
 ghost use Rattle.acct_keeper.specs.Pairs.{same_key};
 ghost use Rattle.std.specs.List.{list_any};
 ghost use Rattle.std.specs.List.Sorted.{IsPermutation};
@@ -9,7 +9,7 @@ ghost use Rattle.acct_rows.specs.declared.pairs.loading.PairsError.TheVariants.{
 ghost use Rattle.acct_rows.specs.Keyed.{is_ascending};
 ghost use Rattle.acct_rows.specs.Loading.{BadPairs, IsReadWell, IsLoaded, somes, loaded, smaller, first_missing};
 ghost use Rattle.acct_rows.specs.Loading.{smallest_broken};
-ghost use Rattle.acct_rows.specs.PairRules.{pair_key, pair_at, is_format, is_broken_pair, AreUnbroken};
+ghost use Rattle.acct_rows.specs.PairRules.{pair_key, pair_at, is_format, breaks_rule, is_broken_pair, AreUnbroken};
 ghost use Rattle.acct_rows.specs.PairsOf.{HoldPairs, keys_differ};
 ghost use Rattle.acct_rows.specs.Rows.{with_puts};
 ghost use Rattle.acct_rows.specs.Sound.{IsSoundRows};
@@ -103,21 +103,41 @@ fn put_reads(alloc: Global, rows: &mut Tables, pairs: &[Pair]) -> Result<(), NoM
     Ok(())
 }
 
+// The rows with those that pairs spell, for which room is made.
+fn fill(alloc: Global, rows: &mut Tables, pairs: &[Pair]) -> Result<(), NoMemory>
+    ensures rows { OnOk result (rows.new.lists ≡ with_puts (somes (map row_of pairs.now)) rows.old.lists) }
+    ensures spelled { OnOk result (All IsReadWell pairs.now) }
+{
+    rows.reserve(pairs.len())?;
+    put_reads(alloc, rows, pairs)
+}
+
 // The rows that the pairs spell, each put in its place, and then their indexes.
 fn load(alloc: Global, pairs: &[Pair]) -> Result<Rows, NoMemory>
     ensures rows { IfOk result (λ rows. rows.lists ≡ loaded pairs.now) }
     ensures spelled { OnOk result (All IsReadWell pairs.now) }
 {
     let mut rows = Tables::new(alloc);
-    rows.reserve(pairs.len())?;
-    put_reads(alloc, &mut rows, pairs)?;
-    rows.into_rows(alloc)
+    match fill(alloc, &mut rows, pairs) {
+        Ok(()) => rows.into_rows(alloc),
+        Err(error) => {
+            drop(rows);
+            Err(error)
+        }
+    }
 }
 
 fn is_format(pair: &Pair) -> bool
     ensures { result ≡ is_format pair.now }
 {
     is_same(pair.key.as_slice(), b"f") && is_same(pair.value.as_slice(), &[1])
+}
+
+// Whether a row breaks a rule, by itself or among the pairs.
+fn breaks_rule(alloc: Global, store: &Store<'_>, row: &Row) -> Result<bool, NoMemory>
+    ensures { IfOk result (λ broken. broken ≡ breaks_rule store.now (Some row.now)) }
+{
+    Ok(breaks_alone(alloc, row)? || store.breaks_among(alloc, row)?)
 }
 
 fn is_broken(alloc: Global, store: &Store<'_>, pair: &Pair) -> Result<bool, NoMemory>
@@ -128,7 +148,11 @@ fn is_broken(alloc: Global, store: &Store<'_>, pair: &Pair) -> Result<bool, NoMe
     }
     match read_one(alloc, pair)? {
         None => Ok(true),
-        Some(row) => Ok(breaks_alone(alloc, &row)? || store.breaks_among(alloc, &row)?),
+        Some(row) => {
+            let broken = breaks_rule(alloc, store, &row);
+            drop(row);
+            broken
+        }
     }
 }
 
@@ -230,10 +254,17 @@ fn read_ascending(alloc: Global, pairs: &[Pair]) -> Result<Rows, PairsError>
     equal_sids_are_one();
     same_is_equivalence();
     let rows = load(alloc, pairs)?;
-    if let Some(key) = smallest_broken(alloc, pairs, &rows)? {
-        return Err(PairsError::BadPair(key));
+    match smallest_broken(alloc, pairs, &rows) {
+        Ok(None) => Ok(rows),
+        Ok(Some(key)) => {
+            drop(rows);
+            Err(PairsError::BadPair(key))
+        }
+        Err(AllocError) => {
+            drop(rows);
+            Err(PairsError::Memory)
+        }
     }
-    Ok(rows)
 }
 
 // Whether one of the pairs has the key.

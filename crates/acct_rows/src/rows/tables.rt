@@ -74,11 +74,15 @@ impl Tables {
         requires sid { is_domain_sid sid ≡ true }
         ensures { IfOk result (λ tables. tables.lists ≡ seed_lists name.now sid) }
     {
+        let members = seed_members(alloc)?;
+        let aliases = seed_aliases(alloc, sid)?;
+        let domains = seed_domains(alloc, name, sid)?;
+        let accounts = seed_accounts(alloc)?;
         Ok(Tables {
-            domains: Table::from_rows(seed_domains(alloc, name, sid)?),
-            accounts: Table::from_rows(seed_accounts(alloc)?),
-            members: Table::from_rows(seed_members(alloc)?),
-            aliases: Table::from_rows(seed_aliases(alloc, sid)?),
+            domains: Table::from_rows(domains),
+            accounts: Table::from_rows(accounts),
+            members: Table::from_rows(members),
+            aliases: Table::from_rows(aliases),
             lsa: Table::new(alloc),
             spare: 0,
         })
@@ -148,8 +152,28 @@ fn indexed(
     ensures members { IfOk result (λ indexed. indexed.1.0 ≡ members.0) }
     ensures aliases { IfOk result (λ indexed. indexed.2.0 ≡ aliases.0) }
 {
-    let aliases = Aliases::from_rows(alloc, aliases.into_rows())?;
-    let members = Members::from_rows(alloc, members.into_rows())?;
-    let accounts = Accounts::from_rows(alloc, accounts.into_rows())?;
-    Ok((accounts, members, aliases))
+    let aliases = match Aliases::from_rows(alloc, aliases.into_rows()) {
+        Ok(aliases) => aliases,
+        Err(error) => {
+            drop(accounts);
+            drop(members);
+            return Err(error);
+        }
+    };
+    let members = match Members::from_rows(alloc, members.into_rows()) {
+        Ok(members) => members,
+        Err(error) => {
+            drop(accounts);
+            drop(aliases);
+            return Err(error);
+        }
+    };
+    match Accounts::from_rows(alloc, accounts.into_rows()) {
+        Ok(accounts) => Ok((accounts, members, aliases)),
+        Err(error) => {
+            drop(members);
+            drop(aliases);
+            Err(error)
+        }
+    }
 }

@@ -8,11 +8,11 @@ either_way : {T E : Type 0} (r : Result T E) (P : Type 0) → P → OnOk r P
 either_way (Ok x) P p = p
 either_way (Err e) P p = tt
 
-pub returns-clause-rows : goal.returns-clause-rows
-returns-clause-rows c =
-    let all : c.put_reads.new.rows.lists ≡ loaded c.args.pairs.now = search rules in
+pub returns-in-Ok-clause-rows : goal.returns-in-Ok-clause-rows
+returns-in-Ok-clause-rows c =
+    let all : c.fill.new.rows.lists ≡ loaded c.args.pairs.now = search rules in
     search rules
 
-pub returns-clause-spelled : goal.returns-clause-spelled
-returns-clause-spelled c =
-    either_way c.into_rows.result (All IsReadWell c.args.pairs.now) c.in_ok-put_reads.ensures.spelled
+pub returns-in-Ok-clause-spelled : goal.returns-in-Ok-clause-spelled
+returns-in-Ok-clause-spelled c =
+    either_way c.into_rows.result (All IsReadWell c.args.pairs.now) c.in-Ok.ensures.spelled

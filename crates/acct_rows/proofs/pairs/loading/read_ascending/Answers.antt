@@ -14,16 +14,16 @@ smallest_broken-requires c =
     let ok = c.in_ok-rows.ensures in
     record { ascending = c.requires; read_well = ok.spelled; rows = ok.rows }
 
-pub returns-in-Some-clause-broken : goal.returns-in-Some-clause-broken
-returns-in-Some-clause-broken c = smallest_is c.args.pairs.now c.requires c.in-Some.key (search rules)
+pub returns-in-Ok-Some-clause-broken : goal.returns-in-Ok-Some-clause-broken
+returns-in-Ok-Some-clause-broken c = smallest_is c.args.pairs.now c.requires c.in-Ok-Some.key (search rules)
 
-pub returns-clause-unbroken : goal.returns-clause-unbroken
-returns-clause-unbroken c =
+pub returns-in-Ok-None-clause-unbroken : goal.returns-in-Ok-None-clause-unbroken
+returns-in-Ok-None-clause-unbroken c =
     let none : smallest_broken c.args.pairs.now ≡ None = search rules in
     none_is_unbroken c.args.pairs.now c.requires none
 
-pub returns-clause-pairs : goal.returns-clause-pairs
-returns-clause-pairs c =
+pub returns-in-Ok-None-clause-pairs : goal.returns-in-Ok-None-clause-pairs
+returns-in-Ok-None-clause-pairs c =
     let pairs = c.args.pairs.now in
     let none : smallest_broken pairs ≡ None = search rules in
     subst (λ (lists : Lists). HoldPairs lists pairs) (sym c.in_ok-rows.ensures.rows)
@@ -31,8 +31,8 @@ returns-clause-pairs c =
     c.equal_sids_are_one.ensures pairs c.requires c.in_ok-rows.ensures.spelled
     (none_is_unbroken pairs c.requires none))
 
-pub returns-clause-sound : goal.returns-clause-sound
-returns-clause-sound c =
+pub returns-in-Ok-None-clause-sound : goal.returns-in-Ok-None-clause-sound
+returns-in-Ok-None-clause-sound c =
     let pairs = c.args.pairs.now in
     let none : smallest_broken pairs ≡ None = search rules in
     let unbroken = none_is_unbroken pairs c.requires none in

@@ -6,4 +6,4 @@ pub seed_aliases-requires : goal.seed_aliases-requires
 seed_aliases-requires c = has_slot c.args.sid c.requires.sid
 
 pub from_rows-requires-4-clause-ascending : goal.from_rows-requires-4-clause-ascending
-from_rows-requires-4-clause-ascending c = rw (c.in_ok-seed_aliases.ensures) (seed_aliases_ascend c.args.sid)
+from_rows-requires-4-clause-ascending c = rw (c.in_ok-aliases.ensures) (seed_aliases_ascend c.args.sid)
