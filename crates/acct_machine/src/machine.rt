@@ -1,5 +1,5 @@
 // The machine: one history, and the state after it.
-ghost use Rattle.std.specs.Prelude.{◌≡◌, ◌<◌, ◌≤◌, true, [], length, IfOk, IfErr};
+ghost use Rattle.std.specs.Prelude.{◌≡◌, ◌<◌, ◌≤◌, ◌++◌, ◌∷◌, true, [], length, IfOk, IfErr};
 ghost use Rattle.acct_config.specs.Right.{IsRight};
 ghost use Rattle.acct_rows.specs.Sound.{IsSoundRows};
 ghost use Rattle.acct_machine.specs.State.{is_live};
@@ -97,8 +97,36 @@ fn store_over(alloc: Global, config: &Config, rows: Rows) -> Result<Store, NoMem
     ensures { IfOk result (λ store. store
         ≡ record { config = config.now; rows = rows.lists; conns = []; handles = [] }) }
 {
-    let config = config.copy(alloc)?;
-    Store::new(alloc, config, rows)
+    match config.copy(alloc) {
+        Ok(config) => Store::new(alloc, config, rows),
+        Err(none) => {
+            drop(rows);
+            Err(none)
+        }
+    }
+}
+
+// A copy of the opening rows, and the state where a history begins.
+fn opening_and_store(alloc: Global, config: &Config, rows: Rows) -> Result<(Rows, Store), NoMemory>
+    requires { IsRight config.now }
+    ensures opening { IfOk result (λ parts. parts.0.lists ≡ rows.lists) }
+    ensures store { IfOk result (λ parts. parts.1
+        ≡ record { config = config.now; rows = rows.lists; conns = []; handles = [] }) }
+{
+    let opening = match rows.copy(alloc) {
+        Ok(opening) => opening,
+        Err(none) => {
+            drop(rows);
+            return Err(none);
+        }
+    };
+    match store_over(alloc, config, rows) {
+        Ok(store) => Ok((opening, store)),
+        Err(none) => {
+            drop(opening);
+            Err(none)
+        }
+    }
 }
 
 // What a machine is made of: its opening rows, room for its history, and the state where that begins.
@@ -110,10 +138,27 @@ fn begun(alloc: Global, config: &Config, rows: Rows) -> Result<(Rows, Vec<Entry>
     ensures store { IfOk result (λ parts. parts.2
         ≡ record { config = config.now; rows = rows.lists; conns = []; handles = [] }) }
 {
-    let history = history_room(alloc, &config.limits)?;
-    let opening = rows.copy(alloc)?;
-    let store = store_over(alloc, config, rows)?;
-    Ok((opening, history, store))
+    let (opening, store) = opening_and_store(alloc, config, rows)?;
+    match history_room(alloc, &config.limits) {
+        Ok(history) => Ok((opening, history, store)),
+        Err(none) => {
+            drop(store);
+            drop(opening);
+            Err(none)
+        }
+    }
+}
+
+// One more entry behind a history that has room for it. It takes no memory.
+fn enter(history: &mut Vec<Entry>, entry: Entry)
+    requires { length history.old.items < vec_capacity history.old }
+    ensures entered { history.new.items ≡ history.old.items ++ entry ∷ [] }
+    ensures room { vec_capacity history.old ≤ vec_capacity history.new }
+{
+    match history.push(entry) {
+        Ok(()) => {}
+        Err(_) => unreachable!(),
+    }
 }
 
 impl<K: Keeper + Drop> Machine<K> {
@@ -226,10 +271,8 @@ impl<K: Keeper + Drop> Machine<K> {
         }
         let conn = count as u32 + 1;
         self.store.add_conn(conn, listener);
-        match self.history.push(Entry::Opened { conn, listener }) {
-            Ok(()) => Opened::Conn(conn),
-            Err(_) => unreachable!(),
-        }
+        enter(&mut self.history, Entry::Opened { conn, listener });
+        Opened::Conn(conn)
     }
 
     /// Makes a call of a live connection, whose stub had so many bytes. A full history is left as it was. A call that
@@ -252,10 +295,12 @@ impl<K: Keeper + Drop> Machine<K> {
         self.store.rows().has_few_rows();
         let limits = self.store.config().limits;
         if self.calls >= limits.max_calls {
+            drop(call);
             return Acted::FullCalls(self.calls as u64);
         }
         let sum = self.bytes + bytes as u64;
         if sum > limits.max_bytes {
+            drop(call);
             return Acted::FullBytes(sum);
         }
         let (verdict, reply) = self.store.run(self.alloc, &mut self.keeper, conn, &call);
@@ -265,14 +310,10 @@ impl<K: Keeper + Drop> Machine<K> {
             verdict,
             bytes,
         };
-        match self.history.push(entry) {
-            Ok(()) => {
-                self.calls += 1;
-                self.bytes = sum;
-                Acted::Reply(reply)
-            }
-            Err(_) => unreachable!(),
-        }
+        enter(&mut self.history, entry);
+        self.calls += 1;
+        self.bytes = sum;
+        Acted::Reply(reply)
     }
 
     /// Ends a live connection, with its handles. It takes no memory.
@@ -286,9 +327,7 @@ impl<K: Keeper + Drop> Machine<K> {
         ensures stored { Stored self.new }
     {
         limits_are_kept();
-        match self.history.push(Entry::Gone { conn }) {
-            Ok(()) => self.store.end_conn(conn),
-            Err(_) => unreachable!(),
-        }
+        enter(&mut self.history, Entry::Gone { conn });
+        self.store.end_conn(conn);
     }
 }

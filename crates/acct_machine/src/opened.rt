@@ -77,11 +77,17 @@ fn seed_store<K: Keeper>(alloc: Global, config: &Config, keeper: &mut K) -> Resu
         return Err(OpenError::Memory);
     };
     let Ok(changes) = first_changes(alloc, &rows) else {
+        drop(rows);
         return Err(OpenError::Memory);
     };
-    match keeper.commit(&changes) {
+    let committed = keeper.commit(&changes);
+    drop(changes);
+    match committed {
         Ok(()) => Ok(rows),
-        Err(e) => Err(unopened(e)),
+        Err(e) => {
+            drop(rows);
+            Err(unopened(e))
+        }
     }
 }
 

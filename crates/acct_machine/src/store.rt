@@ -2,6 +2,7 @@
 ghost use Rattle.std.specs.Prelude.{◌≡◌, ◌≢◌, ◌<◌, ◌≤◌, ◌-◌, ◌^◌, ◌+◌, length};
 ghost use Rattle.std.specs.Prelude.{[], Some, nat_lt, true, IfOk, IfErr, OnOk, OnErr};
 ghost use Rattle.std.specs.Prelude.{if◌then◌else◌};
+ghost use Rattle.std.specs.Vec.{vec_capacity};
 ghost use Rattle.acct_config.specs.Right.{IsRight};
 ghost use Rattle.acct_calls.specs.declared.replies.Reply.TheVariants.{Done};
 ghost use Rattle.acct_rows.specs.Rows.{after};
@@ -32,7 +33,9 @@ use crate::checks::{Access, access_with, object_of};
 use crate::index::Handles;
 use crate::lists::{end_live, find_conn, number_of, serial_of, set_serial};
 use crate::opening::granted;
-use crate::{Call, Config, Conn, Handle, Held, NoMemory, Object, Outs, Reply, Rows, Verdict};
+use crate::{
+    Call, Config, Conn, Handle, Held, Limits, NoMemory, Object, Outs, Reply, Rows, Verdict,
+};
 use acct_codes::fault::{NCA_S_FAULT_CONTEXT_MISMATCH, NCA_S_OP_RNG_ERROR};
 use acct_codes::status::{
     STATUS_ACCESS_DENIED, STATUS_INTERNAL_DB_ERROR, STATUS_NO_MEMORY, STATUS_OBJECT_TYPE_MISMATCH,
@@ -97,6 +100,7 @@ fn replied(alloc: Global, call: &Call, status: u32, outs: Outs) -> Reply
     ensures { result ≡ Done status (if is_refusal status then refusal_outs call.now else outs) }
 {
     if is_refusal(status) {
+        drop(outs);
         return refusal(alloc, call, status);
     }
     Reply::Done { status, outs }
@@ -176,6 +180,16 @@ fn drop_left(handles: &mut Handles, effect: Effect, conn: u32, number: u128)
     }
 }
 
+// Room for all connections that these limits let there be.
+fn conns_room(alloc: Global, limits: &Limits) -> Result<Vec<Conn>, NoMemory>
+    ensures conns { IfOk result (λ conns. conns.items ≡ []) }
+    ensures room { IfOk result (λ conns. limits.now.max_conns ≤ vec_capacity conns) }
+{
+    let mut conns = Vec::new(alloc);
+    conns.reserve(limits.max_conns as usize)?;
+    Ok(conns)
+}
+
 impl Store {
     /// The state where a history begins, with room for all its connections.
     pub fn new(alloc: Global, config: Config, rows: Rows) -> Result<Self, NoMemory>
@@ -183,14 +197,19 @@ impl Store {
         ensures { IfOk result (λ store. store
             ≡ record { config = config; rows = rows.lists; conns = []; handles = [] }) }
     {
-        let mut conns = Vec::new(alloc);
-        conns.reserve(config.limits.max_conns as usize)?;
-        Ok(Store {
-            config,
-            rows,
-            conns,
-            handles: Handles::new(alloc),
-        })
+        match conns_room(alloc, &config.limits) {
+            Ok(conns) => Ok(Store {
+                config,
+                rows,
+                conns,
+                handles: Handles::new(alloc),
+            }),
+            Err(none) => {
+                drop(rows);
+                drop(config);
+                Err(none)
+            }
+        }
     }
 
     /// The configuration.
@@ -367,11 +386,15 @@ impl Store {
                 fill_outs(&mut outs, call, handle, granted);
                 (Verdict::Ran, replied(alloc, call, status, outs))
             }
-            Err(KeepError::Failed) => (
-                Verdict::StoreFault(keeper.faults()),
-                refusal(alloc, call, STATUS_INTERNAL_DB_ERROR),
-            ),
+            Err(KeepError::Failed) => {
+                drop(outs);
+                (
+                    Verdict::StoreFault(keeper.faults()),
+                    refusal(alloc, call, STATUS_INTERNAL_DB_ERROR),
+                )
+            }
             Err(KeepError::NoMemory) => {
+                drop(outs);
                 (Verdict::NoMemory, refusal(alloc, call, STATUS_NO_MEMORY))
             }
         }
@@ -406,7 +429,10 @@ impl Store {
                 let serial = serial_of(found) + 1;
                 self.open_granted(alloc, keeper, conn, call, planned, opening, serial, granted)
             }
-            None => (Verdict::Ran, refusal(alloc, call, STATUS_ACCESS_DENIED)),
+            None => {
+                drop(planned);
+                (Verdict::Ran, refusal(alloc, call, STATUS_ACCESS_DENIED))
+            }
         }
     }
 
@@ -438,11 +464,15 @@ impl Store {
         } = planned;
         match self.change(alloc, keeper, conn, call.handle.number, plan, effect) {
             Ok(()) => (Verdict::Ran, replied(alloc, call, status, outs)),
-            Err(KeepError::Failed) => (
-                Verdict::StoreFault(keeper.faults()),
-                refusal(alloc, call, STATUS_INTERNAL_DB_ERROR),
-            ),
+            Err(KeepError::Failed) => {
+                drop(outs);
+                (
+                    Verdict::StoreFault(keeper.faults()),
+                    refusal(alloc, call, STATUS_INTERNAL_DB_ERROR),
+                )
+            }
             Err(KeepError::NoMemory) => {
+                drop(outs);
                 (Verdict::NoMemory, refusal(alloc, call, STATUS_NO_MEMORY))
             }
         }
@@ -472,6 +502,7 @@ impl Store {
     {
         let found = find_conn(&self.conns, conn);
         if self.granted(found, &opening).is_none() {
+            drop(planned);
             return (Verdict::Ran, refusal(alloc, call, STATUS_ACCESS_DENIED));
         }
         self.done(alloc, keeper, conn, call, planned)

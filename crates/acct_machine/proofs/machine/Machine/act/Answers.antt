@@ -70,9 +70,9 @@ invariant_of-self g c =
     let verdict = c.run-verdict.result.0 in
     let s : State = c.self.inside.store in
     let new : State = c.run-verdict.new.self in
-    let history : c.push.new.self.items ≡ c.self.inside.history.items ++ Called c.args.conn c.args.call verdict
+    let history : c.enter.new.history.items ≡ c.self.inside.history.items ++ Called c.args.conn c.args.call verdict
     c.args.bytes ∷ [] =
-    grind (arith, common_steps) in
+    c.enter.ensures.entered in
     let start : Start = begins s c.self.inside.opening.lists c.self.inside.since in
     let few : c.self.inside.calls < start.config.limits.max_calls = grind (arith, common_steps) in
     let short : c.self.inside.bytes + c.args.bytes ≤ start.config.limits.max_bytes = grind (arith, common_steps) in
@@ -86,7 +86,7 @@ invariant_of-self g c =
     c.run-verdict.ensures.verdict taken
     (rises-called _ _ start c.self.inside.history.items verdict c.self.invariant.1.counts
     c.run-verdict.ensures.counts) in
-    let grows : vec_capacity c.self.inside.history ≤ vec_capacity c.push.new.self = grind (arith, common_steps) in (
+    let grows : vec_capacity c.self.inside.history ≤ vec_capacity c.enter.new.history = c.enter.ensures.room in (
       kept-more s new c.self.inside.opening.lists c.self.inside.since c.self.inside.history.items _ _ _ _ _ _ _ _
           c.self.invariant.0 may
           c.run-verdict.ensures.state history (omega arith) (omega arith) grows,
@@ -145,8 +145,9 @@ returns-clause-acts g c =
     ap (λ (m : Shown). m.past) c.self.view_is in
     let verdict = c.run-verdict.result.0 in
     let s : State = c.self.inside.store in
-    let history : c.push.new.self.items ≡ c.self.inside.history.items ++ Called c.args.conn c.args.call verdict
-    c.args.bytes ∷ [] = grind (arith, common_steps) in
+    let history : c.enter.new.history.items ≡ c.self.inside.history.items ++ Called c.args.conn c.args.call verdict
+    c.args.bytes ∷ [] =
+    c.enter.ensures.entered in
     let is_here : state_of c.args.self.now.past ≡ s =
     state-shown c.args.self.now.past s c.self.inside.opening.lists c.self.inside.since c.self.inside.history.items _ _ _
     past
@@ -174,8 +175,9 @@ returns-clause-keeper g c =
     let past : shown s c.self.inside.opening.lists c.self.inside.since c.self.inside.history.items ≡
     c.args.self.now.past =
     ap (λ (m : Shown). m.past) c.self.view_is in
-    let history : c.push.new.self.items ≡ c.self.inside.history.items ++ Called c.args.conn c.args.call verdict
-    c.args.bytes ∷ [] = grind (arith, common_steps) in
+    let history : c.enter.new.history.items ≡ c.self.inside.history.items ++ Called c.args.conn c.args.call verdict
+    c.args.bytes ∷ [] =
+    c.enter.ensures.entered in
     let is_here : state_of c.args.self.now.past ≡ s =
     state-shown c.args.self.now.past s c.self.inside.opening.lists c.self.inside.since c.self.inside.history.items _ _ _
     past
@@ -199,8 +201,9 @@ returns-clause-live g c =
     ≡ c.args.self.now.past =
     ap (λ (m : Shown). m.past) c.self.view_is in
     let verdict = c.run-verdict.result.0 in
-    let history : c.push.new.self.items ≡ c.self.inside.history.items ++ Called c.args.conn c.args.call verdict
-    c.args.bytes ∷ [] = grind (arith, common_steps) in
+    let history : c.enter.new.history.items ≡ c.self.inside.history.items ++ Called c.args.conn c.args.call verdict
+    c.args.bytes ∷ [] =
+    c.enter.ensures.entered in
     subst (λ (m : Past). SameLive (state_of c.args.self.now.past) (state_of m))
     (shown-more c.args.self.now.past c.self.inside.store c.run-verdict.new.self c.self.inside.opening.lists
     c.self.inside.since _ _ _
@@ -215,8 +218,9 @@ returns-clause-calls g c =
     ap (λ (m : Shown). m.past) c.self.view_is in
     let verdict = c.run-verdict.result.0 in
     let s : State = c.self.inside.store in
-    let history : c.push.new.self.items ≡ c.self.inside.history.items ++ Called c.args.conn c.args.call verdict
-    c.args.bytes ∷ [] = grind (arith, common_steps) in
+    let history : c.enter.new.history.items ≡ c.self.inside.history.items ++ Called c.args.conn c.args.call verdict
+    c.args.bytes ∷ [] =
+    c.enter.ensures.entered in
     let is_here : state_of c.args.self.now.past ≡ s =
     state-shown c.args.self.now.past s c.self.inside.opening.lists c.self.inside.since c.self.inside.history.items _ _ _
     past
@@ -235,8 +239,8 @@ returns-clause-calls g c =
 pub returns-clause-legal : goal.returns-clause-legal
 returns-clause-legal g c = (invariant_of-self g c).0.legal
 
-pub unreachable-requires : goal.unreachable-requires
-unreachable-requires g c =
+pub enter-requires : goal.enter-requires
+enter-requires g c =
     let s : State = c.self.inside.store in
     let start : Start = begins s c.self.inside.opening.lists c.self.inside.since in
     let few : c.self.inside.calls < start.config.limits.max_calls = grind (arith, common_steps) in

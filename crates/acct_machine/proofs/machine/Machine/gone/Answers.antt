@@ -32,8 +32,8 @@ invariant_of-self g c =
     ap (λ (m : Shown). m.past) c.self.view_is in
     let s : State = c.self.inside.store in
     let new : State = c.end_conn.new.self in
-    let history : c.push.new.self.items ≡ c.self.inside.history.items ++ Gone c.args.conn ∷ [] =
-    grind (arith, common_steps) in
+    let history : c.enter.new.history.items ≡ c.self.inside.history.items ++ Gone c.args.conn ∷ [] =
+    c.enter.ensures.entered in
     let inside : is_live c.args.conn s.conns ≡ true =
     is-live-inside c.args.self.now.past s c.self.inside.opening.lists c.self.inside.since c.self.inside.history.items _
     _ _ c.args.conn
@@ -41,7 +41,7 @@ invariant_of-self g c =
     let alive : is_live c.args.conn
     (state_at (begins s c.self.inside.opening.lists c.self.inside.since) c.self.inside.history.items).conns ≡ true =
     subst (λ (x : State). is_live c.args.conn x.conns ≡ true) (sym c.self.invariant.0.state) inside in
-    let grows : vec_capacity c.self.inside.history ≤ vec_capacity c.push.new.self = grind (arith, common_steps) in (
+    let grows : vec_capacity c.self.inside.history ≤ vec_capacity c.enter.new.history = c.enter.ensures.room in (
       kept-more s new c.self.inside.opening.lists c.self.inside.since c.self.inside.history.items _ _ _ _ _ _ _ _
           c.self.invariant.0 alive
           c.end_conn.ensures history (omega arith) (omega arith) grows,
@@ -50,8 +50,8 @@ invariant_of-self g c =
           c.self.invariant.1 refl (ap (λ (x : State). x.rows) c.end_conn.ensures) refl history,
     )
 
-pub unreachable-requires : goal.unreachable-requires
-unreachable-requires g c =
+pub enter-requires : goal.enter-requires
+enter-requires g c =
     let past : shown c.self.inside.store c.self.inside.opening.lists c.self.inside.since c.self.inside.history.items
     ≡ c.args.self.now.past =
     ap (λ (m : Shown). m.past) c.self.view_is in
@@ -69,8 +69,8 @@ returns-clause-live g c =
     let past : shown c.self.inside.store c.self.inside.opening.lists c.self.inside.since c.self.inside.history.items
     ≡ c.args.self.now.past =
     ap (λ (m : Shown). m.past) c.self.view_is in
-    let history : c.push.new.self.items ≡ c.self.inside.history.items ++ Gone c.args.conn ∷ [] =
-    grind (arith, common_steps) in
+    let history : c.enter.new.history.items ≡ c.self.inside.history.items ++ Gone c.args.conn ∷ [] =
+    c.enter.ensures.entered in
     subst (λ (m : Past). OneLessLive (state_of c.args.self.now.past) (state_of m) c.args.conn)
     (shown-more c.args.self.now.past c.self.inside.store c.end_conn.new.self c.self.inside.opening.lists
     c.self.inside.since _ _ _
@@ -82,8 +82,8 @@ returns-clause-calls g c =
     let past : shown c.self.inside.store c.self.inside.opening.lists c.self.inside.since c.self.inside.history.items
     ≡ c.args.self.now.past =
     ap (λ (m : Shown). m.past) c.self.view_is in
-    let history : c.push.new.self.items ≡ c.self.inside.history.items ++ Gone c.args.conn ∷ [] =
-    grind (arith, common_steps) in
+    let history : c.enter.new.history.items ≡ c.self.inside.history.items ++ Gone c.args.conn ∷ [] =
+    c.enter.ensures.entered in
     subst (λ (m : Past). SameCalls c.args.self.now.past m)
     (shown-more c.args.self.now.past c.self.inside.store c.end_conn.new.self c.self.inside.opening.lists
     c.self.inside.since _ _ _

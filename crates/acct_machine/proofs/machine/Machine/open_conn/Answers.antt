@@ -25,8 +25,8 @@ invariant_of-self g c =
     let conn = c.count-count.result + 1 in
     let s : State = c.self.inside.store in
     let new : State = c.add_conn.new.self in
-    let history : c.push.new.self.items ≡ c.self.inside.history.items ++ Opened conn c.args.listener ∷ [] =
-    grind (arith, common_steps) in
+    let history : c.enter.new.history.items ≡ c.self.inside.history.items ++ Opened conn c.args.listener ∷ [] =
+    c.enter.ensures.entered in
     let is : new ≡ step s (Opened conn c.args.listener) = grind (arith, common_steps) in
     let count : conn ≡ length s.conns + 1 = grind (arith, common_steps) in
     let start : Start = begins s c.self.inside.opening.lists c.self.inside.since in
@@ -41,7 +41,7 @@ invariant_of-self g c =
     let may : May start c.self.inside.history.items (Opened conn c.args.listener) =
     may-opened start c.self.inside.history.items s conn c.args.listener c.self.invariant.0.state count small fits
     taken in
-    let grows : vec_capacity c.self.inside.history ≤ vec_capacity c.push.new.self = grind (arith, common_steps) in (
+    let grows : vec_capacity c.self.inside.history ≤ vec_capacity c.enter.new.history = c.enter.ensures.room in (
       kept-more s new c.self.inside.opening.lists c.self.inside.since c.self.inside.history.items _ _ _ _ _ _ _ _
           c.self.invariant.0 may is
           history (omega arith) (omega arith) grows,
@@ -56,12 +56,12 @@ returns-clause-fresh g c =
     ≡ c.args.self.now.past =
     ap (λ (m : Shown). m.past) c.self.view_is in
     let conn = c.count-count.result + 1 in
-    let history : c.push.new.self.items ≡ c.self.inside.history.items ++ Opened conn c.args.listener ∷ [] =
-    grind (arith, common_steps) in
+    let history : c.enter.new.history.items ≡ c.self.inside.history.items ++ Opened conn c.args.listener ∷ [] =
+    c.enter.ensures.entered in
     let is : c.add_conn.new.self ≡ step c.self.inside.store (Opened conn c.args.listener) =
     grind (arith, common_steps) in
     let new : with_entry c.args.self.now.past (Opened conn c.args.listener) ≡ shown c.add_conn.new.self
-    c.self.inside.opening.lists c.self.inside.since c.push.new.self.items =
+    c.self.inside.opening.lists c.self.inside.since c.enter.new.history.items =
     shown-more c.args.self.now.past c.self.inside.store c.add_conn.new.self c.self.inside.opening.lists
     c.self.inside.since _ _ _
     past is history in
@@ -76,8 +76,8 @@ returns-clause-live g c =
     ap (λ (m : Shown). m.past) c.self.view_is in
     let conn = c.count-count.result + 1 in
     let s : State = c.self.inside.store in
-    let history : c.push.new.self.items ≡ c.self.inside.history.items ++ Opened conn c.args.listener ∷ [] =
-    grind (arith, common_steps) in
+    let history : c.enter.new.history.items ≡ c.self.inside.history.items ++ Opened conn c.args.listener ∷ [] =
+    c.enter.ensures.entered in
     let is : c.add_conn.new.self ≡ step s (Opened conn c.args.listener) = grind (arith, common_steps) in
     let count : conn ≡ length s.conns + 1 = grind (arith, common_steps) in
     let is_here : state_of c.args.self.now.past ≡ s =
@@ -101,8 +101,8 @@ returns-clause-calls g c =
     ap (λ (m : Shown). m.past) c.self.view_is in
     let conn = c.count-count.result + 1 in
     let s : State = c.self.inside.store in
-    let history : c.push.new.self.items ≡ c.self.inside.history.items ++ Opened conn c.args.listener ∷ [] =
-    grind (arith, common_steps) in
+    let history : c.enter.new.history.items ≡ c.self.inside.history.items ++ Opened conn c.args.listener ∷ [] =
+    c.enter.ensures.entered in
     let is : c.add_conn.new.self ≡ step s (Opened conn c.args.listener) = grind (arith, common_steps) in
     subst (λ (m : Past). SameCalls c.args.self.now.past m)
     (shown-more c.args.self.now.past s c.add_conn.new.self c.self.inside.opening.lists c.self.inside.since _ _ _ past is
@@ -112,8 +112,8 @@ returns-clause-calls g c =
 pub returns-clause-legal : goal.returns-clause-legal
 returns-clause-legal g c = (invariant_of-self g c).0.legal
 
-pub unreachable-requires : goal.unreachable-requires
-unreachable-requires g c =
+pub enter-requires : goal.enter-requires
+enter-requires g c =
     let s : State = c.self.inside.store in
     let start : Start = begins s c.self.inside.opening.lists c.self.inside.since in
     let below : length s.conns < start.config.limits.max_conns = grind (arith, common_steps) in
@@ -146,8 +146,8 @@ returns-clause-opens g c =
     let conn = c.count-count.result + 1 in
     let s : State = c.self.inside.store in
     let start : Start = begins s c.self.inside.opening.lists c.self.inside.since in
-    let history : c.push.new.self.items ≡ c.self.inside.history.items ++ Opened conn c.args.listener ∷ [] =
-    grind (arith, common_steps) in
+    let history : c.enter.new.history.items ≡ c.self.inside.history.items ++ Opened conn c.args.listener ∷ [] =
+    c.enter.ensures.entered in
     let is : c.add_conn.new.self ≡ step s (Opened conn c.args.listener) = grind (arith, common_steps) in
     let below : length s.conns < start.config.limits.max_conns = grind (arith, common_steps) in
     let taken : conns_full start c.self.inside.history.items ≡ None =
