@@ -6,6 +6,7 @@ ghost use Rattle.ndr_types.specs.Outcomes.{ReadsIfRoom};
 use crate::NoMemory;
 use crate::infos::{read_class_set, write_class_set};
 use crate::interface::Interface;
+use crate::numbers::read_wanted;
 use acct_base::Seq;
 use acct_calls::{Args, Names};
 use acct_codes::limit::{MOST_MEMBER_SIDS, MOST_SEARCHED};
@@ -23,19 +24,13 @@ fn read_plain(alloc: Global, from: &mut In<'_>, layout: Plain) -> Result<Args, N
 {
     match layout {
         Plain::Nothing => Ok(Args::Nothing),
-        Plain::Rid => {
-            let rid = from.u32()?;
-            Ok(Args::Rid(rid))
-        }
+        Plain::Rid => from.u32().map(Args::Rid),
         Plain::Member => {
             let rid = from.u32()?;
             let bits = from.u32()?;
             Ok(Args::RidBits { rid, bits })
         }
-        Plain::Sid => {
-            let sid = read_sid(from)?;
-            Ok(Args::OneSid(sid))
-        }
+        Plain::Sid => read_sid(from).map(Args::OneSid),
         Plain::Name => {
             let name = read_text(alloc, from)?;
             Ok(Args::OneName(Some(name)))
@@ -92,12 +87,8 @@ fn read_sought<X: Embedded>(alloc: Global, from: &mut In<'_>) -> Result<Seq<X>, 
     if count > maximum {
         return Err(from.broken(4));
     }
-    if from.u32()? != 0 {
-        return Err(from.broken(4));
-    }
-    if from.u32()? != count {
-        return Err(from.broken(4));
-    }
+    read_wanted(from, 0)?;
+    read_wanted(from, count)?;
     read_array(alloc, from, count)
 }
 
@@ -140,18 +131,12 @@ fn read_searched(alloc: Global, from: &mut In<'_>, layout: Search) -> Result<Arg
                 preferred,
             })
         }
-        Search::Sids => {
-            let sids = read_sid_list(alloc, from, MOST_MEMBER_SIDS)?;
-            Ok(Args::SidList(sids))
-        }
+        Search::Sids => read_sid_list(alloc, from, MOST_MEMBER_SIDS).map(Args::SidList),
         Search::Names => {
             let names = read_sought(alloc, from)?;
             Ok(Args::NameList(Names::from_vec(names.into_vec())))
         }
-        Search::Rids => {
-            let rids = read_sought(alloc, from)?;
-            Ok(Args::RidList(rids))
-        }
+        Search::Rids => read_sought(alloc, from).map(Args::RidList),
     }
 }
 

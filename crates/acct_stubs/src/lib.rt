@@ -16,6 +16,7 @@ mod infos;
 mod interface;
 pub mod laws;
 mod members;
+mod numbers;
 mod outputs;
 mod replies;
 mod server_name;

@@ -68,9 +68,17 @@ fn read_buffer(alloc: Global, from: &mut In<'_>) -> Result<RidBitsList, NdrError
 {
     let (count, (rids_there, attributes_there)) = read_buffer_head(from)?;
     let rids = read_numbers(alloc, from, count, rids_there)?;
-    let attributes = read_numbers(alloc, from, count, attributes_there)?;
-    let list = pair(alloc, rids.as_slice(), attributes.as_slice())?;
-    Ok(list)
+    let attributes = match read_numbers(alloc, from, count, attributes_there) {
+        Ok(attributes) => attributes,
+        Err(error) => {
+            drop(rids);
+            return Err(error);
+        }
+    };
+    let list = pair(alloc, rids.as_slice(), attributes.as_slice());
+    drop(attributes);
+    drop(rids);
+    Ok(list?)
 }
 
 /// The members of a group, or none where the pointer is null.

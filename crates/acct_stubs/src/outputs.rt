@@ -9,6 +9,7 @@ use crate::NoMemory;
 use crate::infos::{read_class_shown, write_class_shown};
 use crate::interface::Interface;
 use crate::members::{read_members, write_members};
+use crate::numbers::read_wanted;
 use acct_calls::{Outs, Reply, RidBits};
 use acct_layouts::{Listed, Outputs, Plainly, Subject};
 use ndr_core::{In, NdrError, Out};
@@ -23,18 +24,10 @@ use std::alloc::Global;
 fn read_revision(from: &mut In<'_>) -> Result<(), NdrError>
     ensures { Reads result from.new (revision_answered.read from.old) }
 {
-    if from.u32()? != 1 {
-        return Err(from.broken(4));
-    }
-    if from.u32()? != 1 {
-        return Err(from.broken(4));
-    }
-    if from.u32()? != 3 {
-        return Err(from.broken(4));
-    }
-    if from.u32()? != 0 {
-        return Err(from.broken(4));
-    }
+    read_wanted(from, 1)?;
+    read_wanted(from, 1)?;
+    read_wanted(from, 3)?;
+    read_wanted(from, 0)?;
     Ok(())
 }
 
@@ -54,14 +47,10 @@ fn read_plainly(from: &mut In<'_>, layout: Plainly) -> Result<Outs, NdrError>
 {
     match layout {
         Plainly::Nothing => Ok(Outs::Nothing),
-        Plainly::Handle | Plainly::HandleBack => {
-            let handle = read_handle(from)?;
-            Ok(Outs::Handle(handle))
-        }
+        Plainly::Handle | Plainly::HandleBack => read_handle(from).map(Outs::Handle),
         Plainly::Connected => {
             read_revision(from)?;
-            let handle = read_handle(from)?;
-            Ok(Outs::Handle(handle))
+            read_handle(from).map(Outs::Handle)
         }
         Plainly::Created => {
             let handle = read_handle(from)?;
