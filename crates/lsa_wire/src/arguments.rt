@@ -62,19 +62,13 @@ fn read_policy(alloc: Global, from: &mut In<'_>, row: PolicyFields) -> Result<Ar
             let set = read_privilege_set_pointer(alloc, from)?;
             Ok(Args::Privileges { all, set })
         }
-        PolicyFields::SystemAccess => {
-            let bits = from.u32()?;
-            Ok(Args::Bits(bits))
-        }
+        PolicyFields::SystemAccess => from.u32().map(Args::Bits),
         PolicyFields::Luid => {
             let low = from.u32()?;
             let high = from.u32()?;
             Ok(Args::Luid { low, high })
         }
-        PolicyFields::Right => {
-            let name = read_text_pointer(alloc, from)?;
-            Ok(Args::OneName(name))
-        }
+        PolicyFields::Right => read_text_pointer(alloc, from).map(Args::OneName),
         PolicyFields::AddRights => {
             let sid = read_sid(from)?;
             let names = read_text_list(alloc, from, MOST_RIGHTS)?;

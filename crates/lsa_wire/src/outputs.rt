@@ -91,8 +91,13 @@ fn read_outputs(alloc: Global, from: &mut In<'_>, row: PolicyOutputs) -> Result<
     ensures { ReadsIfRoom result from.new ((with_status (policy_outs row)).read from.old) }
 {
     let outs = read_policy(alloc, from, row)?;
-    let status = from.u32()?;
-    Ok(Reply::Done { status, outs })
+    match from.u32() {
+        Ok(status) => Ok(Reply::Done { status, outs }),
+        Err(error) => {
+            drop(outs);
+            Err(error)
+        }
+    }
 }
 
 #[tactic(auto, unfolding(acct_stubs::specs::Outputs::with_status))]
