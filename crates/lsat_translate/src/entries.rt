@@ -1,8 +1,8 @@
 // What a translation answers: the domains that it refers to, and an entry for each name or SID.
-ghost use Rattle.std.specs.Prelude.{◌≡◌, ℕ, ◌≤◌, ◌<◌, ◌^◌, IfOk, OnOk, map, length, take};
+ghost use Rattle.std.specs.Prelude.{◌≡◌, ℕ, ◌≤◌, ◌<◌, ◌^◌, [], ◌∷◌, ◌++◌, IfOk, OnOk, map, length, take};
 ghost use Rattle.std.specs.Int.{w32};
 ghost use Rattle.lsat_translate.specs.Entries.{with_domain, referenced, place_of, index_in, translated_sid};
-ghost use Rattle.lsat_translate.specs.Entries.{shown_name, named_entry, mapped_count};
+ghost use Rattle.lsat_translate.specs.Entries.{shown_name, translated_name, named_entry, mapped_count};
 ghost use Rattle.lsat_translate.specs.Sids.{match_of_sid};
 ghost use Rattle.lsat_translate.specs.Matches.{use_in};
 
@@ -16,6 +16,14 @@ use acct_rows::Rows;
 use dtyp_sid::Sid;
 use indexmap::IndexSet;
 use std::alloc::Global;
+
+// The list with one value more at its end.
+fn with<T: Drop>(value: T, mut list: Seq<T>) -> Result<Seq<T>, NoMemory>
+    ensures { IfOk result (λ longer. longer ≡ list ++ value ∷ []) }
+{
+    list.push(value)?;
+    Ok(list)
+}
 
 // Adds the domain that a match refers to, unless it is there.
 fn refer(domains: &mut IndexSet<Known>, found: Option<Match>) -> Result<(), NoMemory>
@@ -56,6 +64,15 @@ fn index_in(domains: &IndexSet<Known>, found: Option<Match>) -> i32
     }
 }
 
+fn place_of(alloc: Global, rows: &Rows, domain: Known) -> Result<Place, NoMemory>
+    ensures { IfOk result (λ place. place ≡ place_of rows.now.lists domain) }
+{
+    Ok(Place {
+        name: domain.name(alloc, rows)?,
+        sid: domain.sid(rows),
+    })
+}
+
 /// The domains by their names and SIDs.
 pub(crate) fn places(
     alloc: Global,
@@ -66,10 +83,7 @@ pub(crate) fn places(
 {
     let mut places = Seq::new(alloc);
     for domain in domains.as_slice() {
-        places.push(Place {
-            name: domain.name(alloc, rows)?,
-            sid: domain.sid(rows),
-        })?;
+        places = with(place_of(alloc, rows, *domain)?, places)?;
     }
     Ok(places)
 }
@@ -122,6 +136,24 @@ pub(crate) fn mapped_count(found: &[Option<Match>]) -> u32
     count.min(u32::MAX as usize) as u32
 }
 
+// The entry of a SID, by its match.
+fn translated_name(
+    alloc: Global,
+    rows: &Rows,
+    domains: &IndexSet<Known>,
+    sid: Sid,
+    found: Option<Match>,
+) -> Result<TranslatedName, NoMemory>
+    requires { length domains.now.keys ≤ 4 }
+    ensures { IfOk result (λ entry. entry ≡ translated_name rows.now.lists domains.now.keys sid found) }
+{
+    Ok(TranslatedName {
+        usage: use_in(found) as u16,
+        name: shown_name(alloc, rows, sid, found)?,
+        index: index_in(domains, found),
+    })
+}
+
 /// The entries of SIDs, by their matches.
 pub(crate) fn translated_names(
     alloc: Global,
@@ -136,12 +168,8 @@ pub(crate) fn translated_names(
 {
     let mut entries = Seq::new(alloc);
     for (place, sid) in sids.iter().enumerate() {
-        let one = found[place];
-        entries.push(TranslatedName {
-            usage: use_in(one) as u16,
-            name: shown_name(alloc, rows, *sid, one)?,
-            index: index_in(domains, one),
-        })?;
+        let entry = translated_name(alloc, rows, domains, *sid, found[place])?;
+        entries = with(entry, entries)?;
     }
     Ok(entries)
 }

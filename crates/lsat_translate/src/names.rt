@@ -164,11 +164,15 @@ fn match_at(
     requires { place < length units.now }
     ensures { IfOk result (λ found. found ≡ match_split rows.now.lists units.now (Some place)) }
 {
-    let domain = name_of_units(alloc, &units[..place])?;
-    match domain_named(alloc, rows, &domain)? {
+    let front = name_of_units(alloc, &units[..place])?;
+    let domain = domain_named(alloc, rows, &front);
+    drop(front);
+    match domain? {
         Some(domain) => {
             let name = name_of_units(alloc, &units[place + 1..])?;
-            match_behind(alloc, rows, domain, &name)
+            let found = match_behind(alloc, rows, domain, &name);
+            drop(name);
+            found
         }
         None => Ok(None),
     }
