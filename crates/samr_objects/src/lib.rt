@@ -19,6 +19,7 @@ mod found;
 pub mod laws;
 mod lookups;
 mod naming;
+mod plans;
 mod queries;
 mod settings;
 

@@ -1,12 +1,13 @@
 // The operations that show what a domain or an account is, by classes of information.
 ghost use Rattle.std.specs.Prelude.{◌≡◌, true, IfOk, OnErr, length, is_some};
 ghost use Rattle.std.specs.Option.{option_copied};
+ghost use Rattle.acct_calls.specs.declared.info.Info.TheVariants as info;
 ghost use Rattle.acct_rules.specs.Planned.{decision, none_fails};
 ghost use Rattle.samr_objects.specs.Queries.{member_count, alias_member_count, value_of, domain_classes};
 ghost use Rattle.samr_objects.specs.Queries.{group_classes, alias_classes, user_classes, shown_by, shows, account_of};
 ghost use Rattle.samr_objects.specs.Queries.{query_domain, query_group, query_alias, query_user};
 
-use acct_calls::{Args, Info, Outs};
+use acct_calls::{Args, Info, Name, Outs};
 use acct_codes::info_class::{
     ALIAS_ADMIN_COMMENT_INFORMATION, ALIAS_GENERAL_INFORMATION, ALIAS_NAME_INFORMATION,
     DOMAIN_NAME_INFORMATION, DOMAIN_OEM_INFORMATION, GROUP_ADMIN_COMMENT_INFORMATION,
@@ -19,6 +20,20 @@ use acct_codes::status::{STATUS_INVALID_INFO_CLASS, STATUS_SUCCESS};
 use acct_rows::{AccountRow, DomainRow, Object, Rows};
 use acct_rules::{NoMemory, Planned, answers, class_of, refusal};
 use std::alloc::Global;
+
+// A value, and a copy of a name beside it.
+fn with_copy<T: Drop>(alloc: Global, value: T, name: &Name) -> Result<(T, Name), NoMemory>
+    ensures { IfOk result (λ both. both ≡ (value, name.now)) }
+{
+    let copy = name.copy(alloc)?;
+    Ok((value, copy))
+}
+
+fn copies(alloc: Global, first: &Name, second: &Name) -> Result<(Name, Name), NoMemory>
+    ensures { IfOk result (λ both. both ≡ (first.now, second.now)) }
+{
+    with_copy(alloc, first.copy(alloc)?, second)
+}
 
 fn domain_shows(alloc: Global, domain: &DomainRow, class: u16) -> Result<Option<Info>, NoMemory>
     ensures value { IfOk result (λ value. value ≡ value_of class (domain_classes domain.now)) }
@@ -80,15 +95,25 @@ fn alias_shows(
     ensures frugal { OnErr result (is_some (value_of class (alias_classes rows.now.lists alias.now)) ≡ true) }
 {
     Ok(Some(match class {
-        ALIAS_GENERAL_INFORMATION => Info::Alias(
-            alias.name.copy(alloc)?,
-            alias_member_count(rows, alias.domain, alias.rid),
-            alias.comment.copy(alloc)?,
-        ),
+        ALIAS_GENERAL_INFORMATION => {
+            let (name, comment) = copies(alloc, &alias.name, &alias.comment)?;
+            let count = alias_member_count(rows, alias.domain, alias.rid);
+            Info::Alias(name, count, comment)
+        }
         ALIAS_NAME_INFORMATION => Info::Text(alias.name.copy(alloc)?),
         ALIAS_ADMIN_COMMENT_INFORMATION => Info::Text(alias.comment.copy(alloc)?),
         _ => return Ok(None),
     }))
+}
+
+// What a user shows of itself in general.
+fn user_in_general(alloc: Global, user: &AccountRow) -> Result<Info, NoMemory>
+    ensures { IfOk result (λ shown. shown
+        ≡ info.User user.now.name user.now.full_name user.now.primary user.now.comment) }
+{
+    let names = copies(alloc, &user.name, &user.full_name)?;
+    let ((name, full_name), comment) = with_copy(alloc, names, &user.comment)?;
+    Ok(Info::User(name, full_name, user.primary, comment))
 }
 
 fn user_shows(alloc: Global, user: &AccountRow, class: u16) -> Result<Option<Info>, NoMemory>
@@ -96,14 +121,10 @@ fn user_shows(alloc: Global, user: &AccountRow, class: u16) -> Result<Option<Inf
     ensures frugal { OnErr result (is_some (value_of class (user_classes user.now)) ≡ true) }
 {
     Ok(Some(match class {
-        USER_GENERAL_INFORMATION => Info::User(
-            user.name.copy(alloc)?,
-            user.full_name.copy(alloc)?,
-            user.primary,
-            user.comment.copy(alloc)?,
-        ),
+        USER_GENERAL_INFORMATION => user_in_general(alloc, user)?,
         USER_NAME_INFORMATION => {
-            Info::TwoTexts(user.name.copy(alloc)?, user.full_name.copy(alloc)?)
+            let (name, full_name) = copies(alloc, &user.name, &user.full_name)?;
+            Info::TwoTexts(name, full_name)
         }
         USER_ACCOUNT_NAME_INFORMATION => Info::Text(user.name.copy(alloc)?),
         USER_FULL_NAME_INFORMATION => Info::Text(user.full_name.copy(alloc)?),

@@ -1,18 +1,20 @@
 // The operations that set information of a domain or an account, by classes.
-ghost use Rattle.std.specs.Prelude.{◌≡◌, [], ◌∷◌, true, Some, IfOk, OnErr};
+ghost use Rattle.std.specs.Prelude.{◌≡◌, [], ◌∷◌, true, Some, IfOk, OnOk, OnErr};
 ghost use Rattle.std.specs.Option.{option_copied};
 ghost use Rattle.acct_codes.specs.declared.kind.Kind.TheVariants as kinds;
 ghost use Rattle.acct_codes.specs.Statuses.{status_invalid_parameter};
 ghost use Rattle.acct_rows.specs.Rows.{is_of};
 ghost use Rattle.acct_rows.specs.Sound.{control_is_good};
+ghost use Rattle.acct_rules.specs.Asked.{or_empty, put_text};
 ghost use Rattle.acct_rules.specs.Planned.{decision, first_failed, none_fails, when};
 ghost use Rattle.samr_objects.specs.Settings.{set_field, sets_oem, primary_conditions, field_conditions};
 ghost use Rattle.samr_objects.specs.Settings.{with_field, with_oem, account_puts, domain_puts};
 ghost use Rattle.samr_objects.specs.Settings.{set_domain, set_account, set_group, set_alias, set_user};
 
 use crate::naming::{is_too_long, refused_name};
+use crate::plans::one_row;
 use acct_base::Seq;
-use acct_calls::Args;
+use acct_calls::{Args, Name};
 use acct_codes::Kind;
 use acct_codes::info_class::{
     ALIAS_ADMIN_COMMENT_INFORMATION, ALIAS_NAME_INFORMATION, DOMAIN_OEM_INFORMATION,
@@ -136,6 +138,28 @@ fn refused_field(rows: &Rows, kind: Kind, object: &Object, args: &Args, field: F
     }
 }
 
+// Puts the text that is asked for in the place of another.
+fn put_asked(alloc: Global, place: &mut Name, args: &Args) -> Result<(), NoMemory>
+    ensures { OnOk result (place.new ≡ or_empty (put_text args.now)) }
+{
+    *place = text_or_empty(alloc, put_text(args))?;
+    Ok(())
+}
+
+// Sets the field of a row as it is asked for.
+fn put_field(alloc: Global, row: &mut AccountRow, field: Field, args: &Args) -> Result<(), NoMemory>
+    ensures { OnOk result (row.new ≡ with_field (Some field) args.now row.old) }
+{
+    match field {
+        Field::Name => put_asked(alloc, &mut row.name, args)?,
+        Field::FullName => put_asked(alloc, &mut row.full_name, args)?,
+        Field::Comment => put_asked(alloc, &mut row.comment, args)?,
+        Field::Attributes | Field::Control => row.bits = put_number(args),
+        Field::Primary => row.primary = put_number(args),
+    }
+    Ok(())
+}
+
 // The row with the field as it is asked for.
 fn with_field(
     alloc: Global,
@@ -146,14 +170,13 @@ fn with_field(
     ensures { IfOk result (λ later. later ≡ with_field (Some field) args.now row.now) }
 {
     let mut later = row.copy(alloc)?;
-    match field {
-        Field::Name => later.name = text_or_empty(alloc, put_text(args))?,
-        Field::FullName => later.full_name = text_or_empty(alloc, put_text(args))?,
-        Field::Comment => later.comment = text_or_empty(alloc, put_text(args))?,
-        Field::Attributes | Field::Control => later.bits = put_number(args),
-        Field::Primary => later.primary = put_number(args),
+    match put_field(alloc, &mut later, field, args) {
+        Ok(()) => Ok(later),
+        Err(full) => {
+            drop(later);
+            Err(full)
+        }
     }
-    Ok(later)
 }
 
 fn account_puts(
@@ -164,23 +187,33 @@ fn account_puts(
 ) -> Result<Seq<Row>, NoMemory>
     ensures { IfOk result (λ puts. puts ≡ account_puts (Some field) args.now (option_copied row.entry)) }
 {
-    let mut puts = Seq::new(alloc);
-    if let Some(row) = row {
-        puts.push(Row::Account(with_field(alloc, row, field, args)?))?;
+    match row {
+        Some(row) => one_row(alloc, Row::Account(with_field(alloc, row, field, args)?)),
+        None => Ok(Seq::new(alloc)),
     }
-    Ok(puts)
+}
+
+// The row of a domain with the OEM information as it is asked for.
+fn with_oem(alloc: Global, row: &DomainRow, args: &Args) -> Result<DomainRow, NoMemory>
+    ensures { IfOk result (λ later. later ≡ with_oem args.now row.now) }
+{
+    let mut later = row.copy(alloc)?;
+    match put_asked(alloc, &mut later.oem, args) {
+        Ok(()) => Ok(later),
+        Err(full) => {
+            drop(later);
+            Err(full)
+        }
+    }
 }
 
 fn domain_puts(alloc: Global, row: Option<&DomainRow>, args: &Args) -> Result<Seq<Row>, NoMemory>
     ensures { IfOk result (λ puts. puts ≡ domain_puts args.now (option_copied row.entry)) }
 {
-    let mut puts = Seq::new(alloc);
-    if let Some(row) = row {
-        let mut later = row.copy(alloc)?;
-        later.oem = text_or_empty(alloc, put_text(args))?;
-        puts.push(Row::Domain(later))?;
+    match row {
+        Some(row) => one_row(alloc, Row::Domain(with_oem(alloc, row, args)?)),
+        None => Ok(Seq::new(alloc)),
     }
-    Ok(puts)
 }
 
 /// SamrSetInformationDomain (MS-SAMR 3.1.5.6.1): sets the OEM information of a domain.
