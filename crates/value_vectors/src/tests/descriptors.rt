@@ -1,6 +1,6 @@
 // Descriptors as Samba 4.17 packs them (revision 2 set on their lists), and accesses as MS-DTYP 2.5.3 decides them.
 // SIDs and entries are written as in the SDDL, but for the order of an entry's fields.
-use super::lines::cut;
+use super::lines::{all_are_right, cut, tells};
 use acct_codes::Kind;
 use acct_codes::standard_rights::{
     ACCESS_SYSTEM_SECURITY, DELETE, GENERIC_ALL, READ_CONTROL, WRITE_DAC,
@@ -121,24 +121,39 @@ const OPENINGS: &str = "\
 40000000 2047A|domain|SY|WD|-|-
 80000000 20084|domain|SY|WD|-|-";
 
+/// Who asks, and the descriptor of what is asked for.
+fn token_and_descriptor(
+    alloc: Global,
+    sids: &str,
+    text: &str,
+) -> Result<(Token, Descriptor), Fail> {
+    let token = token_of(alloc, sids)?;
+    match descriptor_of(alloc, text) {
+        Ok(d) => Ok((token, d)),
+        Err(fail) => {
+            drop(token);
+            Err(fail)
+        }
+    }
+}
+
 /// Whether the first two words are what an opening of the others asks for and is granted.
 fn is_opened(alloc: Global, line: &str) -> Result<bool, Fail> {
     let (masks, others) = cut(line, '|');
     let (kind, others) = cut(others, '|');
     let (sids, text) = cut(others, '|');
     let (asked, granted) = cut(masks, ' ');
-    let token = token_of(alloc, sids)?;
-    let d = descriptor_of(alloc, text)?;
-    let opened = opening(kind_of(kind), &d, &token, hexadecimal(asked)?);
+    let asked = hexadecimal(asked)?;
+    let (token, d) = token_and_descriptor(alloc, sids, text)?;
+    let opened = opening(kind_of(kind), &d, &token, asked);
+    drop(d);
+    drop(token);
     Ok(opened == u32::from_str_radix(granted, 16).ok())
 }
 
 #[test]
 fn objects_are_opened(rt: HostRuntime) -> Result<(), Fail> {
-    for line in OPENINGS.lines() {
-        assert!(rt; is_opened(rt.alloc(), line)?, "{line}");
-    }
-    Ok(())
+    all_are_right(&rt, rt.alloc(), OPENINGS, is_opened)
 }
 
 /// Which of five rights are granted.
@@ -153,8 +168,7 @@ fn rights(token: &Token, d: &Descriptor) -> [bool; 5] {
 }
 
 fn rights_of(alloc: Global, sids: &str, text: &str) -> Result<[bool; 5], Fail> {
-    let token = token_of(alloc, sids)?;
-    let d = descriptor_of(alloc, text)?;
+    let (token, d) = token_and_descriptor(alloc, sids, text)?;
     Ok(rights(&token, &d))
 }
 
@@ -256,6 +270,16 @@ fn is_written(alloc: Global, bytes: &[u8], text: &str) -> Result<bool, Fail> {
     writes(alloc, &d, bytes)
 }
 
+/// Whether bytes are read as a descriptor, and are those that it is written in, or aren't.
+fn are_those_of(alloc: Global, bytes: &[u8], text: &str, same: bool) -> Result<bool, Fail> {
+    Ok(is_read(alloc, bytes, text)? && is_written(alloc, bytes, text)? == same)
+}
+
+fn is_packed(alloc: Global, packed: &str, text: &str, same: bool) -> Result<bool, Fail> {
+    let bytes = bytes_of(alloc, packed)?;
+    are_those_of(alloc, &bytes, text, same)
+}
+
 #[test]
 fn descriptors_are_written_and_read(rt: HostRuntime) -> Result<(), Fail> {
     for (packed, text, same) in [
@@ -265,9 +289,7 @@ fn descriptors_are_written_and_read(rt: HostRuntime) -> Result<(), Fail> {
         (AUDITED, "SY|-|A;3;10000000;BA", false),
         (NO_LIST, "SY|-|-", true),
     ] {
-        let bytes = bytes_of(rt.alloc(), packed)?;
-        assert!(rt; is_read(rt.alloc(), &bytes, text)?, "{text}");
-        assert!(rt; is_written(rt.alloc(), &bytes, text)? == same, "{text}");
+        assert!(rt; is_packed(rt.alloc(), packed, text, same)?, "{text}");
     }
     Ok(())
 }
@@ -364,35 +386,48 @@ fn written_length(alloc: Global, d: &Descriptor) -> Result<usize, Fail> {
     })
 }
 
+/// What the longest SID is granted at most.
+fn most_granted(alloc: Global, d: &Descriptor) -> Result<Option<u32>, Fail> {
+    let token = token_of(alloc, "S-1-5-1-2-3-4-5-6-7-8-9-10-11-12-13-14-15")?;
+    Ok(opening(Kind::Policy, d, &token, 0x0200_0000))
+}
+
+/// Whether a descriptor is written in so many bytes, and grants what all its entries allow together.
+fn is_long(alloc: Global, d: &Descriptor, length: usize) -> Result<bool, Fail> {
+    Ok(written_length(alloc, d)? == length && most_granted(alloc, d)? == Some(0x0006_03FF))
+}
+
+fn is_as_long(alloc: Global, count: u32, length: usize) -> Result<bool, Fail> {
+    let d = long_list(alloc, count)?;
+    is_long(alloc, &d, length)
+}
+
 /// The limit of 800 entries from both sides.
 #[test]
 fn as_many_entries_as_fit(rt: HostRuntime) -> Result<(), Fail> {
     for (count, length) in [(800, 20 + 68 + 8 + 800 * 76), (801, 0)] {
-        let d = long_list(rt.alloc(), count)?;
-        assert!(rt; written_length(rt.alloc(), &d)? == length);
-        let token = token_of(rt.alloc(), "S-1-5-1-2-3-4-5-6-7-8-9-10-11-12-13-14-15")?;
-        let opened = opening(Kind::Policy, &d, &token, 0x0200_0000);
-        assert!(rt; opened == Some(0x0006_03FF));
+        assert!(rt; is_as_long(rt.alloc(), count, length)?);
     }
     Ok(())
 }
 
 #[test]
 fn refusals_tell_in_words(rt: HostRuntime) -> Result<(), Fail> {
-    let told = format!(in rt.alloc(); "{}", DescError::Sid(20))?;
-    assert!(rt; told.as_str() == "no SID stands at byte 20");
+    let sid = "no SID stands at byte 20";
+    assert!(rt; tells(rt.alloc(), &DescError::Sid(20), sid)?);
     Ok(())
 }
 
-fn is_copied(alloc: Global, token: &Token) -> Result<bool, Fail> {
-    Ok(token.copy(alloc)?.sids() == token.sids())
+fn is_copied(alloc: Global, token: &Token, count: usize) -> Result<bool, Fail> {
+    Ok(token.copy(alloc)?.sids() == token.sids() && token.sids().len() == count)
 }
 
 #[test]
 fn tokens_are_copied(rt: HostRuntime) -> Result<(), Fail> {
     let token = token_of(rt.alloc(), "WD BU")?;
-    assert!(rt; is_copied(rt.alloc(), &token)?);
-    assert!(rt; token.sids().len() == 2);
+    let copied = is_copied(rt.alloc(), &token, 2);
+    drop(token);
+    assert!(rt; copied?);
     Ok(())
 }
 

@@ -1,10 +1,11 @@
 // Documents and the rule that each breaks, and what the documents that break none spell.
-use super::lines::cut;
+use super::lines::{all_are_right, cut, tells};
 use acct_codes::Kind;
 use acct_config::{Config, ConfigError, Limits, Listener, Text, laws, read_config};
-use dtyp_access::{Ace, AceKind, Acl, Descriptor, make_token, opening};
+use dtyp_access::{Ace, AceKind, Acl, Descriptor, Token, make_token, opening};
 use dtyp_sid::{Sid, parse_text};
 use std::alloc::Global;
+use std::process::Abort;
 use std::test::Fail;
 
 const PLAIN: &str = r#"[domain]
@@ -167,10 +168,13 @@ fn cut_in_three(line: &str) -> (&str, &str, &str) {
     (front, middle, back)
 }
 
-/// A document with another text in the place of a part.
+/// A document with another text in the place of a part, where this first stands.
 fn replaced(alloc: Global, document: &str, part: &str, text: &str) -> Result<String, Fail> {
-    let (before, behind) = document.split_once(part).ok_or("no such part")?;
-    Ok(format!(in alloc; "{before}{text}{behind}")?)
+    if document.contains(part) {
+        Ok(document.replacen(alloc, part, text, 1)?)
+    } else {
+        Err(Fail::from("no such part"))
+    }
 }
 
 /// A document changed as a line says, which has a part and what stands in its place.
@@ -180,12 +184,23 @@ fn changed(alloc: Global, document: &str, line: &str) -> Result<String, Fail> {
     replaced(alloc, document, part, text)
 }
 
+/// The rule that a document breaks first, none where it breaks none.
+fn broken_in(alloc: Global, bytes: &[u8]) -> Result<Option<u32>, Fail> {
+    match read_config(alloc, bytes) {
+        Ok(config) => {
+            drop(config);
+            Ok(None)
+        }
+        Err(ConfigError::Rule(broken)) => Ok(Some(broken)),
+        Err(ConfigError::Memory) => Err(Fail::from("memory")),
+    }
+}
+
 /// Whether a document breaks a rule first, or none where a dash stands for it.
 fn breaks(alloc: Global, bytes: &[u8], rule: &str) -> Result<bool, Fail> {
-    match read_config(alloc, bytes) {
-        Ok(_) => Ok(rule == "-"),
-        Err(ConfigError::Rule(broken)) => Ok(rule.parse::<u32>().ok() == Some(broken)),
-        Err(ConfigError::Memory) => Err(Fail::from("memory")),
+    match broken_in(alloc, bytes)? {
+        None => Ok(rule == "-"),
+        broken => Ok(rule.parse::<u32>().ok() == broken),
     }
 }
 
@@ -198,10 +213,7 @@ fn is_ruled(alloc: Global, line: &str) -> Result<bool, Fail> {
 
 #[test]
 fn each_document_breaks_its_rule_first(rt: HostRuntime) -> Result<(), Fail> {
-    for line in RULES.lines() {
-        assert!(rt; is_ruled(rt.alloc(), line)?, "{line}");
-    }
-    Ok(())
+    all_are_right(&rt, rt.alloc(), RULES, is_ruled)
 }
 
 /// So many times a text, with the number in the place of `@`.
@@ -235,10 +247,7 @@ fn filled_is_ruled(alloc: Global, line: &str) -> Result<bool, Fail> {
 
 #[test]
 fn documents_with_many_of_the_same(rt: HostRuntime) -> Result<(), Fail> {
-    for line in MANY.lines() {
-        assert!(rt; filled_is_ruled(rt.alloc(), line)?, "{line}");
-    }
-    Ok(())
+    all_are_right(&rt, rt.alloc(), MANY, filled_is_ruled)
 }
 
 /// A document whose last listener is the plain one, and in which a later rule is broken by what stands before it.
@@ -268,17 +277,29 @@ const EARLIER: &str = r#"10|CORP|CORP
 1|max_periods|max_period
 0|[domain]|[domain"#;
 
+/// Changes a document as a line says, and tells whether it breaks the rule of the line then.
+fn becomes_ruled(alloc: Global, document: &mut String, line: &str) -> Result<bool, Fail> {
+    let (rule, change) = cut(line, '|');
+    *document = changed(alloc, document.as_str(), change)?;
+    breaks(alloc, document.as_bytes(), rule)
+}
+
+fn becomes_ruled_by_each(
+    rt: &impl Abort,
+    alloc: Global,
+    document: &mut String,
+) -> Result<(), Fail> {
+    for line in EARLIER.lines() {
+        assert!(rt; becomes_ruled(alloc, document, line)?, "{line}");
+    }
+    Ok(())
+}
+
 /// Each rule is asked of all listeners and tables before the next one.
 #[test]
 fn the_first_of_several_rules_counts(rt: HostRuntime) -> Result<(), Fail> {
     let mut document = changed(rt.alloc(), PLAIN, LAST_BROKEN)?;
-    for line in EARLIER.lines() {
-        let (rule, change) = cut(line, '|');
-        let next = changed(rt.alloc(), document.as_str(), change)?;
-        assert!(rt; breaks(rt.alloc(), next.as_bytes(), rule)?, "{line}");
-        document = next;
-    }
-    Ok(())
+    becomes_ruled_by_each(&rt, rt.alloc(), &mut document)
 }
 
 const NO_LISTENER: &[u8] = b"listener = []\n[domain]\nname = \"CORP\"\nsid = \"S-1-5-21\"";
@@ -315,6 +336,10 @@ fn config_of(alloc: Global, text: &str) -> Result<Config, Fail> {
     }
 }
 
+fn push_number(text: &mut String, number: u64) -> Result<(), Fail> {
+    Ok(write!(text, " {number}")?)
+}
+
 fn push_sid(text: &mut String, alloc: Global, sid: &Sid) -> Result<(), Fail> {
     Ok(text.push_str(sid.text(alloc)?.as_str())?)
 }
@@ -327,19 +352,23 @@ fn push_domain(text: &mut String, alloc: Global, config: &Config) -> Result<(), 
     push_sid(text, alloc, &config.sid)
 }
 
-/// Name, address, workers, links and the SIDs of the token.
-fn push_listener(text: &mut String, alloc: Global, listener: &Listener) -> Result<(), Fail> {
-    let name = listener.name.as_str();
-    let address = listener.address.as_str();
-    write!(
-        text,
-        "({name} {address} {} {}",
-        listener.workers, listener.links
-    )?;
-    for sid in listener.token.sids() {
+fn push_sids(text: &mut String, alloc: Global, sids: &[Sid]) -> Result<(), Fail> {
+    for sid in sids {
         text.push(' ')?;
         push_sid(text, alloc, sid)?;
     }
+    Ok(())
+}
+
+/// Name, address, workers, links and the SIDs of the token.
+fn push_listener(text: &mut String, alloc: Global, listener: &Listener) -> Result<(), Fail> {
+    text.push('(')?;
+    text.push_str(listener.name.as_str())?;
+    text.push(' ')?;
+    text.push_str(listener.address.as_str())?;
+    push_number(text, u64::from(listener.workers))?;
+    push_number(text, listener.links)?;
+    push_sids(text, alloc, listener.token.sids())?;
     Ok(text.push(')')?)
 }
 
@@ -351,25 +380,28 @@ fn push_listeners(text: &mut String, alloc: Global, listeners: &[Listener]) -> R
 }
 
 fn push_ace(text: &mut String, alloc: Global, ace: &Ace) -> Result<(), Fail> {
-    let kind = match ace.kind {
-        AceKind::Allow => "allow",
-        AceKind::Deny => "deny",
-    };
-    write!(text, ", {kind} {} {:x} ", ace.flags, ace.mask)?;
+    text.push_str(match ace.kind {
+        AceKind::Allow => ", allow",
+        AceKind::Deny => ", deny",
+    })?;
+    push_number(text, u64::from(ace.flags))?;
+    write!(text, " {:x} ", ace.mask)?;
     push_sid(text, alloc, &ace.sid)
+}
+
+fn push_aces(text: &mut String, alloc: Global, aces: &[Ace]) -> Result<(), Fail> {
+    for ace in aces {
+        push_ace(text, alloc, ace)?;
+    }
+    Ok(())
 }
 
 /// The entries, or that there is no list.
 fn push_acl(text: &mut String, alloc: Global, acl: &Option<Acl>) -> Result<(), Fail> {
     match acl {
-        None => text.push_str(" open")?,
-        Some(acl) => {
-            for ace in acl.aces() {
-                push_ace(text, alloc, ace)?;
-            }
-        }
+        None => Ok(text.push_str(" open")?),
+        Some(acl) => push_aces(text, alloc, acl.aces()),
     }
-    Ok(())
 }
 
 /// The owner, whether there is a group, and the entries.
@@ -392,11 +424,11 @@ fn push_descriptors(text: &mut String, alloc: Global, list: &[Descriptor]) -> Re
 
 /// Each limit.
 fn push_limits(text: &mut String, limits: &Limits) -> Result<(), Fail> {
-    Ok(write!(
-        text,
-        "{} {} {} {} {}",
-        limits.max_calls, limits.max_bytes, limits.max_conns, limits.max_read, limits.max_periods
-    )?)
+    write!(text, "{}", limits.max_calls)?;
+    push_number(text, limits.max_bytes)?;
+    push_number(text, u64::from(limits.max_conns))?;
+    push_number(text, limits.max_read)?;
+    push_number(text, u64::from(limits.max_periods))
 }
 
 /// One part of a configuration as text.
@@ -489,51 +521,64 @@ const OTHER_SAYS: &str = r#"domain|c4 d801 dc00 S-1-5-21-1-2-3
 listeners|(b2 unix:s 64 4294967295 S-1-1-0)
 descriptors|(S-1-5-18, deny 0 10 S-1-5-32-545, allow 0 f003f S-1-1-0)~~~~~(S-1-1-0, allow 7 fedcba98 S-1-5-32-544)"#;
 
-/// A tilde stands for the descriptor of the administrators without a list.
-#[test]
-fn configurations_say_these_values(rt: HostRuntime) -> Result<(), Fail> {
-    let alloc = rt.alloc();
-    for (document, lines) in [
-        (PLAIN, PLAIN_SAYS),
-        (WHOLE, WHOLE_SAYS),
-        (OTHER, OTHER_SAYS),
-    ] {
-        let open = lines.replace(alloc, "~", "(S-1-5-32-544 open)")?;
-        for line in open.as_str().lines() {
-            assert!(rt; says(alloc, document, line)?, "{line}");
-        }
+fn each_is_said(rt: &impl Abort, alloc: Global, document: &str, lines: &str) -> Result<(), Fail> {
+    for line in lines.lines() {
+        assert!(rt; says(alloc, document, line)?, "{line}");
     }
     Ok(())
 }
 
-/// In each line what stands before the plain document, and the limits that it then says.
-const LIMITS: &str = r#"[limits]|65536 67108864 1024 4294967296 1
-[limits];max_calls = 4|4 67108864 1024 4294967296 1
-[limits];max_bytes = 5|65536 5 1024 4294967296 1
-[limits];max_conns = 6|65536 67108864 6 4294967296 1
-[limits];max_read = 7|65536 67108864 1024 7 1
-[limits];max_periods = 8|65536 67108864 1024 4294967296 8
-limits.max_conns = 0x10;limits.max_calls = 2_000|2000 67108864 16 4294967296 1
-limits = { max_periods = 5, max_read = 4, max_conns = 3, max_bytes = 2, max_calls = 1 }|1 2 3 4 5
-[limits];max_calls = 1;max_bytes = 1;max_conns = 1;max_read = 1;max_periods = 1|1 1 1 1 1
-[limits];max_calls = 1000000;max_bytes = 1073741824|1000000 1073741824 1024 4294967296 1
-[limits];max_conns = 65536;max_read = 1099511627776;max_periods = 1000000|65536 67108864 65536 1099511627776 1000000"#;
+/// Asserts that a document says what each line tells. A tilde stands for the descriptor of the administrators without
+/// a list.
+fn all_are_said(rt: &impl Abort, alloc: Global, document: &str, lines: &str) -> Result<(), Fail> {
+    let open = lines.replace(alloc, "~", "(S-1-5-32-544 open)")?;
+    each_is_said(rt, alloc, document, open.as_str())
+}
+
+#[test]
+fn configurations_say_these_values(rt: HostRuntime) -> Result<(), Fail> {
+    all_are_said(&rt, rt.alloc(), PLAIN, PLAIN_SAYS)?;
+    all_are_said(&rt, rt.alloc(), WHOLE, WHOLE_SAYS)?;
+    all_are_said(&rt, rt.alloc(), OTHER, OTHER_SAYS)
+}
+
+/// In each line what stands before the plain document, and the part with the limits that it then says.
+const LIMITS: &str = "\
+[limits]|limits|65536 67108864 1024 4294967296 1
+[limits];max_calls = 4|limits|4 67108864 1024 4294967296 1
+[limits];max_bytes = 5|limits|65536 5 1024 4294967296 1
+[limits];max_conns = 6|limits|65536 67108864 6 4294967296 1
+[limits];max_read = 7|limits|65536 67108864 1024 7 1
+[limits];max_periods = 8|limits|65536 67108864 1024 4294967296 8
+limits.max_conns = 0x10;limits.max_calls = 2_000|limits|2000 67108864 16 4294967296 1
+limits = { max_periods = 5, max_read = 4, max_conns = 3, max_bytes = 2, max_calls = 1 }|limits|1 2 3 4 5
+[limits];max_calls = 1;max_bytes = 1;max_conns = 1;max_read = 1;max_periods = 1|limits|1 1 1 1 1
+[limits];max_calls = 1000000;max_bytes = 1073741824|limits|1000000 1073741824 1024 4294967296 1
+[limits];max_conns = 65536;max_read = 1099511627776;max_periods = 1000000|limits|\
+65536 67108864 65536 1099511627776 1000000";
+
+fn push_plain(text: &mut String) -> Result<(), Fail> {
+    text.push('\n')?;
+    Ok(text.push_str(PLAIN)?)
+}
+
+/// The plain document behind other lines.
+fn behind_lines(alloc: Global, lines: &str) -> Result<String, Fail> {
+    let mut document = lines.replace(alloc, ";", "\n")?;
+    push_plain(&mut document)?;
+    Ok(document)
+}
 
 /// Whether a document has the limits of a line of [`LIMITS`].
 fn limits_are_said(alloc: Global, line: &str) -> Result<bool, Fail> {
     let (front, limits) = cut(line, '|');
-    let lines = front.replace(alloc, ";", "\n")?;
-    let document = format!(in alloc; "{}\n{PLAIN}", lines.as_str())?;
-    let wanted = format!(in alloc; "limits|{limits}")?;
-    says(alloc, document.as_str(), wanted.as_str())
+    let document = behind_lines(alloc, front)?;
+    says(alloc, document.as_str(), limits)
 }
 
 #[test]
 fn limits_are_those_of_the_document(rt: HostRuntime) -> Result<(), Fail> {
-    for line in LIMITS.lines() {
-        assert!(rt; limits_are_said(rt.alloc(), line)?, "{line}");
-    }
-    Ok(())
+    all_are_right(&rt, rt.alloc(), LIMITS, limits_are_said)
 }
 
 fn descriptor_shows(alloc: Global, descriptor: &Descriptor, wanted: &str) -> Result<bool, Fail> {
@@ -572,16 +617,26 @@ fn sid_of(text: &str) -> Result<Sid, Fail> {
     }
 }
 
-/// What a user is granted at the server of a document.
-fn granted(alloc: Global, document: &str, asked: u32) -> Result<Option<u32>, Fail> {
-    let token = make_token(alloc, &[sid_of("S-1-1-0")?, sid_of("S-1-5-32-545")?])?;
+/// What a token is granted at the server of a document.
+fn granted_to(
+    alloc: Global,
+    token: &Token,
+    document: &str,
+    asked: u32,
+) -> Result<Option<u32>, Fail> {
     match read_config(alloc, document.as_bytes()) {
         Ok(config) => {
             let server = config.descriptor(Kind::Server);
-            Ok(opening(Kind::Server, server, &token, asked))
+            Ok(opening(Kind::Server, server, token, asked))
         }
         Err(_) => Err(Fail::from("no configuration")),
     }
+}
+
+/// What a user is granted at the server of a document.
+fn granted(alloc: Global, document: &str, asked: u32) -> Result<Option<u32>, Fail> {
+    let token = make_token(alloc, &[sid_of("S-1-1-0")?, sid_of("S-1-5-32-545")?])?;
+    granted_to(alloc, &token, document, asked)
 }
 
 /// The access check over the configured descriptor of the server: MS-DTYP 2.5.3 decides by the first entry that speaks
@@ -600,8 +655,8 @@ fn deny_before_allow(rt: HostRuntime) -> Result<(), Fail> {
 
 #[test]
 fn refusals_tell_in_words(rt: HostRuntime) -> Result<(), Fail> {
-    let told = format!(in rt.alloc(); "{}", ConfigError::Rule(4))?;
-    assert!(rt; told.as_str() == "the configuration breaks rule 4");
+    let broken = "the configuration breaks rule 4";
+    assert!(rt; tells(rt.alloc(), &ConfigError::Rule(4), broken)?);
     Ok(())
 }
 

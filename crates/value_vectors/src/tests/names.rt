@@ -10,13 +10,22 @@ fn fold_alike(alloc: Global, left: &Name, right: &Name) -> Result<bool, NoMemory
     Ok(left == right.fold(alloc)?)
 }
 
-/// Whether the names of a pair of texts are the same, asked both ways, and fold alike; or neither.
-fn are_same(alloc: Global, pair: &str, same: bool) -> Result<bool, Fail> {
+/// Whether two names are the same, asked both ways, and fold alike; or neither.
+fn agree(alloc: Global, left: &Name, right: &Name, same: bool) -> Result<bool, NoMemory> {
+    let both = left.same(right) && right.same(left);
+    Ok(both == same && fold_alike(alloc, left, right)? == same)
+}
+
+fn agrees_with(alloc: Global, left: &Name, right: &str, same: bool) -> Result<bool, NoMemory> {
+    let right = Name::from_text(alloc, right)?;
+    agree(alloc, left, &right, same)
+}
+
+/// The same of the names of a pair of texts.
+fn are_same(alloc: Global, pair: &str, same: bool) -> Result<bool, NoMemory> {
     let (left, right) = cut(pair, '|');
     let left = Name::from_text(alloc, left)?;
-    let right = Name::from_text(alloc, right)?;
-    let both = left.same(&right) && right.same(&left);
-    Ok(both == same && fold_alike(alloc, &left, &right)? == same)
+    agrees_with(alloc, &left, right, same)
 }
 
 /// Pairs of texts, of which each is the other in another case.

@@ -1,8 +1,8 @@
 // Texts and bytes of well-known SIDs (MS-DTYP 2.4.2.4), and of others as Samba 4.17 packs them.
+use super::lines::tells;
 use dtyp_sid::{BadText, BytesError, Sid, SidError, laws, parse_text};
 use std::alloc::Global;
 use std::collections::HashMap;
-use std::fmt::Display;
 use std::test::Fail;
 
 fn has_text(alloc: Global, sid: &Sid, text: &str) -> Result<bool, Fail> {
@@ -203,11 +203,6 @@ fn the_last_number_is_split_off_and_put_back(rt: HostRuntime) -> Result<(), Fail
     let full = parse_text("S-1-5-1-2-3-4-5-6-7-8-9-10-11-12-13-14-15")?;
     assert!(rt; full.with_rid(16).is_none());
     Ok(())
-}
-
-/// Whether a refusal tells itself so.
-fn tells<T: Display>(alloc: Global, refusal: &T, text: &str) -> Result<bool, Fail> {
-    Ok(format!(in alloc; "{refusal}")?.as_str() == text)
 }
 
 #[test]
