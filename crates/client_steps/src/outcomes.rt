@@ -619,17 +619,35 @@ fn answered(alloc: Global, step: Step, status: u32, outs: &Outs) -> Result<Outco
     match step {
         Step::Opening(command) => Ok(after_opening(alloc, command, outs)),
         Step::ListingDomains { server, .. } => after_domains(alloc, server, status, outs),
-        Step::LookingUpDomain { server, task, .. } => Ok(after_domain(alloc, server, task, outs)),
+        Step::LookingUpDomain {
+            server,
+            domain,
+            task,
+        } => {
+            drop(domain);
+            Ok(after_domain(alloc, server, task, outs))
+        }
         Step::OpeningDomain { task, .. } => Ok(after_open_domain(alloc, task, outs)),
         Step::ListingUsers { domain, .. } => after_users(alloc, domain, status, outs),
-        Step::CreatingUser { .. } => after_creation(alloc, outs),
-        Step::LookingUp { domain, task } => Ok(after_look_up(alloc, domain, &task, outs)),
+        Step::CreatingUser { name, .. } => {
+            drop(name);
+            after_creation(alloc, outs)
+        }
+        Step::LookingUp { domain, task } => {
+            let outcome = after_look_up(alloc, domain, &task, outs);
+            drop(task);
+            Ok(outcome)
+        }
         Step::OpeningUser { rid, .. } => Ok(after_open_user(alloc, rid, outs)),
         Step::DeletingUser { rid, .. } => after_deletion(alloc, rid, outs),
         Step::OpeningGroup { task, .. } => Ok(after_open_group(alloc, task, outs)),
         Step::ListingMembers { .. } => after_members(alloc, outs),
         Step::AddingMember { rid, .. } => after_addition(alloc, rid, outs),
-        Step::Asking { query, .. } => after_query(alloc, &query, outs),
+        Step::Asking { query, .. } => {
+            let outcome = after_query(alloc, &query, outs);
+            drop(query);
+            outcome
+        }
     }
 }
 
