@@ -42,6 +42,7 @@ fn talk<L: Link, T: Sink>(alloc: Global, asker: Asker, link: L, out: &mut T) -> 
     let mut link = link;
     let end = converse(alloc, &mut asker, &mut link);
     let printing = print(out, end, asker.lines());
+    drop(asker);
     Called {
         end,
         printing,
@@ -73,13 +74,16 @@ pub fn call<C: Caller, T: Sink>(
 {
     match caller.link(address) {
         Ok(link) => talk(alloc, asker, link, out),
-        Err(error) => Called {
-            end: match error {
-                TakeError::Failed => TalkEnd::PeerFault,
-                TakeError::NoMemory => TalkEnd::NoMemory,
-            },
-            printing: Ok(()),
-            link: None,
-        },
+        Err(error) => {
+            drop(asker);
+            Called {
+                end: match error {
+                    TakeError::Failed => TalkEnd::PeerFault,
+                    TakeError::NoMemory => TalkEnd::NoMemory,
+                },
+                printing: Ok(()),
+                link: None,
+            }
+        }
     }
 }
