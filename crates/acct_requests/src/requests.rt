@@ -122,6 +122,7 @@ fn make_call<G: Gate>(
     match gate.act(conn, call, stub_size) {
         Acted::Reply(reply) => {
             let bytes = answer_bytes(alloc, asked, face, opnum, &reply)?;
+            drop(reply);
             Ok(Answer::Bytes(bytes))
         }
         Acted::FullCalls(count) => Ok(Answer::Full(count)),
