@@ -1,5 +1,5 @@
 // Documents and the rule that each breaks, and what the documents that break none spell.
-use super::lines::{all_are_right, cut, tells};
+use super::lines::{cut, tells};
 use acct_codes::Kind;
 use acct_config::{Config, ConfigError, Limits, Listener, Text, laws, read_config};
 use dtyp_access::{Ace, AceKind, Acl, Descriptor, Token, make_token, opening};
@@ -213,7 +213,10 @@ fn is_ruled(alloc: Global, line: &str) -> Result<bool, Fail> {
 
 #[test]
 fn each_document_breaks_its_rule_first(rt: HostRuntime) -> Result<(), Fail> {
-    all_are_right(&rt, rt.alloc(), RULES, is_ruled)
+    for line in RULES.lines() {
+        assert!(rt; is_ruled(rt.alloc(), line)?, "{line}");
+    }
+    Ok(())
 }
 
 /// So many times a text, with the number in the place of `@`.
@@ -247,7 +250,10 @@ fn filled_is_ruled(alloc: Global, line: &str) -> Result<bool, Fail> {
 
 #[test]
 fn documents_with_many_of_the_same(rt: HostRuntime) -> Result<(), Fail> {
-    all_are_right(&rt, rt.alloc(), MANY, filled_is_ruled)
+    for line in MANY.lines() {
+        assert!(rt; filled_is_ruled(rt.alloc(), line)?, "{line}");
+    }
+    Ok(())
 }
 
 /// A document whose last listener is the plain one, and in which a later rule is broken by what stands before it.
@@ -578,7 +584,10 @@ fn limits_are_said(alloc: Global, line: &str) -> Result<bool, Fail> {
 
 #[test]
 fn limits_are_those_of_the_document(rt: HostRuntime) -> Result<(), Fail> {
-    all_are_right(&rt, rt.alloc(), LIMITS, limits_are_said)
+    for line in LIMITS.lines() {
+        assert!(rt; limits_are_said(rt.alloc(), line)?, "{line}");
+    }
+    Ok(())
 }
 
 fn descriptor_shows(alloc: Global, descriptor: &Descriptor, wanted: &str) -> Result<bool, Fail> {
