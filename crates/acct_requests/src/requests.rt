@@ -121,8 +121,9 @@ fn make_call<G: Gate>(
     let (face, opnum) = (call.face, call.opnum);
     match gate.act(conn, call, stub_size) {
         Acted::Reply(reply) => {
-            let bytes = answer_bytes(alloc, asked, face, opnum, &reply)?;
+            let answered = answer_bytes(alloc, asked, face, opnum, &reply);
             drop(reply);
+            let bytes = answered?;
             Ok(Answer::Bytes(bytes))
         }
         Acted::FullCalls(count) => Ok(Answer::Full(count)),
