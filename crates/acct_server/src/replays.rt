@@ -211,9 +211,14 @@ pub fn replay<S: Source, T: Sink, K: Keeper + Drop>(
     };
     let bytes = match read_whole(alloc, events) {
         Ok(bytes) => bytes,
-        Err(e) => return not_run(alloc, unread(e), keeper),
+        Err(e) => {
+            drop(configuration);
+            return not_run(alloc, unread(e), keeper);
+        }
     };
-    match begin(alloc, &configuration, keeper) {
+    let begun = begin(alloc, &configuration, keeper);
+    drop(configuration);
+    match begun {
         Ok(machine) => run_events(alloc, Run::new(alloc, machine), &bytes, out),
         Err(none) => not_run(alloc, none.status, none.keeper),
     }

@@ -68,8 +68,8 @@ returns g c =
     let a = c.args in
     let config = c.read_configuration.new.source in
     let events = c.read_whole.new.source in
-    let ends = c.not_run-in-Err-begin in
-    let none = c.in-Err-begin in
+    let ends = c.not_run-in-Err-begun in
+    let none = c.in-Err-begun in
     store-not-opened (record {
       left = s.left;
       read_faults = s.faults;
@@ -100,8 +100,8 @@ returns g c =
     c.in-Ok.ensures.later c.in-Ok-read_whole.ensures.later
     (subst (λ kept. k.faults a.keeper ≤ k.faults kept) (sym ends.ensures.keeper) none.ensures.later)
 
-pub returns-in-Ok-begin : goal.returns-in-Ok-begin
-returns-in-Ok-begin g c =
+pub returns-in-Ok-begun : goal.returns-in-Ok-begun
+returns-in-Ok-begun g c =
     let s = g.S.Source in
     let t = g.T.Sink in
     let k = g.K.Keeper in
@@ -133,7 +133,7 @@ returns-in-Ok-begin g c =
           c.in-Ok-read_whole.ensures.whole;
       begun = subst (λ (r : Running). IsBegun c.in-Ok.configuration (k.held a.keeper) (k.faults a.keeper)
           r.machine.start)
-          (sym c.new.ensures) c.in-Ok-begin.ensures.begun;
+          (sym c.new.ensures) c.in-Ok-begun.ensures.begun;
       runs = run.ensures.runs;
       stored = run.ensures.stored;
       counts = run.ensures.counts;
