@@ -17,10 +17,22 @@ pub fn period_between(
 ) -> Option<Period>
     ensures { result ≡ period_between opening history rows ends }
 {
+    let Some(opening) = opening else {
+        drop(history);
+        drop(rows);
+        drop(ends);
+        return None;
+    };
+    let Some(rows) = rows else {
+        drop(opening);
+        drop(history);
+        drop(ends);
+        return None;
+    };
     Some(Period {
-        opening: opening?,
+        opening,
         history,
-        rows: rows?,
+        rows,
         ends,
     })
 }

@@ -122,8 +122,15 @@ where
         Err(status) => return (status, keeper),
     };
     match open_doors(&config, entrance, doors) {
-        Ok(()) => serve_rounds(rt, alloc, &config, doors, keeper, world),
-        Err(e) => (entrance_status(e), keeper),
+        Ok(()) => {
+            let served = serve_rounds(rt, alloc, &config, doors, keeper, world);
+            drop(config);
+            served
+        }
+        Err(e) => {
+            drop(config);
+            (entrance_status(e), keeper)
+        }
     }
 }
 

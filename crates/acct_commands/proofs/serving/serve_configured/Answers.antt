@@ -5,7 +5,7 @@ use Rattle.acct_commands.proofs.serving.serve_configured.Goals as goal
 
 pub returns-in-Ok-open_doors-clause-runs : goal.returns-in-Ok-open_doors-clause-runs
 returns-in-Ok-open_doors-clause-runs g c =
-    let runs = c.serve_rounds.ensures.runs in
+    let runs = c.serve_rounds-served.ensures.runs in
     record {
       rounds = runs.earlier ++ runs.last ∷ [];
       leaves = inr (inr (record {
@@ -24,8 +24,8 @@ returns-in-Ok-open_doors-clause-runs g c =
       keeps = runs.keeps;
     }
 
-pub returns-clause-runs : goal.returns-clause-runs
-returns-clause-runs g c = record {
+pub returns-in-Err-open_doors-clause-runs : goal.returns-in-Err-open_doors-clause-runs
+returns-in-Err-open_doors-clause-runs g c = record {
   rounds = [];
   leaves = inr (inl (record {
     config = c.in-Ok.config;
