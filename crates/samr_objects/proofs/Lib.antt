@@ -1,6 +1,7 @@
 pub mod Asking
 pub mod Continuing
 pub mod Creating
+pub mod Deciding
 pub mod Deleting
 pub mod Keeping
 pub mod Listing

@@ -1,15 +1,18 @@
 // The operations that create an account of a domain.
-ghost use Rattle.std.specs.Prelude.{◌≡◌, ◌==◌, true, false, IfOk, OnErr, Some};
+ghost use Rattle.std.specs.Prelude.{◌≡◌, ◌==◌, [], ◌∷◌, ◌++◌, true, false, IfOk, OnErr, Some};
+ghost use Rattle.std.specs.Option.{option_copied};
 ghost use Rattle.acct_rows.specs.Rows.{builtin_domain, domain_at};
 ghost use Rattle.acct_rows.specs.Sound.{is_user_type};
+ghost use Rattle.acct_rows.specs.declared.row.Row.TheVariants as row;
 ghost use Rattle.acct_rules.specs.Asked.{made_name};
 ghost use Rattle.acct_rules.specs.Planned.{decision, first_failed, none_fails};
 ghost use Rattle.samr_objects.specs.Naming.{gives_no_rid};
-ghost use Rattle.samr_objects.specs.Creations.{new_conditions, new_rid, risen, new_account};
+ghost use Rattle.samr_objects.specs.Creations.{new_conditions, new_rid, risen, risen_row, new_account};
 ghost use Rattle.samr_objects.specs.Creations.{new_rows, new_control, new_member};
 ghost use Rattle.samr_objects.specs.Creations.{create_group, create_alias, create_user};
 
 use crate::naming::{gives_no_rid, refused_name};
+use crate::plans::{one_row, with_row};
 use acct_base::Seq;
 use acct_calls::{Args, Name};
 use acct_codes::Kind;
@@ -91,17 +94,29 @@ fn new_account(
     })
 }
 
+// The row of a domain whose next RID was taken, where there is one.
+fn risen_row(alloc: Global, domain: Option<&DomainRow>) -> Result<Seq<Row>, NoMemory>
+    requires { gives_no_rid (option_copied domain) ≡ false }
+    ensures { IfOk result (λ rows. rows ≡ risen_row (option_copied domain.entry)) }
+{
+    match domain {
+        Some(domain) => one_row(alloc, Row::Domain(risen(alloc, domain)?)),
+        None => Ok(Seq::new(alloc)),
+    }
+}
+
 // The row of its domain, whose next RID the account takes, and its own.
 fn new_rows(alloc: Global, rows: &Rows, account: AccountRow) -> Result<Seq<Row>, NoMemory>
     requires { gives_no_rid (domain_at rows.now.lists account.domain) ≡ false }
     ensures { IfOk result (λ puts. puts ≡ new_rows rows.now.lists account) }
 {
-    let mut puts = Seq::new(alloc);
-    if let Some(domain) = rows.domain(account.domain) {
-        puts.push(Row::Domain(risen(alloc, domain)?))?;
+    match risen_row(alloc, rows.domain(account.domain)) {
+        Ok(puts) => with_row(puts, Row::Account(account)),
+        Err(full) => {
+            drop(account);
+            Err(full)
+        }
     }
-    puts.push(Row::Account(account))?;
-    Ok(puts)
 }
 
 /// SamrCreateGroupInDomain (MS-SAMR 3.1.5.4.2): creates a group of the account domain.
@@ -183,6 +198,17 @@ fn new_member(rid: u32) -> MemberRow
     }
 }
 
+// The rows of a new user: those of its account, and its membership of the group of all users.
+fn user_rows(alloc: Global, rows: &Rows, user: AccountRow) -> Result<Seq<Row>, NoMemory>
+    requires { gives_no_rid (domain_at rows.now.lists user.domain) ≡ false }
+    ensures { IfOk result (λ puts. puts ≡ new_rows rows.now.lists user ++ row.Member (new_member user.rid) ∷ []) }
+{
+    let rid = user.rid;
+    let mut puts = new_rows(alloc, rows, user)?;
+    puts.push(Row::Member(new_member(rid)))?;
+    Ok(puts)
+}
+
 /// SamrCreateUser2InDomain (MS-SAMR 3.1.5.4.4), and SamrCreateUserInDomain (3.1.5.4.5): creates a user of the account
 /// domain, which is disabled, as a member of the group of all users.
 pub fn create_user(
@@ -211,7 +237,6 @@ pub fn create_user(
         ..new_account(alloc, rows, Kind::User, number, args)?
     };
     let rid = account.rid;
-    let mut puts = new_rows(alloc, rows, account)?;
-    puts.push(Row::Member(new_member(rid)))?;
+    let puts = user_rows(alloc, rows, account)?;
     Ok(creates(alloc, Object::User(rid), desired_access(args), rid, puts))
 }

@@ -6,8 +6,8 @@ use acct_rows::Row;
 use acct_rules::NoMemory;
 use std::alloc::Global;
 
-// Rows with one more behind them.
-fn with_row(mut rows: Seq<Row>, row: Row) -> Result<Seq<Row>, NoMemory>
+/// Rows with one more behind them.
+pub fn with_row(mut rows: Seq<Row>, row: Row) -> Result<Seq<Row>, NoMemory>
     ensures { IfOk result (λ later. later ≡ rows ++ row ∷ []) }
 {
     match rows.push(row) {
