@@ -12,7 +12,9 @@ use acct_codes::status::{
     STATUS_OBJECT_NAME_COLLISION, STATUS_OBJECT_NAME_NOT_FOUND, STATUS_SUCCESS,
 };
 use acct_rows::{LsaRow, Object, Plan, Row, RowKey, Rows};
-use acct_rules::{Effect, NoMemory, Planned, answers, asked_sid, desired_access, opens, refusal};
+use acct_rules::{
+    Effect, NoMemory, Opening, Planned, answers, asked_sid, desired_access, opens, refusal,
+};
 use dtyp_sid::Sid;
 use std::alloc::Global;
 
@@ -52,11 +54,16 @@ pub fn create_account(
     }
     let puts = new_rows(alloc, asked_sid(args))?;
     Ok(Planned {
+        status: STATUS_SUCCESS,
+        outs: Outs::Handle(Handle { number: 0 }),
         plan: Plan {
             puts,
             removes: Seq::new(alloc),
         },
-        ..opens(alloc, object_of_sid(asked_sid(args)), desired_access(args))
+        effect: Effect::Opens(Opening {
+            object: object_of_sid(asked_sid(args)),
+            desired: desired_access(args),
+        }),
     })
 }
 

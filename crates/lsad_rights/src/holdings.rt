@@ -1,5 +1,5 @@
 // The operations that change the privileges and the system access of an account of the policy, by a handle to it.
-ghost use Rattle.std.specs.Prelude.{◌≡◌, [], ◌∷◌, true, IfOk, OnErr};
+ghost use Rattle.std.specs.Prelude.{◌≡◌, [], ◌∷◌, true, IfOk, IsOkAnd, OnErr};
 ghost use Rattle.std.specs.List.{list_any};
 ghost use Rattle.std.specs.Option.{option_copied};
 ghost use Rattle.acct_rows.specs.declared.row.Row.TheVariants as row;
@@ -64,8 +64,23 @@ pub fn account_put(alloc: Global, account: LsaRow) -> Result<Seq<Row>, NoMemory>
     ensures { IfOk result (λ rows. rows ≡ row.Lsa account ∷ []) }
 {
     let mut rows = Seq::new(alloc);
-    rows.push(Row::Lsa(account))?;
-    Ok(rows)
+    match rows.push(Row::Lsa(account)) {
+        Ok(()) => Ok(rows),
+        Err(full) => {
+            drop(rows);
+            Err(full)
+        }
+    }
+}
+
+// What puts an account's later row, where there was memory for it.
+fn put_later(alloc: Global, later: Result<LsaRow, NoMemory>) -> Result<Planned, NoMemory>
+    ensures { IfOk result (λ p. IsOkAnd later (λ l. p ≡ puts (row.Lsa l ∷ []))) }
+{
+    match later {
+        Ok(later) => Ok(puts(alloc, account_put(alloc, later)?)),
+        Err(full) => Err(full),
+    }
 }
 
 fn has_unknown(privileges: &[Privilege]) -> bool
@@ -100,10 +115,7 @@ pub fn add_privileges(
     }
     match account_of(rows, &account) {
         None => Ok(puts(alloc, Seq::new(alloc))),
-        Some(held) => {
-            let later = with_privileges(alloc, held, args)?;
-            Ok(puts(alloc, account_put(alloc, later)?))
-        }
+        Some(held) => put_later(alloc, with_privileges(alloc, held, args)),
     }
 }
 
@@ -139,10 +151,7 @@ pub fn remove_privileges(
     }
     match account_of(rows, &account) {
         None => Ok(puts(alloc, Seq::new(alloc))),
-        Some(held) => {
-            let later = without_privileges(alloc, held, args)?;
-            Ok(puts(alloc, account_put(alloc, later)?))
-        }
+        Some(held) => put_later(alloc, without_privileges(alloc, held, args)),
     }
 }
 
@@ -175,9 +184,6 @@ pub fn set_system_access(
     }
     match account_of(rows, &account) {
         None => Ok(puts(alloc, Seq::new(alloc))),
-        Some(held) => {
-            let later = with_access(alloc, held, args)?;
-            Ok(puts(alloc, account_put(alloc, later)?))
-        }
+        Some(held) => put_later(alloc, with_access(alloc, held, args)),
     }
 }

@@ -48,6 +48,7 @@ impl PrivilegePage {
         let name = privilege.name(alloc)?;
         let cost = PAGE_ENTRY_COST as usize + 2 * name.units().len();
         if !self.room.take(cost) {
+            drop(name);
             return Ok(false);
         }
         self.entries.push(RidName {
@@ -105,7 +106,13 @@ pub fn list_privileges(
         entries: Seq::new(alloc),
         room: PageRoom::preferred(asked_length(args)),
     };
-    let more = give_privileges(alloc, &mut page, KnownPrivilege::all(), before)?;
+    let more = match give_privileges(alloc, &mut page, KnownPrivilege::all(), before) {
+        Ok(more) => more,
+        Err(full) => {
+            drop(page);
+            return Err(full);
+        }
+    };
     let status = given_status(page.entries.as_slice().len(), more);
     let context = last_low(page.entries.as_slice(), before);
     let page = Outs::PrivilegePage {
@@ -186,7 +193,13 @@ pub fn list_accounts(
         sids: Seq::new(alloc),
         room: PageRoom::preferred(asked_length(args)),
     };
-    let more = give_accounts(&mut page, accounts_left(rows, before))?;
+    let more = match give_accounts(&mut page, accounts_left(rows, before)) {
+        Ok(more) => more,
+        Err(full) => {
+            drop(page);
+            return Err(full);
+        }
+    };
     let given = page.sids.as_slice().len();
     let page = Outs::SidPage {
         context: before + given as u32,

@@ -8,7 +8,7 @@ overflow_cast-page c =
     let few = given-few c.asked_context-before.result c.asked_length.result c.args.rows.now.lists.lsa
     c.accounts_left.result.now c.preferred.result c.new.result c.give_accounts.new.page.sids
     c.as_slice-given.result.now
-    c.accounts_left.ensures c.new.ensures c.preferred.ensures c.in_ok-more.ensures.given c.as_slice-given.ensures in
+    c.accounts_left.ensures c.new.ensures c.preferred.ensures c.in-Ok.ensures.given c.as_slice-given.ensures in
     let most = c.has_few_rows.ensures.lsa in
     omega arith
 
@@ -17,7 +17,7 @@ overflow_add-page c =
     let few = given-few c.asked_context-before.result c.asked_length.result c.args.rows.now.lists.lsa
     c.accounts_left.result.now c.preferred.result c.new.result c.give_accounts.new.page.sids
     c.as_slice-given.result.now
-    c.accounts_left.ensures c.new.ensures c.preferred.ensures c.in_ok-more.ensures.given c.as_slice-given.ensures in
+    c.accounts_left.ensures c.new.ensures c.preferred.ensures c.in-Ok.ensures.given c.as_slice-given.ensures in
     let most = c.has_few_rows.ensures.lsa in
     let fits = c.asked_context-before.type_inv in
     omega arith
