@@ -1,43 +1,38 @@
 // Lists and stubs at their limits, with ample memory, both ways.
 use super::digits::{add_bytes, joined, numbered};
 use super::tables::{HANDLE_WRITTEN, Row, handle_of, stub_is_right};
-use super::wires::{Heard, Wire};
+use super::wires::{Outcome, Wire};
 use super::words::spelled;
 use std::alloc::Global;
 use std::process::Abort;
 use std::test::Fail;
 
-/// The length of what is written for the value of a stub.
-fn length_written(
-    rt: &impl Abort,
+/// Whether a stub is read, and its value is written in so many bytes.
+fn is_taken(
     alloc: Global,
     wire: Wire,
     opnum: u16,
     stub: &[u8],
-) -> Result<usize, Fail> {
-    match wire.heard(alloc, opnum, stub)? {
-        Heard::Value { written, .. } => Ok(written.len()),
-        _ => panic!(rt; "{opnum} isn't taken"),
-    }
+    length: &str,
+) -> Result<bool, Fail> {
+    Ok(match wire.outcome(alloc, opnum, stub)? {
+        Outcome::Value(written) => length.parse::<usize>().ok() == Some(written),
+        _ => false,
+    })
 }
 
-/// A line of a table: the opnum, the length of what is written, and the stub, of a call with a handle what stands
-/// behind it. It is read.
-fn line_is_taken(rt: &impl Abort, alloc: Global, wire: Wire, line: &str) -> Result<(), Fail> {
+/// Whether the stub of a line is taken. A line of a table: the opnum, the length of what is written, and the stub, of
+/// a call with a handle what stands behind it.
+fn line_is_taken(rt: &impl Abort, alloc: Global, wire: Wire, line: &str) -> Result<bool, Fail> {
     let (opnum, rest) = numbered(rt, line);
     let (length, stub) = rest.split_once(' ').unwrap_or((rest, ""));
     let stub = joined(alloc, handle_of(wire, opnum, HANDLE_WRITTEN), stub)?;
-    let written = length_written(rt, alloc, wire, opnum, &stub)?;
-    assert!(rt;
-        length.parse::<usize>().ok() == Some(written),
-        "{opnum}: {written}"
-    );
-    Ok(())
+    is_taken(alloc, wire, opnum, &stub, length)
 }
 
 fn lines_are_taken(rt: &impl Abort, alloc: Global, wire: Wire, table: &str) -> Result<(), Fail> {
     for line in table.trim().lines() {
-        line_is_taken(rt, alloc, wire, line)?;
+        assert!(rt; line_is_taken(rt, alloc, wire, line)?, "{line}");
     }
     Ok(())
 }
@@ -83,20 +78,29 @@ fn stubs_at_their_limits_are_taken(rt: HostRuntime) -> Result<(), Fail> {
     lines_are_taken(&rt, rt.alloc(), Wire::LsaCalls, LSA_CALLS)
 }
 
+/// Adds the head of a name: its lengths, and a referent of the number.
+fn add_head(stub: &mut Vec<u8>, number: u32) -> Result<(), Fail> {
+    add_bytes(stub, "0c000c00")?;
+    stub.push((number % 256) as u8)?;
+    stub.push((number / 256 % 256) as u8)?;
+    add_bytes(stub, "0200")
+}
+
+fn add_names(stub: &mut Vec<u8>) -> Result<(), Fail> {
+    for place in 0..1000u32 {
+        add_head(stub, place * 4)?;
+    }
+    add_bytes(
+        stub,
+        "1000*0600000000000000060000006e006f0062006f0064007900",
+    )
+}
+
 /// A look-up of a thousand times `nobody`, as Samba writes it: 8 bytes that are the same but for the referent, which
 /// rises by 4, for each.
 fn names_stub(alloc: Global) -> Result<Vec<u8>, Fail> {
     let mut stub = joined(alloc, HANDLE_WRITTEN, "e8030000 e8030000 00000000 e8030000")?;
-    for place in 0..1000u32 {
-        add_bytes(&mut stub, "0c000c00")?;
-        stub.push((place * 4 % 256) as u8)?;
-        stub.push((place * 4 / 256) as u8)?;
-        add_bytes(&mut stub, "0200")?;
-    }
-    add_bytes(
-        &mut stub,
-        "1000*0600000000000000060000006e006f0062006f0064007900",
-    )?;
+    add_names(&mut stub)?;
     Ok(stub)
 }
 
@@ -109,13 +113,19 @@ fn tell_thousand(told: &mut String, word: &str) -> Result<(), Fail> {
     Ok(told.push_str("]")?)
 }
 
-/// Some words, and of each further word a list of a thousand.
-fn thousands(alloc: Global, front: &str, words: &[&str]) -> Result<String, Fail> {
-    let mut told = String::from_str(alloc, front)?;
+fn tell_thousands(told: &mut String, front: &str, words: &[&str]) -> Result<(), Fail> {
+    told.push_str(front)?;
     for word in words {
-        tell_thousand(&mut told, word)?;
+        tell_thousand(told, word)?;
     }
-    Ok(told)
+    Ok(())
+}
+
+/// Some words, and of each further word a list of a thousand, spelled.
+fn thousands(alloc: Global, front: &str, words: &[&str]) -> Result<String, Fail> {
+    let mut told = String::new(alloc);
+    tell_thousands(&mut told, front, words)?;
+    spelled(alloc, told.as_str())
 }
 
 /// A stub of the look-up of names is read as what such words say, and written again.
@@ -124,9 +134,10 @@ fn thousands_are_right(
     alloc: Global,
     wire: Wire,
     stub: &[u8],
-    words: &str,
+    front: &str,
+    words: &[&str],
 ) -> Result<(), Fail> {
-    let words = spelled(rt, alloc, words)?;
+    let words = thousands(alloc, front, words)?;
     let row = Row {
         wire,
         opnum: 17,
@@ -136,12 +147,17 @@ fn thousands_are_right(
     stub_is_right(rt, alloc, &row, stub)
 }
 
-#[test]
-fn a_thousand_names_are_taken(rt: HostRuntime) -> Result<(), Fail> {
-    let words = thousands(rt.alloc(), "NameList Names", &["'nobody' "])?;
-    let stub = names_stub(rt.alloc())?;
+fn names_are_taken(rt: &impl Abort, alloc: Global) -> Result<(), Fail> {
+    let stub = names_stub(alloc)?;
     assert!(rt; stub.len() == 32036);
-    thousands_are_right(&rt, rt.alloc(), Wire::SamrCalls, &stub, words.as_str())
+    thousands_are_right(
+        rt,
+        alloc,
+        Wire::SamrCalls,
+        &stub,
+        "NameList Names",
+        &["'nobody' "],
+    )
 }
 
 /// The answer to a thousand names of which none is mapped, as Samba writes it: for each name 0 and SidTypeUnknown (8),
@@ -149,10 +165,21 @@ fn a_thousand_names_are_taken(rt: HostRuntime) -> Result<(), Fail> {
 const NONE_MAPPED: &str =
     "e8030000 00000200 e8030000 1000*00000000 e8030000 04000200 e8030000 1000*08000000 730000c0";
 
-#[test]
-fn a_thousand_names_are_answered(rt: HostRuntime) -> Result<(), Fail> {
-    let words = thousands(rt.alloc(), "Done 0xc0000073 RidUses", &["0 ", "8 "])?;
-    let stub = joined(rt.alloc(), NONE_MAPPED, "")?;
+fn names_are_answered(rt: &impl Abort, alloc: Global) -> Result<(), Fail> {
+    let stub = joined(alloc, NONE_MAPPED, "")?;
     assert!(rt; stub.len() == 8028);
-    thousands_are_right(&rt, rt.alloc(), Wire::SamrReplies, &stub, words.as_str())
+    thousands_are_right(
+        rt,
+        alloc,
+        Wire::SamrReplies,
+        &stub,
+        "Done 0xc0000073 RidUses",
+        &["0 ", "8 "],
+    )
+}
+
+#[test]
+fn a_thousand_names_are_taken_and_answered(rt: HostRuntime) -> Result<(), Fail> {
+    names_are_taken(&rt, rt.alloc())?;
+    names_are_answered(&rt, rt.alloc())
 }

@@ -1,7 +1,7 @@
 // Which calls aren't served, and which values of a class aren't looked at.
 use super::digits::joined;
 use super::tables::{HANDLE_WRITTEN, is_bad};
-use super::wires::{Heard, Wire};
+use super::wires::{Outcome, Wire};
 use std::alloc::Global;
 use std::process::Abort;
 use std::test::Fail;
@@ -18,12 +18,27 @@ const LSA_OPERATIONS: [u16; 22] = [
 ];
 
 fn is_not_served(alloc: Global, wire: Wire, opnum: u16, stub: &[u8]) -> Result<bool, Fail> {
-    let heard = wire.heard(alloc, opnum, stub)?;
-    Ok(matches!(heard, Heard::NotServed(of) if of == opnum))
+    Ok(match wire.outcome(alloc, opnum, stub)? {
+        Outcome::NotServed(of) => of == opnum,
+        _ => false,
+    })
 }
 
-/// Of every opnum, that it is served just where it is among the operations: without a byte it is bad at 0, or not
-/// served.
+/// Whether an operation is served just where it is among the operations: without a byte it is bad at 0, or not served.
+fn is_rightly_served(
+    alloc: Global,
+    wire: Wire,
+    operations: &[u16],
+    opnum: u16,
+) -> Result<bool, Fail> {
+    if operations.contains(&opnum) {
+        is_bad(alloc, wire, opnum, &[], 0)
+    } else {
+        is_not_served(alloc, wire, opnum, &[])
+    }
+}
+
+/// Asserts that of every opnum.
 fn are_the_served(
     rt: &impl Abort,
     alloc: Global,
@@ -31,10 +46,8 @@ fn are_the_served(
     operations: &[u16],
 ) -> Result<(), Fail> {
     for opnum in 0..=u16::MAX {
-        let served = is_bad(alloc, wire, opnum, &[], 0)?;
-        assert!(rt; served == operations.contains(&opnum), "{opnum}");
         assert!(rt;
-            served != is_not_served(alloc, wire, opnum, &[])?,
+            is_rightly_served(alloc, wire, operations, opnum)?,
             "{opnum}"
         );
     }
@@ -49,15 +62,45 @@ fn other_operations_are_not_served(rt: HostRuntime) -> Result<(), Fail> {
     are_the_served(&rt, rt.alloc(), Wire::LsaReplies, &LSA_OPERATIONS)
 }
 
-/// A class that carries a password isn't served, whatever stands behind it; without its two bytes the stub is bad.
-fn is_withheld(rt: &impl Abort, alloc: Global, opnum: u16, class: u8) -> Result<(), Fail> {
-    let mut stub = joined(alloc, HANDLE_WRITTEN, "")?;
-    assert!(rt; is_bad(alloc, Wire::SamrCalls, opnum, &stub, 20)?);
-    stub.push(class)?;
-    assert!(rt; is_bad(alloc, Wire::SamrCalls, opnum, &stub, 20)?);
+/// Whether a stub that ends within a class is bad at the class.
+fn wants_a_class(alloc: Global, opnum: u16, stub: &[u8]) -> Result<bool, Fail> {
+    is_bad(alloc, Wire::SamrCalls, opnum, stub, 20)
+}
+
+/// Whether a class isn't served, with no bytes behind it and with more and more, where its first byte stands already.
+fn stays_withheld(alloc: Global, opnum: u16, class: u8, stub: &mut Vec<u8>) -> Result<bool, Fail> {
     for byte in [0, class, 0, 0xFF] {
         stub.push(byte)?;
-        assert!(rt; is_not_served(alloc, Wire::SamrCalls, opnum, &stub)?);
+        if !is_not_served(alloc, Wire::SamrCalls, opnum, stub)? {
+            return Ok(false);
+        }
+    }
+    Ok(true)
+}
+
+/// The same, and that without a byte of the class and with one the stub is bad.
+fn withholds(alloc: Global, opnum: u16, class: u8, stub: &mut Vec<u8>) -> Result<bool, Fail> {
+    let bare = wants_a_class(alloc, opnum, stub)?;
+    stub.push(class)?;
+    Ok(bare && wants_a_class(alloc, opnum, stub)? && stays_withheld(alloc, opnum, class, stub)?)
+}
+
+/// A class that carries a password isn't served, whatever stands behind it; without its two bytes the stub is bad.
+fn is_withheld(alloc: Global, opnum: u16, class: u8) -> Result<bool, Fail> {
+    let mut stub = joined(alloc, HANDLE_WRITTEN, "")?;
+    withholds(alloc, opnum, class, &mut stub)
+}
+
+fn are_withheld(
+    rt: &impl Abort,
+    alloc: Global,
+    opnums: &[u16],
+    classes: &[u8],
+) -> Result<(), Fail> {
+    for opnum in opnums {
+        for class in classes {
+            assert!(rt; is_withheld(alloc, *opnum, *class)?, "{class}");
+        }
     }
     Ok(())
 }
@@ -65,17 +108,13 @@ fn is_withheld(rt: &impl Abort, alloc: Global, opnum: u16, class: u8) -> Result<
 // DOMAIN_INFORMATION_CLASS and USER_INFORMATION_CLASS of MS-SAMR.
 #[test]
 fn passwords_are_not_served(rt: HostRuntime) -> Result<(), Fail> {
-    for opnum in [8, 9, 46] {
-        for class in [1, 12] {
-            is_withheld(&rt, rt.alloc(), opnum, class)?;
-        }
-    }
-    for opnum in [36, 37, 47, 58] {
-        for class in [18, 21, 23, 24, 25, 26] {
-            is_withheld(&rt, rt.alloc(), opnum, class)?;
-        }
-    }
-    Ok(())
+    are_withheld(&rt, rt.alloc(), &[8, 9, 46], &[1, 12])?;
+    are_withheld(
+        &rt,
+        rt.alloc(),
+        &[36, 37, 47, 58],
+        &[18, 21, 23, 24, 25, 26],
+    )
 }
 
 /// Values of classes that can't be set, in the form of the table of calls: of them the class alone is kept, and

@@ -3,7 +3,10 @@ ghost use Rattle.std.specs.Prelude.{All, IsTrue};
 ghost use Rattle.ndr_types.specs.Bounds.{HasShortName, IsShort, IsShortPlace};
 
 use super::wires::{Heard, told};
-use acct_calls::{Name, NoMemory, Place, RidName};
+use acct_calls::{
+    Name, Names, NoMemory, Place, Places, PrivilegeSet, RidName, RidNames, Rids, Sids,
+};
+use dtyp_sid::Sid;
 use ndr_core::{In, NdrError, Out};
 use ndr_types::{
     read_privilege_set, read_referenced, read_rid_list, read_rid_names, read_sid, read_sid_list,
@@ -68,81 +71,159 @@ fn are_short_places(places: &[Place]) -> bool
     places.iter().all(|place| place.name.units().len() <= 32767)
 }
 
+// ---- what is written for a value that ends at a place of its stub
+
+fn text_written(alloc: Global, end: usize, stub: &[u8], name: &Name) -> Result<Heard, Fail> {
+    if name.units().len() > 32767 {
+        return Ok(Heard::Long);
+    }
+    let mut to = Out::new(alloc);
+    let written = write_text(&mut to, name);
+    whole(alloc, end, stub, name, to, written)
+}
+
+fn sid_written(alloc: Global, end: usize, stub: &[u8], sid: &Sid) -> Result<Heard, Fail> {
+    let mut to = Out::new(alloc);
+    let written = write_sid(&mut to, sid);
+    whole(alloc, end, stub, sid, to, written)
+}
+
+fn sids_written(alloc: Global, end: usize, stub: &[u8], sids: &Sids) -> Result<Heard, Fail> {
+    if sids.as_slice().len() > 1000 {
+        return Ok(Heard::Long);
+    }
+    let mut to = Out::new(alloc);
+    let written = write_sid_list(&mut to, sids);
+    whole(alloc, end, stub, sids, to, written)
+}
+
+fn rids_written(alloc: Global, end: usize, stub: &[u8], rids: &Rids) -> Result<Heard, Fail> {
+    if rids.as_slice().len() > 1000 {
+        return Ok(Heard::Long);
+    }
+    let mut to = Out::new(alloc);
+    let written = write_rid_list(&mut to, rids);
+    whole(alloc, end, stub, rids, to, written)
+}
+
+fn texts_written(alloc: Global, end: usize, stub: &[u8], names: &Names) -> Result<Heard, Fail> {
+    if names.as_slice().len() > 1000 || !are_short(names.as_slice()) {
+        return Ok(Heard::Long);
+    }
+    let mut to = Out::new(alloc);
+    let written = write_text_list(&mut to, names);
+    whole(alloc, end, stub, names, to, written)
+}
+
+fn privileges_written(
+    alloc: Global,
+    end: usize,
+    stub: &[u8],
+    set: &PrivilegeSet,
+) -> Result<Heard, Fail> {
+    if set.as_slice().len() > 1000 {
+        return Ok(Heard::Long);
+    }
+    let mut to = Out::new(alloc);
+    let written = write_privilege_set(&mut to, set);
+    whole(alloc, end, stub, set, to, written)
+}
+
+fn null_written(alloc: Global, end: usize, stub: &[u8]) -> Result<Heard, Fail> {
+    let mut to = Out::new(alloc);
+    let written = write_rid_names(&mut to, None);
+    whole(alloc, end, stub, &None::<u32>, to, written)
+}
+
+fn accounts_written(
+    alloc: Global,
+    end: usize,
+    stub: &[u8],
+    list: &RidNames,
+) -> Result<Heard, Fail> {
+    if list.as_slice().len() > 1000 || !have_short_names(list.as_slice()) {
+        return Ok(Heard::Long);
+    }
+    let mut to = Out::new(alloc);
+    let written = write_rid_names(&mut to, Some(list));
+    whole(alloc, end, stub, list, to, written)
+}
+
+fn domains_written(alloc: Global, end: usize, stub: &[u8], list: &Places) -> Result<Heard, Fail> {
+    if list.as_slice().len() > 1000 || !are_short_places(list.as_slice()) {
+        return Ok(Heard::Long);
+    }
+    let mut to = Out::new(alloc);
+    let written = write_referenced(&mut to, Some(list));
+    whole(alloc, end, stub, list, to, written)
+}
+
 // ---- the shapes
 
 pub fn text(alloc: Global, stub: &[u8]) -> Result<Heard, Fail> {
     let mut from = In::new(stub);
-    let mut to = Out::new(alloc);
     match read_text(alloc, &mut from) {
-        Ok(name) if name.units().len() <= 32767 => {
-            let written = write_text(&mut to, &name);
-            whole(alloc, from.place(), stub, &name, to, written)
+        Ok(name) => {
+            let heard = text_written(alloc, from.place(), stub, &name);
+            drop(name);
+            heard
         }
-        Ok(_) => Ok(Heard::Long),
         Err(error) => Ok(broken(error)),
     }
 }
 
 pub fn sid(alloc: Global, stub: &[u8]) -> Result<Heard, Fail> {
     let mut from = In::new(stub);
-    let mut to = Out::new(alloc);
     match read_sid(&mut from) {
-        Ok(sid) => {
-            let written = write_sid(&mut to, &sid);
-            whole(alloc, from.place(), stub, &sid, to, written)
-        }
+        Ok(sid) => sid_written(alloc, from.place(), stub, &sid),
         Err(error) => Ok(broken(error)),
     }
 }
 
 pub fn sids(alloc: Global, most: u16, stub: &[u8]) -> Result<Heard, Fail> {
     let mut from = In::new(stub);
-    let mut to = Out::new(alloc);
     match read_sid_list(alloc, &mut from, most_of(most)) {
-        Ok(sids) if sids.as_slice().len() <= 1000 => {
-            let written = write_sid_list(&mut to, &sids);
-            whole(alloc, from.place(), stub, &sids, to, written)
+        Ok(sids) => {
+            let heard = sids_written(alloc, from.place(), stub, &sids);
+            drop(sids);
+            heard
         }
-        Ok(_) => Ok(Heard::Long),
         Err(error) => Ok(broken(error)),
     }
 }
 
 pub fn rids(alloc: Global, most: u16, stub: &[u8]) -> Result<Heard, Fail> {
     let mut from = In::new(stub);
-    let mut to = Out::new(alloc);
     match read_rid_list(alloc, &mut from, most_of(most)) {
-        Ok(rids) if rids.as_slice().len() <= 1000 => {
-            let written = write_rid_list(&mut to, &rids);
-            whole(alloc, from.place(), stub, &rids, to, written)
+        Ok(rids) => {
+            let heard = rids_written(alloc, from.place(), stub, &rids);
+            drop(rids);
+            heard
         }
-        Ok(_) => Ok(Heard::Long),
         Err(error) => Ok(broken(error)),
     }
 }
 
 pub fn texts(alloc: Global, most: u16, stub: &[u8]) -> Result<Heard, Fail> {
     let mut from = In::new(stub);
-    let mut to = Out::new(alloc);
     match read_text_list(alloc, &mut from, most_of(most)) {
-        Ok(names) if names.as_slice().len() <= 1000 && are_short(names.as_slice()) => {
-            let written = write_text_list(&mut to, &names);
-            whole(alloc, from.place(), stub, &names, to, written)
+        Ok(names) => {
+            let heard = texts_written(alloc, from.place(), stub, &names);
+            drop(names);
+            heard
         }
-        Ok(_) => Ok(Heard::Long),
         Err(error) => Ok(broken(error)),
     }
 }
 
 pub fn privileges(alloc: Global, stub: &[u8]) -> Result<Heard, Fail> {
     let mut from = In::new(stub);
-    let mut to = Out::new(alloc);
     match read_privilege_set(alloc, &mut from) {
-        Ok(set) if set.as_slice().len() <= 1000 => {
-            let written = write_privilege_set(&mut to, &set);
-            whole(alloc, from.place(), stub, &set, to, written)
+        Ok(set) => {
+            let heard = privileges_written(alloc, from.place(), stub, &set);
+            drop(set);
+            heard
         }
-        Ok(_) => Ok(Heard::Long),
         Err(error) => Ok(broken(error)),
     }
 }
@@ -150,17 +231,13 @@ pub fn privileges(alloc: Global, stub: &[u8]) -> Result<Heard, Fail> {
 /// A pointer to a list, which may be null.
 pub fn accounts(alloc: Global, stub: &[u8]) -> Result<Heard, Fail> {
     let mut from = In::new(stub);
-    let mut to = Out::new(alloc);
     match read_rid_names(alloc, &mut from) {
-        Ok(None) => {
-            let written = write_rid_names(&mut to, None);
-            whole(alloc, from.place(), stub, &None::<u32>, to, written)
+        Ok(None) => null_written(alloc, from.place(), stub),
+        Ok(Some(list)) => {
+            let heard = accounts_written(alloc, from.place(), stub, &list);
+            drop(list);
+            heard
         }
-        Ok(Some(list)) if list.as_slice().len() <= 1000 && have_short_names(list.as_slice()) => {
-            let written = write_rid_names(&mut to, Some(&list));
-            whole(alloc, from.place(), stub, &list, to, written)
-        }
-        Ok(_) => Ok(Heard::Long),
         Err(error) => Ok(broken(error)),
     }
 }
@@ -168,13 +245,12 @@ pub fn accounts(alloc: Global, stub: &[u8]) -> Result<Heard, Fail> {
 /// A list that is null is read as the empty one.
 pub fn domains(alloc: Global, stub: &[u8]) -> Result<Heard, Fail> {
     let mut from = In::new(stub);
-    let mut to = Out::new(alloc);
     match read_referenced(alloc, &mut from) {
-        Ok(list) if list.as_slice().len() <= 1000 && are_short_places(list.as_slice()) => {
-            let written = write_referenced(&mut to, Some(&list));
-            whole(alloc, from.place(), stub, &list, to, written)
+        Ok(list) => {
+            let heard = domains_written(alloc, from.place(), stub, &list);
+            drop(list);
+            heard
         }
-        Ok(_) => Ok(Heard::Long),
         Err(error) => Ok(broken(error)),
     }
 }

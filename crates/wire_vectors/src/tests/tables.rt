@@ -1,6 +1,6 @@
 // Tables of stubs, told row by row.
 use super::digits::{cut, joined, numbered};
-use super::wires::{Heard, Wire};
+use super::wires::{Heard, Outcome, Wire};
 use super::words::spelled;
 use std::alloc::Global;
 use std::process::Abort;
@@ -29,16 +29,26 @@ pub struct Row<'a> {
     pub written: &'a [u8],
 }
 
-/// What a stub was read as is what the row says.
-fn value_is_right(rt: &impl Abort, row: &Row<'_>, handle: u128, words: &str, written: &[u8]) {
-    let number = if row.wire.has_handle(row.opnum) {
-        HANDLE
-    } else {
-        0
-    };
-    assert!(rt; handle == number, "another handle: {}", row.words);
-    assert!(rt; words == row.words, "{} is {words}", row.words);
-    assert!(rt; written == row.written, "another stub: {}", row.words);
+impl Row<'_> {
+    /// The number of the handle that the first stub begins with.
+    fn handle(&self) -> u128 {
+        if self.wire.has_handle(self.opnum) {
+            HANDLE
+        } else {
+            0
+        }
+    }
+
+    /// What was read of a stub that differs from what the row says; nothing where it is the same.
+    fn difference(&self, heard: &Heard) -> &'static str {
+        match heard {
+            Heard::Value { handle, .. } if *handle != self.handle() => "another handle",
+            Heard::Value { words, .. } if words.as_str() != self.words => "other words",
+            Heard::Value { written, .. } if written.as_slice() != self.written => "another stub",
+            Heard::Value { .. } => "",
+            _ => "no value",
+        }
+    }
 }
 
 /// A stub is read as what the words say, which is written as the first stub.
@@ -48,14 +58,10 @@ pub fn stub_is_right(
     row: &Row<'_>,
     stub: &[u8],
 ) -> Result<(), Fail> {
-    match row.wire.heard(alloc, row.opnum, stub)? {
-        Heard::Value {
-            handle,
-            words,
-            written,
-        } => value_is_right(rt, row, handle, words.as_str(), &written),
-        _ => panic!(rt; "no value: {}", row.words),
-    }
+    let heard = row.wire.heard(alloc, row.opnum, stub)?;
+    let difference = row.difference(&heard);
+    drop(heard);
+    assert!(rt; difference.is_empty(), "{difference}: {}", row.words);
     Ok(())
 }
 
@@ -87,9 +93,8 @@ pub fn is_bad(
     stub: &[u8],
     place: usize,
 ) -> Result<bool, Fail> {
-    let heard = wire.heard(alloc, opnum, stub)?;
-    Ok(match heard {
-        Heard::Bad(bad) | Heard::Short(bad) => bad == place,
+    Ok(match wire.outcome(alloc, opnum, stub)? {
+        Outcome::Bad(bad) | Outcome::Short(bad) => bad == place,
         _ => false,
     })
 }
@@ -154,7 +159,7 @@ fn row_is_right(rt: &impl Abort, alloc: Global, wire: Wire, text: &str) -> Resul
     let (fields, rest) = cut(rest);
     let (first, others) = cut(rest);
     let written = joined(alloc, handle_of(wire, opnum, HANDLE_WRITTEN), first)?;
-    let words = spelled(rt, alloc, words)?;
+    let words = spelled(alloc, words)?;
     let row = Row {
         wire,
         opnum,

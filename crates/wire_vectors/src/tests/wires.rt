@@ -50,6 +50,26 @@ pub enum Heard {
     Memory,
 }
 
+/// What reading a stub answers, of a value the length of its stub alone.
+#[derive(Clone, Copy)]
+pub enum Outcome {
+    Value(usize),
+    Bad(usize),
+    Short(usize),
+    NotServed(u16),
+    Other,
+}
+
+fn outcome_of(heard: &Heard) -> Outcome {
+    match heard {
+        Heard::Value { written, .. } => Outcome::Value(written.len()),
+        Heard::Bad(place) => Outcome::Bad(*place),
+        Heard::Short(place) => Outcome::Short(*place),
+        Heard::NotServed(opnum) => Outcome::NotServed(*opnum),
+        _ => Outcome::Other,
+    }
+}
+
 fn refused(error: WireError) -> Heard {
     match error {
         WireError::BadStub(place) => Heard::Bad(place),
@@ -77,7 +97,9 @@ fn samr_call(alloc: Global, opnum: u16, stub: &[u8]) -> Result<Heard, Fail> {
     match samr_wire::read_call(alloc, opnum, stub) {
         Ok(call) => {
             let written = samr_wire::write_call(alloc, &call);
-            told(alloc, call.handle.number, &call.args, written)
+            let heard = told(alloc, call.handle.number, &call.args, written);
+            drop(call);
+            heard
         }
         Err(error) => Ok(refused(error)),
     }
@@ -87,7 +109,9 @@ fn samr_reply(alloc: Global, opnum: u16, stub: &[u8]) -> Result<Heard, Fail> {
     match samr_wire::read_reply(alloc, opnum, stub) {
         Ok(reply) => {
             let written = samr_wire::write_reply(alloc, opnum, &reply);
-            told(alloc, 0, &reply, written)
+            let heard = told(alloc, 0, &reply, written);
+            drop(reply);
+            heard
         }
         Err(error) => Ok(refused(error)),
     }
@@ -97,7 +121,9 @@ fn lsa_call(alloc: Global, opnum: u16, stub: &[u8]) -> Result<Heard, Fail> {
     match lsa_wire::read_call(alloc, opnum, stub) {
         Ok(call) => {
             let written = lsa_wire::write_call(alloc, &call);
-            told(alloc, call.handle.number, &call.args, written)
+            let heard = told(alloc, call.handle.number, &call.args, written);
+            drop(call);
+            heard
         }
         Err(error) => Ok(refused(error)),
     }
@@ -133,7 +159,9 @@ fn lsa_reply(alloc: Global, opnum: u16, stub: &[u8]) -> Result<Heard, Fail> {
             } else {
                 Ok(Vec::new(alloc))
             };
-            told(alloc, 0, &reply, written)
+            let heard = told(alloc, 0, &reply, written);
+            drop(reply);
+            heard
         }
         Err(error) => Ok(refused(error)),
     }
@@ -162,6 +190,14 @@ impl Wire {
             Wire::Accounts => shapes::accounts(alloc, stub),
             _ => shapes::domains(alloc, stub),
         }
+    }
+
+    /// The same without the value.
+    pub fn outcome(self, alloc: Global, opnum: u16, stub: &[u8]) -> Result<Outcome, Fail> {
+        let heard = self.heard(alloc, opnum, stub)?;
+        let outcome = outcome_of(&heard);
+        drop(heard);
+        Ok(outcome)
     }
 
     /// Whether a stub of the operation begins with a handle that the tables leave out.

@@ -1,37 +1,42 @@
 // Values in words, as the tables spell what is expected. A value is told by its `Debug` text, without the names of
 // fields, parentheses and commas, so that no function here knows a type; the tables' words are spelled out to the same.
-use super::digits::digit_of;
 use acct_calls::Name;
 use dtyp_sid::parse_text;
 use std::alloc::Global;
 use std::fmt::Debug;
-use std::process::Abort;
 use std::test::Fail;
 
-/// Adds a word of a `Debug` text. The names of fields and of lists' types aren't kept, and brackets stand alone.
-fn add_word(told: &mut String, word: &str) -> Result<(), Fail> {
-    if word.is_empty() || word.ends_with(':') || word == "Seq" {
-        return Ok(());
-    }
-    let behind = word.trim_start_matches('[');
-    let between = behind.trim_end_matches(']');
-    if behind.len() < word.len() {
-        told.push_str("[ ")?;
-    }
-    told.push_str(between)?;
-    if !between.is_empty() {
+/// Adds a word as it stands, and nothing of an empty one.
+fn add_plain(told: &mut String, word: &str) -> Result<(), Fail> {
+    if !word.is_empty() {
+        told.push_str(word)?;
         told.push(' ')?;
-    }
-    if between.len() < behind.len() {
-        told.push_str("] ")?;
     }
     Ok(())
 }
 
-/// Adds the words of a `Debug` text.
+/// Adds a word of a `Debug` text. Brackets stand alone.
+fn add_word(told: &mut String, word: &str) -> Result<(), Fail> {
+    let behind = word.trim_start_matches('[');
+    let between = behind.trim_end_matches(']');
+    add_plain(told, if behind.len() < word.len() { "[" } else { "" })?;
+    add_plain(told, between)?;
+    add_plain(
+        told,
+        if between.len() < behind.len() {
+            "]"
+        } else {
+            ""
+        },
+    )
+}
+
+/// Adds the words of a `Debug` text. The names of fields and of lists' types aren't kept.
 fn add_words(told: &mut String, text: &str) -> Result<(), Fail> {
     for word in text.split([' ', '(', ')', '{', '}', ',']) {
-        add_word(told, word)?;
+        if !word.ends_with(':') && word != "Seq" {
+            add_word(told, word)?;
+        }
     }
     Ok(())
 }
@@ -50,48 +55,61 @@ pub fn tell<T: Debug>(alloc: Global, value: &T) -> Result<String, Fail> {
 }
 
 /// Adds a number that stands in hexadecimal digits.
-fn spell_digits(told: &mut String, digits: &str) -> Result<(), Fail> {
-    let mut number: u128 = 0;
-    for letter in digits.bytes() {
-        if let Some(digit) = digit_of(letter) {
-            number = number.wrapping_mul(16) | u128::from(digit);
-        }
+fn spell_number(told: &mut String, digits: &str) -> Result<(), Fail> {
+    match u128::from_str_radix(digits, 16) {
+        Ok(number) => Ok(write!(told, "{number} ")?),
+        Err(_) => Err(Fail::from("no number")),
     }
-    Ok(write!(told, "{number} ")?)
+}
+
+/// Adds the value of a SID.
+fn spell_sid(told: &mut String, alloc: Global, text: &str) -> Result<(), Fail> {
+    match parse_text(text) {
+        Ok(sid) => add_value(told, alloc, &sid),
+        Err(_) => Err(Fail::from("no SID")),
+    }
 }
 
 /// Adds a word of a table: a SID as its value, a number in hexadecimal digits, and any other word as it stands.
-fn spell_word(rt: &impl Abort, alloc: Global, told: &mut String, word: &str) -> Result<(), Fail> {
+fn spell_word(told: &mut String, alloc: Global, word: &str) -> Result<(), Fail> {
     if word.starts_with("S-1-") {
-        return match parse_text(word) {
-            Ok(sid) => add_value(told, alloc, &sid),
-            Err(_) => panic!(rt; "no SID: {word}"),
-        };
+        return spell_sid(told, alloc, word);
     }
-    if word.starts_with("0x") {
-        return spell_digits(told, word);
+    match word.strip_prefix("0x") {
+        Some(digits) => spell_number(told, digits),
+        None => add_plain(told, word),
     }
-    if !word.is_empty() {
-        told.push_str(word)?;
-        told.push(' ')?;
+}
+
+fn spell_words(told: &mut String, alloc: Global, text: &str) -> Result<(), Fail> {
+    for word in text.split(' ') {
+        spell_word(told, alloc, word)?;
+    }
+    Ok(())
+}
+
+fn spell_name(told: &mut String, alloc: Global, text: &str) -> Result<(), Fail> {
+    let name = Name::from_text(alloc, text)?;
+    add_value(told, alloc, &name)
+}
+
+/// Adds what a table spells.
+fn spell(told: &mut String, alloc: Global, text: &str) -> Result<(), Fail> {
+    let mut quoted = false;
+    for piece in text.split('\'') {
+        if quoted {
+            spell_name(told, alloc, piece)?;
+        } else {
+            spell_words(told, alloc, piece)?;
+        }
+        quoted = !quoted;
     }
     Ok(())
 }
 
 /// What a table spells: words, SIDs as texts, and names in quotes.
-pub fn spelled(rt: &impl Abort, alloc: Global, text: &str) -> Result<String, Fail> {
+pub fn spelled(alloc: Global, text: &str) -> Result<String, Fail> {
     let mut told = String::new(alloc);
-    let mut quoted = false;
-    for piece in text.split('\'') {
-        if quoted {
-            let name = Name::from_text(alloc, piece)?;
-            add_value(&mut told, alloc, &name)?;
-        } else {
-            for word in piece.split(' ') {
-                spell_word(rt, alloc, &mut told, word)?;
-            }
-        }
-        quoted = !quoted;
-    }
+    spell(&mut told, alloc, text)?;
     Ok(told)
 }
