@@ -1,5 +1,5 @@
 // Look-ups in many rows and in rows that change, beside plain programs of their definitions.
-use super::changes::{account, seeded};
+use super::changes::{account, numbered, put, seeded};
 use crate::plain;
 use acct_base::Seq;
 use acct_calls::{Name, NoMemory, Sids};
@@ -12,12 +12,6 @@ use std::test::Fail;
 
 // ---- many rows
 
-/// `u10000` and so on.
-fn numbered(alloc: Global, number: u32) -> Result<Name, NoMemory> {
-    let text = format!(in alloc; "u{number}")?;
-    Name::from_text(alloc, text.as_str())
-}
-
 /// S-1-5-21-9-9-9 with one more sub-authority, as a member of an alias.
 fn holder(domain: u8, alias: u32, number: u32) -> Result<AliasRow, Fail> {
     Ok(AliasRow {
@@ -27,49 +21,53 @@ fn holder(domain: u8, alias: u32, number: u32) -> Result<AliasRow, Fail> {
     })
 }
 
-fn put(rows: &mut Rows, row: Row) {
-    if rows.reserve(1).is_ok() {
-        rows.put(row);
-    } else {
-        drop(row);
-    }
+fn put_user(alloc: Global, rows: &mut Rows, rid: u32) -> Result<(), NoMemory> {
+    let name = numbered(alloc, rid.saturating_add(9000))?;
+    put(rows, Row::Account(account(alloc, Kind::User, 0, rid, name)))
 }
 
 /// Ten thousand users with RIDs from 1000 on.
-fn put_users(alloc: Global, rows: &mut Rows) -> Result<(), Fail> {
+fn put_users(alloc: Global, rows: &mut Rows) -> Result<(), NoMemory> {
     rows.reserve(10_000)?;
     for rid in 1000..11_000_u32 {
-        let name = numbered(alloc, rid.saturating_add(9000))?;
-        put(rows, Row::Account(account(alloc, Kind::User, 0, rid, name)));
+        put_user(alloc, rows, rid)?;
     }
     Ok(())
+}
+
+fn put_holder(rows: &mut Rows, number: u32) -> Result<(), Fail> {
+    Ok(put(rows, Row::Alias(holder(1, 545, number)?))?)
 }
 
 /// As many members of alias 545 of BUILTIN.
 fn put_members(rows: &mut Rows) -> Result<(), Fail> {
     rows.reserve(10_000)?;
     for i in 1..10_001 {
-        put(rows, Row::Alias(holder(1, 545, i)?));
+        put_holder(rows, i)?;
     }
     Ok(())
 }
 
-fn all_names(alloc: Global) -> Result<Vec<Name>, Fail> {
-    let mut names = Vec::new(alloc);
+fn push_names(alloc: Global, names: &mut Vec<Name>) -> Result<(), NoMemory> {
     for i in 0..10_000 {
-        names.push(numbered(alloc, 10_000 + i)?)?;
+        let name = numbered(alloc, 10_000 + i)?;
+        names.push(name)?;
     }
-    Ok(names)
+    Ok(())
+}
+
+fn member(alloc: Global, number: u32) -> Result<Sids, Fail> {
+    let row = holder(1, 545, number)?;
+    Ok(Seq::from_vec(vec![in alloc; row.member]?))
 }
 
 /// Lists of one member each.
-fn all_members(alloc: Global) -> Result<Vec<Sids>, Fail> {
-    let mut members = Vec::new(alloc);
+fn push_members(alloc: Global, members: &mut Vec<Sids>) -> Result<(), Fail> {
     for i in 1..10_001 {
-        let row = holder(1, 545, i)?;
-        members.push(Seq::from_vec(vec![in alloc; row.member]?))?;
+        let sids = member(alloc, i)?;
+        members.push(sids)?;
     }
-    Ok(members)
+    Ok(())
 }
 
 /// How many of the names are those of the accounts with RIDs from 1000 on.
@@ -100,16 +98,9 @@ fn count_members(rows: &Rows, alloc: Global, members: &[Sids]) -> Result<u32, No
     Ok(count)
 }
 
-/// The rows of a new database with ten thousand users and members more.
-fn many(rt: &impl Abort, alloc: Global) -> Result<Rows, Fail> {
-    let mut rows = seeded(rt, alloc)?;
-    put_users(alloc, &mut rows)?;
-    put_members(&mut rows)?;
-    Ok(rows)
-}
-
 fn names_are_found(rt: &impl Abort, alloc: Global, rows: &Rows) -> Result<(), Fail> {
-    let names = all_names(alloc)?;
+    let mut names = Vec::new(alloc);
+    push_names(alloc, &mut names)?;
     for _ in 0..200 {
         assert!(rt; count_names(rows, &names) == 10_000);
     }
@@ -117,22 +108,26 @@ fn names_are_found(rt: &impl Abort, alloc: Global, rows: &Rows) -> Result<(), Fa
 }
 
 fn members_are_found(rt: &impl Abort, alloc: Global, rows: &Rows) -> Result<(), Fail> {
-    let members = all_members(alloc)?;
+    let mut members = Vec::new(alloc);
+    push_members(alloc, &mut members)?;
     for _ in 0..200 {
         assert!(rt; count_members(rows, alloc, &members)? == 10_000);
     }
     Ok(())
 }
 
-fn all_are_found(rt: &impl Abort, alloc: Global, rows: &Rows) -> Result<(), Fail> {
+/// Of ten thousand users and members that are put each is found.
+fn all_are_found(rt: &impl Abort, alloc: Global, rows: &mut Rows) -> Result<(), Fail> {
+    put_users(alloc, rows)?;
+    put_members(rows)?;
     names_are_found(rt, alloc, rows)?;
     members_are_found(rt, alloc, rows)
 }
 
 #[test]
 fn ten_thousand_names_and_members_are_found(rt: HostRuntime) -> Result<(), Fail> {
-    let rows = many(&rt, rt.alloc())?;
-    let found = all_are_found(&rt, rt.alloc(), &rows);
+    let mut rows = seeded(&rt, rt.alloc())?;
+    let found = all_are_found(&rt, rt.alloc(), &mut rows);
     drop(rows);
     found
 }
@@ -167,10 +162,22 @@ fn kept(alloc: Global, place: u32, domain: u8, rid: u32) -> Result<AccountRow, N
         1 => Kind::Group,
         _ => Kind::User,
     };
-    Ok(AccountRow {
-        primary: scattered(place, 12) % 4,
-        ..account(alloc, kind, domain, rid, name)
-    })
+    let mut row = account(alloc, kind, domain, rid, name);
+    row.primary = scattered(place, 12) % 4;
+    Ok(row)
+}
+
+fn put_kept(alloc: Global, rows: &mut Rows, place: u32, domain: u8, rid: u32) -> Result<(), Fail> {
+    let row = kept(alloc, place, domain, rid)?;
+    Ok(put(rows, Row::Account(row))?)
+}
+
+fn key(row: &AliasRow) -> RowKey {
+    RowKey::Alias {
+        domain: row.domain,
+        alias: row.alias,
+        member: row.member,
+    }
 }
 
 fn change(alloc: Global, rows: &mut Rows, place: u32) -> Result<(), Fail> {
@@ -179,13 +186,9 @@ fn change(alloc: Global, rows: &mut Rows, place: u32) -> Result<(), Fail> {
     let row = holder(domain, rid, scattered(place, 3) % 8)?;
     match scattered(place, 4) % 6 {
         0 => rows.remove(&RowKey::Account { domain, rid }),
-        1 => rows.remove(&RowKey::Alias {
-            domain,
-            alias: rid,
-            member: row.member,
-        }),
-        2 => put(rows, Row::Alias(row)),
-        _ => put(rows, Row::Account(kept(alloc, place, domain, rid)?)),
+        1 => rows.remove(&key(&row)),
+        2 => put(rows, Row::Alias(row))?,
+        _ => put_kept(alloc, rows, place, domain, rid)?,
     }
     Ok(())
 }
@@ -199,15 +202,19 @@ fn is_same(one: Option<&AccountRow>, other: Option<&AccountRow>) -> bool {
 }
 
 /// Whether a look-up by a name is what its definition gives, in each domain and in one that isn't there.
-fn names_agree(alloc: Global, rows: &Rows, number: u32) -> Result<bool, NoMemory> {
-    let name = spelled(alloc, number)?;
+fn name_agrees(rows: &Rows, name: &Name) -> bool {
     for domain in 0..3 {
-        let plain = plain::find_name(rows.accounts(), domain, &name);
-        if !is_same(rows.find_name(domain, &name), plain) {
-            return Ok(false);
+        let plain = plain::find_name(rows.accounts(), domain, name);
+        if !is_same(rows.find_name(domain, name), plain) {
+            return false;
         }
     }
-    Ok(true)
+    true
+}
+
+fn names_agree(alloc: Global, rows: &Rows, number: u32) -> Result<bool, NoMemory> {
+    let name = spelled(alloc, number)?;
+    Ok(name_agrees(rows, &name))
 }
 
 /// Up to three SIDs, of which two may be one.
@@ -232,21 +239,33 @@ fn primaries_agree(rows: &Rows) -> bool {
     (0..5_u32).all(|group| rows.is_primary(group) == plain::is_primary(rows.accounts(), group))
 }
 
-fn tell(rt: &impl Abort, alloc: Global, rows: &Rows, place: u32) -> Result<(), Fail> {
+/// Whether all look-ups are what their definitions give.
+fn all_agree(alloc: Global, rows: &Rows, place: u32, sids: &Sids) -> Result<bool, NoMemory> {
+    Ok(
+        primaries_agree(rows)
+            && names_agree(alloc, rows, scattered(place, 10) % 2048)?
+            && aliases_agree(alloc, rows, 0, sids)?
+            && aliases_agree(alloc, rows, 1, sids)?,
+    )
+}
+
+fn agrees(alloc: Global, rows: &Rows, place: u32) -> Result<bool, Fail> {
     let sids = some_sids(alloc, place)?;
-    assert!(rt; primaries_agree(rows));
-    assert!(rt; names_agree(alloc, rows, scattered(place, 10) % 2048)?);
-    assert!(rt; aliases_agree(alloc, rows, 0, &sids)?);
-    assert!(rt; aliases_agree(alloc, rows, 1, &sids)?);
+    Ok(all_agree(alloc, rows, place, &sids)?)
+}
+
+fn changes_agree(rt: &impl Abort, alloc: Global, rows: &mut Rows) -> Result<(), Fail> {
+    for place in 0..1000 {
+        change(alloc, rows, place)?;
+        assert!(rt; agrees(alloc, rows, place)?, "{place}");
+    }
     Ok(())
 }
 
 #[test]
 fn changed_rows_are_found_as_defined(rt: HostRuntime) -> Result<(), Fail> {
     let mut rows = seeded(&rt, rt.alloc())?;
-    for place in 0..1000 {
-        change(rt.alloc(), &mut rows, place)?;
-        tell(&rt, rt.alloc(), &rows, place)?;
-    }
-    Ok(())
+    let agree = changes_agree(&rt, rt.alloc(), &mut rows);
+    drop(rows);
+    agree
 }

@@ -1,8 +1,8 @@
 // Rows as pairs and back, byte by byte, in hexadecimal. The values are written by hand from the format.
 ghost use Rattle.acct_rows.specs.Sound.{IsSoundRows};
 
-use super::changes::seeded;
-use super::words::column;
+use super::changes::{alias_row, seeded};
+use super::words::{column, is_told};
 use acct_base::Seq;
 use acct_codes::Kind;
 use acct_keeper::{Change, Keeper, Pair, SteadyKeeper};
@@ -10,7 +10,6 @@ use acct_rows::laws::{alias_rows_stay_sound, removed_alias_rows_stay_sound};
 use acct_rows::pairs::keys_differ;
 use acct_rows::pairs::laws::read_back;
 use acct_rows::{AliasRow, PairsError, Plan, Row, RowKey, Rows};
-use dtyp_sid::parse_text;
 use std::alloc::Global;
 use std::process::Abort;
 use std::test::Fail;
@@ -94,25 +93,47 @@ fn bytes_of(alloc: Global, digits: &str) -> Result<Seq<u8>, Fail> {
     Ok(Seq::from_vec(hex::decode(alloc, digits.as_bytes())?))
 }
 
-fn change(alloc: Global, word: &str) -> Result<Change, Fail> {
-    Ok(match word.split_once('=') {
-        Some((key, value)) => Change {
-            value: Some(bytes_of(alloc, value)?),
-            key: bytes_of(alloc, key)?,
-        },
-        None => Change {
-            value: None,
-            key: bytes_of(alloc, word)?,
-        },
+fn pair(alloc: Global, key: &str, value: &str) -> Result<Pair, Fail> {
+    let key = bytes_of(alloc, key)?;
+    match bytes_of(alloc, value) {
+        Ok(value) => Ok(Pair { key, value }),
+        Err(fail) => {
+            drop(key);
+            Err(fail)
+        }
+    }
+}
+
+/// A pair that is put.
+fn put(alloc: Global, key: &str, value: &str) -> Result<Change, Fail> {
+    let Pair { key, value } = pair(alloc, key, value)?;
+    Ok(Change {
+        key,
+        value: Some(value),
     })
 }
 
-fn changes(alloc: Global, words: &str) -> Result<Vec<Change>, Fail> {
-    let mut changes = Vec::new(alloc);
-    for word in words.split_whitespace() {
-        changes.push(change(alloc, word)?)?;
+/// A pair that goes.
+fn remove(alloc: Global, key: &str) -> Result<Change, Fail> {
+    Ok(Change {
+        key: bytes_of(alloc, key)?,
+        value: None,
+    })
+}
+
+fn change(alloc: Global, word: &str) -> Result<Change, Fail> {
+    match word.split_once('=') {
+        Some((key, value)) => put(alloc, key, value),
+        None => remove(alloc, word),
     }
-    Ok(changes)
+}
+
+fn push_all(alloc: Global, changes: &mut Vec<Change>, words: &str) -> Result<(), Fail> {
+    for word in words.split_whitespace() {
+        let change = change(alloc, word)?;
+        changes.push(change)?;
+    }
+    Ok(())
 }
 
 fn push_hex(alloc: Global, text: &mut String, bytes: &[u8]) -> Result<(), Fail> {
@@ -122,60 +143,87 @@ fn push_hex(alloc: Global, text: &mut String, bytes: &[u8]) -> Result<(), Fail> 
 }
 
 fn commit(alloc: Global, keeper: &mut SteadyKeeper, words: &str) -> Result<(), Fail> {
-    let changes = changes(alloc, words)?;
-    keeper.commit(&changes)?;
-    Ok(())
+    let mut changes = Vec::new(alloc);
+    push_all(alloc, &mut changes, words)?;
+    Ok(keeper.commit(&changes)?)
 }
 
-/// A keeper of the seed rows' pairs after some changes.
-fn kept(alloc: Global, words: &str) -> Result<SteadyKeeper, Fail> {
-    let mut keeper = SteadyKeeper::new(alloc);
-    commit(alloc, &mut keeper, SEED_PAIRS)?;
-    commit(alloc, &mut keeper, words)?;
-    Ok(keeper)
+/// Keeps the seed rows' pairs, after some changes.
+fn keep(alloc: Global, keeper: &mut SteadyKeeper, words: &str) -> Result<(), Fail> {
+    commit(alloc, keeper, SEED_PAIRS)?;
+    commit(alloc, keeper, words)
+}
+
+fn push_pair(alloc: Global, text: &mut String, pair: &Pair) -> Result<(), Fail> {
+    push_hex(alloc, text, pair.key.as_slice())?;
+    text.push('=')?;
+    push_hex(alloc, text, pair.value.as_slice())?;
+    Ok(text.push('\n')?)
 }
 
 fn push_pairs(alloc: Global, text: &mut String, pairs: &[Pair]) -> Result<(), Fail> {
     for pair in pairs {
-        push_hex(alloc, text, pair.key.as_slice())?;
-        text.push('=')?;
-        push_hex(alloc, text, pair.value.as_slice())?;
-        text.push('\n')?;
+        push_pair(alloc, text, pair)?;
     }
     Ok(())
 }
 
+/// The pairs of rows in hexadecimal.
+fn pairs_of(alloc: Global, rows: &Rows) -> Result<String, Fail>
+    requires { IsSoundRows rows.now.lists }
+{
+    let pairs = rows.to_pairs(alloc)?;
+    let mut text = String::new(alloc);
+    push_pairs(alloc, &mut text, &pairs)?;
+    Ok(text)
+}
+
 #[test]
 fn seed_rows_have_their_pairs(rt: HostRuntime) -> Result<(), Fail> {
-    let alloc = rt.alloc();
-    let rows = seeded(&rt, alloc)?;
-    let pairs = rows.to_pairs(alloc);
+    let rows = seeded(&rt, rt.alloc())?;
+    let pairs = pairs_of(rt.alloc(), &rows);
     drop(rows);
-    let mut text = String::new(alloc);
-    push_pairs(alloc, &mut text, &pairs?)?;
-    assert_eq!(rt; text.as_str().trim(), SEED_PAIRS);
+    is_told(&rt, pairs?.as_str().trim(), SEED_PAIRS, "seed rows");
     Ok(())
+}
+
+fn why_broken(alloc: Global, error: PairsError) -> Result<String, Fail> {
+    match error {
+        PairsError::BadPair(key) => Ok(hex::encode(alloc, key.as_slice())?),
+        PairsError::Memory => Ok(String::from_str(alloc, "memory")?),
+    }
 }
 
 /// The smallest broken key, none where the pairs are those of rows.
 fn broken_in(rt: &impl Abort, alloc: Global, pairs: &[Pair]) -> Result<String, Fail> {
     assert!(rt; keys_differ(pairs));
-    let mut text = String::new(alloc);
     match Rows::from_pairs(alloc, pairs) {
-        Ok(rows) => drop(rows),
-        Err(PairsError::BadPair(key)) => push_hex(alloc, &mut text, key.as_slice())?,
-        Err(PairsError::Memory) => text.push_str("memory")?,
+        Ok(rows) => {
+            drop(rows);
+            Ok(String::new(alloc))
+        }
+        Err(error) => why_broken(alloc, error),
     }
-    Ok(text)
+}
+
+/// The smallest broken key of a keeper of the seed rows' pairs after some changes.
+fn broken_after(
+    rt: &impl Abort,
+    alloc: Global,
+    keeper: &mut SteadyKeeper,
+    words: &str,
+) -> Result<String, Fail> {
+    keep(alloc, keeper, words)?;
+    broken_in(rt, alloc, keeper.as_slice())
 }
 
 /// Tells a row: what is done to the pairs, and the smallest broken key then.
 fn tell(rt: &impl Abort, alloc: Global, row: &str) -> Result<(), Fail> {
     let (words, wanted) = column(row);
-    let keeper = kept(alloc, words)?;
-    let broken = broken_in(rt, alloc, keeper.as_slice());
+    let mut keeper = SteadyKeeper::new(alloc);
+    let broken = broken_after(rt, alloc, &mut keeper, words);
     drop(keeper);
-    assert_eq!(rt; broken?.as_str(), wanted, "{words}");
+    is_told(rt, broken?.as_str(), wanted, row);
     Ok(())
 }
 
@@ -191,45 +239,73 @@ fn the_smallest_broken_key_is_told(rt: HostRuntime) -> Result<(), Fail> {
     tell_all(&rt, rt.alloc(), SPELLINGS)?;
     tell_all(&rt, rt.alloc(), RULES)?;
     // Without a pair the group of all users is missing.
-    assert_eq!(rt; broken_in(&rt, rt.alloc(), &[])?.as_str(), "610000000201");
+    is_told(
+        &rt,
+        broken_in(&rt, rt.alloc(), &[])?.as_str(),
+        "610000000201",
+        "no pair",
+    );
     Ok(())
 }
 
-/// The pairs from the last one to the first.
-fn turned(alloc: Global, pairs: &[Pair]) -> Result<Vec<Pair>, Fail> {
-    let mut turned = Vec::new(alloc);
+/// Adds the pairs from the last one to the first.
+fn push_turned(alloc: Global, turned: &mut Vec<Pair>, pairs: &[Pair]) -> Result<(), Fail> {
     for pair in pairs.iter().rev() {
-        turned.push(pair.copy(alloc)?)?;
+        let pair = pair.copy(alloc)?;
+        turned.push(pair)?;
     }
-    Ok(turned)
+    Ok(())
+}
+
+fn broken_in_turned(rt: &impl Abort, alloc: Global, pairs: &[Pair]) -> Result<String, Fail> {
+    let mut turned = Vec::new(alloc);
+    push_turned(alloc, &mut turned, pairs)?;
+    broken_in(rt, alloc, &turned)
 }
 
 #[test]
 fn pairs_are_read_in_any_order(rt: HostRuntime) -> Result<(), Fail> {
-    let alloc = rt.alloc();
-    let keeper = kept(alloc, "")?;
-    let turned = turned(alloc, keeper.as_slice());
+    let mut keeper = SteadyKeeper::new(rt.alloc());
+    keep(rt.alloc(), &mut keeper, "")?;
+    let broken = broken_in_turned(&rt, rt.alloc(), keeper.as_slice());
     drop(keeper);
-    assert_eq!(rt; broken_in(&rt, alloc, &turned?)?.as_str(), "");
+    is_told(&rt, broken?.as_str(), "", "turned pairs");
+    Ok(())
+}
+
+/// Adds a pair twice.
+fn push_twice(alloc: Global, pairs: &mut Vec<Pair>, key: &str, value: &str) -> Result<(), Fail> {
+    for _ in 0..2 {
+        let pair = pair(alloc, key, value)?;
+        pairs.push(pair)?;
+    }
     Ok(())
 }
 
 #[test]
 fn a_key_stands_once(rt: HostRuntime) -> Result<(), Fail> {
-    let alloc = rt.alloc();
-    let key = bytes_of(alloc, "66")?;
-    let value = bytes_of(alloc, "01")?;
-    let first = Pair { key, value };
-    let again = first.copy(alloc)?;
-    assert!(rt; !keys_differ(&[first, again]));
+    let mut pairs = Vec::new(rt.alloc());
+    push_twice(rt.alloc(), &mut pairs, "66", "01")?;
+    assert!(rt; !keys_differ(&pairs));
     Ok(())
+}
+
+/// Whether rows are read back of their pairs.
+fn are_read_back(alloc: Global, rows: &Rows) -> Result<bool, PairsError>
+    requires { IsSoundRows rows.now.lists }
+{
+    let again = read_back(alloc, rows)?;
+    let same = again.accounts() == rows.accounts();
+    drop(again);
+    Ok(same)
 }
 
 #[test]
 fn rows_are_read_back(rt: HostRuntime) -> Result<(), Fail> {
     let rows = seeded(&rt, rt.alloc())?;
-    let again = read_back(rt.alloc(), &rows)?;
-    assert!(rt; again.accounts() == rows.accounts());
+    let same = are_read_back(rt.alloc(), &rows);
+    drop(rows);
+    assert!(rt; same?);
     Ok(())
 }
 
@@ -259,53 +335,60 @@ fn alias_changes(
     alias_rows_stay_sound();
     removed_alias_rows_stay_sound();
     put.member.keeps_limits();
-    Ok(rows.changes(alloc, &plan)?)
+    let changes = rows.changes(alloc, &plan);
+    drop(plan);
+    Ok(changes?)
 }
 
-/// Tells the pairs that go and those that are put, each by its key.
+/// Tells a pair that goes or is put, by its key.
+fn push_change(alloc: Global, text: &mut String, change: &Change) -> Result<(), Fail> {
+    text.push(if change.value.is_some() { '+' } else { '-' })?;
+    push_hex(alloc, text, change.key.as_slice())
+}
+
 fn push_changes(alloc: Global, text: &mut String, changes: &[Change]) -> Result<(), Fail> {
     for change in changes {
-        text.push(if change.value.is_some() { '+' } else { '-' })?;
-        push_hex(alloc, text, change.key.as_slice())?;
+        push_change(alloc, text, change)?;
     }
     Ok(())
 }
 
-/// A member of Users of BUILTIN.
-fn user_row(sid: &str) -> Result<AliasRow, Fail> {
-    Ok(AliasRow {
-        domain: 1,
-        alias: 545,
-        member: parse_text(sid)?,
-    })
+fn changes_told(alloc: Global, changes: &[Change]) -> Result<String, Fail> {
+    let mut text = String::new(alloc);
+    push_changes(alloc, &mut text, changes)?;
+    Ok(text)
 }
+
+/// A member of Users of BUILTIN that gives its place to another, and the pairs that change.
+const CHANGES: &str = "\
+S-1-5-21-1-2-3-513|S-1-5-21-1-2-3-513|
+S-1-5-21-1-2-3-513|S-1-1-0|-6c010000022101050000000000051500000001000000020000000300000001020000\
++6c0100000221010100000000000100000000
+S-1-1-0|S-1-5-21-1-2-3-513|
+S-1-1-0|S-1-1-0|+6c0100000221010100000000000100000000";
 
 /// The pairs that change where a member of Users gives its place to another.
 fn changed(rt: &impl Abort, alloc: Global, gone: &str, put: &str) -> Result<String, Fail> {
-    let (gone, put) = (user_row(gone)?, user_row(put)?);
+    let gone = alias_row(545, gone)?;
+    let put = alias_row(545, put)?;
     let rows = seeded(rt, alloc)?;
     let changes = alias_changes(rt, alloc, &rows, gone, put);
     drop(rows);
-    let mut text = String::new(alloc);
-    push_changes(alloc, &mut text, &changes?)?;
-    Ok(text)
+    changes_told(alloc, &changes?)
+}
+
+/// Tells a row of [`CHANGES`].
+fn tell_change(rt: &impl Abort, alloc: Global, row: &str) -> Result<(), Fail> {
+    let (gone, rest) = column(row);
+    let (put, wanted) = column(rest);
+    is_told(rt, changed(rt, alloc, gone, put)?.as_str(), wanted, row);
+    Ok(())
 }
 
 #[test]
 fn a_plan_changes_the_pairs_of_its_rows(rt: HostRuntime) -> Result<(), Fail> {
-    let (users, everyone) = ("S-1-5-21-1-2-3-513", "S-1-1-0");
-    for (gone, put, wanted) in [
-        (users, users, ""),
-        (
-            users,
-            everyone,
-            "-6c010000022101050000000000051500000001000000020000000300000001020000\
-            +6c0100000221010100000000000100000000",
-        ),
-        (everyone, users, ""),
-        (everyone, everyone, "+6c0100000221010100000000000100000000"),
-    ] {
-        assert_eq!(rt; changed(&rt, rt.alloc(), gone, put)?.as_str(), wanted);
+    for row in CHANGES.lines() {
+        tell_change(&rt, rt.alloc(), row)?;
     }
     Ok(())
 }

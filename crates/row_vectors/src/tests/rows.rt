@@ -2,10 +2,10 @@
 use super::answers::push_answer;
 use super::changes::{change, seeded};
 use super::tables;
-use super::words::column;
+use super::words::{column, is_told};
 use acct_codes::Kind;
 use acct_rows::{Object, Rows};
-use dtyp_sid::parse_text;
+use dtyp_sid::{Sid, parse_text};
 use std::alloc::Global;
 use std::process::Abort;
 use std::test::Fail;
@@ -25,7 +25,7 @@ fn tell(rt: &impl Abort, alloc: Global, row: &str) -> Result<(), Fail> {
     let mut rows = seeded(rt, alloc)?;
     let told = told(alloc, &mut rows, steps, question);
     drop(rows);
-    assert_eq!(rt; told?.as_str().trim(), wanted.trim(), "{row}");
+    is_told(rt, told?.as_str().trim(), wanted.trim(), row);
     Ok(())
 }
 
@@ -52,25 +52,36 @@ fn rows_are_found_and_changed(rt: HostRuntime) -> Result<(), Fail> {
     Ok(())
 }
 
+/// Whether there is room for a hundred rows, and none for lists of 2^32.
+fn has_room_below_2_to_the_32(rows: &mut Rows) -> bool {
+    rows.reserve(100).is_ok()
+        && rows.reserve(1 << 32).is_err()
+        && rows.reserve((1 << 32) - 8).is_err()
+}
+
 #[test]
 fn lists_stay_below_2_to_the_32(rt: HostRuntime) -> Result<(), Fail> {
     let mut rows = seeded(&rt, rt.alloc())?;
-    assert!(rt; rows.reserve(100).is_ok());
-    assert!(rt; rows.reserve(1 << 32).is_err());
-    assert!(rt; rows.reserve((1 << 32) - 8).is_err());
+    let room = has_room_below_2_to_the_32(&mut rows);
+    drop(rows);
+    assert!(rt; room);
     Ok(())
+}
+
+fn kinds_are_right(everyone: Sid) -> bool {
+    Object::Server.kind() == Kind::Server
+        && Object::Domain(1).kind() == Kind::Domain
+        && Object::Group(513).kind() == Kind::Group
+        && Object::Alias(1, 544).kind() == Kind::Alias
+        && Object::User(500).kind() == Kind::User
+        && Object::Policy.kind() == Kind::Policy
+        && Object::Account(everyone).kind() == Kind::Account
 }
 
 #[test]
 fn objects_have_kinds(rt: HostRuntime) -> Result<(), Fail> {
     let everyone = parse_text("S-1-1-0")?;
-    assert!(rt; Object::Server.kind() == Kind::Server);
-    assert!(rt; Object::Domain(1).kind() == Kind::Domain);
-    assert!(rt; Object::Group(513).kind() == Kind::Group);
-    assert!(rt; Object::Alias(1, 544).kind() == Kind::Alias);
-    assert!(rt; Object::User(500).kind() == Kind::User);
-    assert!(rt; Object::Policy.kind() == Kind::Policy);
-    assert!(rt; Object::Account(everyone).kind() == Kind::Account);
+    assert!(rt; kinds_are_right(everyone));
     Ok(())
 }
 
