@@ -129,17 +129,18 @@ pub fn call_of(words: &str, sid: Sid) -> Call
     ensures { IsCall result }
 {
     let (what, rest) = word(words);
+    let (access, handle) = (number(rest), handle(rest));
     match what {
-        "connect2" => connect2(number(rest)),
-        "connect4" => connect4(number(rest)),
-        "connect5" => connect5(number(rest)),
-        "policy" => open_policy2(false, number(rest)),
-        "rooted" => open_policy2(true, number(rest)),
-        "close" => samr_close(handle(rest)),
-        "create" => create_account(handle(rest), sid),
-        "open" => open_account(handle(rest), sid),
-        "delete" => delete(handle(rest)),
-        _ => lsar_close(handle(rest)),
+        "connect2" => connect2(access),
+        "connect4" => connect4(access),
+        "connect5" => connect5(access),
+        "policy" => open_policy2(false, access),
+        "rooted" => open_policy2(true, access),
+        "close" => samr_close(handle),
+        "create" => create_account(handle, sid),
+        "open" => open_account(handle, sid),
+        "delete" => delete(handle),
+        _ => lsar_close(handle),
     }
 }
 

@@ -166,14 +166,20 @@ fn push_taken(text: &mut String, work: Work, account: Sid) -> Result<(), Fail> {
     Ok(())
 }
 
+/// Tells each row of the table.
+fn push_all_taken(text: &mut String, account: Sid) -> Result<(), Fail> {
+    for work in works() {
+        push_taken(text, *work, account)?;
+        text.push('\n')?;
+    }
+    Ok(())
+}
+
 #[test]
 fn a_handle_of_each_kind_at_each_operation(rt: HostRuntime) -> Result<(), Fail> {
     let account = parse_text("S-1-5-21-1-2-3-1000")?;
     let mut text = String::new(rt.alloc());
-    for work in works() {
-        push_taken(&mut text, *work, account)?;
-        text.push('\n')?;
-    }
+    push_all_taken(&mut text, account)?;
     assert_eq!(rt; text.as_str().trim(), TAKEN);
     Ok(())
 }

@@ -65,8 +65,26 @@ fn told(
     script: &str,
 ) -> Result<String, Fail> {
     let mut machine = started(rt, alloc, entries, failing)?;
-    tell(rt, alloc, &mut machine, script)?;
-    left(alloc, machine)
+    match tell(rt, alloc, &mut machine, script) {
+        Ok(()) => left(alloc, machine),
+        Err(fail) => {
+            drop(machine);
+            Err(fail)
+        }
+    }
+}
+
+/// A script leaves this under the plain configuration, where the keeper's calls of these numbers fail.
+fn leaves(
+    rt: &impl Abort,
+    alloc: Global,
+    failing: &[u64],
+    script: &str,
+    wanted: &str,
+) -> Result<(), Fail> {
+    let told = told(rt, alloc, "", failing, script)?;
+    assert_eq!(rt; told.as_str(), wanted);
+    Ok(())
 }
 
 /// Openings, and handles that belong to one connection. A handle is told by its connection and its serial.
@@ -106,11 +124,8 @@ const INTERFACES_LEFT: &str =
 
 #[test]
 fn handles_are_opened_and_closed(rt: HostRuntime) -> Result<(), Fail> {
-    for (script, wanted) in [(HANDLES, HANDLES_LEFT), (INTERFACES, INTERFACES_LEFT)] {
-        let told = told(&rt, rt.alloc(), "", &[], script)?;
-        assert_eq!(rt; told.as_str(), wanted);
-    }
-    Ok(())
+    leaves(&rt, rt.alloc(), &[], HANDLES, HANDLES_LEFT)?;
+    leaves(&rt, rt.alloc(), &[], INTERFACES, INTERFACES_LEFT)
 }
 
 /// Rights that a right configuration without a descriptor doesn't grant, generic rights, and none.
@@ -170,11 +185,8 @@ const TWICE_LEFT: &str = "opened 1 0;opened 2 1;1 Lsa 44 Ran 22;1 Lsa 10 Ran 22;
 
 #[test]
 fn a_commit_that_fails_changes_nothing(rt: HostRuntime) -> Result<(), Fail> {
-    for (last, script, wanted) in [(5, FAILING, FAILING_LEFT), (4, TWICE, TWICE_LEFT)] {
-        let told = told(&rt, rt.alloc(), "", &[3, last], script)?;
-        assert_eq!(rt; told.as_str(), wanted);
-    }
-    Ok(())
+    leaves(&rt, rt.alloc(), &[3, 5], FAILING, FAILING_LEFT)?;
+    leaves(&rt, rt.alloc(), &[3, 4], TWICE, TWICE_LEFT)
 }
 
 /// A deletion takes each handle to its object, of both connections, and no other.

@@ -21,21 +21,24 @@ const KINDS: [Kind; 7] = [
     Kind::Account,
 ];
 
-/// Tells which of the kinds, in their order, are taken: `x` is, `-` isn't.
-fn tell_kinds(rt: &impl Abort, kinds: Kinds, wanted: &str) {
+/// Whether these of the kinds, in their order, are taken: `x` is, `-` isn't.
+fn takes(kinds: Kinds, wanted: &str) -> bool {
     for (kind, mark) in KINDS.iter().zip(wanted.chars()) {
-        assert_eq!(rt; kinds.takes(*kind), mark == 'x', "{kind:?}");
+        if kinds.takes(*kind) != (mark == 'x') {
+            return false;
+        }
     }
+    true
 }
 
 #[test]
 fn handles_are_taken_by_kind(rt: HostRuntime) {
-    tell_kinds(&rt, Kinds::Samr, "xxxxx--");
-    tell_kinds(&rt, Kinds::InDomain, "-xxxx--");
-    tell_kinds(&rt, Kinds::Lsa, "-----xx");
-    tell_kinds(&rt, Kinds::Only(Kind::Server), "x------");
-    tell_kinds(&rt, Kinds::Only(Kind::Alias), "---x---");
-    tell_kinds(&rt, Kinds::Only(Kind::Account), "------x");
+    assert!(rt; takes(Kinds::Samr, "xxxxx--"));
+    assert!(rt; takes(Kinds::InDomain, "-xxxx--"));
+    assert!(rt; takes(Kinds::Lsa, "-----xx"));
+    assert!(rt; takes(Kinds::Only(Kind::Server), "x------"));
+    assert!(rt; takes(Kinds::Only(Kind::Alias), "---x---"));
+    assert!(rt; takes(Kinds::Only(Kind::Account), "------x"));
 }
 
 /// What arguments ask for: the access, and the class where they have one.
@@ -85,20 +88,32 @@ fn first_rows(rt: &impl Abort, alloc: Global) -> Result<Rows, Fail> {
 
 /// The bits that are needed of a grant: some, or those of one class and those of the others.
 fn needed(rows: &Rows, needs: Needs, class: u16) -> u32 {
-    needed_bits(needs, rows, &Args::Class(class))
+    let args = Args::Class(class);
+    let bits = needed_bits(needs, rows, &args);
+    drop(args);
+    bits
 }
 
-#[test]
-fn needed_bits_are_those_of_the_class(rt: HostRuntime) -> Result<(), Fail> {
-    let rows = first_rows(&rt, rt.alloc())?;
+/// The bits of the first class, of another, and of a need that knows no class.
+fn needed_by_class(rows: &Rows) -> (u32, u32, u32) {
     let by_class = Needs::ByClass {
         class: 16,
         bits: 4,
         others: 8,
     };
-    assert!(rt; needed(&rows, Needs::Bits(2), 16) == 2);
-    assert!(rt; needed(&rows, by_class, 16) == 4);
-    assert!(rt; needed(&rows, by_class, 17) == 8);
+    (
+        needed(rows, by_class, 16),
+        needed(rows, by_class, 17),
+        needed(rows, Needs::Bits(2), 16),
+    )
+}
+
+#[test]
+fn needed_bits_are_those_of_the_class(rt: HostRuntime) -> Result<(), Fail> {
+    let rows = first_rows(&rt, rt.alloc())?;
+    let bits = needed_by_class(&rows);
+    drop(rows);
+    assert!(rt; bits == (4, 8, 2));
     Ok(())
 }
 
@@ -113,8 +128,16 @@ fn opens(planned: &Planned, rid: u32) -> bool {
 /// Whether SamrOpenUser opens the user of the account domain.
 fn opens_the_user(alloc: Global, rows: &Rows, rid: u32) -> Result<bool, NoMemory> {
     let args = Args::AccessRid { access: 1, rid };
-    let planned = decide(alloc, Work::SamrOpenUser, rows, Object::Domain(0), &args)?;
-    Ok(opens(&planned, rid))
+    let planned = decide(alloc, Work::SamrOpenUser, rows, Object::Domain(0), &args);
+    drop(args);
+    match planned {
+        Ok(planned) => {
+            let is_opened = opens(&planned, rid);
+            drop(planned);
+            Ok(is_opened)
+        }
+        Err(error) => Err(error),
+    }
 }
 
 /// There is a user 500; 512 is a group.
@@ -125,6 +148,8 @@ fn opens_users_alone(alloc: Global, rows: &Rows) -> Result<bool, NoMemory> {
 #[test]
 fn users_are_opened(rt: HostRuntime) -> Result<(), Fail> {
     let rows = first_rows(&rt, rt.alloc())?;
-    assert!(rt; opens_users_alone(rt.alloc(), &rows)?);
+    let opens_them = opens_users_alone(rt.alloc(), &rows);
+    drop(rows);
+    assert!(rt; opens_them?);
     Ok(())
 }

@@ -65,7 +65,9 @@ pub fn started(
     ensures second { IfOk result (λ machine. is_live 2 (state_of machine.past).conns ≡ true) }
 {
     let config = with_entries(rt, alloc, entries)?;
-    let mut machine = made(rt, alloc, &config, failing)?;
+    let made = made(rt, alloc, &config, failing);
+    drop(config);
+    let mut machine = made?;
     connect(rt, &mut machine);
     Ok(machine)
 }
@@ -102,7 +104,25 @@ fn answer(alloc: Global, machine: &mut Machine<MemoryKeeper>, line: &str) -> Res
     Ok(text)
 }
 
-/// Tells each line of a script: a connection, what it asks, and what it is answered.
+/// Tells a line of a script: a connection, what it asks, and what it is answered.
+fn tell_line(
+    rt: &impl Abort,
+    alloc: Global,
+    machine: &mut Machine<MemoryKeeper>,
+    line: &str,
+) -> Result<(), Fail>
+    requires first { is_live 1 (state_of machine.old.past).conns ≡ true }
+    requires second { is_live 2 (state_of machine.old.past).conns ≡ true }
+    ensures first { is_live 1 (state_of machine.new.past).conns ≡ true }
+    ensures second { is_live 2 (state_of machine.new.past).conns ≡ true }
+{
+    let (asked, wanted) = line.split_once(" = ").unwrap_or((line, ""));
+    let told = answer(alloc, machine, asked)?;
+    assert_eq!(rt; told.as_str(), wanted, "{line}");
+    Ok(())
+}
+
+/// Tells each line of a script.
 pub fn tell(
     rt: &impl Abort,
     alloc: Global,
@@ -114,9 +134,7 @@ pub fn tell(
     ensures first { is_live 1 (state_of machine.new.past).conns ≡ true }
 {
     for line in script.lines() {
-        let (asked, wanted) = line.split_once(" = ").unwrap_or((line, ""));
-        let told = answer(alloc, machine, asked)?;
-        assert_eq!(rt; told.as_str(), wanted, "{line}");
+        tell_line(rt, alloc, machine, line)?;
     }
     Ok(())
 }

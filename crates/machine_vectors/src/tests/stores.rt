@@ -41,19 +41,27 @@ fn opened_first(alloc: Global, config: &Config, failing: &[u64]) -> Result<Strin
     opened(alloc, config, &mut keeper)
 }
 
-#[test]
-fn stores_that_fail_are_not_opened(rt: HostRuntime) -> Result<(), Fail> {
-    let config = configured(&rt, rt.alloc(), PLAIN)?;
-    // A load that fails, and a seeding that does: no pair is kept.
+/// A load that fails, and a seeding that does: no pair is kept.
+fn opened_where_one_fails(rt: &impl Abort, alloc: Global, config: &Config) -> Result<(), Fail>
+    requires { IsRight config.now }
+{
     for (failing, wanted) in [
         (1, "StoreFault, 0 pairs"),
         (2, "StoreFault, 0 pairs"),
         (3, "8 accounts, 19 pairs"),
     ] {
-        let told = opened_first(rt.alloc(), &config, &[failing])?;
+        let told = opened_first(alloc, config, &[failing])?;
         assert_eq!(rt; told.as_str(), wanted, "{failing}");
     }
     Ok(())
+}
+
+#[test]
+fn stores_that_fail_are_not_opened(rt: HostRuntime) -> Result<(), Fail> {
+    let config = configured(&rt, rt.alloc(), PLAIN)?;
+    let ended = opened_where_one_fails(&rt, rt.alloc(), &config);
+    drop(config);
+    ended
 }
 
 /// Removes the pair of the store's format, whose key is then the one that is broken.
@@ -101,7 +109,9 @@ fn opened_again(
 
 #[test]
 fn stores_are_opened_again_as_they_were_left(rt: HostRuntime) -> Result<(), Fail> {
-    let config = configured(&rt, rt.alloc(), PLAIN)?;
     let mut keeper = keeper_with(rt.alloc(), &[4])?;
-    opened_again(&rt, rt.alloc(), &config, &mut keeper)
+    let config = configured(&rt, rt.alloc(), PLAIN)?;
+    let ended = opened_again(&rt, rt.alloc(), &config, &mut keeper);
+    drop(config);
+    ended
 }

@@ -97,30 +97,46 @@ fn finds(table: &Table<Item, ByShelf>, plain: &[Item], shelf: u32) -> bool {
     within.len() == count && table.find(&shelf).copied() == within.first().copied()
 }
 
+/// Whether a table rises, has what a list has, and finds each shelf's.
+fn agrees(table: &Table<Item, ByShelf>, plain: &[Item]) -> bool {
+    for shelf in 0..6 {
+        if !finds(table, plain, shelf) {
+            return false;
+        }
+    }
+    rises(table.as_slice()) && has_all(table.as_slice(), plain)
+}
+
+/// The item that a random number stands for.
+fn item_of(seed: u64) -> Item {
+    Item {
+        shelf: (seed >> 40) as u32 % 5,
+        place: (seed >> 48) as u32 % 9,
+    }
+}
+
+/// Changes both as a random number says.
+fn change(table: &mut Table<Item, ByShelf>, plain: &mut Vec<Item>, seed: u64) -> Result<(), Fail> {
+    let item = item_of(seed);
+    match (seed >> 56) % 16 {
+        0 => remove_shelf(table, plain, item.shelf),
+        1..6 => remove(table, plain, item),
+        _ => put(table, plain, item)?,
+    }
+    Ok(())
+}
+
 #[test]
 fn a_table_has_what_a_walked_list_has(rt: HostRuntime) -> Result<(), Fail> {
-    let alloc = rt.alloc();
-    let mut table = Table::new(alloc);
-    let mut plain = Vec::new(alloc);
+    let mut table = Table::new(rt.alloc());
+    let mut plain = Vec::new(rt.alloc());
     let mut seed = 7u64;
     for _ in 0..600 {
         seed = seed
             .wrapping_mul(6364136223846793005)
             .wrapping_add(1442695040888963407);
-        let item = Item {
-            shelf: (seed >> 40) as u32 % 5,
-            place: (seed >> 48) as u32 % 9,
-        };
-        match (seed >> 56) % 16 {
-            0 => remove_shelf(&mut table, &mut plain, item.shelf),
-            1..6 => remove(&mut table, &mut plain, item),
-            _ => put(&mut table, &mut plain, item)?,
-        }
-        assert!(rt; rises(table.as_slice()));
-        assert!(rt; has_all(table.as_slice(), &plain));
-        for shelf in 0..6 {
-            assert!(rt; finds(&table, &plain, shelf));
-        }
+        change(&mut table, &mut plain, seed)?;
+        assert!(rt; agrees(&table, &plain));
     }
     assert!(rt; plain.len() > 5);
     Ok(())
