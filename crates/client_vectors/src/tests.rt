@@ -65,25 +65,35 @@ fn answers_may_be_cut_anywhere(rt: HostRuntime) -> Result<(), Fail> {
     Ok(())
 }
 
-/// Whether some words are refused as no command.
-fn are_refused(alloc: Global, words: &[String]) -> bool {
+/// Why some words are refused, if they are.
+fn refusal(alloc: Global, words: &[String]) -> Option<AskError> {
     match Asker::new(alloc, words) {
-        Err(error) => error == AskError::Usage,
-        Ok(_) => false,
+        Ok(asker) => {
+            drop(asker);
+            None
+        }
+        Err(error) => Some(error),
     }
+}
+
+/// Whether the words of a row are refused as no command, or aren't refused.
+fn row_is(alloc: Global, row: &str, wanted: Option<AskError>) -> Result<bool, Fail> {
+    let words = words_of(alloc, row)?;
+    Ok(refusal(alloc, &words) == wanted)
 }
 
 #[test]
 fn words_off_the_table_are_refused(rt: HostRuntime) -> Result<(), Fail> {
     for row in words::REFUSED.lines() {
-        let words = words_of(rt.alloc(), row)?;
-        assert!(rt; are_refused(rt.alloc(), &words), "{row}");
+        assert!(rt; row_is(rt.alloc(), row, Some(AskError::Usage))?, "{row}");
     }
     for row in words::TAKEN.lines() {
-        let words = words_of(rt.alloc(), row)?;
-        assert!(rt; Asker::new(rt.alloc(), &words).is_ok(), "{row}");
+        assert!(rt; row_is(rt.alloc(), row, None)?, "{row}");
     }
-    Ok(assert!(rt; are_refused(rt.alloc(), &Vec::new(rt.alloc())), "no words"))
+    Ok(assert!(rt;
+        refusal(rt.alloc(), &[]) == Some(AskError::Usage),
+        "no words"
+    ))
 }
 
 /// Whether a command with so many words behind some is taken.
@@ -92,18 +102,19 @@ fn is_taken(alloc: Global, front: &str, word: &str, count: usize) -> Result<bool
     for _ in 0..count {
         words.push(String::from_str(alloc, word)?)?;
     }
-    Ok(Asker::new(alloc, &words).is_ok())
+    Ok(refusal(alloc, &words).is_none())
 }
 
 #[test]
 fn words_have_limits(rt: HostRuntime) -> Result<(), Fail> {
-    let alloc = rt.alloc();
-    assert!(rt; is_taken(alloc, "names", "a", 1000)?);
-    assert!(rt; !is_taken(alloc, "names", "a", 1001)?);
-    assert!(rt; is_taken(alloc, "sids", "S-1-1-0", 1000)?);
-    assert!(rt; !is_taken(alloc, "sids", "S-1-1-0", 1001)?);
-    assert!(rt; is_taken(alloc, "grant S-1-1-0", "SeX", 256)?);
-    assert!(rt; !is_taken(alloc, "grant S-1-1-0", "SeX", 257)?);
+    for (front, word, most) in [
+        ("names", "a", 1000),
+        ("sids", "S-1-1-0", 1000),
+        ("grant S-1-1-0", "SeX", 256),
+    ] {
+        assert!(rt; is_taken(rt.alloc(), front, word, most)?, "{front}");
+        assert!(rt; !is_taken(rt.alloc(), front, word, most + 1)?, "{front}");
+    }
     Ok(())
 }
 

@@ -2,6 +2,7 @@
 ghost use Rattle.std.specs.Prelude.{◌≤◌, IfOk, None, false, vec_len};
 ghost use Rattle.client_calls.specs.Talks.{IsBegun};
 
+use super::digits::words_of;
 use acct_client::Asker;
 use acct_links::{Caller, Failed, Link, MemoryCaller, MemoryLink, SteadyCaller, SteadyLink};
 use acct_streams::MemorySink;
@@ -36,9 +37,10 @@ fn bytes_of(alloc: Global, digits: &str) -> Result<Vec<u8>, Fail> {
 fn asker(alloc: Global) -> Result<Asker, Fail>
     ensures { IfOk result (λ asker. (command : _) × IsBegun command asker) }
 {
-    let mut words = Vec::new(alloc);
-    words.push(String::from_str(alloc, "domains")?)?;
-    Ok(Asker::new(alloc, &words)?)
+    let words = words_of(alloc, "domains")?;
+    let asker = Asker::new(alloc, &words);
+    drop(words);
+    Ok(asker?)
 }
 
 /// Each row: what the peer sends, which call of its link fails, how the call ends and whether there was a link, and
@@ -106,7 +108,9 @@ where
         printing,
         link,
     } = called(alloc, caller, out)?;
-    let told = format!(in alloc; "{found:?} {}", link.is_some())?;
+    let has_link = link.is_some();
+    drop(link);
+    let told = format!(in alloc; "{found:?} {has_link}")?;
     Ok(told.as_str() == end && printing.is_ok() == is_printed)
 }
 
@@ -116,14 +120,24 @@ fn has(out: &MemorySink, lines: &str) -> bool {
     printed.split('\n').eq(lines.split('/'))
 }
 
+/// Whether a call ends so and prints these lines.
+fn prints<C: Caller>(alloc: Global, caller: &mut C, end: &str, lines: &str) -> Result<bool, Fail>
+where
+    C::L: Drop,
+{
+    let mut out = sink(alloc, 64)?;
+    Ok(ends(alloc, caller, &mut out, end, true)? && has(&out, lines))
+}
+
 fn row_is_right(alloc: Global, row: &str) -> Result<bool, Fail> {
     let (word, rest) = column(row);
     let (failing, rest) = column(rest);
     let (end, lines) = column(rest);
     let failing = failing.parse::<u32>().ok().unwrap_or(0) as u64;
     let mut caller = caller_of(alloc, digits_of(word), failing)?;
-    let mut out = sink(alloc, 64)?;
-    Ok(ends(alloc, &mut caller, &mut out, end, true)? && has(&out, lines))
+    let is_right = prints(alloc, &mut caller, end, lines);
+    drop(caller);
+    is_right
 }
 
 /// Where each request ends in what is sent, in bytes, and its answer in what is answered.
@@ -181,14 +195,37 @@ impl Link for TurnTaker {
     }
 }
 
-/// What a call sends to a peer that answers all.
-fn sent(alloc: Global) -> Result<String, Fail> {
-    let mut caller = caller_of(alloc, ANSWERS, 0)?;
+/// How a call ends, and its link.
+fn end_and_link<C: Caller>(alloc: Global, caller: &mut C) -> Result<(TalkEnd, Option<C::L>), Fail>
+where
+    C::L: Drop,
+{
     let mut out = sink(alloc, 64)?;
-    match called(alloc, &mut caller, &mut out)?.link {
+    let Called {
+        end,
+        printing: _,
+        link,
+    } = called(alloc, caller, &mut out)?;
+    Ok((end, link))
+}
+
+/// What was sent over a link.
+fn sent_over(alloc: Global, link: &Option<MemoryLink>) -> Result<String, Fail> {
+    match link {
         Some(link) => Ok(hex::encode(alloc, link.as_slice())?),
         None => Ok(String::new(alloc)),
     }
+}
+
+/// What a call sends to a peer that answers all.
+fn sent(alloc: Global) -> Result<String, Fail> {
+    let mut caller = caller_of(alloc, ANSWERS, 0)?;
+    let called = end_and_link(alloc, &mut caller);
+    drop(caller);
+    let (_, link) = called?;
+    let digits = sent_over(alloc, &link);
+    drop(link);
+    digits
 }
 
 #[test]
@@ -234,19 +271,23 @@ fn caller_by_turns(alloc: Global) -> Result<MemoryCaller<TurnTaker>, Fail> {
     Ok(MemoryCaller::new(alloc, links, Vec::new(alloc)))
 }
 
+/// How much was sent over the link of a call that was done, and how many of its reads failed.
+fn counted(end: TalkEnd, link: &Option<TurnTaker>) -> (usize, u64) {
+    match (end, link) {
+        (TalkEnd::Done, Some(link)) => (link.sent, link.read_faults),
+        _ => (0, 0),
+    }
+}
+
 /// How much a call sends to a peer that takes turns, and how many of its reads fail.
 fn sent_by_turns(alloc: Global) -> Result<(usize, u64), Fail> {
     let mut caller = caller_by_turns(alloc)?;
-    let mut out = sink(alloc, 64)?;
-    let Called {
-        end,
-        printing: _,
-        link,
-    } = called(alloc, &mut caller, &mut out)?;
-    match (end, link) {
-        (TalkEnd::Done, Some(link)) => Ok((link.sent, link.read_faults)),
-        _ => Ok((0, 0)),
-    }
+    let called = end_and_link(alloc, &mut caller);
+    drop(caller);
+    let (end, link) = called?;
+    let counts = counted(end, &link);
+    drop(link);
+    Ok(counts)
 }
 
 // It would wait for ever on a read before its request, or behind the last answer.

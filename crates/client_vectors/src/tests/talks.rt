@@ -174,29 +174,83 @@ fn behind<'a>(row: Option<&'a str>, mark: &str) -> &'a str {
     row.unwrap_or("").strip_prefix(mark).unwrap_or("")
 }
 
+/// Whether bytes are those of a row.
+fn are_of_row(alloc: Global, bytes: &[u8], row: &str) -> Result<bool, Fail> {
+    let wanted = bytes_of(alloc, row)?;
+    Ok(wanted.as_slice() == bytes)
+}
+
+/// Whether what is sent next is what a row says, if anything is sent.
+fn sends(alloc: Global, asker: &mut Asker, row: &str) -> Result<Option<bool>, Fail>
+    requires { asker.old.is_awaiting ≡ false }
+    ensures count { bytes_taken asker.new ≤ bytes_taken asker.old }
+    ensures awaited { IfOk result (λ sent. IfSome sent (λ _. asker.new.is_awaiting ≡ true)) }
+    ensures idle { IfOk result (λ sent. sent ≡ None → asker.new.is_awaiting ≡ false) }
+{
+    match next(alloc, asker)? {
+        Some(sent) => Ok(Some(are_of_row(alloc, &sent, row)?)),
+        None => Ok(None),
+    }
+}
+
+/// Takes an answer behind so many bytes, and counts its own. It tells how the dialogue ended, where it did.
+fn answered(
+    rt: &impl Abort,
+    alloc: Global,
+    asker: &mut Asker,
+    answer: &[u8],
+    cut: Cut,
+    taken: &mut usize,
+) -> Result<Option<String>, Fail>
+    requires awaited { asker.old.is_awaiting ≡ true }
+    requires few { bytes_taken asker.old ≤ taken.old }
+    ensures goes { result ≡ Ok None → asker.new.is_awaiting ≡ false }
+    ensures count { result ≡ Ok None → bytes_taken asker.new ≤ taken.new }
+{
+    assert!(rt; *taken < 0x1000_0000, "long answers");
+    assert!(rt; answer.len() < 0x10_0000, "a long answer");
+    *taken += answer.len();
+    turn(rt, alloc, asker, answer, cut)
+}
+
+/// Talks as the rows of a dialogue say, and tells how it ended and what was printed.
+fn talk(
+    rt: &impl Abort,
+    alloc: Global,
+    asker: &mut Asker,
+    dialogue: &str,
+    rows: &str,
+    cut: Cut,
+) -> Result<String, Fail>
+    requires idle { asker.old.is_awaiting ≡ false }
+    requires new { bytes_taken asker.old ≡ 0 }
+{
+    let mut rows = rows.lines();
+    let mut taken = 0;
+    for place in 0..100 {
+        let Some(is_wanted) = sends(alloc, asker, behind(rows.next(), "> "))? else {
+            return ended(rt, alloc, asker, "done");
+        };
+        assert!(rt; is_wanted, "another request, {place} of {dialogue}");
+        let row = behind(rows.next(), "< ");
+        let answer = answer_of(alloc, dialogue, place == 0, row, cut)?;
+        if let Some(told) = answered(rt, alloc, asker, &answer, cut, &mut taken)? {
+            return Ok(told);
+        }
+    }
+    Ok(String::from_str(alloc, "a long dialogue\n")?)
+}
+
 /// Talks as a dialogue says, and tells how it ended and what was printed.
 pub fn told(rt: &impl Abort, alloc: Global, dialogue: &str, cut: Cut) -> Result<String, Fail> {
     let (words, rows) = words_and_rows(dialogue);
     let words = words_of(alloc, words)?;
-    let mut asker = Asker::new(alloc, &words)?;
-    let mut rows = rows.lines();
-    let mut taken = 0;
-    for place in 0..100 {
-        let Some(sent) = next(alloc, &mut asker)? else {
-            return ended(rt, alloc, &mut asker, "done");
-        };
-        let wanted = bytes_of(alloc, behind(rows.next(), "> "))?;
-        assert!(rt; sent == wanted, "another request, {place} of {dialogue}");
-        let row = behind(rows.next(), "< ");
-        let answer = answer_of(alloc, dialogue, place == 0, row, cut)?;
-        assert!(rt; taken < 0x1000_0000, "long answers");
-        assert!(rt; answer.len() < 0x10_0000, "a long answer");
-        if let Some(told) = turn(rt, alloc, &mut asker, &answer, cut)? {
-            return Ok(told);
-        }
-        taken += answer.len();
-    }
-    Ok(String::from_str(alloc, "a long dialogue\n")?)
+    let asker = Asker::new(alloc, &words);
+    drop(words);
+    let mut asker = asker?;
+    let told = talk(rt, alloc, &mut asker, dialogue, rows, cut);
+    drop(asker);
+    told
 }
 
 /// How a dialogue ends.

@@ -1,7 +1,7 @@
--- What the loop of `told` keeps.
+-- What the loop of `talk` keeps.
 use Rattle.std.proofs.Common.{◌≡◌, ◌≤◌, false}
 use Rattle.acct_client.specs.Askers.{bytes_taken}
-use Rattle.client_vectors.proofs.tests.talks.told.Given as goal
+use Rattle.client_vectors.proofs.tests.talks.talk.Given as goal
 
 abbrev pub invariant-loop-place : goal.invariant-loop-place
 invariant-loop-place g l = record {
