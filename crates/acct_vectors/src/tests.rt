@@ -2,7 +2,8 @@
 // - what is added to the first rows, those that a new database has: accounts (kind, domain, RID, name, full name,
 //   comment, bits, primary group), members of groups, SIDs of aliases, domains, accounts of the policy (SID, system
 //   access, each privilege with its attributes). With `+` the row goes on from what the row before left;
-// - the operation, the object of the handle, and the arguments. A name `256*61` has 256 units 0x61;
+// - the operation by its name in the table of operations, the object of the handle, and the arguments. A name `256*61`
+//   has 256 units 0x61;
 // - what is wanted: the status, the outputs, and what is put, removed, opened or deleted, where there is such.
 mod asked;
 mod brought;
@@ -12,9 +13,7 @@ mod deletions;
 mod domains;
 mod enumerations;
 mod members;
-mod operations;
 mod parts;
-mod policy;
 mod queries;
 mod rights;
 mod rows;
@@ -24,10 +23,10 @@ mod words;
 
 use acct_base::Seq;
 use acct_calls::Args;
+use acct_operations::{Work, decide, works};
 use acct_rows::{Object, Plan, Rows};
 use acct_rules::Planned;
 use asked::{args_of, object_of};
-use operations::run;
 use parts::part;
 use rows::{add, seeded};
 use samr_objects::laws;
@@ -37,24 +36,42 @@ use std::process::Abort;
 use std::test::Fail;
 use words::{spelled, tell, tell_ends};
 
+/// Whether an operation has this name.
+fn is_named(alloc: Global, work: Work, name: &str) -> Result<bool, Fail> {
+    Ok(format!(in alloc; "{work:?}")?.as_str() == name)
+}
+
+/// The operation of a name.
+fn work_named(alloc: Global, name: &str) -> Result<Work, Fail> {
+    for work in works() {
+        if is_named(alloc, *work, name)? {
+            return Ok(*work);
+        }
+    }
+    Err("no operation has this name".into())
+}
+
 /// What an operation decides.
 fn answered(
     alloc: Global,
+    work: Work,
     rows: &Rows,
-    operation: &str,
     object: Object,
     args: &Args,
 ) -> Result<Planned, Fail> {
-    Ok(run(alloc, rows, operation, object, args)?)
+    Ok(decide(alloc, work, rows, object, args)?)
 }
 
 /// What the operation of a row decides.
 fn decided(alloc: Global, rows: &Rows, row: &str) -> Result<Planned, Fail> {
     let asked = part(row, '|', 3);
     let (kind, fields) = asked.split_once(',').unwrap_or((asked, ""));
+    let work = work_named(alloc, part(row, '|', 1))?;
     let object = object_of(part(row, '|', 2))?;
     let args = args_of(alloc, kind, fields)?;
-    answered(alloc, rows, part(row, '|', 1), object, &args)
+    let planned = answered(alloc, work, rows, object, &args);
+    drop(args);
+    planned
 }
 
 fn empty_plan(alloc: Global) -> Plan {
@@ -81,12 +98,14 @@ fn apply(alloc: Global, rows: &mut Rows, planned: &mut Planned) -> Result<String
 /// Tells what a row does, and does it to the rows.
 fn told(alloc: Global, rows: &mut Rows, row: &str) -> Result<String, Fail> {
     let mut planned = decided_behind(alloc, rows, row)?;
-    apply(alloc, rows, &mut planned)
+    let text = apply(alloc, rows, &mut planned);
+    drop(planned);
+    text
 }
 
 /// Begins with the first rows again.
 fn begin_again(rt: &impl Abort, alloc: Global, rows: &mut Rows) -> Result<(), Fail> {
-    *rows = seeded(rt, alloc)?;
+    drop(mem::replace(rows, seeded(rt, alloc)?));
     Ok(())
 }
 
@@ -116,19 +135,25 @@ fn rows_are_right(
 /// Each row of a table is told as what is wanted.
 fn table_is_right(rt: &impl Abort, alloc: Global, table: &str) -> Result<(), Fail> {
     let mut rows = seeded(rt, alloc)?;
-    rows_are_right(rt, alloc, &mut rows, table)
+    let are_right = rows_are_right(rt, alloc, &mut rows, table);
+    drop(rows);
+    are_right
 }
 
 /// What the operation of a row decides on the first rows and those that are added.
 fn decided_first(rt: &impl Abort, alloc: Global, row: &str) -> Result<Planned, Fail> {
     let mut rows = seeded(rt, alloc)?;
-    decided_behind(alloc, &mut rows, row)
+    let planned = decided_behind(alloc, &mut rows, row);
+    drop(rows);
+    planned
 }
 
 /// What a large translation of a row answers.
 fn told_ends(rt: &impl Abort, alloc: Global, row: &str) -> Result<String, Fail> {
     let planned = decided_first(rt, alloc, row)?;
-    tell_ends(alloc, &planned)
+    let text = tell_ends(alloc, &planned);
+    drop(planned);
+    text
 }
 
 /// Each large translation of a table is told as what is wanted.
@@ -157,44 +182,37 @@ fn each_right_is_right(rt: &impl Abort, alloc: Global, rights: &str) -> Result<(
     Ok(())
 }
 
+const TABLES: [&str; 17] = [
+    domains::FIRST_ROWS,
+    creations::CREATIONS,
+    deletions::DELETIONS,
+    enumerations::PAGES,
+    enumerations::BETWEEN_PAGES,
+    enumerations::LARGEST_PAGES,
+    queries::CLASSES,
+    settings::SETS,
+    settings::LIMITS,
+    members::MEMBERS,
+    rights::LOOKUPS,
+    changes::ACCOUNTS,
+    changes::PRIVILEGES,
+    changes::RIGHTS,
+    changes::LIFE,
+    translations::NAMES,
+    translations::SIDS,
+];
+
 #[test]
 fn tables_are_right(rt: HostRuntime) -> Result<(), Fail> {
-    for table in [
-        domains::FIRST_ROWS,
-        creations::CREATIONS,
-        deletions::DELETIONS,
-        enumerations::PAGES,
-        enumerations::BETWEEN_PAGES,
-        enumerations::LARGEST_PAGES,
-        queries::CLASSES,
-        settings::SETS,
-        settings::LIMITS,
-        members::MEMBERS,
-    ] {
+    for table in TABLES {
         table_is_right(&rt, rt.alloc(), table)?;
     }
     Ok(())
 }
 
 #[test]
-fn policy_is_right(rt: HostRuntime) -> Result<(), Fail> {
-    for table in [
-        rights::LOOKUPS,
-        changes::ACCOUNTS,
-        changes::PRIVILEGES,
-        changes::RIGHTS,
-        changes::LIFE,
-    ] {
-        table_is_right(&rt, rt.alloc(), table)?;
-    }
-    each_right_is_right(&rt, rt.alloc(), changes::EACH_RIGHT)
-}
-
-#[test]
-fn translations_are_right(rt: HostRuntime) -> Result<(), Fail> {
-    for table in [translations::NAMES, translations::SIDS] {
-        table_is_right(&rt, rt.alloc(), table)?;
-    }
+fn each_right_and_large_translations_are_right(rt: HostRuntime) -> Result<(), Fail> {
+    each_right_is_right(&rt, rt.alloc(), changes::EACH_RIGHT)?;
     ends_are_right(&rt, rt.alloc(), translations::LARGEST)
 }
 

@@ -69,41 +69,60 @@ fn list_of(alloc: Global, kind: &str, fields: &str) -> Result<Args, Fail> {
     })
 }
 
-/// The arguments of a call.
+fn access_sid_of(fields: &str) -> Result<Args, Fail> {
+    Ok(Args::AccessSid {
+        access: number_at(fields, 0),
+        sid: parse_text(field(fields, 1))?,
+    })
+}
+
+fn make_of(alloc: Global, fields: &str) -> Result<Args, Fail> {
+    Ok(Args::Make {
+        name: name_at(alloc, fields, 0)?,
+        bits: number_at(fields, 1),
+        access: number_at(fields, 2),
+    })
+}
+
+fn put_of(alloc: Global, fields: &str) -> Result<Args, Fail> {
+    Ok(Args::Put {
+        class: class_of(fields),
+        value: value_of(alloc, field(fields, 1), field(fields, 2))?,
+    })
+}
+
+/// Arguments with a name, a SID or a value.
+fn named_of(alloc: Global, kind: &str, fields: &str) -> Result<Args, Fail> {
+    match kind {
+        "OneName" => Ok(Args::OneName(Some(Name::from_text(alloc, fields)?))),
+        "OneSid" => Ok(Args::OneSid(parse_text(fields)?)),
+        "AccessSid" => access_sid_of(fields),
+        "Make" => make_of(alloc, fields),
+        "Put" => put_of(alloc, fields),
+        _ => list_of(alloc, kind, fields),
+    }
+}
+
+/// The arguments of a call; those that are numbers stand here.
 pub fn args_of(alloc: Global, kind: &str, fields: &str) -> Result<Args, Fail> {
     let first = number_at(fields, 0);
     let second = number_at(fields, 1);
-    Ok(match kind {
-        "OneName" => Args::OneName(Some(Name::from_text(alloc, fields)?)),
-        "OneSid" => Args::OneSid(parse_text(fields)?),
-        "Rid" => Args::Rid(first),
-        "RidBits" => Args::RidBits {
+    match kind {
+        "Rid" => Ok(Args::Rid(first)),
+        "RidBits" => Ok(Args::RidBits {
             rid: first,
             bits: second,
-        },
-        "Class" => Args::Class(class_of(fields)),
-        "AccessRid" => Args::AccessRid {
+        }),
+        "Class" => Ok(Args::Class(class_of(fields))),
+        "AccessRid" => Ok(Args::AccessRid {
             access: first,
             rid: second,
-        },
-        "AccessSid" => Args::AccessSid {
-            access: first,
-            sid: parse_text(field(fields, 1))?,
-        },
-        "Page" => Args::Page {
+        }),
+        "Page" => Ok(Args::Page {
             context: first,
             filter: second,
             preferred: number_at(fields, 2),
-        },
-        "Make" => Args::Make {
-            name: name_at(alloc, fields, 0)?,
-            bits: second,
-            access: number_at(fields, 2),
-        },
-        "Put" => Args::Put {
-            class: class_of(fields),
-            value: value_of(alloc, field(fields, 1), field(fields, 2))?,
-        },
-        _ => list_of(alloc, kind, fields)?,
-    })
+        }),
+        _ => named_of(alloc, kind, fields),
+    }
 }

@@ -10,13 +10,20 @@ use std::alloc::Global;
 use std::process::Abort;
 use std::test::Fail;
 
+/// The rows of a new database whose domain has this name.
+fn seeded_by(rt: &impl Abort, alloc: Global, name: &Name) -> Result<Rows, Fail> {
+    let sid = parse_text("S-1-5-21-1-2-3")?;
+    assert!(rt; is_domain_name(alloc, name)?);
+    assert!(rt; is_domain_sid(&sid));
+    Ok(Rows::seed(alloc, name, sid)?)
+}
+
 /// The rows of a new database.
 pub fn seeded(rt: &impl Abort, alloc: Global) -> Result<Rows, Fail> {
     let name = Name::from_text(alloc, "CORP")?;
-    let sid = parse_text("S-1-5-21-1-2-3")?;
-    assert!(rt; is_domain_name(alloc, &name)?);
-    assert!(rt; is_domain_sid(&sid));
-    Ok(Rows::seed(alloc, &name, sid)?)
+    let rows = seeded_by(rt, alloc, &name);
+    drop(name);
+    rows
 }
 
 fn account_of(alloc: Global, kind: Kind, fields: &str) -> Result<AccountRow, NoMemory> {
@@ -65,24 +72,36 @@ fn lsa_of(alloc: Global, fields: &str) -> Result<LsaRow, Fail> {
     })
 }
 
-fn row_of(alloc: Global, kind: &str, fields: &str) -> Result<Row, Fail> {
-    Ok(match kind {
-        "user" => Row::Account(account_of(alloc, Kind::User, fields)?),
-        "group" => Row::Account(account_of(alloc, Kind::Group, fields)?),
-        "alias" => Row::Account(account_of(alloc, Kind::Alias, fields)?),
-        "domain" => Row::Domain(domain_of(alloc, fields)?),
-        "lsa" => Row::Lsa(lsa_of(alloc, fields)?),
-        "member" => Row::Member(MemberRow {
-            group: number_at(fields, 0),
-            user: number_at(fields, 1),
-            attributes: number_at(fields, 2),
-        }),
-        _ => Row::Alias(AliasRow {
-            domain: domain_at(fields, 0),
-            alias: number_at(fields, 1),
-            member: parse_text(field(fields, 2))?,
-        }),
+fn member_of(fields: &str) -> MemberRow {
+    MemberRow {
+        group: number_at(fields, 0),
+        user: number_at(fields, 1),
+        attributes: number_at(fields, 2),
+    }
+}
+
+fn alias_of(fields: &str) -> Result<AliasRow, Fail> {
+    Ok(AliasRow {
+        domain: domain_at(fields, 0),
+        alias: number_at(fields, 1),
+        member: parse_text(field(fields, 2))?,
     })
+}
+
+fn account_row(alloc: Global, kind: Kind, fields: &str) -> Result<Row, Fail> {
+    Ok(Row::Account(account_of(alloc, kind, fields)?))
+}
+
+fn row_of(alloc: Global, kind: &str, fields: &str) -> Result<Row, Fail> {
+    match kind {
+        "user" => account_row(alloc, Kind::User, fields),
+        "group" => account_row(alloc, Kind::Group, fields),
+        "alias" => account_row(alloc, Kind::Alias, fields),
+        "domain" => domain_of(alloc, fields).map(Row::Domain),
+        "lsa" => lsa_of(alloc, fields).map(Row::Lsa),
+        "member" => Ok(Row::Member(member_of(fields))),
+        _ => alias_of(fields).map(Row::Alias),
+    }
 }
 
 /// Adds rows.
