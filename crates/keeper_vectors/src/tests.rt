@@ -6,25 +6,18 @@ mod words;
 
 use acct_keeper::KeepError;
 use acct_streams::WholeError;
-use std::test::Fail;
-use words::tells;
+use std::alloc::AllocError;
+use words::push_text;
 
 #[test]
-fn errors_tell_in_words(rt: HostRuntime) -> Result<(), Fail> {
-    assert!(rt; tells(rt.alloc(), &KeepError::Failed, "the store failed")?);
+fn errors_tell_in_words(rt: HostRuntime) -> Result<(), AllocError> {
+    let mut told = String::new(rt.alloc());
+    push_text(&mut told, &KeepError::Failed)?;
+    push_text(&mut told, &KeepError::NoMemory)?;
+    push_text(&mut told, &WholeError::TooLong)?;
     assert!(rt;
-        tells(
-            rt.alloc(),
-            &KeepError::NoMemory,
-            "there is no memory for the store"
-        )?
-    );
-    assert!(rt;
-        tells(
-            rt.alloc(),
-            &WholeError::TooLong,
-            "there are more than 67108864 bytes"
-        )?
+        told.as_str()
+            == "the store failed;there is no memory for the store;there are more than 67108864 bytes;"
     );
     Ok(())
 }

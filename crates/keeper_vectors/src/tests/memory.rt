@@ -1,8 +1,7 @@
 // Keepers in memory: what commits make, which calls fail, and which keys ascend.
 use super::words::{pairs_of, serve, split};
 use acct_keeper::{KeepError, Keeper, MemoryKeeper, SteadyKeeper, is_ascending};
-use std::alloc::Global;
-use std::test::Fail;
+use std::alloc::{AllocError, Global};
 
 // Each row: what a new keeper is asked, and what it answers, with its count of faults at the end.
 const ROWS: &str = " load|Ok(())  0/
@@ -18,19 +17,19 @@ fn answers_are<K: Keeper>(
     keeper: &mut K,
     words: &str,
     wanted: &str,
-) -> Result<bool, Fail> {
+) -> Result<bool, AllocError> {
     let mut told = String::new(rt.alloc());
     serve(rt, keeper, words, &mut told)?;
     Ok(told.as_str() == wanted)
 }
 
-fn row_is_right(rt: &HostRuntime, row: &str) -> Result<bool, Fail> {
+fn row_is_right(rt: &HostRuntime, row: &str) -> Result<bool, AllocError> {
     let (words, wanted) = split(row, '|');
     answers_are(rt, &mut SteadyKeeper::new(rt.alloc()), words, wanted)
 }
 
 #[test]
-fn a_commit_makes_its_changes_in_order(rt: HostRuntime) -> Result<(), Fail> {
+fn a_commit_makes_its_changes_in_order(rt: HostRuntime) -> Result<(), AllocError> {
     for row in ROWS.lines() {
         assert!(rt; row_is_right(&rt, row)?, "{row}");
     }
@@ -50,17 +49,21 @@ const FAILING: [([u64; 2], &str); 5] = [
 ];
 
 // A keeper over another one, whose calls of these numbers fail.
-fn failing_over(alloc: Global, held: SteadyKeeper, failing: &[u64]) -> Result<MemoryKeeper, Fail> {
+fn failing_over(
+    alloc: Global,
+    held: SteadyKeeper,
+    failing: &[u64],
+) -> Result<MemoryKeeper, AllocError> {
     match failing.to_vec(alloc) {
         Ok(failing) => Ok(MemoryKeeper::new(held, failing)),
         Err(error) => {
             drop(held);
-            Err(error.into())
+            Err(error)
         }
     }
 }
 
-fn fails(rt: &HostRuntime, failing: &[u64], wanted: &str) -> Result<bool, Fail> {
+fn fails(rt: &HostRuntime, failing: &[u64], wanted: &str) -> Result<bool, AllocError> {
     let mut keeper = failing_over(rt.alloc(), SteadyKeeper::new(rt.alloc()), failing)?;
     let is_right = answers_are(rt, &mut keeper, FOUR_CALLS, wanted);
     drop(keeper);
@@ -68,7 +71,7 @@ fn fails(rt: &HostRuntime, failing: &[u64], wanted: &str) -> Result<bool, Fail> 
 }
 
 #[test]
-fn the_listed_calls_fail(rt: HostRuntime) -> Result<(), Fail> {
+fn the_listed_calls_fail(rt: HostRuntime) -> Result<(), AllocError> {
     for (failing, wanted) in FAILING {
         assert!(rt; fails(&rt, &failing, wanted)?, "{wanted}");
     }
@@ -76,7 +79,7 @@ fn the_listed_calls_fail(rt: HostRuntime) -> Result<(), Fail> {
 }
 
 // A commit of one pair.
-fn keeps_one(rt: &HostRuntime, keeper: &mut SteadyKeeper) -> Result<bool, Fail> {
+fn keeps_one(rt: &HostRuntime, keeper: &mut SteadyKeeper) -> Result<bool, AllocError> {
     let is_right = answers_are(rt, keeper, "a=1 load", "Ok(()) a=1; 0/")?;
     Ok(is_right && keeper.as_slice().len() == 1)
 }
@@ -91,7 +94,7 @@ fn loads_at_last(mut keeper: MemoryKeeper) -> bool {
 }
 
 #[test]
-fn a_failed_load_leaves_the_pairs(rt: HostRuntime) -> Result<(), Fail> {
+fn a_failed_load_leaves_the_pairs(rt: HostRuntime) -> Result<(), AllocError> {
     let mut held = SteadyKeeper::new(rt.alloc());
     assert!(rt; keeps_one(&rt, &mut held)?);
     assert!(rt; loads_at_last(failing_over(rt.alloc(), held, &[1])?));
@@ -108,13 +111,13 @@ const KEYS: [(&str, bool); 6] = [
     ("a=1,b=1,a=1", false),
 ];
 
-fn ascend(alloc: Global, words: &str) -> Result<bool, Fail> {
+fn ascend(alloc: Global, words: &str) -> Result<bool, AllocError> {
     let pairs = pairs_of(alloc, words)?;
     Ok(is_ascending(&pairs))
 }
 
 #[test]
-fn ascending_keys_are_told(rt: HostRuntime) -> Result<(), Fail> {
+fn ascending_keys_are_told(rt: HostRuntime) -> Result<(), AllocError> {
     for (words, wanted) in KEYS {
         assert!(rt; ascend(rt.alloc(), words)? == wanted, "{words}");
     }

@@ -3,10 +3,9 @@ use acct_streams::{
     Failed, MemorySink, MemorySource, Sink, Source, SteadySink, SteadySource, WholeError,
     read_whole, write_all,
 };
-use std::alloc::Global;
-use std::test::Fail;
+use std::alloc::{AllocError, Global};
 
-fn source(alloc: Global, failing: &[u64]) -> Result<MemorySource, Fail> {
+fn source(alloc: Global, failing: &[u64]) -> Result<MemorySource, AllocError> {
     Ok(MemorySource::new(b"abcde".to_vec(alloc)?, 2, failing.to_vec(alloc)?))
 }
 
@@ -19,7 +18,7 @@ fn has_fault<S: Source + Drop>(alloc: Global, mut source: S) -> bool {
 }
 
 #[test]
-fn a_source_is_read_to_its_end(rt: HostRuntime) -> Result<(), Fail> {
+fn a_source_is_read_to_its_end(rt: HostRuntime) -> Result<(), AllocError> {
     assert!(rt; is_read(rt.alloc(), source(rt.alloc(), &[])?));
     assert!(rt; has_fault(rt.alloc(), source(rt.alloc(), &[3])?));
     assert!(rt; is_read(rt.alloc(), SteadySource::new(b"abcde".to_vec(rt.alloc())?)));
@@ -46,7 +45,7 @@ fn writes_fail(mut sink: MemorySink) -> bool {
 }
 
 #[test]
-fn the_listed_writes_fail(rt: HostRuntime) -> Result<(), Fail> {
+fn the_listed_writes_fail(rt: HostRuntime) -> Result<(), AllocError> {
     let failing = [2].to_vec(rt.alloc())?;
     assert!(rt; writes_fail(MemorySink::new(rt.alloc(), 5, 2, failing)?));
     assert!(rt; write_all(&mut SteadySink, b"abc") == Ok(()));

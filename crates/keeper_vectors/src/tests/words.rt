@@ -6,9 +6,8 @@
 use acct_base::Seq;
 use acct_keeper::{Change, KeepError, Keeper, Pair};
 use keeper_sqlite::SqliteKeeper;
-use std::alloc::Global;
+use std::alloc::{AllocError, Global};
 use std::fmt::{Debug, Display};
-use std::test::Fail;
 
 pub const SERVED: &str = "keeper_sqlite_served/accounts.db";
 
@@ -22,23 +21,23 @@ pub fn split(text: &str, sign: char) -> (&str, &str) {
     text.split_once(sign).unwrap_or((text, ""))
 }
 
-fn push_signs(bytes: &mut Vec<u8>, text: &str) -> Result<(), Fail> {
-    if text == "*" {
-        return Ok(bytes.resize(LONG, b'x')?);
-    }
+fn push_signs(bytes: &mut Vec<u8>, text: &str) -> Result<(), AllocError> {
     for sign in text.chars() {
-        bytes.push(u8::try_from(u32::from(sign)).unwrap_or(b'?'))?;
+        bytes.push((sign as u32 & 0xff) as u8)?;
     }
     Ok(())
 }
 
-fn bytes_of(alloc: Global, text: &str) -> Result<Seq<u8>, Fail> {
+fn bytes_of(alloc: Global, text: &str) -> Result<Seq<u8>, AllocError> {
     let mut bytes = Vec::new(alloc);
-    push_signs(&mut bytes, text)?;
+    match text {
+        "*" => bytes.resize(LONG, b'x')?,
+        _ => push_signs(&mut bytes, text)?,
+    }
     Ok(Seq::from_vec(bytes))
 }
 
-fn pair_of(alloc: Global, text: &str) -> Result<Pair, Fail> {
+fn pair_of(alloc: Global, text: &str) -> Result<Pair, AllocError> {
     let (key, value) = split(text, '=');
     Ok(Pair {
         key: bytes_of(alloc, key)?,
@@ -47,7 +46,7 @@ fn pair_of(alloc: Global, text: &str) -> Result<Pair, Fail> {
 }
 
 // The pairs that words put, in their order.
-pub fn pairs_of(alloc: Global, text: &str) -> Result<Vec<Pair>, Fail> {
+pub fn pairs_of(alloc: Global, text: &str) -> Result<Vec<Pair>, AllocError> {
     let mut pairs = Vec::new(alloc);
     for word in text.split_terminator(',') {
         pairs.push(pair_of(alloc, word)?)?;
@@ -66,14 +65,14 @@ fn removal(key: Seq<u8>) -> Change {
     Change { key, value: None }
 }
 
-fn change_of(alloc: Global, text: &str) -> Result<Change, Fail> {
+fn change_of(alloc: Global, text: &str) -> Result<Change, AllocError> {
     match text.strip_prefix('-') {
         Some(key) => bytes_of(alloc, key).map(removal),
         None => pair_of(alloc, text).map(put),
     }
 }
 
-fn changes_of(alloc: Global, text: &str) -> Result<Vec<Change>, Fail> {
+fn changes_of(alloc: Global, text: &str) -> Result<Vec<Change>, AllocError> {
     let mut changes = Vec::new(alloc);
     for word in text.split_terminator(',') {
         changes.push(change_of(alloc, word)?)?;
@@ -81,9 +80,9 @@ fn changes_of(alloc: Global, text: &str) -> Result<Vec<Change>, Fail> {
     Ok(changes)
 }
 
-fn push_bytes(told: &mut String, bytes: &[u8]) -> Result<(), Fail> {
+fn push_bytes(told: &mut String, bytes: &[u8]) -> Result<(), AllocError> {
     if bytes.len() == LONG && bytes.iter().all(|byte| *byte == b'x') {
-        return Ok(told.push('*')?);
+        return told.push('*');
     }
     for byte in bytes {
         told.push(char::from(*byte))?;
@@ -91,25 +90,21 @@ fn push_bytes(told: &mut String, bytes: &[u8]) -> Result<(), Fail> {
     Ok(())
 }
 
-fn push_pair(told: &mut String, pair: &Pair) -> Result<(), Fail> {
-    push_bytes(told, pair.key.as_slice())?;
-    told.push('=')?;
-    push_bytes(told, pair.value.as_slice())?;
-    Ok(told.push(';')?)
-}
-
-fn push_pairs(told: &mut String, pairs: &[Pair]) -> Result<(), Fail> {
+fn push_pairs(told: &mut String, pairs: &[Pair]) -> Result<(), AllocError> {
     for pair in pairs {
-        push_pair(told, pair)?;
+        push_bytes(told, pair.key.as_slice())?;
+        told.push('=')?;
+        push_bytes(told, pair.value.as_slice())?;
+        told.push(';')?;
     }
     Ok(())
 }
 
-fn push_answer<T: Debug>(told: &mut String, answer: &T) -> Result<(), Fail> {
-    Ok(write!(told, "{answer:?}")?)
+fn push_answer<T: Debug>(told: &mut String, answer: &T) -> Result<(), AllocError> {
+    write!(told, "{answer:?}")
 }
 
-fn load<K: Keeper>(keeper: &mut K, told: &mut String) -> Result<(), Fail> {
+fn load<K: Keeper>(keeper: &mut K, told: &mut String) -> Result<(), AllocError> {
     match keeper.load() {
         Ok(pairs) => push_pairs(told, &pairs),
         Err(error) => push_answer(told, &Err::<(), KeepError>(error)),
@@ -121,7 +116,7 @@ fn commit<K: Keeper>(
     keeper: &mut K,
     words: &str,
     told: &mut String,
-) -> Result<(), Fail> {
+) -> Result<(), AllocError> {
     let changes = changes_of(alloc, words)?;
     let answer = keeper.commit(&changes);
     drop(changes);
@@ -139,38 +134,30 @@ pub fn refusal(rt: &HostRuntime, path: &str) -> Option<KeepError> {
     }
 }
 
-fn copied(alloc: Global, key: &[u8], value: &[u8]) -> Result<Pair, Fail> {
-    Ok(Pair {
+fn copied(alloc: Global, key: &[u8], value: &[u8]) -> Result<Change, AllocError> {
+    Ok(Change {
         key: Seq::copy_of(alloc, key)?,
-        value: Seq::copy_of(alloc, value)?,
+        value: Some(Seq::copy_of(alloc, value)?),
     })
 }
 
-fn push_put(
-    alloc: Global,
-    changes: &mut Vec<Change>,
-    key: &[u8],
-    value: &[u8],
-) -> Result<(), Fail> {
-    let pair = copied(alloc, key, value)?;
-    Ok(changes.push(put(pair))?)
-}
-
 // The changes of a number: its own pair, and which number came last.
-fn number_changes(alloc: Global, number: u16) -> Result<Vec<Change>, Fail> {
+fn number_changes(alloc: Global, number: u16) -> Result<Vec<Change>, AllocError> {
     let key = number.to_be_bytes();
     let mut changes = Vec::new(alloc);
-    push_put(alloc, &mut changes, &key, b"1")?;
-    push_put(alloc, &mut changes, b"last", &key)?;
+    changes.push(copied(alloc, &key, b"1")?)?;
+    changes.push(copied(alloc, b"last", &key)?)?;
     Ok(changes)
 }
 
-fn commit_number<K: Keeper>(alloc: Global, keeper: &mut K, number: u16) -> Result<(), Fail> {
+fn commit_number<K: Keeper>(alloc: Global, keeper: &mut K, number: u16) -> Result<(), KeepError> {
     let changes = number_changes(alloc, number)?;
-    Ok(keeper.commit(&changes)?)
+    let answer = keeper.commit(&changes);
+    drop(changes);
+    answer
 }
 
-fn commit_numbers<K: Keeper>(alloc: Global, keeper: &mut K) -> Result<(), Fail> {
+fn commit_numbers<K: Keeper>(alloc: Global, keeper: &mut K) -> Result<(), KeepError> {
     for number in 0..COMMIT_COUNT {
         commit_number(alloc, keeper, number)?;
     }
@@ -184,26 +171,13 @@ fn act<K: Keeper>(
     keeper: &mut K,
     word: &str,
     told: &mut String,
-) -> Result<(), Fail> {
+) -> Result<(), AllocError> {
     match word {
         "load" => load(keeper, told),
         "again" => push_answer(told, &refusal(rt, SERVED)),
-        "numbers" => commit_numbers(rt.alloc(), keeper),
+        "numbers" => push_answer(told, &commit_numbers(rt.alloc(), keeper)),
         changes => commit(rt.alloc(), keeper, changes, told),
     }
-}
-
-fn act_on_all<K: Keeper>(
-    rt: &HostRuntime,
-    keeper: &mut K,
-    words: &str,
-    told: &mut String,
-) -> Result<(), Fail> {
-    for word in words.split(' ') {
-        act(rt, keeper, word, told)?;
-        told.push(' ')?;
-    }
-    Ok(())
 }
 
 // What words have done, and how many faults the keeper counts then.
@@ -212,12 +186,16 @@ pub fn serve<K: Keeper>(
     keeper: &mut K,
     words: &str,
     told: &mut String,
-) -> Result<(), Fail> {
-    act_on_all(rt, keeper, words, told)?;
-    Ok(write!(told, "{}/", keeper.faults())?)
+) -> Result<(), AllocError> {
+    for word in words.split(' ') {
+        act(rt, keeper, word, told)?;
+        told.push(' ')?;
+    }
+    push_answer(told, &keeper.faults())?;
+    told.push('/')
 }
 
-// Whether a value has this text.
-pub fn tells<T: Display>(alloc: Global, value: &T, text: &str) -> Result<bool, Fail> {
-    Ok(format!(in alloc; "{value}")?.as_str() == text)
+// Adds a value's text, and a sign behind it.
+pub fn push_text<T: Display>(told: &mut String, value: &T) -> Result<(), AllocError> {
+    write!(told, "{value};")
 }
