@@ -109,15 +109,20 @@ fn begin_again(rt: &impl Abort, alloc: Global, rows: &mut Rows) -> Result<(), Fa
     Ok(())
 }
 
+/// What is told is what a row wants.
+fn told_is_wanted(rt: &impl Abort, alloc: Global, told: &str, row: &str) -> Result<(), Fail> {
+    let wanted = spelled(alloc, part(row, '|', 4))?;
+    assert_eq!(rt; told, wanted.as_str(), "{row}");
+    Ok(())
+}
+
 /// A row is told as what is wanted.
 fn row_is_right(rt: &impl Abort, alloc: Global, rows: &mut Rows, row: &str) -> Result<(), Fail> {
     if !row.starts_with('+') {
         begin_again(rt, alloc, rows)?;
     }
     let told = told(alloc, rows, row)?;
-    let wanted = spelled(alloc, part(row, '|', 4))?;
-    assert_eq!(rt; told.as_str(), wanted.as_str(), "{row}");
-    Ok(())
+    told_is_wanted(rt, alloc, told.as_str(), row)
 }
 
 fn rows_are_right(
@@ -160,8 +165,7 @@ fn told_ends(rt: &impl Abort, alloc: Global, row: &str) -> Result<String, Fail> 
 fn ends_are_right(rt: &impl Abort, alloc: Global, table: &str) -> Result<(), Fail> {
     for row in table.lines() {
         let told = told_ends(rt, alloc, row)?;
-        let wanted = spelled(alloc, part(row, '|', 4))?;
-        assert_eq!(rt; told.as_str(), wanted.as_str(), "{row}");
+        told_is_wanted(rt, alloc, told.as_str(), row)?;
     }
     Ok(())
 }
@@ -182,7 +186,7 @@ fn each_right_is_right(rt: &impl Abort, alloc: Global, rights: &str) -> Result<(
     Ok(())
 }
 
-const TABLES: [&str; 17] = [
+const TABLES: &[&str] = &[
     domains::FIRST_ROWS,
     creations::CREATIONS,
     deletions::DELETIONS,

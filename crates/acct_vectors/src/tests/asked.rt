@@ -1,5 +1,5 @@
 // The object of a handle, and the arguments: an arm of `Args` and its fields.
-use super::brought::{self, first_sids};
+use super::brought::{self, first_sids, names_behind, sids_behind};
 use super::parts::{domain_at, field, name_at, name_of, number, number_at, part};
 use acct_base::Seq;
 use acct_calls::{Args, Info, Name, Names, NoMemory, Rids, Sids};
@@ -23,11 +23,10 @@ pub fn object_of(text: &str) -> Result<Object, Fail> {
 }
 
 fn names_of(alloc: Global, fields: &str) -> Result<Names, NoMemory> {
-    let mut names = Names::new(alloc);
-    for text in fields.split_terminator(',') {
-        names.push(Name::from_text(alloc, text)?)?;
+    match fields {
+        "" => Ok(Names::new(alloc)),
+        _ => names_behind(alloc, fields, 0),
     }
-    Ok(names)
 }
 
 fn rids_of(alloc: Global, fields: &str) -> Result<Rids, NoMemory> {
@@ -39,11 +38,10 @@ fn rids_of(alloc: Global, fields: &str) -> Result<Rids, NoMemory> {
 }
 
 fn sids_of(alloc: Global, fields: &str) -> Result<Sids, Fail> {
-    let mut sids = Seq::new(alloc);
-    for text in fields.split_terminator(',') {
-        sids.push(parse_text(text)?)?;
+    match fields {
+        "" => Ok(Seq::new(alloc)),
+        _ => sids_behind(alloc, fields, 0),
     }
-    Ok(sids)
 }
 
 fn class_of(fields: &str) -> u16 {

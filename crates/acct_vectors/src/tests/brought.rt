@@ -7,7 +7,7 @@ use std::alloc::Global;
 use std::test::Fail;
 
 /// The names behind some fields.
-fn names_behind(alloc: Global, fields: &str, places: usize) -> Result<Names, NoMemory> {
+pub fn names_behind(alloc: Global, fields: &str, places: usize) -> Result<Names, NoMemory> {
     let mut names = Names::new(alloc);
     for text in fields.split(',').skip(places) {
         names.push(Name::from_text(alloc, text)?)?;
@@ -15,21 +15,25 @@ fn names_behind(alloc: Global, fields: &str, places: usize) -> Result<Names, NoM
     Ok(names)
 }
 
+fn number_name(alloc: Global, number: u32) -> Result<Name, NoMemory> {
+    let text = format!(in alloc; "{number}")?;
+    Name::from_text(alloc, text.as_str())
+}
+
 /// The names `1`, `2` and so on, and a last one.
 fn numbered_names(alloc: Global, count: u32, last: &str) -> Result<Names, NoMemory> {
     let mut names = Names::new(alloc);
     for number in 1..=count {
-        let text = format!(in alloc; "{number}")?;
-        names.push(Name::from_text(alloc, text.as_str())?)?;
+        names.push(number_name(alloc, number)?)?;
     }
     names.push(Name::from_text(alloc, last)?)?;
     Ok(names)
 }
 
-/// The SIDs behind the first field.
-fn sids_behind(alloc: Global, fields: &str) -> Result<Sids, Fail> {
+/// The SIDs behind some fields.
+pub fn sids_behind(alloc: Global, fields: &str, places: usize) -> Result<Sids, Fail> {
     let mut sids = Seq::new(alloc);
-    for text in fields.split(',').skip(1) {
+    for text in fields.split(',').skip(places) {
         sids.push(parse_text(text)?)?;
     }
     Ok(sids)
@@ -112,7 +116,7 @@ fn looked_for(alloc: Global, kind: &str, fields: &str) -> Result<Args, Fail> {
         },
         _ => Args::LookSids {
             level,
-            sids: sids_behind(alloc, fields)?,
+            sids: sids_behind(alloc, fields, 1)?,
         },
     })
 }

@@ -12,22 +12,23 @@ use std::test::Fail;
 /// Behind the outputs of what changes nothing.
 const NO_CHANGE: &str = "puts [ ] removes [ ] Nothing ";
 
-/// Whether a word is the name of a struct that its field or its list tells already.
+/// The names of structs that their field or their list tells already.
+const DROPPED: [&str; 11] = [
+    "",
+    "Seq",
+    "RidName",
+    "RidBits",
+    "Names",
+    "Opening",
+    "Held",
+    "Privilege",
+    "Place",
+    "TranslatedSid",
+    "TranslatedName",
+];
+
 fn is_dropped(word: &str) -> bool {
-    word.ends_with("Row")
-        || matches!(
-            word,
-            "" | "Seq"
-                | "RidName"
-                | "RidBits"
-                | "Names"
-                | "Opening"
-                | "Held"
-                | "Privilege"
-                | "Place"
-                | "TranslatedSid"
-                | "TranslatedName"
-        )
+    word.ends_with("Row") || DROPPED.contains(&word)
 }
 
 /// Adds a word of a `Debug` text. Brackets stand alone.
