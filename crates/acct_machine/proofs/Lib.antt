@@ -21,3 +21,4 @@ pub mod Puts
 pub mod Kept
 pub mod Loaded
 pub mod Indexes
+pub mod Committing
