@@ -205,7 +205,10 @@ fn told<R: Threads + Wait + Sync>(rt: &R, alloc: Global, config: &Config) -> Res
 {
     let mut doors = doors_of(alloc)?;
     let served = serve(rt, alloc, config, &mut doors, SteadyKeeper::new(alloc));
-    left(alloc, &served, &doors)
+    let text = left(alloc, &served, &doors);
+    drop(served);
+    drop(doors);
+    text
 }
 
 /// What is written on a link, by its connection and the names of what it is.
@@ -231,7 +234,9 @@ fn two_doors_are_served_at_once(rt: HostRuntime) -> Result<(), Fail> {
     if config.listeners.as_slice().is_empty() {
         panic!(&rt; "there is no listener")
     }
-    let text = told(&rt, alloc, &config)?;
+    let told = told(&rt, alloc, &config);
+    drop(config);
+    let text = told?;
     let first = wanted(alloc, "1 ACK1 FIRST1", "2 ACK2 FIRST2")?;
     let second = wanted(alloc, "2 ACK2 FIRST2", "1 ACK1 FIRST1")?;
     if text.as_str() != second.as_str() {

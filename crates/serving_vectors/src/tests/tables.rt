@@ -69,8 +69,8 @@ fn number(text: &str) -> u64 {
 fn door_of(alloc: Global, words: &str, failing: &str) -> Result<MemoryDoor<MemoryLink>, Fail>
     ensures { IfOk result (λ door. door.door.listener ≡ 0) }
 {
-    let links = links_of(alloc, words)?;
     let failing = [number(failing)].to_vec(alloc)?;
+    let links = links_of(alloc, words)?;
     Ok(MemoryDoor::new(SteadyDoor::new(alloc, 0, links)?, failing))
 }
 
@@ -168,7 +168,10 @@ fn told<R: Threads + Wait + Sync>(
     requires listener { 0 < length config.now.listeners }
 {
     let served = serve(rt, alloc, config, &mut doors, keeper);
-    left(alloc, &served, &doors)
+    let text = left(alloc, &served, &doors);
+    drop(served);
+    drop(doors);
+    text
 }
 
 /// What was finished, by the names of a row.
@@ -193,11 +196,42 @@ fn told_by<R: Threads + Wait + Sync>(
     requires few { vec_len doors ≤ 1024 }
     requires first { All (λ door. door.door.listener ≡ 0) doors.items }
 {
-    let config = configured(alloc, limits)?;
+    let config = match configured(alloc, limits) {
+        Ok(config) => config,
+        Err(fail) => {
+            drop(doors);
+            drop(keeper);
+            return Err(fail);
+        }
+    };
     if config.listeners.as_slice().is_empty() {
+        drop(config);
+        drop(doors);
+        drop(keeper);
         return Ok(String::new(alloc));
     }
-    told(rt, alloc, &config, doors, keeper)
+    let text = told(rt, alloc, &config, doors, keeper);
+    drop(config);
+    text
+}
+
+/// The same by the columns of a row: the limits, the links of the first door, and which calls fail.
+fn told_of<R: Threads + Wait + Sync>(
+    rt: &R,
+    alloc: Global,
+    limits: &str,
+    links: &str,
+    failing: &str,
+    store: &str,
+) -> Result<String, Fail> {
+    let keeper = keeper_of(alloc, store)?;
+    match doors_of(alloc, links, failing) {
+        Ok(doors) => told_by(rt, alloc, limits, doors, keeper),
+        Err(fail) => {
+            drop(keeper);
+            Err(fail)
+        }
+    }
 }
 
 /// What is to be told, by the columns of a row behind the one of the keeper.
@@ -213,8 +247,7 @@ fn tell<R: Abort + Threads + Wait + Sync>(rt: &R, alloc: Global, row: &str) -> R
     let (links, rest) = column(rest);
     let (failing, rest) = column(rest);
     let (store, rest) = column(rest);
-    let doors = doors_of(alloc, links, failing)?;
-    let told = told_by(rt, alloc, limits, doors, keeper_of(alloc, store)?)?;
+    let told = told_of(rt, alloc, limits, links, failing, store)?;
     let wanted = wanted(alloc, rest)?;
     assert_eq!(rt; told.as_str(), wanted.as_str(), "{row}");
     Ok(())
