@@ -1,6 +1,6 @@
 // Commands of the client. The answers are lines of replays, with the call ids of a call; those of `domains` come from
 // another writer of the layouts.
-use super::left::{ended, push_asked, push_count, written};
+use super::left::{ended, is_left, push_asked, push_count, written};
 use super::lines::{column, joined, line_of, lines_of};
 use super::worlds::{Making, Told, caller_of, making_of, world_of_caller};
 use std::alloc::Global;
@@ -101,7 +101,7 @@ fn tell<R: Abort + Threads + Wait + Sync>(rt: &R, alloc: Global, row: &str) -> R
     let (answers, rest) = column(rest);
     let left = left_by(rt, alloc, making_of(making), words, answers)?;
     let wanted = wanted_of(alloc, rest)?;
-    assert_eq!(rt; left.as_str(), wanted.as_str(), "{row}");
+    is_left(rt, left.as_str(), wanted.as_str(), row);
     Ok(())
 }
 

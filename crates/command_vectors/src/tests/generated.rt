@@ -1,7 +1,7 @@
 // The generator: what is printed for a number of users. The counts follow from the calls and from the rows of a new
 // store: two users, three aliases and no member at first; the next RID is 1000, which the alias takes. Twelve calls
 // stand around those of the users, which are three, and four for every second one.
-use super::left::{ended, push_asked, push_count, written};
+use super::left::{ended, is_left, push_asked, push_count, written};
 use super::lines::{column, front_of, joined};
 use super::worlds::{Told, making_of, world_of};
 use std::alloc::Global;
@@ -93,7 +93,7 @@ fn tell<R: Abort + Threads + Wait + Sync>(rt: &R, alloc: Global, row: &str) -> R
     let (words, wanted) = column(rest);
     let left = left_by(rt, alloc, making, words)?;
     let wanted = wanted_of(alloc, wanted)?;
-    assert_eq!(rt; left.as_str(), wanted.as_str(), "{row}");
+    is_left(rt, left.as_str(), wanted.as_str(), row);
     Ok(())
 }
 

@@ -6,6 +6,7 @@ use acct_machine::{Entry, Rows, Verdict};
 use acct_server::Status;
 use acct_world::{Part, Period, World};
 use std::alloc::Global;
+use std::process::Abort;
 use std::sync::Wait;
 use std::test::Fail;
 use std::thread::Threads;
@@ -180,6 +181,11 @@ pub fn push_asked(text: &mut String, asked: &[Part]) -> Result<(), Fail> {
 pub fn push_count(text: &mut String, count: usize) -> Result<(), Fail> {
     write!(text, " {count}")?;
     Ok(())
+}
+
+/// Asserts that this is left, of the row that wants it.
+pub fn is_left(rt: &impl Abort, left: &str, wanted: &str, row: &str) {
+    assert_eq!(rt; left, wanted, "{row}");
 }
 
 /// What was written.

@@ -1,6 +1,6 @@
 // Replays, row by row: what they leave, what they are asked for, and what a second one finds.
 use super::configs::config_of;
-use super::left::{ended, push_asked, push_count, push_histories, push_rows, written};
+use super::left::{ended, is_left, push_asked, push_count, push_histories, push_rows, written};
 use super::lines::{column, front_of, joined, lines_of};
 use super::worlds::{Making, Steady, Told, making_of, steady_world, world_of, world_of_stored};
 use acct_base::Seq;
@@ -75,7 +75,7 @@ fn tell<R: Abort + Threads + Wait + Sync>(rt: &R, alloc: Global, row: &str) -> R
     let texts = texts_of(alloc, config, events)?;
     let left = left_of(rt, alloc, words, texts, making_of(making))?;
     let wanted = wanted_of(alloc, rest)?;
-    assert_eq!(rt; left.as_str(), wanted.as_str(), "{row}");
+    is_left(rt, left.as_str(), wanted.as_str(), row);
     Ok(())
 }
 
@@ -160,7 +160,7 @@ fn tell_asked<R: Abort + Threads + Wait + Sync>(
     let (making, rest) = column(row);
     let (events, wanted) = column(rest);
     let asked = asked_by(rt, alloc, making, events)?;
-    assert_eq!(rt; asked.as_str(), wanted, "{row}");
+    is_left(rt, asked.as_str(), wanted, row);
     Ok(())
 }
 
@@ -263,7 +263,7 @@ fn tell_second<R: Abort + Threads + Wait + Sync>(
     let stored = stored_after(rt, alloc, first, change)?;
     let left = left_over(rt, alloc, stored, second)?;
     let wanted = wanted_of(alloc, rest)?;
-    assert_eq!(rt; left.as_str(), wanted.as_str(), "{row}");
+    is_left(rt, left.as_str(), wanted.as_str(), row);
     Ok(())
 }
 

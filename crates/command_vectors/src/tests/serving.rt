@@ -6,7 +6,7 @@ ghost use Rattle.acct_links.specs.Memory.{told_by};
 
 use super::configs::config_with;
 use super::forgetful::Forgetful;
-use super::left::{ended, push_asked, push_history};
+use super::left::{ended, is_left, push_asked, push_history};
 use super::lines::{column, joined, line_of};
 use super::replays::stored_after;
 use super::worlds::{Told, making_of, numbered, world_of_entrance};
@@ -385,7 +385,7 @@ fn tell<R: Abort + Threads + Wait + Sync>(rt: &R, alloc: Global, row: &str) -> R
     let (doors, rest) = column(rest);
     let left = left_by(rt, alloc, making, words, lines, doors)?;
     let wanted = wanted_of(alloc, rest)?;
-    assert_eq!(rt; left.as_str(), wanted.as_str(), "{row}");
+    is_left(rt, left.as_str(), wanted.as_str(), row);
     Ok(())
 }
 

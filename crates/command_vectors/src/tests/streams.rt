@@ -1,5 +1,6 @@
 // Events as they are: ends of lines, streams in pieces, and a source above the limit.
 use super::configs::config_of;
+use super::left::is_left;
 use super::lines::{joined, line_of};
 use super::replays::{REPLAY, left_of, wanted_of};
 use super::worlds::making_of;
@@ -25,7 +26,7 @@ fn tell<R: Abort + Threads + Wait + Sync>(
 ) -> Result<(), Fail> {
     let left = left_by(rt, alloc, events)?;
     let wanted = wanted_of(alloc, row)?;
-    assert_eq!(rt; left.as_str(), wanted.as_str());
+    is_left(rt, left.as_str(), wanted.as_str(), row);
     Ok(())
 }
 
