@@ -1,7 +1,6 @@
-// Streams in memory, keepers in memory, keepers in files, and what their errors tell.
+// Keepers in memory, keepers in files, and what errors tell.
 mod files;
 mod memory;
-mod streams;
 mod words;
 
 use acct_keeper::KeepError;

@@ -1,5 +1,6 @@
 // Listeners and their clients in one process: what comes over a link, how many links a door gives, and what is at an
 // address already.
+use crate::tests::files::{holds, make_folder};
 use acct_keeper::KeepError;
 use acct_links::{Door, Entrance, Link, Next, send};
 use host_doors::{HostDoor, HostEntrance, Socket};
@@ -66,12 +67,6 @@ fn a_door_by_tcp_that_gives_one_link(rt: HostRuntime) -> Result<(), Fail> {
         .unwrap_or("");
     assert!(rt; doors.len() == 1);
     assert!(rt; gives_one_link(&rt, &mut doors[0], place)?);
-    Ok(())
-}
-
-fn make_folder(rt: &HostRuntime, path: &str) -> Result<(), Fail> {
-    let _ = fs::remove_dir_all(rt, path);
-    fs::create_dir(rt, path)?;
     Ok(())
 }
 
@@ -175,10 +170,6 @@ fn are_refused(rt: &HostRuntime) -> Result<bool, Fail> {
         }
     }
     Ok(true)
-}
-
-fn holds(rt: &HostRuntime, path: &str, text: &str) -> Result<bool, Fail> {
-    Ok(fs::read_to_string(rt, path)?.as_str() == text)
 }
 
 #[test]

@@ -3,6 +3,7 @@
 // A word is a load or a commit, and a commit its changes: a pair is put, or the one with the key behind the sign
 // removed. A sign stands for its byte, a star for a long key or value. Of a file there are two words more: it is opened
 // once again, and many numbers are committed.
+use crate::tests::words::split;
 use acct_base::Seq;
 use acct_keeper::{Change, KeepError, Keeper, Pair};
 use keeper_sqlite::SqliteKeeper;
@@ -15,11 +16,6 @@ const COMMIT_COUNT: u16 = 300;
 
 // More than a page.
 const LONG: usize = 5_000;
-
-// The front of a text up to a sign, and what is behind the sign.
-pub fn split(text: &str, sign: char) -> (&str, &str) {
-    text.split_once(sign).unwrap_or((text, ""))
-}
 
 fn push_signs(bytes: &mut Vec<u8>, text: &str) -> Result<(), AllocError> {
     for sign in text.chars() {

@@ -4,6 +4,7 @@ ghost use Rattle.acct_config.specs.Right.{IsRight};
 ghost use Rattle.acct_links.specs.Links.{IsNew};
 ghost use Rattle.acct_links.specs.Memory.{told_by_steady};
 
+use crate::tests::words::split;
 use acct_base::Seq;
 use acct_config::{Config, read_config};
 use acct_links::{Asking, Door, DoorPlan, Link, MemoryEntrance, Next, SteadyLink};
@@ -26,11 +27,6 @@ const ROWS: &str = "0|tcp:127.0.0.1:4045 1 0|Ok(())|0 tcp:127.0.0.1:4045 1 0,|0a
 2|tcp:h:1 2 0,unix:s 1 3,unix:t 1 0|Err(Failed)|0 tcp:h:1 2 0,|0a,0b,
 3|tcp:h:1 2 0,unix:s 1 3,unix:t 1 0|Err(Failed)|0 tcp:h:1 2 0,1 unix:s 1 3,|0a,0b,1c,
 4|tcp:h:1 2 0,unix:s 1 3,unix:t 1 0|Ok(())|0 tcp:h:1 2 0,1 unix:s 1 3,2 unix:t 1 0,|0a,0b,1c,2-,";
-
-// The front of a text up to a sign, and what is behind the sign.
-fn split(text: &str, sign: char) -> (&str, &str) {
-    text.split_once(sign).unwrap_or((text, ""))
-}
 
 // A listener's lines in a document.
 fn push_listener(document: &mut String, place: usize, listener: &str) -> Result<(), Fail> {

@@ -1,5 +1,7 @@
 // Files that are made, changed and opened again, tables of another program, and files that are refused.
-use super::words::{SERVED, refusal, serve, split};
+use super::words::{SERVED, refusal, serve};
+use crate::tests::files::{holds, make_folder};
+use crate::tests::words::split;
 use acct_keeper::KeepError;
 use keeper_sqlite::SqliteKeeper;
 use sqlite::{Alter, Connection, Error};
@@ -51,11 +53,6 @@ fn answers(rt: &HostRuntime, path: &str, words: &str) -> Result<String, KeepErro
         open_and_serve(rt, path, part, &mut told)?;
     }
     Ok(told)
-}
-
-fn make_folder(rt: &HostRuntime, path: &str) -> Result<(), Fail> {
-    let _ = fs::remove_dir_all(rt, path);
-    Ok(fs::create_dir(rt, path)?)
 }
 
 // The connection is closed at the end.
@@ -116,10 +113,6 @@ fn unrefused(rt: &HostRuntime) -> Option<&'static str> {
         }
     }
     None
-}
-
-fn holds(rt: &HostRuntime, path: &str, text: &str) -> Result<bool, Fail> {
-    Ok(fs::read_to_string(rt, path)?.as_str() == text)
 }
 
 #[test]

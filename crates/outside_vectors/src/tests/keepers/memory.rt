@@ -1,5 +1,6 @@
 // Keepers in memory: what commits make, which calls fail, and which keys ascend.
-use super::words::{pairs_of, serve, split};
+use super::words::{pairs_of, serve};
+use crate::tests::words::split;
 use acct_keeper::{KeepError, Keeper, MemoryKeeper, SteadyKeeper, is_ascending};
 use std::alloc::{AllocError, Global};
 

@@ -3,6 +3,7 @@ ghost use Rattle.std.specs.Prelude.{All, IfOk};
 ghost use Rattle.acct_links.specs.Links.{IsNew};
 ghost use Rattle.acct_links.specs.Memory.{told_by_steady};
 
+use crate::tests::words::split;
 use acct_base::Seq;
 use acct_links::{
     Caller, Door, DoorPlan, Entrance, Link, MemoryCaller, MemoryEntrance, MemoryLink, Next,
@@ -16,11 +17,6 @@ use std::test::Fail;
 const LINKS: &str =
     "4|2 4|r r wuvw ww wwxy swx r|ab failed Ok(2) Err(Failed) Err(Failed) Ok(()) cd |uvwx
 0||r r r r r|ab cd e   |";
-
-// The front of a text up to a bar, and what is behind the bar.
-fn column(text: &str) -> (&str, &str) {
-    text.split_once('|').unwrap_or((text, ""))
-}
 
 fn number(word: &str) -> u32 {
     word.parse::<u32>().ok().unwrap_or(0)
@@ -87,9 +83,9 @@ fn asked(alloc: Global, link: &mut MemoryLink, words: &str) -> Result<String, Fa
 }
 
 fn is_answered(alloc: Global, row: &str) -> Result<bool, Fail> {
-    let (room, rest) = column(row);
-    let (failing, rest) = column(rest);
-    let (words, wanted) = column(rest);
+    let (room, rest) = split(row, '|');
+    let (failing, rest) = split(rest, '|');
+    let (words, wanted) = split(rest, '|');
     let mut link = link_of(alloc, room, failing)?;
     Ok(asked(alloc, &mut link, words)?.as_str() == wanted)
 }
