@@ -1,0 +1,10 @@
+-- `connect5` meets its contract: what the search leaves open.
+use Rattle.std.proofs.Common.{refl}
+use Rattle.acct_layouts.specs.CallShapes.{CanBeSpelled}
+use Rattle.acct_layouts.specs.Table.{samr_layout}
+use Rattle.acct_operations.specs.Table.{operation, work_of}
+use Rattle.account_vectors.proofs.tests.machine.calls.connect5.Goals as goal
+
+pub returns : goal.returns
+unfolding operation work_of CanBeSpelled samr_layout
+returns c = (refl, (refl, c.ranges.access.fits))

@@ -1,0 +1,10 @@
+-- `open_policy2` meets its contract: what the search leaves open.
+use Rattle.std.proofs.Common.{refl}
+use Rattle.acct_layouts.specs.CallShapes.{CanBeSpelled}
+use Rattle.acct_layouts.specs.Table.{lsa_layout}
+use Rattle.acct_operations.specs.Table.{operation, work_of}
+use Rattle.account_vectors.proofs.tests.machine.calls.open_policy2.Goals as goal
+
+pub returns : goal.returns
+unfolding operation work_of CanBeSpelled lsa_layout
+returns c = (refl, (refl, c.ranges.access.fits))

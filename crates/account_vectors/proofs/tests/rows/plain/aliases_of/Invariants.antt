@@ -1,0 +1,11 @@
+-- What the loop of `aliases_of` keeps.
+use Rattle.std.proofs.Common.{◌≡◌, ◌++◌, drop, map}
+use Rattle.std.specs.List.{filter}
+use Rattle.acct_rows.specs.Rows.{has_one, each_once}
+use Rattle.account_vectors.proofs.Once.{once_after}
+use Rattle.account_vectors.proofs.tests.rows.plain.aliases_of.Given as goal
+
+abbrev pub invariant-loop-row : goal.invariant-loop-row
+invariant-loop-row l =
+    l.rids ++ once_after l.last (map (λ row. row.alias) (filter (has_one l.domain l.sids) (drop l.row-index l.rows)))
+    ≡ each_once (map (λ row. row.alias) (filter (has_one l.domain l.sids) l.rows))

@@ -1,0 +1,8 @@
+-- What the loop of `is_among` keeps.
+use Rattle.std.proofs.Common.{◌≡◌, drop}
+use Rattle.std.specs.List.{list_any}
+use Rattle.dtyp_sid.specs.Order.{sid_eq}
+use Rattle.account_vectors.proofs.tests.rows.plain.is_among.Given as goal
+
+abbrev pub invariant-loop-other : goal.invariant-loop-other
+invariant-loop-other l = list_any (sid_eq l.sid) (drop l.other-index l.sids) ≡ list_any (sid_eq l.sid) l.sids

@@ -1,0 +1,6 @@
+// Rows, the operations on them, and the machine.
+mod first_rows;
+mod machine;
+mod operations;
+mod rows;
+mod words;

@@ -1,9 +1,0 @@
--- What the loop of `find_name` keeps.
-use Rattle.std.proofs.Common.{◌≡◌, drop}
-use Rattle.std.specs.List.{find}
-use Rattle.acct_rows.specs.Rows.{has_name}
-use Rattle.row_vectors.proofs.plain.find_name.Given as goal
-
-abbrev pub invariant-loop-account : goal.invariant-loop-account
-invariant-loop-account l =
-    find (has_name l.domain l.name) (drop l.account-index l.accounts) ≡ find (has_name l.domain l.name) l.accounts

@@ -1,8 +1,0 @@
-// Rows, their pairs and their indexes: a module for each, and what their rows of words say.
-mod answers;
-mod changes;
-mod indexes;
-mod pairs;
-mod rows;
-mod tables;
-mod words;
