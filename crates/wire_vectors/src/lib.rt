@@ -1,8 +1,11 @@
-//! Test vectors of both wires: stubs as Samba and impacket write them, with what they bring in words.
+//! Test vectors of what goes over the wire: values, as texts and bytes of SIDs, descriptors, accesses, names and
+//! configurations; PDUs of connection-oriented DCE/RPC (C706, chapter 12) and streams of them, cut anywhere; stubs of
+//! both interfaces with what they bring in words; and the client, with its dialogues byte for byte, its calls over
+//! links in memory and the event lines of the generator. What is expected was written by other software, or is the
+//! standards'.
 //!
-//! It has tests alone, which call `samr_wire` and `lsa_wire` as a layer above does. Both interfaces share one way of
-//! telling a value, one reader of tables and one row form, so each is proved once, and the wires themselves are proved
-//! without tests.
+//! It has tests alone, which call the crates of values, of RPC, of the wires and of the client as a layer above does,
+//! so these crates themselves are proved without tests.
 #![tactic(auto)]
 
 #[cfg(test)]

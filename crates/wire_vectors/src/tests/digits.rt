@@ -4,7 +4,7 @@ use std::process::Abort;
 use std::test::Fail;
 
 /// The value of a hexadecimal digit.
-pub fn digit_of(letter: u8) -> Option<u8> {
+fn digit_of(letter: u8) -> Option<u8> {
     match letter {
         b'0'..=b'9' => Some(letter - b'0'),
         b'a'..=b'f' => Some(letter - b'a' + 10),
@@ -13,7 +13,7 @@ pub fn digit_of(letter: u8) -> Option<u8> {
 }
 
 /// Adds the bytes in digits. Capitals, by which the source of a stub is named, are none.
-pub fn add_digits(bytes: &mut Vec<u8>, digits: &str) -> Result<(), Fail> {
+fn add_digits(bytes: &mut Vec<u8>, digits: &str) -> Result<(), Fail> {
     let mut high: Option<u8> = None;
     for letter in digits.bytes() {
         let Some(digit) = digit_of(letter) else {
@@ -30,15 +30,28 @@ pub fn add_digits(bytes: &mut Vec<u8>, digits: &str) -> Result<(), Fail> {
     Ok(())
 }
 
+/// How often a word `N*REST` repeats its rest, and the rest.
+pub fn repeated(word: &str) -> (u32, &str) {
+    let (times, rest) = word.split_once('*').unwrap_or(("1", word));
+    (times.parse::<u32>().unwrap_or(0), rest)
+}
+
 /// Adds the bytes that a text spells: of each word `N*DIGITS` the digits so many times.
 pub fn add_bytes(bytes: &mut Vec<u8>, text: &str) -> Result<(), Fail> {
     for word in text.split(' ') {
-        let (times, digits) = word.split_once('*').unwrap_or(("1", word));
-        for _ in 0..times.parse::<u32>().unwrap_or(0) {
+        let (times, digits) = repeated(word);
+        for _ in 0..times {
             add_digits(bytes, digits)?;
         }
     }
     Ok(())
+}
+
+/// The bytes that a text spells.
+pub fn bytes_of(alloc: Global, text: &str) -> Result<Vec<u8>, Fail> {
+    let mut bytes = Vec::new(alloc);
+    add_bytes(&mut bytes, text)?;
+    Ok(bytes)
 }
 
 /// The bytes that two texts spell.
