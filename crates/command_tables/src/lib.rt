@@ -1,5 +1,5 @@
 //! Rows of runs of the program, as texts: lines of events and lines that are written, by their names, and the runs that
-//! `command_vectors` tells row by row. It has no function. The texts stand in a crate of their own since the gate takes
+//! `server_vectors` tells row by row. It has no function. The texts stand in a crate of their own since the gate takes
 //! a crate's lines for a measure of the memory that its proof needs.
 #![tactic(auto)]
 

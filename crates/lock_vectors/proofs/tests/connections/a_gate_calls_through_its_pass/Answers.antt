@@ -1,6 +1,0 @@
--- `a_gate_calls_through_its_pass` meets its contract: what the search leaves open.
-use Rattle.lock_vectors.proofs.tests.connections.a_gate_calls_through_its_pass.Goals as goal
-
-pub call_through-requires : goal.call_through-requires
-call_through-requires g c = let e = c.open_conn.ensures in
-    (e.pass, e.opened c.if-open_conn.true, e.numbers c.if-open_conn.true)
