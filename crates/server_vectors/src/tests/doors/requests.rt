@@ -1,5 +1,5 @@
 // Requests of operations that are served, and of others.
-use crate::tests::lines::{column, number};
+use crate::tests::lines::column;
 use acct_machine::{Call, Face};
 use acct_requests::read_request;
 use acct_stubs::WireError;
@@ -46,12 +46,16 @@ fn told(alloc: Global, face: Face, opnum: u16, stub: &str) -> Result<String, Fai
     Ok(text)
 }
 
+fn opnum_of(digits: &str) -> u16 {
+    digits.parse::<u16>().ok().unwrap_or(0)
+}
+
 fn tell(rt: &impl Abort, alloc: Global, row: &str) -> Result<(), Fail> {
     let (face, rest) = column(row);
     let (opnum, rest) = column(rest);
     let (stub, wanted) = column(rest);
     let face = if face == "lsa" { Face::Lsa } else { Face::Samr };
-    let told = told(alloc, face, number(opnum) as u16, stub)?;
+    let told = told(alloc, face, opnum_of(opnum), stub)?;
     assert_eq!(rt; told.as_str(), wanted, "{row}");
     Ok(())
 }
