@@ -1,5 +1,5 @@
 -- What the keeper of a machine has to do with its history.
-use Rattle.std.specs.Prelude.{◌≡◌, ℕ, ◌^◌, ◌≤◌, ◌<◌, List, Option, IfSome, All, ⊤}
+use Rattle.std.specs.Prelude.{◌≡◌, ℕ, ◌^◌, ◌≤◌, ◌<◌, List, Option, IfSome, All}
 use Rattle.acct_keeper.specs.declared.pairs.Pair.{Pair}
 use Rattle.acct_rows.specs.Rows.{Lists}
 use Rattle.acct_streams.specs.Memory.{one_more}

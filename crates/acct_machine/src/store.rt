@@ -7,6 +7,7 @@ ghost use Rattle.acct_config.specs.Right.{IsRight};
 ghost use Rattle.acct_calls.specs.declared.replies.Reply.TheVariants.{Done};
 ghost use Rattle.acct_rows.specs.Rows.{after};
 ghost use Rattle.acct_rows.specs.Sound.{IsSoundRows};
+ghost use Rattle.acct_codes.specs.Statuses.{status_internal_db_error, status_no_memory};
 ghost use Rattle.acct_keeper.specs.Causes.{KeepCause};
 ghost use Rattle.acct_keeper.specs.Counts.{after_call};
 ghost use Rattle.acct_keeper.specs.declared.keeper.KeepError.TheVariants as keeps;
@@ -104,6 +105,31 @@ fn replied(alloc: Global, call: &Call, status: u32, outs: Outs) -> Reply
         return refusal(alloc, call, status);
     }
     Reply::Done { status, outs }
+}
+
+// What comes of a call whose change the keeper failed to commit, or for which memory was wanted.
+fn uncommitted<K: Keeper>(
+    alloc: Global,
+    keeper: &K,
+    call: &Call,
+    error: KeepError,
+) -> (Verdict, Reply)
+    ensures failed { error ≡ keeps.Failed → result ≡ (
+      verdicts.StoreFault (K.faults keeper.now),
+      Done status_internal_db_error (refusal_outs call.now),
+    ) }
+    ensures memory { error ≡ keeps.NoMemory → result ≡ (
+      verdicts.NoMemory,
+      Done status_no_memory (refusal_outs call.now),
+    ) }
+{
+    match error {
+        KeepError::Failed => (
+            Verdict::StoreFault(keeper.faults()),
+            refusal(alloc, call, STATUS_INTERNAL_DB_ERROR),
+        ),
+        KeepError::NoMemory => (Verdict::NoMemory, refusal(alloc, call, STATUS_NO_MEMORY)),
+    }
 }
 
 // Puts the handle that was opened, and its grant, among the outputs.
@@ -386,16 +412,9 @@ impl Store {
                 fill_outs(&mut outs, call, handle, granted);
                 (Verdict::Ran, replied(alloc, call, status, outs))
             }
-            Err(KeepError::Failed) => {
+            Err(error) => {
                 drop(outs);
-                (
-                    Verdict::StoreFault(keeper.faults()),
-                    refusal(alloc, call, STATUS_INTERNAL_DB_ERROR),
-                )
-            }
-            Err(KeepError::NoMemory) => {
-                drop(outs);
-                (Verdict::NoMemory, refusal(alloc, call, STATUS_NO_MEMORY))
+                uncommitted(alloc, keeper, call, error)
             }
         }
     }
@@ -464,16 +483,9 @@ impl Store {
         } = planned;
         match self.change(alloc, keeper, conn, call.handle.number, plan, effect) {
             Ok(()) => (Verdict::Ran, replied(alloc, call, status, outs)),
-            Err(KeepError::Failed) => {
+            Err(error) => {
                 drop(outs);
-                (
-                    Verdict::StoreFault(keeper.faults()),
-                    refusal(alloc, call, STATUS_INTERNAL_DB_ERROR),
-                )
-            }
-            Err(KeepError::NoMemory) => {
-                drop(outs);
-                (Verdict::NoMemory, refusal(alloc, call, STATUS_NO_MEMORY))
+                uncommitted(alloc, keeper, call, error)
             }
         }
     }

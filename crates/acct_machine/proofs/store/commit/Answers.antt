@@ -1,5 +1,5 @@
 -- `commit` meets its contract: what the search finds late.
-use Rattle.std.proofs.Common.{◌≡◌, sym, subst, ◌∙◌}
+use Rattle.std.proofs.Common.{sym, subst, ◌∙◌}
 use Rattle.acct_rows.specs.Rows.{Lists, after}
 use Rattle.acct_machine.specs.Storing.{HoldsRows}
 use Rattle.acct_machine.proofs.Committing.{unchanged, followed}
