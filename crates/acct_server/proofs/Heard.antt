@@ -109,7 +109,7 @@ got i [] p d is = absurd cc
 got zero (q ∷ peers) p d is = let same : q ≡ p = cc in same
 got (suc i) (q ∷ peers) p d is = got i peers p d is
 
-pub peer-got : (conn : ℕ) (peers : List Peer) (p d : Peer) → peer_of conn peers ≡ Some p
+peer-got : (conn : ℕ) (peers : List Peer) (p d : Peer) → peer_of conn peers ≡ Some p
     → slice_index_or peers (conn - 1) d ≡ p
 peer-got zero peers p d is = absurd cc
 peer-got (suc i) peers p d is = let same : i ≡ suc i - 1 =
@@ -120,6 +120,23 @@ pub peer-set : (conn : ℕ) (peers : List Peer) (p q : Peer) → peer_of conn pe
 peer-set zero peers p q is = absurd cc
 peer-set (suc i) peers p q is = let same : i ≡ suc i - 1 =
     omega arith in subst (λ (n : ℕ). slice_set peers n q ≡ slice_set peers i q) same refl
+
+-- the connection at a place that was lent is the open one that was found
+pub open-here : (conn : ℕ) (now lent : List Peer) (found here : Peer) (hearing : Hearing) → lent ≡ now
+    → Some found ≡ peer_of conn now → here ≡ slice_index_or lent (conn - 1) here → here ≡ Open hearing
+    → peer_of conn now ≡ Some (Open hearing)
+open-here conn now lent found here hearing same at is stands =
+    let known = subst (λ (ps : List Peer). peer_of conn ps ≡ Some found) (sym same) (sym at) in
+    sym at ∙ ap (λ (p : Peer). Some p) (sym (is ∙ peer-got conn lent found here known) ∙ stands)
+
+-- what it leaves once it has heard a piece
+pub heard-here : (conn : ℕ) (now lent : List Peer) (hearing left : Hearing) (piece : List ℕ) → lent ≡ now
+    → peer_of conn now ≡ Some (Open hearing) → left ≡ (on hearing piece).leaves
+    → slice_set lent (conn - 1) (Open left) ≡ with_peer conn (Open (on hearing piece).leaves) now
+heard-here conn now lent hearing left piece same stands leaves =
+    let behind : Peer = Open (on hearing piece).leaves in
+    ap (λ (h : Hearing). slice_set lent (conn - 1) (Open h)) leaves
+    ∙ ap (λ (ps : List Peer). slice_set ps (conn - 1) behind) same ∙ peer-set conn now (Open hearing) behind stands
 
 -- every connection has heard at most so much, where one has heard a piece more
 pub all-heard : IsCutAnywhere → (most conn : ℕ) (hearing : Hearing) (piece : List ℕ) (peers : List Peer)
