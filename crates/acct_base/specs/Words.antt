@@ -1,5 +1,5 @@
 -- Words and decimal numbers in bytes.
-use Rattle.std.specs.Prelude.{ℕ, ◌+◌, ◌-◌, ◌*◌, ◌==◌, Bool, ◌&&◌, List, [], ◌∷◌, length, Option, Some, None}
+use Rattle.std.specs.Prelude.{ℕ, ◌+◌, ◌-◌, ◌*◌, ◌==◌, Bool, false, ◌&&◌, not, List, [], ◌∷◌, length, Option, Some, None}
 use Rattle.std.specs.Prelude.{if◌then◌else◌, nat_lt, nat_le}
 use Rattle.std.specs.List.{before_first, after_first, position_or_len}
 
@@ -18,3 +18,13 @@ parted separator text =
 abbrev pub decimal_from : ℕ → List ℕ → Option ℕ
 decimal_from number [] = Some number
 decimal_from number (b ∷ text) = if is_within 48 57 b then decimal_from (10 * number + (b - 48)) text else None
+
+abbrev pub begins_with_zero : List ℕ → Bool
+begins_with_zero [] = false
+begins_with_zero (b ∷ text) = b == 48
+
+-- the number that a text spells in at most so many decimal digits, without leading zeros
+unfoldable pub decimal_of : ℕ → List ℕ → Option ℕ
+decimal_of most text =
+    if is_within 1 most (length text) && not (begins_with_zero text && nat_lt 1 (length text)) then decimal_from 0 text
+    else None

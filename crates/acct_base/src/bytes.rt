@@ -1,5 +1,5 @@
 // Calls on bytes, with contracts that speak of lists.
-ghost use Rattle.std.specs.Prelude.{◌≡◌, ◌+◌, ◌≤◌, ◌++◌, length, drop, OnOk};
+ghost use Rattle.std.specs.Prelude.{◌≡◌, ◌+◌, ◌≤◌, ◌++◌, length, take, drop, OnOk};
 ghost use Rattle.std.specs.Int.{w16, w32, from_le_bytes, to_le_bytes};
 ghost use Rattle.std.specs.Str.{bytes_eq};
 
@@ -19,6 +19,16 @@ pub fn rest_of(bytes: &[u8], place: usize) -> &[u8]
     ensures length { length result.now + place ≡ length bytes.now }
 {
     &bytes[place..]
+}
+
+/// So many bytes at the front.
+pub fn front_of(bytes: &[u8], count: usize) -> &[u8]
+    requires { count ≤ length bytes.now }
+    ensures value { result.now ≡ take count bytes.now }
+    ensures length { length result.now ≡ count }
+{
+    let (front, _) = bytes.split_at(count);
+    front
 }
 
 /// The number of the two bytes at the front, the lowest first.

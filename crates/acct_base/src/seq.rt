@@ -1,6 +1,7 @@
 // A list that the heap holds.
-ghost use Rattle.std.specs.Prelude.{◌≡◌, [], ◌∷◌, ◌++◌, IfOk, OnOk, OnErr};
+ghost use Rattle.std.specs.Prelude.{◌≡◌, ◌≤◌, [], ◌∷◌, ◌++◌, length, drop, IfOk, OnOk, OnErr};
 
+use crate::bytes::rest_of;
 use std::alloc::{AllocError, Global};
 use std::marker::Model;
 
@@ -57,6 +58,14 @@ impl<T: Drop> Seq<T> {
         self.values.push(value)?;
         Ok(())
     }
+
+    /// The list with one value more at its end. A list that is handed on so isn't held where memory runs out.
+    pub fn with(mut self, value: T) -> Result<Self, AllocError>
+        ensures { IfOk result (λ longer. longer ≡ self ++ value ∷ []) }
+    {
+        self.push(value)?;
+        Ok(self)
+    }
 }
 
 impl Seq<u8> {
@@ -68,4 +77,25 @@ impl Seq<u8> {
             values: bytes.to_vec(alloc)?,
         })
     }
+}
+
+/// The bytes of both. The first grow in place.
+pub fn extended(bytes: Seq<u8>, more: &[u8]) -> Result<Seq<u8>, AllocError>
+    ensures { IfOk result (λ all. all ≡ bytes ++ more.now) }
+{
+    let mut bytes = bytes.into_vec();
+    bytes.extend_from_slice(more)?;
+    Ok(Seq::from_vec(bytes))
+}
+
+/// The bytes from a place on. They are copied where some in front are left out, so that no more memory is kept than
+/// they take.
+pub fn kept(alloc: Global, bytes: Seq<u8>, place: usize) -> Result<Seq<u8>, AllocError>
+    requires { place ≤ length bytes }
+    ensures { IfOk result (λ rest. rest ≡ drop place bytes) }
+{
+    if place == 0 {
+        return Ok(bytes);
+    }
+    Seq::copy_of(alloc, rest_of(bytes.as_slice(), place))
 }

@@ -1,7 +1,7 @@
 // Words and decimal numbers in bytes.
 ghost use Rattle.std.specs.Prelude.{◌≡◌, ◌+◌, ◌^◌, ◌<◌, ◌≤◌, length, drop, option_map, IfSome};
 ghost use Rattle.std.specs.List.{position_or_len};
-ghost use Rattle.acct_base.specs.Words.{parted, decimal_from};
+ghost use Rattle.acct_base.specs.Words.{parted, decimal_from, decimal_of};
 
 use crate::bytes::rest_of;
 
@@ -32,4 +32,17 @@ pub fn decimal(digits: &[u8]) -> Option<u64>
         number = 10 * number + (*digit - b'0') as u64;
     }
     Some(number)
+}
+
+/// The number that one to so many decimal digits spell, ten or fewer, without a leading zero; a lone 0 is taken.
+#[tactic(auto, unfolding(crate::specs::Words::decimal_of))]
+pub fn decimal_of(most: usize, text: &[u8]) -> Option<u64>
+    requires { most ≤ 10 }
+    ensures value { result ≡ decimal_of most text.now }
+    ensures small { IfSome result (λ number. number < 10 ^ most) }
+{
+    if text.is_empty() || most < text.len() || (text[0] == b'0' && 1 < text.len()) {
+        return None;
+    }
+    decimal(text)
 }

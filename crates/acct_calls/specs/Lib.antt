@@ -1,3 +1,4 @@
+pub mod Calls
 pub mod CodePoints
 pub mod Domains
 pub mod Folding

@@ -1,4 +1,7 @@
 // Calls of the two interfaces, and what they bring.
+ghost use Rattle.std.specs.Prelude.{◌≡◌};
+ghost use Rattle.acct_calls.specs.Calls.{samr_call, lsa_call};
+
 use crate::{Handle, Info, Name, Names, PrivilegeSet, Rids, Sids};
 use dtyp_sid::Sid;
 
@@ -99,4 +102,28 @@ pub enum Args {
         rooted: bool,
         access: u32,
     },
+}
+
+/// The call of an operation of the account database (MS-SAMR). Where it takes no handle, that is the zero handle.
+pub fn samr_call(opnum: u16, handle: Handle, args: Args) -> Call
+    ensures { result ≡ samr_call opnum handle args }
+{
+    Call {
+        face: Face::Samr,
+        opnum,
+        handle,
+        args,
+    }
+}
+
+/// The call of an operation of the policy, on rights, or of translation (MS-LSAD, MS-LSAT), with its handle likewise.
+pub fn lsa_call(opnum: u16, handle: Handle, args: Args) -> Call
+    ensures { result ≡ lsa_call opnum handle args }
+{
+    Call {
+        face: Face::Lsa,
+        opnum,
+        handle,
+        args,
+    }
 }

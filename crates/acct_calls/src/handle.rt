@@ -6,3 +6,6 @@
 pub struct Handle {
     pub number: u128,
 }
+
+/// The zero handle, of a call that takes none.
+pub const ZERO_HANDLE: Handle = Handle { number: 0 };

@@ -1,8 +1,8 @@
-// What an object shows, or is set to, by classes of information.
+// What an object shows, or is set to, by information classes.
 use crate::Name;
 use dtyp_sid::Sid;
 
-/// The value of a class of information. Which of these a class has depends on the kind of the object.
+/// The value of an information class. Which of these a class has depends on the kind of the object.
 #[derive(Debug, Drop, PartialEq, Eq)]
 pub enum Info {
     /// The value of a class that can't be set, which isn't looked at.

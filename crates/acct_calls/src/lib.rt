@@ -1,12 +1,13 @@
 //! The names of accounts: lists of UTF-16 units, their simple case folding, equality and validity. And calls and
-//! replies as plain data, with the values that they are made of: handles, what a class of information shows, and lists
+//! replies as plain data, with the values that they are made of: handles, what an information class shows, and lists
 //! of SIDs, numbers, privileges, accounts, members, domains and translated entries.
 //!
 //! It stands on the kinds of objects of `acct_codes`, the list type of `acct_base`, the SIDs of `dtyp_sid`, and the
 //! case folding of `unicode`, of whose table `ucd_case` and `ucd_table` have the lemmas that the proofs cite. The
 //! layers above use that a contract sees a `Name` as the list of its units, and each other list as the list of its
 //! elements, that `same` is equality of the folded code points and an equivalence, and that `is_valid` is the rules
-//! for names of accounts; and which names and SIDs the account domain may have (`domain`).
+//! for names of accounts; which names and SIDs the account domain may have (`domain`); and that [`samr_call`] and
+//! [`lsa_call`] are the calls of the two interfaces.
 #![tactic(auto)]
 
 mod calls;
@@ -22,13 +23,13 @@ mod names;
 mod replies;
 mod validity;
 
-pub use calls::{Args, Call, Face};
+pub use calls::{Args, Call, Face, lsa_call, samr_call};
 pub use code_points::{FirstPoint, first_point};
-pub use handle::Handle;
+pub use handle::{Handle, ZERO_HANDLE};
 pub use info::Info;
 pub use lists::{
-    NamedList, Place, Places, Privilege, PrivilegeSet, RidBits, RidBitsList, RidName, RidNames,
-    Rids, Sids, Translated, TranslatedName, TranslatedSid,
+    NamedList, Places, Privilege, PrivilegeSet, ReferencedDomain, RidBits, RidBitsList, RidName,
+    RidNames, Rids, Sids, Translated, TranslatedName, TranslatedSid,
 };
 pub use name::Name;
 pub use names::Names;

@@ -32,13 +32,13 @@ pub type RidNames = Seq<RidName>;
 
 /// A domain that a translation refers to, by its name and its SID (LSAPR_TRUST_INFORMATION, MS-LSAD 2.2.7.1).
 #[derive(Debug, Drop, PartialEq, Eq)]
-pub struct Place {
+pub struct ReferencedDomain {
     pub name: Name,
     pub sid: Sid,
 }
 
 /// A list of domains, to which entries of a translation refer by their index.
-pub type Places = Seq<Place>;
+pub type Places = Seq<ReferencedDomain>;
 
 /// A member or a group, by its relative identifier, and its attributes (GROUP_MEMBERSHIP, MS-SAMR 2.2.3.12).
 #[derive(Clone, Copy, Debug, PartialEq, Eq)]

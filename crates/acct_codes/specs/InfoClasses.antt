@@ -1,4 +1,4 @@
--- The classes of information of each kind of object (MS-SAMR 2.2.3 to 2.2.6, MS-LSAD 2.2.4)
+-- The information classes of each kind of object (MS-SAMR 2.2.3 to 2.2.6, MS-LSAD 2.2.4)
 use Rattle.std.specs.Prelude.{ℕ}
 
 -- ---- of a domain (DOMAIN_INFORMATION_CLASS, MS-SAMR 2.2.3.16)

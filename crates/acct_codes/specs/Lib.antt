@@ -1,12 +1,16 @@
 pub mod Causes
 pub mod DescriptorControl
+pub mod DescriptorParts
 pub mod Faults
 pub mod GroupAttributes
 pub mod InfoClasses
 pub mod Limits
 pub mod LookupLevels
 pub mod Mappings
+pub mod Negotiation
 pub mod Opnums
+pub mod PduHeaders
+pub mod PduTypes
 pub mod Privileges
 pub mod Rids
 pub mod Rights

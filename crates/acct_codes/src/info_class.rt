@@ -1,4 +1,4 @@
-//! The classes of information of each kind of object (MS-SAMR 2.2.3 to 2.2.6, MS-LSAD 2.2.4).
+//! The information classes of each kind of object (MS-SAMR 2.2.3 to 2.2.6, MS-LSAD 2.2.4).
 ghost use Rattle.std.specs.Prelude.{◌≡◌};
 ghost use Rattle.acct_codes.specs.InfoClasses.{domain_password_information, domain_oem_information};
 ghost use Rattle.acct_codes.specs.InfoClasses.{domain_name_information, domain_lockout_information};

@@ -1,6 +1,7 @@
 //! The numbers of the account server: access rights of each kind of object, statuses, faults, a user's control bits,
-//! those of a descriptor, a group's attributes, system access, privileges, well-known RIDs, levels of look-ups,
-//! operation numbers, classes of information, the causes of a refused PDU and the limits of connections and rows.
+//! those of a descriptor, its parts, a group's attributes, system access, privileges, well-known RIDs, levels of
+//! look-ups, operation numbers, information classes, the types and headers of PDUs, what is answered to a bind, the
+//! causes of a refused PDU and the limits of connections and rows.
 //!
 //! It stands on nothing of ours. In specs/ each number stands once, in the table of its subject, by its name in the
 //! standards; every other definition cites it there. Each constant of the code has the standard's spelling and stands
@@ -13,6 +14,7 @@ pub mod account_rights;
 pub mod alias_rights;
 pub mod cause;
 pub mod descriptor_control;
+pub mod descriptor_part;
 pub mod domain_rights;
 pub mod fault;
 pub mod group_attribute;
@@ -22,6 +24,9 @@ mod kind;
 pub mod limit;
 pub mod lookup_level;
 pub mod lsa_opnum;
+pub mod negotiation;
+pub mod pdu_header;
+pub mod pdu_type;
 pub mod policy_rights;
 pub mod privilege;
 pub mod rid;

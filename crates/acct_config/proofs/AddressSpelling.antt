@@ -12,8 +12,7 @@ use Rattle.acct_config.proofs.Decimals.{decimal_of-decimal, decimal_of-is}
 use Rattle.acct_config.proofs.Parts.{parted_at, parted_is}
 use Rattle.acct_config.specs.Address.{is_port, is_parted_host_port, is_host_port, is_address}
 use Rattle.acct_config.specs.Grammar.{IsTcp, IsUnix, AddressesAreSpelled}
-use Rattle.acct_base.specs.Words.{is_within, parted}
-use Rattle.acct_config.specs.Words.{decimal_of}
+use Rattle.acct_base.specs.Words.{is_within, parted, decimal_of}
 
 or_cases : (x y : Bool) → (x || y) ≡ true → (x ≡ true) ⊎ (y ≡ true)
 or_cases true y is = inl refl

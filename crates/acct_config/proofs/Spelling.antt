@@ -20,8 +20,8 @@ use Rattle.acct_config.proofs.Parts.{parted_at, IsParted, parted_is, digits_have
 use Rattle.acct_config.specs.Entries.{kind_of_word, mask_of_word, up_to_255, flags_of_word, ace_of, ace_behind_mask}
 use Rattle.acct_config.specs.Entries.{ace_behind_kind, ace_of_parts, ace_of_text}
 use Rattle.acct_config.specs.Grammar.{word_of_kind, IsEntry, EntriesAreSpelled}
-use Rattle.acct_base.specs.Words.{parted}
-use Rattle.acct_config.specs.Words.{decimal_of, hexadecimal_from}
+use Rattle.acct_base.specs.Words.{parted, decimal_of}
+use Rattle.acct_config.specs.Words.{hexadecimal_from}
 
 -- what an answer of a test says
 some_if : {X : Type 0} (b : Bool) (o : Option X) (x : X) → (if b then o else None) ≡ Some x → (b ≡ true) × (o ≡ Some x)

@@ -3,8 +3,7 @@ use Rattle.std.specs.Prelude.{ℕ, Bool, false, not, ◌&&◌, ◌||◌, codes, 
 use Rattle.std.specs.Prelude.{nat_lt, ◌==◌}
 use Rattle.std.specs.List.{starts_with}
 use Rattle.std.specs.Option.{option_map_or}
-use Rattle.acct_base.specs.Words.{is_within, parted}
-use Rattle.acct_config.specs.Words.{decimal_of}
+use Rattle.acct_base.specs.Words.{is_within, parted, decimal_of}
 
 -- a port: a number from 1 to 65535
 unfoldable pub is_port : List ℕ → Bool

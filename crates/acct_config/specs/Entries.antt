@@ -8,8 +8,8 @@ use Rattle.dtyp_sid.specs.Reading.{sid_of_text}
 use Rattle.dtyp_access.specs.declared.ace.Ace.{Ace}
 use Rattle.dtyp_access.specs.declared.ace.AceKind.{AceKind}
 use Rattle.dtyp_access.specs.declared.ace.AceKind.TheVariants.{Allow, Deny}
-use Rattle.acct_base.specs.Words.{parted}
-use Rattle.acct_config.specs.Words.{decimal_of, hexadecimal_from}
+use Rattle.acct_base.specs.Words.{parted, decimal_of}
+use Rattle.acct_config.specs.Words.{hexadecimal_from}
 
 -- what an entry does
 unfoldable pub kind_of_word : List ℕ → Option AceKind

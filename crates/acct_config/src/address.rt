@@ -2,7 +2,8 @@
 ghost use Rattle.std.specs.Prelude.{◌≡◌};
 ghost use Rattle.acct_config.specs.Address.{is_port, is_host_port, is_address};
 
-use crate::words::{decimal_of, parted};
+use crate::words::parted;
+use acct_base::decimal_of;
 
 #[tactic(auto, unfolding(crate::specs::Address::is_port))]
 fn is_port(text: &str) -> bool

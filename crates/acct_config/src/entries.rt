@@ -5,8 +5,8 @@ ghost use Rattle.acct_base.specs.Words.{parted};
 ghost use Rattle.acct_config.specs.Entries.{kind_of_word, mask_of_word, flags_of_word, ace_of_text};
 ghost use Rattle.acct_config.specs.Entries.{ace_of, ace_behind_mask, ace_behind_kind};
 
-use crate::words::{decimal_of, hexadecimal_of, parted};
-use acct_base::rest_of;
+use crate::words::{hexadecimal_of, parted};
+use acct_base::{decimal_of, rest_of};
 use dtyp_access::{Ace, AceKind};
 use dtyp_sid::{Sid, parse_text};
 

@@ -1,9 +1,7 @@
-// Words and numbers in a text.
+// Words and hexadecimal numbers in a text.
 ghost use Rattle.std.specs.Prelude.{◌≡◌, ◌<◌, ◌≤◌, length, option_map};
-ghost use Rattle.acct_base.specs.Words.{parted, decimal_from};
-ghost use Rattle.acct_config.specs.Words.{decimal_of, hexadecimal_from};
-
-use acct_base::decimal;
+ghost use Rattle.acct_base.specs.Words.{parted};
+ghost use Rattle.acct_config.specs.Words.{hexadecimal_from};
 
 /// What stands before the first separator, and what stands behind it.
 pub fn parted(text: &str, separator: char) -> Option<(&str, &str)>
@@ -11,18 +9,6 @@ pub fn parted(text: &str, separator: char) -> Option<(&str, &str)>
     ensures { option_map (λ parts. (parts.0.now, parts.1.now)) result ≡ parted separator text.now }
 {
     text.split_once(separator)
-}
-
-/// The number that a text spells in at most so many decimal digits, five or fewer, without leading zeros.
-#[tactic(auto, unfolding(crate::specs::Words::decimal_of))]
-pub fn decimal_of(most: usize, text: &[u8]) -> Option<u32>
-    requires { most ≤ 5 }
-    ensures { result ≡ decimal_of most text.now }
-{
-    if text.is_empty() || most < text.len() || (text[0] == b'0' && 1 < text.len()) {
-        return None;
-    }
-    Some(decimal(text)? as u32)
 }
 
 /// The number that at most eight hexadecimal digits of either case spell.

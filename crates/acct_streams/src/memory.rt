@@ -11,14 +11,15 @@ use acct_base::rest_of;
 use std::alloc::{AllocError, Global};
 use std::marker::Model;
 
-fn one_more(count: u64) -> u64
+/// A count after one more, which stands still at the end of its type.
+pub fn one_more(count: u64) -> u64
     ensures { result ≡ one_more count }
 {
     count.saturating_add(1)
 }
 
-// Copies as many bytes as fit, at most so many, and answers how many these are.
-fn copy_front(from: &[u8], most: usize, into: &mut [u8]) -> usize
+/// Copies bytes from the front: as many as fit, at most `most`, which is above 0. It answers how many these are.
+pub fn copy_front(from: &[u8], most: usize, into: &mut [u8]) -> usize
     requires { 0 < most }
     ensures within { result ≤ length from.now }
     ensures fits { result ≤ length into.old }

@@ -1,4 +1,4 @@
--- The laws of the access check
+-- Grants are valid, the maximum has all others, nothing gets nothing; where none denies, more SIDs get no less.
 use Rattle.std.proofs.Common.{◌≡◌, ℕ, ◌^◌, ◌<◌, List, [], ◌∷◌, refl, sym, ap, ◌∙◌, Bool, true, false, bit_and, Some}
 use Rattle.std.proofs.Common.{None, Option, find, arith, subst}
 use Rattle.std.specs.Prelude.{not, ◌&&◌, ◌||◌, ◌==◌, if◌then◌else◌}

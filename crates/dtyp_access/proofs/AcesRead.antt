@@ -5,11 +5,11 @@ use Rattle.dtyp_access.specs.declared.ace.Ace.{Ace}
 use Rattle.dtyp_access.specs.declared.errors.DescError.{DescError}
 use Rattle.dtyp_access.specs.declared.errors.DescError.TheVariants.{Short, Revision, Offset, AceType, Sid as NoSid}
 use Rattle.dtyp_access.specs.declared.errors.DescError.TheVariants.{Memory}
-use Rattle.dtyp_access.specs.Reading.{then_read, ReadsIfRoom, aces_at, ace_at, next_ace}
+use Rattle.dtyp_access.specs.Reading.{then_read, ReadsAllIfRoom, aces_at, ace_at, next_ace}
 
 -- a refusal that is the wanted one is an answer
 pub answer_err : {X : Type 0} (refusal : DescError) (wanted : Result X DescError) → wanted ≡ Err refusal →
-    ReadsIfRoom (Err refusal) wanted
+    ReadsAllIfRoom (Err refusal) wanted
 answer_err (Short place) wanted is = is
 answer_err (Revision place) wanted is = is
 answer_err (Offset place) wanted is = is

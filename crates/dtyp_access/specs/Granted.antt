@@ -5,6 +5,7 @@ use Rattle.std.specs.List.{list_any}
 use Rattle.std.specs.Option.{option_map_or}
 use Rattle.std.specs.declared.option.Option.{Option}
 use Rattle.std.specs.declared.option.Option.TheVariants.{Some, None}
+use Rattle.acct_codes.specs.DescriptorParts.{inherit_only_ace}
 use Rattle.acct_codes.specs.Rights.{read_control, write_dac, access_system_security, maximum_allowed, generic_all}
 use Rattle.acct_codes.specs.Rights.{generic_execute, generic_write, generic_read}
 use Rattle.dtyp_sid.specs.Value.{SidValue}
@@ -30,9 +31,9 @@ is_generic right = right == generic_all || right == generic_execute || right == 
 unfoldable pub names : Ace → ℕ → Bool
 names ace right = shares ace.mask right && not (is_generic right || right == maximum_allowed)
 
--- whether an entry is for what inherits the list alone (flag 0x08), and not for the object itself
+-- whether an entry is for what inherits the list alone, and not for the object itself
 unfoldable pub is_inherit_only : Ace → Bool
-is_inherit_only ace = shares ace.flags 0x08
+is_inherit_only ace = shares ace.flags inherit_only_ace
 
 -- whether the token has the SID
 unfoldable pub has_sid : List SidValue → SidValue → Bool

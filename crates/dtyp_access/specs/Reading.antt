@@ -7,6 +7,8 @@ use Rattle.std.specs.declared.option.Option.TheVariants.{Some, None}
 use Rattle.std.specs.declared.result.Result.{Result}
 use Rattle.std.specs.declared.result.Result.TheVariants.{Ok, Err}
 use Rattle.acct_codes.specs.DescriptorControl.{se_dacl_present, se_self_relative}
+use Rattle.acct_codes.specs.DescriptorParts.{security_descriptor_revision, acl_revision, access_allowed_ace_type}
+use Rattle.acct_codes.specs.DescriptorParts.{access_denied_ace_type}
 use Rattle.dtyp_sid.specs.Value.{SidValue}
 use Rattle.dtyp_sid.specs.Bytes.{sid_of_bytes}
 use Rattle.dtyp_sid.specs.declared.errors.BytesError.{BytesError}
@@ -52,7 +54,9 @@ group_of bytes = if u32_at 8 bytes == 0 then Ok None else then_read (sid_of_fiel
 
 -- the kind of entries that a type byte tells
 abbrev pub kind_of : ℕ → ℕ → Result AceKind DescError
-kind_of place type = if type == 0 then Ok Allow else (if type == 1 then Ok Deny else Err (AceType place))
+kind_of place type =
+    if type == access_allowed_ace_type then Ok Allow
+    else (if type == access_denied_ace_type then Ok Deny else Err (AceType place))
 
 -- where the entry behind the one at a place begins
 unfoldable pub next_ace : ℕ → List ℕ → ℕ
@@ -80,7 +84,7 @@ unfoldable pub acl_at : ℕ → List ℕ → Result (List Ace) DescError
 acl_at place bytes =
     if nat_lt (length bytes) (place + 8) || nat_lt (length bytes) (place + u16_at (place + 2) bytes) then
     Err (Short place)
-    else (if not (slice_index bytes place == 2) then Err (Revision place)
+    else (if not (slice_index bytes place == acl_revision) then Err (Revision place)
     else aces_at (u16_at (place + 4) bytes) (place + 8) (place + u16_at (place + 2) bytes) bytes)
 
 -- the list, which is absent where the control bits or its offset say so
@@ -94,7 +98,7 @@ list_of bytes =
 unfoldable pub descriptor_of_bytes : List ℕ → Result Descriptor DescError
 descriptor_of_bytes bytes =
     if nat_lt (length bytes) 20 then Err (Short 0)
-    else (if not (slice_index bytes 0 == 1) then Err (Revision 0)
+    else (if not (slice_index bytes 0 == security_descriptor_revision) then Err (Revision 0)
     else (if not (shares (u16_at 2 bytes) se_self_relative) then Err (Offset 2)
     else then_read (sid_of_field 4 bytes) (λ owner.
     then_read (group_of bytes) (λ group.
@@ -102,10 +106,10 @@ descriptor_of_bytes bytes =
     Ok (record { owner = owner; group = group; acl = acl }))))))
 
 -- an answer is the one that is wanted, or memory was
-abbrev pub ReadsIfRoom : {X : Type 0} → Result X DescError → Result X DescError → Type 0
-ReadsIfRoom (Ok x) wanted = wanted ≡ Ok x
-ReadsIfRoom (Err Memory) wanted = Unit {0}
-ReadsIfRoom (Err refusal) wanted = wanted ≡ Err refusal
+abbrev pub ReadsAllIfRoom : {X : Type 0} → Result X DescError → Result X DescError → Type 0
+ReadsAllIfRoom (Ok x) wanted = wanted ≡ Ok x
+ReadsAllIfRoom (Err Memory) wanted = Unit {0}
+ReadsAllIfRoom (Err refusal) wanted = wanted ≡ Err refusal
 
 -- whether bytes have a list: control says so, and its offset isn't 0 and points behind the header and not past the end
 unfoldable pub has_list : List ℕ → Bool

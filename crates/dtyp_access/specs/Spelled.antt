@@ -5,6 +5,7 @@ use Rattle.std.specs.declared.option.Option.{Option}
 use Rattle.std.specs.declared.option.Option.TheVariants.{Some, None}
 use Rattle.std.specs.declared.result.Result.TheVariants.{Ok}
 use Rattle.acct_codes.specs.DescriptorControl.{se_dacl_present, se_self_relative}
+use Rattle.acct_codes.specs.DescriptorParts.{security_descriptor_revision, acl_revision}
 use Rattle.dtyp_sid.specs.Value.{SidValue, IsSid}
 use Rattle.dtyp_sid.specs.Bytes.{BeginWithSid}
 use Rattle.dtyp_access.specs.declared.ace.Ace.{Ace}
@@ -48,7 +49,7 @@ SpellAces place end bytes (ace ∷ aces) = SpellAce place end bytes ace × Spell
 pub record SpellAcl (place : ℕ) (bytes : List ℕ) (aces : List Ace) : Type 0 where
   pub whole : place + 8 ≤ length bytes
   pub fits : place + u16_at (place + 2) bytes ≤ length bytes
-  pub revision : slice_index bytes place ≡ 2
+  pub revision : slice_index bytes place ≡ acl_revision
   pub count : u16_at (place + 4) bytes ≡ length aces
   pub entries : SpellAces (place + 8) (place + u16_at (place + 2) bytes) bytes aces
 
@@ -70,7 +71,7 @@ SpellList bytes (Some aces) = PointsToAcl bytes aces
 -- the bytes spell the descriptor
 pub record SpellDescriptor (bytes : List ℕ) (d : Descriptor) : Type 0 where
   pub header : 20 ≤ length bytes
-  pub revision : slice_index bytes 0 ≡ 1
+  pub revision : slice_index bytes 0 ≡ security_descriptor_revision
   pub self_relative : shares (u16_at 2 bytes) se_self_relative ≡ true
   pub owner : PointsToSid 4 bytes d.owner
   pub group : SpellGroup bytes d.group

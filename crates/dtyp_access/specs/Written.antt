@@ -5,6 +5,8 @@ use Rattle.std.specs.List.{flat_map}
 use Rattle.std.specs.declared.option.Option.{Option}
 use Rattle.std.specs.declared.option.Option.TheVariants.{Some, None}
 use Rattle.acct_codes.specs.DescriptorControl.{se_dacl_present, se_self_relative}
+use Rattle.acct_codes.specs.DescriptorParts.{security_descriptor_revision, acl_revision, access_allowed_ace_type}
+use Rattle.acct_codes.specs.DescriptorParts.{access_denied_ace_type}
 use Rattle.dtyp_sid.specs.Value.{SidValue}
 use Rattle.dtyp_sid.specs.Bytes.{bytes_of}
 use Rattle.dtyp_access.specs.declared.ace.Ace.{Ace}
@@ -14,8 +16,8 @@ use Rattle.dtyp_access.specs.declared.descriptor.Descriptor.{Descriptor}
 
 -- the type byte of an entry
 abbrev pub type_of : AceKind → ℕ
-type_of Allow = 0
-type_of Deny = 1
+type_of Allow = access_allowed_ace_type
+type_of Deny = access_denied_ace_type
 
 -- an entry: type, flags, its size, mask and SID
 unfoldable pub ace_bytes : Ace → List ℕ
@@ -26,11 +28,11 @@ ace_bytes ace =
 unfoldable pub aces_bytes : List Ace → List ℕ
 aces_bytes aces = flat_map ace_bytes aces
 
--- an access control list: revision 2, its size, the count of its entries, and the entries
+-- an access control list: its revision, its size, the count of its entries, and the entries
 unfoldable pub acl_bytes : List Ace → List ℕ
 acl_bytes aces =
-    (2 ∷ 0 ∷ []) ++ to_le_bytes w16 (8 + length (aces_bytes aces)) ++ to_le_bytes w16 (length aces) ++ (0 ∷ 0 ∷ [])
-    ++ aces_bytes aces
+    (acl_revision ∷ 0 ∷ []) ++ to_le_bytes w16 (8 + length (aces_bytes aces)) ++ to_le_bytes w16 (length aces)
+    ++ (0 ∷ 0 ∷ []) ++ aces_bytes aces
 
 -- the parts that may be absent
 unfoldable pub group_bytes : Option SidValue → List ℕ
@@ -51,10 +53,10 @@ abbrev pub offset_of : {X : Type 0} → Option X → ℕ → ℕ
 offset_of None place = 0
 offset_of (Some part) place = place
 
--- the header: revision 1, the control bits, and the offsets of owner, group, auditing list and list
+-- the header: the revision, the control bits, and the offsets of owner, group, auditing list and list
 unfoldable pub header_bytes : Descriptor → List ℕ
 header_bytes d =
-    (1 ∷ 0 ∷ [])
+    (security_descriptor_revision ∷ 0 ∷ [])
     ++ to_le_bytes w16 (control_of d.acl)
     ++ to_le_bytes w32 20
     ++ to_le_bytes w32 (offset_of d.group (20 + length (bytes_of d.owner)))

@@ -5,15 +5,13 @@ ghost use Rattle.dtyp_access.specs.Granted.{allows};
 ghost use Rattle.dtyp_access.specs.Opening.{asks, opened};
 
 use crate::{Ace, AceKind, Descriptor, Token};
+use acct_codes::descriptor_part::INHERIT_ONLY_ACE;
 use acct_codes::standard_rights::{
     ACCESS_SYSTEM_SECURITY, GENERIC_ALL, GENERIC_EXECUTE, GENERIC_READ, GENERIC_WRITE,
     MAXIMUM_ALLOWED, READ_CONTROL, WRITE_DAC,
 };
 use acct_codes::{Kind, mapping_of, valid_bits};
 use dtyp_sid::Sid;
-
-/// The flag of an entry that is for what inherits the list alone (MS-DTYP 2.4.4.1).
-const INHERIT_ONLY_ACE: u8 = 0x08;
 
 /// Whether a descriptor grants a right, which is an access mask of one bit, to a token. It takes no memory.
 #[tactic(auto, unfolding(crate::specs::Granted::shares))]

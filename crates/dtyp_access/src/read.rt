@@ -1,8 +1,9 @@
 // Reading a descriptor from its bytes.
 ghost use Rattle.std.specs.Prelude.{◌≡◌, ◌+◌, ◌≤◌, length, IfOk, IfErr, Ok, Err};
 ghost use Rattle.dtyp_sid.specs.Bytes.{sid_of_bytes};
+ghost use Rattle.dtyp_access.specs.Granted.{shares};
 ghost use Rattle.dtyp_access.specs.Spelled.{SpellDescriptor};
-ghost use Rattle.dtyp_access.specs.Reading.{ReadsIfRoom, OnlyAtList, OnlyWithList, NeverMemory};
+ghost use Rattle.dtyp_access.specs.Reading.{ReadsAllIfRoom, OnlyAtList, OnlyWithList, NeverMemory};
 ghost use Rattle.dtyp_access.specs.Reading.{descriptor_of_bytes, sid_of_field, group_of, list_of, acl_at, aces_at};
 ghost use Rattle.dtyp_access.specs.Reading.{ace_at, next_ace, kind_of, or_no_sid, u16_at, u32_at};
 
@@ -10,14 +11,17 @@ use crate::laws::read_bytes_spell;
 use crate::{Ace, AceKind, Acl, DescError, Descriptor};
 use acct_base::{front_u16, front_u32, rest_of};
 use acct_codes::descriptor_control::{SE_DACL_PRESENT, SE_SELF_RELATIVE};
+use acct_codes::descriptor_part::{
+    ACCESS_ALLOWED_ACE_TYPE, ACCESS_DENIED_ACE_TYPE, ACL_REVISION, SECURITY_DESCRIPTOR_REVISION,
+};
 use dtyp_sid::Sid;
 use std::alloc::Global;
 
 /// The descriptor that bytes spell in its self-relative form (MS-DTYP 2.4.6), or the first reason that they spell none.
 /// The auditing list isn't looked at.
-#[tactic(auto, unfolding(crate::specs::Reading::descriptor_of_bytes, crate::specs::Granted::shares))]
+#[tactic(auto, unfolding(crate::specs::Reading::descriptor_of_bytes))]
 pub fn read_descriptor(alloc: Global, bytes: &[u8]) -> Result<Descriptor, DescError>
-    ensures answer { ReadsIfRoom result (descriptor_of_bytes bytes.now) }
+    ensures answer { ReadsAllIfRoom result (descriptor_of_bytes bytes.now) }
     ensures spelled { IfOk result (λ d. SpellDescriptor bytes.now d) }
     ensures wants { OnlyAtList result bytes.now }
 {
@@ -25,16 +29,24 @@ pub fn read_descriptor(alloc: Global, bytes: &[u8]) -> Result<Descriptor, DescEr
     if bytes.len() < 20 {
         return Err(DescError::Short(0));
     }
-    if bytes[0] != 1 {
+    if bytes[0] != SECURITY_DESCRIPTOR_REVISION {
         return Err(DescError::Revision(0));
     }
-    if u16_at(bytes, 2) & SE_SELF_RELATIVE == 0 {
+    if !is_set(u16_at(bytes, 2), SE_SELF_RELATIVE) {
         return Err(DescError::Offset(2));
     }
     let owner = sid_of_field(bytes, 4)?;
     let group = group_of(bytes)?;
     let acl = list_of(alloc, bytes)?;
     Ok(Descriptor { owner, group, acl })
+}
+
+/// Whether the control bits have one.
+#[tactic(auto, unfolding(crate::specs::Granted::shares))]
+fn is_set(control: u16, bit: u16) -> bool
+    ensures { result ≡ shares control bit }
+{
+    control & bit != 0
 }
 
 /// The SID that the offset in a field of the header points to.
@@ -73,14 +85,14 @@ fn group_of(bytes: &[u8]) -> Result<Option<Sid>, DescError>
 }
 
 /// The list, which is absent where the control bits or its offset say so.
-#[tactic(auto, unfolding(crate::specs::Reading::list_of, crate::specs::Reading::has_list, crate::specs::Granted::shares))]
+#[tactic(auto, unfolding(crate::specs::Reading::list_of, crate::specs::Reading::has_list))]
 fn list_of(alloc: Global, bytes: &[u8]) -> Result<Option<Acl>, DescError>
     requires { 20 ≤ length bytes.now }
-    ensures answer { ReadsIfRoom result (list_of bytes.now) }
+    ensures answer { ReadsAllIfRoom result (list_of bytes.now) }
     ensures wants { OnlyWithList result bytes.now }
 {
     let offset = u32_at(bytes, 16) as usize;
-    if u16_at(bytes, 2) & SE_DACL_PRESENT == 0 || offset == 0 {
+    if !is_set(u16_at(bytes, 2), SE_DACL_PRESENT) || offset == 0 {
         return Ok(None);
     }
     if offset < 20 || bytes.len() < offset {
@@ -93,7 +105,7 @@ fn list_of(alloc: Global, bytes: &[u8]) -> Result<Option<Acl>, DescError>
 #[tactic(auto, unfolding(crate::specs::Reading::acl_at))]
 fn acl_at(alloc: Global, bytes: &[u8], place: usize) -> Result<Acl, DescError>
     requires { place ≤ length bytes.now }
-    ensures { ReadsIfRoom result (acl_at place bytes.now) }
+    ensures { ReadsAllIfRoom result (acl_at place bytes.now) }
 {
     if bytes.len() < place + 8 {
         return Err(DescError::Short(place));
@@ -102,7 +114,7 @@ fn acl_at(alloc: Global, bytes: &[u8], place: usize) -> Result<Acl, DescError>
     if bytes.len() < end {
         return Err(DescError::Short(place));
     }
-    if bytes[place] != 2 {
+    if bytes[place] != ACL_REVISION {
         return Err(DescError::Revision(place));
     }
     aces_at(alloc, bytes, u16_at(bytes, place + 4), place + 8, end)
@@ -118,7 +130,7 @@ fn aces_at(
 ) -> Result<Acl, DescError>
     requires first { first ≤ length bytes.now }
     requires end { end ≤ length bytes.now }
-    ensures { ReadsIfRoom result (aces_at count first end bytes.now) }
+    ensures { ReadsAllIfRoom result (aces_at count first end bytes.now) }
 {
     let mut aces = Vec::new(alloc);
     let mut place = first;
@@ -162,8 +174,8 @@ fn kind_of(type_byte: u8, place: usize) -> Result<AceKind, DescError>
     ensures { result ≡ kind_of place type_byte }
 {
     match type_byte {
-        0 => Ok(AceKind::Allow),
-        1 => Ok(AceKind::Deny),
+        ACCESS_ALLOWED_ACE_TYPE => Ok(AceKind::Allow),
+        ACCESS_DENIED_ACE_TYPE => Ok(AceKind::Deny),
         _ => Err(DescError::AceType(place)),
     }
 }

@@ -11,6 +11,9 @@ use crate::laws::written_bytes_are_read;
 use crate::{Ace, AceKind, Acl, Descriptor};
 use acct_base::{push_u16, push_u32};
 use acct_codes::descriptor_control::{SE_DACL_PRESENT, SE_SELF_RELATIVE};
+use acct_codes::descriptor_part::{
+    ACCESS_ALLOWED_ACE_TYPE, ACCESS_DENIED_ACE_TYPE, ACL_REVISION, SECURITY_DESCRIPTOR_REVISION,
+};
 use dtyp_sid::Sid;
 use dtyp_sid::laws::written_bytes_have_lengths;
 use std::alloc::{AllocError, Global};
@@ -43,14 +46,14 @@ pub fn has_few_aces(d: &Descriptor) -> bool
     }
 }
 
-/// Adds the header: revision 1, the control bits, and the offsets of owner, group, auditing list and list.
+/// Adds the header: the revision, the control bits, and the offsets of owner, group, auditing list and list.
 fn push_header(out: &mut Vec<u8>, d: &Descriptor) -> Result<(), AllocError>
     ensures { OnOk result (out.new.items ≡ out.old.items ++ header_bytes d.now) }
 {
     let control = control_of(&d.acl);
     let group = group_offset(d);
     let acl = acl_offset(d);
-    push(out, &[1, 0])?;
+    push(out, &[SECURITY_DESCRIPTOR_REVISION, 0])?;
     push_u16(out, control)?;
     push_u32(out, 20)?;
     push_u32(out, group)?;
@@ -110,13 +113,13 @@ fn push_list(out: &mut Vec<u8>, acl: &Option<Acl>) -> Result<(), AllocError>
     Ok(())
 }
 
-/// Adds a list: revision 2, its size, the count of its entries, and the entries.
+/// Adds a list: its revision, its size, the count of its entries, and the entries.
 #[tactic(auto, unfolding(crate::specs::Written::acl_bytes))]
 fn push_acl(out: &mut Vec<u8>, aces: &[Ace]) -> Result<(), AllocError>
     requires { length aces.now ≤ 800 }
     ensures { OnOk result (out.new.items ≡ out.old.items ++ acl_bytes aces.now) }
 {
-    push(out, &[2, 0])?;
+    push(out, &[ACL_REVISION, 0])?;
     push_u16(out, acl_size(aces))?;
     push_u16(out, aces.len() as u16)?;
     push(out, &[0, 0])?;
@@ -160,8 +163,8 @@ fn type_of(kind: AceKind) -> u8
     ensures { result ≡ type_of kind }
 {
     match kind {
-        AceKind::Allow => 0,
-        AceKind::Deny => 1,
+        AceKind::Allow => ACCESS_ALLOWED_ACE_TYPE,
+        AceKind::Deny => ACCESS_DENIED_ACE_TYPE,
     }
 }
 

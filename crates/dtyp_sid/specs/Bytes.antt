@@ -1,19 +1,18 @@
--- The bytes of a SID (MS-DTYP 2.4.2.2): revision 1, the count of sub-authorities, the authority in six bytes with the
--- highest
--- first, and each sub-authority in four bytes with the lowest first
+-- The bytes of a SID (MS-DTYP 2.4.2.2): the revision, the count of sub-authorities, the authority in six bytes with the
+-- highest first, and each sub-authority in four bytes with the lowest first
 use Rattle.std.specs.Prelude.{◌≡◌, ℕ, zero, suc, ◌+◌, ◌*◌, ◌<◌, List, [], ◌∷◌, ◌++◌, length, drop, slice_index, nat_lt}
 use Rattle.std.specs.Prelude.{not, ◌==◌, if◌then◌else◌, All}
 use Rattle.std.specs.Int.{w32, w64, bytes_high_first, to_le_bytes, from_le_bytes, from_be_bytes}
 use Rattle.std.specs.List.{flat_map}
 use Rattle.std.specs.declared.result.Result.{Result}
 use Rattle.std.specs.declared.result.Result.TheVariants.{Ok, Err}
-use Rattle.dtyp_sid.specs.Value.{SidValue, IsSid, sid_max_sub_authorities}
+use Rattle.dtyp_sid.specs.Value.{SidValue, IsSid, sid_max_sub_authorities, sid_revision}
 use Rattle.dtyp_sid.specs.declared.errors.BytesError.{BytesError}
 use Rattle.dtyp_sid.specs.declared.errors.BytesError.TheVariants.{Short, Revision, Count}
 
 -- the first eight bytes of a SID: the revision, the count and the authority
 unfoldable pub header_of : SidValue → List ℕ
-header_of sid = 1 ∷ length sid.subs ∷ bytes_high_first 6 sid.authority
+header_of sid = sid_revision ∷ length sid.subs ∷ bytes_high_first 6 sid.authority
 
 -- the sub-authorities in four bytes each
 unfoldable pub sub_bytes : List ℕ → List ℕ
@@ -36,7 +35,7 @@ subs_at_front (suc count) bytes = from_le_bytes w32 bytes ∷ subs_at_front coun
 unfoldable pub sid_of_bytes : List ℕ → Result SidValue BytesError
 sid_of_bytes bytes =
     if nat_lt (length bytes) 8 then Err Short
-    else (if not (slice_index bytes 0 == 1) then Err Revision
+    else (if not (slice_index bytes 0 == sid_revision) then Err Revision
     else (if nat_lt sid_max_sub_authorities (slice_index bytes 1) then Err Count
     else (if nat_lt (length bytes) (8 + 4 * slice_index bytes 1) then Err Short
     else Ok (record {

@@ -6,6 +6,10 @@ use Rattle.std.specs.Prelude.{ℕ, ◌^◌, ◌<◌, ◌≤◌, List, length, Al
 abbrev pub sid_max_sub_authorities : ℕ
 sid_max_sub_authorities = 15
 
+-- SID_REVISION: the revision of a SID (MS-DTYP 2.4.2.2)
+abbrev pub sid_revision : ℕ
+sid_revision = 1
+
 -- what contracts see of a SID
 pub record SidValue : Type 0 where
   pub authority : ℕ

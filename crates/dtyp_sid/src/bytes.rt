@@ -2,7 +2,7 @@
 ghost use Rattle.std.specs.Prelude.{◌≡◌, ◌+◌, ◌*◌, ◌^◌, ◌<◌, ◌≤◌, ◌++◌, length, take, drop, IfOk};
 ghost use Rattle.dtyp_sid.specs.Bytes.{bytes_of, sid_of_bytes, authority_at_front, BeginWithSid};
 
-use crate::{BytesError, SID_MAX_SUB_AUTHORITIES, Sid};
+use crate::{BytesError, SID_MAX_SUB_AUTHORITIES, SID_REVISION, Sid};
 use acct_base::rest_of;
 
 impl Sid {
@@ -15,7 +15,7 @@ impl Sid {
         if bytes.len() < 8 {
             return Err(BytesError::Short);
         }
-        if bytes[0] != 1 {
+        if bytes[0] != SID_REVISION {
             return Err(BytesError::Revision);
         }
         let count = usize::from(bytes[1]);
@@ -38,7 +38,7 @@ impl Sid {
         let subs = self.subs();
         let count = subs.len() as u8;
         let [_, _, a, b, c, d, e, f] = self.authority().to_be_bytes();
-        put(out, 0, &[1, count, a, b, c, d, e, f]);
+        put(out, 0, &[SID_REVISION, count, a, b, c, d, e, f]);
         let mut place = 8;
         for sub in subs {
             put(out, place, &sub.to_le_bytes());

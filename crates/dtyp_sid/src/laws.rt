@@ -1,16 +1,17 @@
 //! Laws of SIDs, their texts and bytes, each the contract of a function that does nothing.
 ghost use Rattle.std.specs.Prelude.{◌≡◌};
-ghost use Rattle.dtyp_sid.specs.Value.{sid_max_sub_authorities};
+ghost use Rattle.dtyp_sid.specs.Value.{sid_max_sub_authorities, sid_revision};
 ghost use Rattle.dtyp_sid.specs.Text.{TextsAreOfOne, WrittenTextsAreTexts, WrittenTextsDiffer};
 ghost use Rattle.dtyp_sid.specs.Reading.{ReadTextsAreTexts};
 ghost use Rattle.dtyp_sid.specs.Bytes.{WrittenBytesAreRead, WrittenBytesHaveLengths, ReadBytesAreWritten};
 ghost use Rattle.dtyp_sid.specs.Order.{EqualSidsAreOne};
 
-use crate::SID_MAX_SUB_AUTHORITIES;
+use crate::{SID_MAX_SUB_AUTHORITIES, SID_REVISION};
 
-/// A SID has as many sub-authorities as the standard lets it have.
+/// A SID has as many sub-authorities as the standard lets it have, and the standard's revision.
 pub fn limit_is_set()
-    ensures { SID_MAX_SUB_AUTHORITIES ≡ sid_max_sub_authorities }
+    ensures most { SID_MAX_SUB_AUTHORITIES ≡ sid_max_sub_authorities }
+    ensures revision { SID_REVISION ≡ sid_revision }
 {}
 
 /// No text is that of two SIDs.

@@ -2,8 +2,8 @@
 //!
 //! It stands on the calls on bytes of `acct_base`. The layers above use that a contract sees a `Sid` as its authority
 //! and the list of its sub-authorities, that `==` and the order are those of that value, that `parse_text` reads
-//! exactly the texts of the grammar and `text` writes one of them, and that `from_bytes` reads what `to_bytes`
-//! writes.
+//! exactly the texts of the grammar and `text` writes one of them, that `from_bytes` reads what `to_bytes` writes, and
+//! that [`push_hexadecimal`] adds so many digits of a number.
 #![tactic(auto)]
 
 mod bytes;
@@ -16,4 +16,5 @@ mod text;
 
 pub use errors::{BadText, BytesError, SidError};
 pub use reading::parse_text;
-pub use sid::{SID_MAX_SUB_AUTHORITIES, Sid};
+pub use sid::{SID_MAX_SUB_AUTHORITIES, SID_REVISION, Sid};
+pub use text::push_hexadecimal;

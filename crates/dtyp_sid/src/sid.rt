@@ -9,6 +9,9 @@ use std::marker::Model;
 /// The most sub-authorities of a SID (MS-DTYP 2.4.2).
 pub const SID_MAX_SUB_AUTHORITIES: usize = 15;
 
+/// The revision of a SID (MS-DTYP 2.4.2.2).
+pub const SID_REVISION: u8 = 1;
+
 /// A security identifier (MS-DTYP 2.4.2): an identifier authority below 2^48, and at most 15 sub-authorities. It
 /// holds no heap memory. SIDs are ordered by authority, and then by their sub-authorities as lists.
 #[derive(Clone, Copy, Debug)]

@@ -35,9 +35,9 @@ fn push_authority(text: &mut String, authority: u64) -> Result<(), AllocError>
     Ok(())
 }
 
-/// Adds the lowest digits of a number, so many, in hexadecimal.
+/// Adds the lowest digits of a number, so many, in lower-case hexadecimal, with zeros where the number has fewer.
 #[tactic(auto, unfolding(crate::specs::Text::hexadecimal))]
-fn push_hexadecimal(text: &mut String, count: usize, number: u64) -> Result<(), AllocError>
+pub fn push_hexadecimal(text: &mut String, count: usize, number: u64) -> Result<(), AllocError>
     ensures { OnOk result (string_bytes text.new ≡ string_bytes text.old ++ hexadecimal count number) }
 {
     if count > 0 {

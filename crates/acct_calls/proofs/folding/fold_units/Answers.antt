@@ -1,4 +1,4 @@
--- `fold_units` meets its contract: what the search leaves open.
+-- What `fold_units` made so far, with the code points that are left folded, is the whole text folded.
 use Rattle.std.proofs.Common.{◌++◌, sym, ap, ◌∙◌, append_assoc}
 use Rattle.std.specs.Char.Escape.{encode_utf16}
 use Rattle.std.proofs.lemmas.List.{append-nil}

@@ -1,4 +1,4 @@
--- What the loop of `fold_units` keeps.
+-- The units made so far, followed by the folding of the units left, are the folding of all the units.
 use Rattle.std.proofs.Common.{◌≡◌, ◌++◌, length}
 use Rattle.acct_calls.specs.Folding.{folded}
 use Rattle.acct_calls.proofs.folding.fold_units.Given as goal

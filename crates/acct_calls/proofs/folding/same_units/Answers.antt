@@ -1,4 +1,4 @@
--- `same_units` meets its contract: what the search leaves open.
+-- `same_units` may pass over folded code points that are equal; one that differs, or a text that is longer, decides.
 use Rattle.std.proofs.Common.{◌≡◌, ◌==◌, ◌&&◌, true, false, sym, ap, ◌∙◌}
 use Rattle.std.proofs.lemmas.Bool.{and_left, ne_eqb, eq-eqb}
 use Rattle.acct_calls.specs.Folding.{folded_point, is_same}

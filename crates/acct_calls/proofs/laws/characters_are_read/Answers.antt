@@ -1,4 +1,4 @@
--- The law `characters_are_read`.
+-- Characters are the code points of their units.
 use Rattle.acct_calls.proofs.Points.{code_points-characters}
 use Rattle.acct_calls.proofs.laws.characters_are_read.Goals as goal
 

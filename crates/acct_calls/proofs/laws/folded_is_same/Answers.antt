@@ -1,4 +1,4 @@
--- The law `folded_is_same`.
+-- A folded name is the same as the name.
 use Rattle.acct_calls.proofs.Folds.{folded_same}
 use Rattle.acct_calls.proofs.laws.folded_is_same.Goals as goal
 

@@ -1,4 +1,4 @@
--- The law `folds_once`.
+-- To fold a name that is folded changes nothing.
 use Rattle.acct_calls.proofs.Folds.{folded-folded}
 use Rattle.acct_calls.proofs.laws.folds_once.Goals as goal
 

@@ -1,4 +1,4 @@
--- The law `points_spell_units`.
+-- The code points of a list of 16-bit units spell these units.
 use Rattle.acct_calls.proofs.Points.{Fits-from, units_of-code_points}
 use Rattle.acct_calls.proofs.laws.points_spell_units.Goals as goal
 

@@ -1,4 +1,4 @@
--- The law `same_fold_alike`.
+-- Two names are the same exactly where they fold to the same units.
 use Rattle.acct_calls.proofs.Folds.{same_alike}
 use Rattle.acct_calls.proofs.laws.same_fold_alike.Goals as goal
 

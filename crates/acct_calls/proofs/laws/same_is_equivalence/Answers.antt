@@ -1,4 +1,4 @@
--- The law `same_is_equivalence`.
+-- That two names are the same is reflexive, symmetric and transitive.
 use Rattle.acct_calls.proofs.Folds.{equivalence}
 use Rattle.acct_calls.proofs.laws.same_is_equivalence.Goals as goal
 

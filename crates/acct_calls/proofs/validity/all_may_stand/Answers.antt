@@ -1,4 +1,4 @@
--- `all_may_stand` meets its contract: what the search leaves open.
+-- At the end of the units no code point is left to test, so `all_may_stand` is true of them.
 use Rattle.std.proofs.Common.{sym, ap, ◌∙◌}
 use Rattle.std.specs.List.{list_all}
 use Rattle.acct_calls.specs.Validity.{all_may_stand, may_stand}

@@ -1,4 +1,4 @@
--- What the loop of `all_may_stand` keeps.
+-- Each code point that was passed may stand in a name: the units left decide.
 use Rattle.std.proofs.Common.{◌≡◌, length}
 use Rattle.acct_calls.specs.Validity.{all_may_stand}
 use Rattle.acct_calls.proofs.validity.all_may_stand.Given as goal

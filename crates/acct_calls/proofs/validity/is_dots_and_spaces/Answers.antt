@@ -1,4 +1,4 @@
--- `is_dots_and_spaces` meets its contract: what the search leaves open.
+-- At the end of the units no code point is left to test, so `is_dots_and_spaces` is true of them.
 use Rattle.std.proofs.Common.{sym, ap, ◌∙◌}
 use Rattle.std.specs.List.{list_all}
 use Rattle.acct_calls.specs.Validity.{is_dots_and_spaces, is_dot_or_space}

@@ -1,4 +1,4 @@
--- What the loop of `copy_descriptors` keeps.
+-- The copies so far, followed by the descriptors left, are the whole list of descriptors.
 use Rattle.std.proofs.Common.{◌≡◌, ◌++◌, drop}
 use Rattle.acct_config.proofs.config.copy_descriptors.Given as goal
 

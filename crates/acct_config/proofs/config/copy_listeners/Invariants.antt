@@ -1,4 +1,4 @@
--- What the loop of `copy_listeners` keeps.
+-- The copies so far, followed by the listeners left, are the whole list of listeners.
 use Rattle.std.proofs.Common.{◌≡◌, ◌++◌, drop}
 use Rattle.acct_config.proofs.config.copy_listeners.Given as goal
 

@@ -1,4 +1,4 @@
--- `elements` meets its contract: what the search leaves open.
+-- The elements that `elements` gives of an array are those of its view.
 use Rattle.std.proofs.Common.{sym}
 use Rattle.acct_config.proofs.Views.{elements-Array}
 use Rattle.acct_config.proofs.document.elements.Goals as goal

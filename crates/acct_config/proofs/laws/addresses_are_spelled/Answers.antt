@@ -1,4 +1,4 @@
--- The law `addresses_are_spelled`.
+-- The texts that are addresses are exactly those of the grammar, `tcp:` or `unix:`.
 use Rattle.acct_config.proofs.AddressSpelling.{addresses_spelled}
 use Rattle.acct_config.proofs.laws.addresses_are_spelled.Goals as goal
 

@@ -1,4 +1,4 @@
--- The law `entries_are_spelled`.
+-- An entry is read exactly from its texts, since a SID is read exactly from its own.
 use Rattle.acct_config.proofs.Spelling.{entries_spelled}
 use Rattle.acct_config.proofs.laws.entries_are_spelled.Goals as goal
 

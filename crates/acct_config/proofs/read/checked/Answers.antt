@@ -1,4 +1,4 @@
--- `checked` meets its contract: what the search leaves open.
+-- Where the document breaks no rule, the configuration that `checked` reads of it is right.
 use Rattle.std.proofs.Common.{sym, subst, ◌∙◌}
 use Rattle.toml.specs.View.{view}
 use Rattle.acct_config.specs.Right.{IsRight}

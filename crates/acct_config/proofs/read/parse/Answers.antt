@@ -1,4 +1,4 @@
--- `parse` meets its contract: what the search leaves open.
+-- What `parse` reads is the table that the bytes spell, and rule 0 is broken only by bytes that spell none.
 use Rattle.std.proofs.Common.{sym, ap, ◌∙◌, ℕ}
 use Rattle.std.proofs.lemmas.Result.{err_from_is_err_and}
 use Rattle.std.specs.Option.{unwrap_or, is_some}

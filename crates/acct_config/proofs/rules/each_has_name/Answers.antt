@@ -1,4 +1,4 @@
--- `each_has_name` meets its contract: what the search leaves open.
+-- `each_has_name` goes over the tables until a name can't be a listener's, so it holds just where each name can.
 use Rattle.std.proofs.Common.{sym, ◌∙◌, rules, tests}
 use Rattle.std.proofs.lemmas.Iterator.{YieldsList-from_slice}
 use Rattle.std.proofs.lemmas.Iterator.Search.{all_from_yields_List}

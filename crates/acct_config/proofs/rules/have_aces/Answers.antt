@@ -1,4 +1,4 @@
--- `have_aces` meets its contract: what the search leaves open.
+-- `have_aces` goes over the kinds until the ACEs of a table are wrong, so it holds just where those of none are.
 use Rattle.std.proofs.Common.{rules, tests}
 use Rattle.std.proofs.lemmas.Iterator.{YieldsList-from_slice}
 use Rattle.std.proofs.lemmas.Iterator.Search.{all_from_yields_List}

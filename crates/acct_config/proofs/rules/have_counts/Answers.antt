@@ -1,4 +1,4 @@
--- `have_counts` meets its contract: what the search leaves open.
+-- `have_counts` goes over the tables until a count is out of range, so it holds just where all are within.
 use Rattle.std.proofs.Common.{sym, ◌∙◌, rules, tests}
 use Rattle.std.proofs.lemmas.Iterator.{YieldsList-from_slice}
 use Rattle.std.proofs.lemmas.Iterator.Search.{all_from_yields_List}

@@ -1,4 +1,4 @@
--- `have_limits` meets its contract: what the search leaves open.
+-- `have_limits` goes over the limits until one is out of its range, so it holds just where each is within.
 use Rattle.std.proofs.Common.{rules, tests}
 use Rattle.std.proofs.lemmas.Iterator.{YieldsList-from_slice}
 use Rattle.std.proofs.lemmas.Iterator.Search.{all_from_yields_List}

@@ -1,4 +1,4 @@
--- `have_owners` meets its contract: what the search leaves open.
+-- `have_owners` goes over the kinds until a table has no SID as its owner, so it holds just where each table has one.
 use Rattle.std.proofs.Common.{rules, tests}
 use Rattle.std.proofs.lemmas.Iterator.{YieldsList-from_slice}
 use Rattle.std.proofs.lemmas.Iterator.Search.{all_from_yields_List}

@@ -1,4 +1,4 @@
--- `have_tokens` meets its contract: what the search leaves open.
+-- `have_tokens` goes over the tables until one has no valid token, so it holds just where each has one.
 use Rattle.std.proofs.Common.{sym, ◌∙◌, rules, tests}
 use Rattle.std.proofs.lemmas.Iterator.{YieldsList-from_slice}
 use Rattle.std.proofs.lemmas.Iterator.Search.{all_from_yields_List}

@@ -1,4 +1,4 @@
--- `is_taken` meets its contract: what the search leaves open.
+-- `is_taken` goes over the tables until one has the name, so it holds just where the name is among theirs.
 use Rattle.std.proofs.Common.{map, sym, ◌∙◌, rules, tests}
 use Rattle.std.specs.Str.{bytes_eq}
 use Rattle.std.proofs.lemmas.Iterator.{YieldsList-from_slice}

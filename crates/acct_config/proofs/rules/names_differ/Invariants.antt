@@ -1,4 +1,4 @@
--- What the loop of `names_differ` keeps.
+-- No listener passed shares its name with a later one: the names differ exactly if those left do.
 use Rattle.std.proofs.Common.{◌≡◌, map, drop}
 use Rattle.toml.specs.View.{view}
 use Rattle.acct_config.specs.Rules.{listener_name}

@@ -1,4 +1,4 @@
--- `are_texts` meets its contract: what the search leaves open.
+-- `are_texts` goes over the values until one is no text, so it holds just where each of them is one.
 use Rattle.std.proofs.Common.{sym, ◌∙◌, rules, tests}
 use Rattle.std.proofs.lemmas.Iterator.{YieldsList-from_slice}
 use Rattle.std.proofs.lemmas.Iterator.Search.{all_from_yields_List}

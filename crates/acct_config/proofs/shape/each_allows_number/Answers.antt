@@ -1,4 +1,4 @@
--- `each_allows_number` meets its contract: what the search leaves open.
+-- `each_allows_number` holds just where the key of each limit is absent or has a number: one other stops it.
 use Rattle.std.proofs.Common.{rules, tests}
 use Rattle.std.proofs.lemmas.Iterator.{YieldsList-from_slice}
 use Rattle.std.proofs.lemmas.Iterator.Search.{all_from_yields_List}

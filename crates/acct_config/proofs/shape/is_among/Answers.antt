@@ -1,4 +1,4 @@
--- `is_among` meets its contract: what the search leaves open.
+-- `is_among` goes over the names until one is the key, so it holds just where the key is one of them.
 use Rattle.std.proofs.Common.{sym, ◌∙◌, rules, tests}
 use Rattle.std.specs.Str.{bytes_eq}
 use Rattle.std.proofs.lemmas.Iterator.{YieldsList-from_slice}

@@ -1,4 +1,4 @@
--- `keys_are_among` meets its contract: what the search leaves open.
+-- `keys_are_among` goes over the entries until a key is none of the names, so it holds just where each key is one.
 use Rattle.std.proofs.Common.{List, ℕ, map, sym, ◌∙◌, rules, tests}
 use Rattle.std.specs.Prelude.{string_bytes}
 use Rattle.std.proofs.lemmas.Iterator.Consumers.{YieldsList-from_rest}

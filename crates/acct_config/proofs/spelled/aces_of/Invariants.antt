@@ -1,4 +1,4 @@
--- What the loop of `aces_of` keeps.
+-- The entries so far, followed by those that the texts left spell, are those that all the texts spell.
 use Rattle.std.proofs.Common.{◌≡◌, ◌++◌, map, drop}
 use Rattle.std.specs.List.{filter_map}
 use Rattle.toml.specs.View.{view}

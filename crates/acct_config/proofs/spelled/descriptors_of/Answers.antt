@@ -1,4 +1,4 @@
--- `descriptors_of` keeps its invariant: what the search takes long for.
+-- The descriptors so far and those of the kinds to come are the descriptors of all kinds.
 use Rattle.std.proofs.Common.{◌+◌, ◌++◌, ◌∷◌, [], ◌∙◌, sym, ap, append_assoc, map, drop}
 use Rattle.std.proofs.lemmas.List.{at_drop_more}
 use Rattle.toml.specs.View.{view}

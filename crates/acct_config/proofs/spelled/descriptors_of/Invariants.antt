@@ -1,4 +1,4 @@
--- What the loop of `descriptors_of` keeps.
+-- The descriptors so far, followed by those of the kinds left, are the descriptors of all the kinds.
 use Rattle.std.proofs.Common.{◌≡◌, ◌++◌, map, drop}
 use Rattle.toml.specs.View.{view}
 use Rattle.acct_config.specs.Rules.{descriptor_table}

@@ -1,4 +1,4 @@
--- What the loop of `listeners_of` keeps.
+-- The listeners so far, followed by those of the tables left, are the listeners of all the tables.
 use Rattle.std.proofs.Common.{◌≡◌, ◌++◌, map, drop}
 use Rattle.toml.specs.View.{view}
 use Rattle.acct_config.specs.Spelled.{listener_of}

@@ -1,4 +1,4 @@
--- `sids_of` keeps its invariant: what the search takes long for.
+-- The SIDs so far and those of the texts to come are all of them: a text adds the SID that it spells, or nothing.
 use Rattle.std.proofs.Common.{◌+◌, ◌++◌, ◌∙◌, sym, ap, map, drop}
 use Rattle.std.specs.List.{filter_map}
 use Rattle.toml.specs.View.{view}

@@ -1,4 +1,4 @@
--- `are_name_bytes` meets its contract: what the search leaves open.
+-- `are_name_bytes` goes over the bytes until one may not be in a name, so it holds just where each may.
 use Rattle.std.proofs.Common.{rules, tests}
 use Rattle.std.proofs.lemmas.Iterator.{YieldsList-from_slice}
 use Rattle.std.proofs.lemmas.Iterator.Search.{all_from_yields_List}

@@ -1,4 +1,4 @@
--- `hexadecimal_of` meets its contract: what the search leaves open.
+-- The digits so far spell a number below 2^32, as they are at most eight, so no step of `hexadecimal_of` overflows.
 use Rattle.std.proofs.Common.{arith, ◌<◌, ◌≤◌}
 use Rattle.std.specs.Char.{digit_value}
 use Rattle.acct_config.proofs.Digits.{below_2_32}

@@ -1,4 +1,4 @@
--- What the loop of `copy_changes` keeps.
+-- The copies so far are the first so many changes.
 use Rattle.std.proofs.Common.{◌≡◌, take}
 use Rattle.acct_keeper.proofs.pairs.copy_changes.Given as goal
 

@@ -1,4 +1,4 @@
--- What the loop of `copy_pairs` keeps.
+-- The copies so far are the first so many pairs.
 use Rattle.std.proofs.Common.{◌≡◌, take}
 use Rattle.acct_keeper.proofs.pairs.copy_pairs.Given as goal
 

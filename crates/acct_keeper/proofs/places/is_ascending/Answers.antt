@@ -1,4 +1,4 @@
--- `is_ascending` meets its contract: what the search leaves open.
+-- While each key is below the next, the pairs ascend just where those from the next on do; the last by itself does.
 use Rattle.std.proofs.Common.{◌≡◌, ◌-◌, ◌+◌, List, ℕ, suc, false, sym, ap, ◌∙◌, drop, arith}
 use Rattle.std.specs.Ordering.{is_ge}
 use Rattle.acct_keeper.specs.declared.pairs.Pair.{Pair}

@@ -1,4 +1,4 @@
--- What the loop of `is_ascending` keeps.
+-- The keys that were passed strictly rise: those from the last of them on decide.
 use Rattle.std.proofs.Common.{◌≡◌, ◌-◌, drop}
 use Rattle.acct_keeper.specs.Pairs.{is_ascending}
 use Rattle.acct_keeper.proofs.places.is_ascending.Given as goal

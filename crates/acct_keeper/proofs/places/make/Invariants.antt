@@ -1,4 +1,4 @@
--- What the loop of `make` keeps.
+-- The changes left make of the pairs so far what all make of the first; the keys rise, and there is room.
 use Rattle.std.proofs.Common.{◌≡◌, ◌+◌, ◌≤◌, true, length, vec_len, vec_capacity}
 use Rattle.std.specs.Vec.Iter.{into_iter_items}
 use Rattle.acct_keeper.specs.Pairs.{is_ascending, after}

@@ -1,4 +1,4 @@
--- `put` meets its contract: what the search leaves open.
+-- A pair written over the one found, or inserted where none is, gives the pairs with it put; there is room for it.
 use Rattle.std.proofs.Common.{sym, ap, ◌∙◌, ◌≡◌, true, Ok, Err, rules, insert, is_ok, if◌then◌else◌}
 use Rattle.acct_keeper.proofs.Placing.{put-placed}
 use Rattle.acct_keeper.proofs.places.put.Goals as goal

@@ -1,4 +1,4 @@
--- `remove` meets its contract: what the search leaves open.
+-- Without the pair at the place found the pairs are those without the key; where none is found, they are so already.
 use Rattle.std.proofs.Common.{sym, ◌∙◌, Ok, Err}
 use Rattle.acct_keeper.proofs.Placing.{without-placed}
 use Rattle.acct_keeper.proofs.places.remove.Goals as goal

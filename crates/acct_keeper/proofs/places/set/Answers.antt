@@ -1,4 +1,4 @@
--- `set` meets its contract: what the search leaves open.
+-- Pairs still ascend after one was put in its place, and after the one with a key was taken out.
 use Rattle.std.proofs.Common.{not}
 use Rattle.acct_keeper.specs.Pairs.{same_key}
 use Rattle.acct_keeper.proofs.Ordered.{is_ascending-put, is_ascending-filter}

@@ -1,4 +1,4 @@
--- What the loop of `read_whole` keeps.
+-- The bytes so far are those that the source gave, in order, and are no more than may be read.
 use Rattle.std.proofs.Common.{◌≤◌, ◌-◌, vec_len}
 use Rattle.std.specs.Io.KnownBytes.{Consumes}
 use Rattle.acct_streams.specs.Whole.{most_bytes}

@@ -1,4 +1,4 @@
--- `write_all` meets its contract: what the search leaves open.
+-- What the sink took so far is the front of the bytes up to the place reached, one piece behind the other.
 use Rattle.std.proofs.Common.{◌≡◌, take, drop, List, ℕ, arith, subst}
 use Rattle.std.specs.Io.KnownBytes.{Appends}
 use Rattle.acct_streams.proofs.Bytes.{Appends-then, take-more}

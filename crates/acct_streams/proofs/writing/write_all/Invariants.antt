@@ -1,4 +1,4 @@
--- What the loop of `write_all` keeps.
+-- The bytes in front of the cursor were added to what the sink has, and its count of faults didn't fall.
 use Rattle.std.proofs.Common.{◌≤◌, ◌-◌, length, take}
 use Rattle.std.specs.Io.KnownBytes.{Appends}
 use Rattle.acct_streams.proofs.writing.write_all.Given as goal

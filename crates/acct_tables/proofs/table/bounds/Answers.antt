@@ -1,4 +1,4 @@
--- `bounds` meets its contract: what the search leaves open.
+-- Where the keys ascend, the values within a front stand together between the bounds, and all others outside.
 use Rattle.acct_tables.proofs.Between.{front_in_order, front_together, front_apart}
 use Rattle.acct_tables.proofs.table.bounds.Goals as goal
 

@@ -1,4 +1,4 @@
--- `end_within` meets its contract: what the search leaves open.
+-- The values at or below the front stand before the place found, and those above it behind.
 use Rattle.std.proofs.Common.{rules}
 use Rattle.std.proofs.lemmas.List.Sorted.{IsPartitionPoint-from_clause}
 use Rattle.acct_tables.proofs.Between.{upto, upto_turns}

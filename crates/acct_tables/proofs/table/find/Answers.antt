@@ -1,4 +1,4 @@
--- `find` meets its contract: what the search leaves open.
+-- The value at the first place that isn't below the front is the first within it, or no value is.
 use Rattle.std.proofs.Common.{rules, ◌≡◌, ◌<◌, ◌≤◌, true, false, cond, Some, None, length, sym, ap, ◌∙◌}
 use Rattle.std.proofs.lemmas.Grind.{common_steps}
 use Rattle.acct_tables.specs.Keyed.{is_within}

@@ -1,4 +1,4 @@
--- `first_within` meets its contract: what the search leaves open.
+-- The values below the front stand before the place found, and all others behind.
 use Rattle.std.proofs.Common.{rules}
 use Rattle.std.proofs.lemmas.List.Sorted.{IsPartitionPoint-from_clause}
 use Rattle.acct_tables.proofs.Between.{below, below_turns}

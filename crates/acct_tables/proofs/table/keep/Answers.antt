@@ -1,4 +1,4 @@
--- `keep` meets its contract: what the search leaves open.
+-- What `retain` leaves by the answers of the test is the filter by what passes it.
 use Rattle.std.proofs.Common.{rules}
 use Rattle.std.proofs.lemmas.Fn.{filter_same}
 use Rattle.acct_tables.proofs.table.keep.Goals as goal

@@ -1,4 +1,4 @@
--- `place` meets its contract: what the search leaves open.
+-- A binary search over keys that ascend finds the place of the key, or the one where it would go.
 use Rattle.std.proofs.Common.{rules}
 use Rattle.std.proofs.lemmas.Fn.{always_returns_same}
 use Rattle.acct_tables.specs.Keyed.{compare}

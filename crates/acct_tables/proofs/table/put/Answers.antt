@@ -1,4 +1,4 @@
--- `put` meets its contract: what the search leaves open.
+-- A value set where its key stands, or else inserted where the key would go, is put in its place.
 use Rattle.std.proofs.Common.{sym, ap, ◌∙◌, ◌≡◌, true, Ok, Err, rules, insert, is_ok, if◌then◌else◌}
 use Rattle.acct_tables.proofs.Places.{put-placed}
 use Rattle.acct_tables.proofs.table.put.Goals as goal

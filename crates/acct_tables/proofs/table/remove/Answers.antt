@@ -1,4 +1,4 @@
--- `remove` meets its contract: what the search leaves open.
+-- Removing at the place of the key leaves all but its value; a key without a place leaves all.
 use Rattle.std.proofs.Common.{sym, ◌∙◌, Ok, Err}
 use Rattle.acct_tables.proofs.Places.{without-placed}
 use Rattle.acct_tables.proofs.table.remove.Goals as goal

@@ -1,4 +1,4 @@
--- `asked_rights` meets its contract: what the search leaves open.
+-- Bit for bit, the mask has the desired rights that are named and those that a desired generic bit stands for.
 use Rattle.std.proofs.Common.{refl}
 use Rattle.dtyp_access.specs.Opening.{asks}
 use Rattle.dtyp_access.proofs.Masks.{shares-and, shares-or, shares-if}

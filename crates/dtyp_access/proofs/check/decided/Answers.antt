@@ -1,4 +1,4 @@
--- `decided` meets its contract: what the search leaves open.
+-- Bit for bit, an entry grants the undecided rights that it allows, and leaves those undecided that it doesn't name.
 use Rattle.std.proofs.Common.{◌^◌, ap, ◌∙◌, sym, refl, arith}
 use Rattle.std.specs.Prelude.{◌&&◌}
 use Rattle.dtyp_access.specs.Granted.{shares}

@@ -1,4 +1,4 @@
--- `granted_rights` meets its contract: what the search leaves open.
+-- Bit for bit, a descriptor grants what its list does, or without a list all, but never ACCESS_SYSTEM_SECURITY.
 use Rattle.std.proofs.Common.{◌≡◌, ◌^◌, ◌∙◌, ap, sym, List, Some}
 use Rattle.dtyp_access.specs.declared.ace.Ace.{Ace}
 use Rattle.std.specs.Prelude.{◌&&◌, not, ◌==◌}

@@ -1,4 +1,4 @@
--- `is_granted` meets its contract: what the search leaves open.
+-- A right is one bit, and it is granted where the mask of the granted rights shares this bit.
 use Rattle.std.proofs.Common.{◌≡◌, ℕ, ◌^◌, ◌∙◌, ap, sym, subst, bit_and, List}
 use Rattle.dtyp_sid.specs.Value.{SidValue}
 use Rattle.std.specs.Prelude.{not, ◌==◌}

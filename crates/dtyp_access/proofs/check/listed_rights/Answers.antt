@@ -1,4 +1,4 @@
--- `listed_rights` meets its contract: what the search leaves open.
+-- The walk begins with the owner's rights; an entry that speaks of the token decides what it names, any other none.
 use Rattle.std.proofs.Common.{◌≡◌, List, ◌^◌, ◌+◌, ◌++◌, ◌∷◌, [], take, ap, ◌∙◌, sym, subst}
 use Rattle.std.specs.Prelude.{◌&&◌, not}
 use Rattle.std.specs.Int.{bit_not, w32}

@@ -1,4 +1,4 @@
--- What the loop of `listed_rights` keeps.
+-- Owning and the entries passed grant just these rights; of those still undecided neither speaks.
 use Rattle.std.proofs.Common.{ℕ, ◌^◌, ◌<◌, take}
 use Rattle.dtyp_access.specs.Granted.{shares}
 use Rattle.dtyp_access.proofs.Walk.{IsWalked}

@@ -1,4 +1,4 @@
--- `opening` meets its contract: what the search leaves open.
+-- By their bits, the masks deny an opening, or grant what is asked for, or with MAXIMUM_ALLOWED all that is granted.
 use Rattle.std.proofs.Common.{◌≡◌, sym, true, false}
 use Rattle.std.proofs.lemmas.Nat.{or_lt}
 use Rattle.acct_codes.specs.Rights.{maximum_allowed}

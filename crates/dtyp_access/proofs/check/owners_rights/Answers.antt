@@ -1,4 +1,4 @@
--- `owners_rights` meets its contract: what the search leaves open.
+-- A token with the owner's SID has just the bits of READ_CONTROL and WRITE_DAC from it, and any other token none.
 use Rattle.std.proofs.Common.{◌∙◌, sym}
 use Rattle.dtyp_access.specs.Granted.{is_owners}
 use Rattle.dtyp_access.proofs.Masks.{shares-none}

@@ -1,4 +1,4 @@
--- The law `maximum_grants_all`.
+-- An opening that asks for the maximum grants all that any other opening grants.
 use Rattle.dtyp_access.proofs.AccessLaws.{maximum_all}
 use Rattle.dtyp_access.proofs.laws.maximum_grants_all.Goals as goal
 

@@ -1,4 +1,4 @@
--- The law `read_bytes_spell`.
+-- A descriptor is read exactly from the bytes that spell it, since so it is with its SIDs.
 use Rattle.dtyp_access.proofs.SpelledIsRead.{spelled_is_read}
 use Rattle.dtyp_access.proofs.ReadIsSpelled.{read_is_spelled}
 use Rattle.dtyp_access.proofs.laws.read_bytes_spell.Goals as goal

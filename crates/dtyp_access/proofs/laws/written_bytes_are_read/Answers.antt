@@ -1,4 +1,4 @@
--- The law `written_bytes_are_read`.
+-- A descriptor that is written is read as the same one, whatever bytes follow: what is written spells it.
 use Rattle.dtyp_access.specs.Written.{descriptor_bytes}
 use Rattle.std.proofs.Common.{◌++◌}
 use Rattle.dtyp_access.proofs.SpelledIsRead.{spelled_is_read}

@@ -1,4 +1,4 @@
--- What the loop of `aces_limits` keeps.
+-- Each entry that was passed has flags, a mask and a SID within the limits of an entry.
 use Rattle.std.proofs.Common.{All, take}
 use Rattle.dtyp_access.specs.Limits.{IsAce}
 use Rattle.dtyp_access.proofs.limits.aces_limits.Given as goal

@@ -1,4 +1,4 @@
--- `read_descriptor` meets its contract: what the search leaves open.
+-- The bytes that are read as a descriptor spell it.
 use Rattle.std.proofs.Common.{◌≡◌, ℕ, ◌<◌, List, All, Ok, w8, rules, arith}
 use Rattle.std.proofs.lemmas.Grind.{common_steps}
 use Rattle.std.proofs.Math.Facts.{Fits-lt-pow}

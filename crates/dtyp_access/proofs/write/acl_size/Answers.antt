@@ -1,4 +1,4 @@
--- `acl_size` meets its contract: what the search leaves open.
+-- The size so far is 8 plus the bytes of the entries so far, and at most 8 plus 76 for each of them.
 use Rattle.std.proofs.Common.{◌≡◌, ◌+◌, ◌++◌, ◌∷◌, [], take, length, arith, ap, ◌∙◌, sym}
 use Rattle.std.proofs.lemmas.List.{take_more, length-append}
 use Rattle.dtyp_access.specs.declared.ace.Ace.{Ace}

@@ -1,4 +1,4 @@
--- `push_header` meets its contract: what the search leaves open.
+-- The six fields pushed one behind the other are the bytes of the descriptor's header.
 use Rattle.std.proofs.Common.{◌≡◌, ℕ, List, ◌++◌, ◌∷◌, [], ap, ◌∙◌, refl}
 use Rattle.std.specs.Int.{w16, w32, to_le_bytes}
 use Rattle.dtyp_access.specs.Written.{header_bytes}

@@ -1,4 +1,4 @@
--- The law `read_bytes_are_written`.
+-- What is read at the front of bytes is a SID, and the bytes begin with its written ones.
 use Rattle.dtyp_sid.proofs.SidBytes.{read_written_back}
 use Rattle.dtyp_sid.proofs.laws.read_bytes_are_written.Goals as goal
 

@@ -1,4 +1,4 @@
--- The law `read_texts_are_texts`.
+-- A SID is read exactly from its texts.
 use Rattle.dtyp_sid.proofs.Texts.{sid_of_text-is, text-of_sid}
 use Rattle.dtyp_sid.proofs.laws.read_texts_are_texts.Goals as goal
 

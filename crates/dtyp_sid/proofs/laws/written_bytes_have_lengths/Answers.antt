@@ -1,4 +1,4 @@
--- The law `written_bytes_have_lengths`.
+-- A SID has eight written bytes, and four more for each sub-authority.
 use Rattle.dtyp_sid.proofs.SidBytes.{length-bytes_of}
 use Rattle.dtyp_sid.proofs.laws.written_bytes_have_lengths.Goals as goal
 

@@ -1,4 +1,4 @@
--- The law `written_texts_differ`.
+-- Two SIDs that have the same written text are one.
 use Rattle.dtyp_sid.proofs.Texts.{written_one}
 use Rattle.dtyp_sid.proofs.laws.written_texts_differ.Goals as goal
 

@@ -1,4 +1,4 @@
--- `parse_text` meets its contract: what the search leaves open.
+-- The stage is that of the bytes read so far; a byte without a next stage, or an end too early, is the bad place.
 use Rattle.std.proofs.Common.{◌≡◌, ℕ, ◌<◌, ◌≤◌, ap, sym, ◌∙◌, get_or, length, subst, List}
 use Rattle.std.proofs.lemmas.List.{take_all}
 use Rattle.dtyp_sid.specs.Reading.{read_on, stage_after}

@@ -1,4 +1,4 @@
--- What the loop of `parse_text` keeps.
+-- The bytes that were passed bring the reader to this stage, whose numbers are within their limits.
 use Rattle.std.proofs.Common.{◌≡◌, take, Some}
 use Rattle.dtyp_sid.specs.Reading.{read_on, IsStage}
 use Rattle.dtyp_sid.specs.declared.reading.Stage.TheVariants.{Opening}

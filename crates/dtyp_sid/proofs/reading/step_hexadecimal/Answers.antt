@@ -1,4 +1,4 @@
--- `step_hexadecimal` meets its contract: what the search leaves open.
+-- The number of fewer than 12 hexadecimal digits is below 2^44, so with one digit more it is still a `u64`.
 use Rattle.std.proofs.Common.{arith, ◌<◌}
 use Rattle.std.specs.Char.{digit_value}
 use Rattle.dtyp_sid.proofs.Hexadecimals.{below_2_44}

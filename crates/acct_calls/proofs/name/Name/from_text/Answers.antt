@@ -1,4 +1,4 @@
--- `from_text` meets its contract: what the search leaves open.
+-- The units that `from_text` made so far are the UTF-16 of the characters so far, and at the end of all of them.
 use Rattle.std.proofs.Common.{◌++◌, sym, ap, ◌∙◌}
 use Rattle.std.specs.Char.Escape.{encode_utf16}
 use Rattle.std.proofs.lemmas.List.{map-id}

@@ -1,4 +1,4 @@
--- What the loop of `from_text` keeps.
+-- The units so far are those that the characters yielded so far have in UTF-16.
 use Rattle.std.proofs.Common.{◌≡◌}
 use Rattle.acct_calls.specs.CodePoints.{units_of}
 use Rattle.acct_calls.proofs.name.Name.from_text.Given as goal

@@ -1,4 +1,4 @@
--- `same` meets its contract: what the search leaves open.
+-- `same` is true just where the code points of the two names are equal after folding.
 use Rattle.std.proofs.Common.{◌≡◌, IsTrue, sym, subst}
 use Rattle.std.specs.Prelude.{◌↔◌, Bool}
 use Rattle.acct_calls.specs.Folding.{is_same, AreSame}

@@ -1,4 +1,4 @@
--- What the loop of `copy` keeps.
+-- The copies so far are the first so many names of the list.
 use Rattle.std.proofs.Common.{◌≡◌, take}
 use Rattle.acct_calls.proofs.names.Names.copy.Given as goal
 

@@ -1,4 +1,4 @@
--- `Table::keep` meets its contract: what the search leaves open.
+-- The values that pass a test still ascend by their keys.
 use Rattle.acct_tables.proofs.Ascending.{is_ascending-filter}
 use Rattle.acct_tables.proofs.table.Table.keep.Goals as goal
 

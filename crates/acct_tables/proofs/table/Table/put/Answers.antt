@@ -1,4 +1,4 @@
--- `Table::put` meets its contract: what the search leaves open.
+-- With one value more, put in its place, the values of the table still ascend by their keys.
 use Rattle.acct_tables.proofs.Ascending.{is_ascending-put}
 use Rattle.acct_tables.proofs.table.Table.put.Goals as goal
 

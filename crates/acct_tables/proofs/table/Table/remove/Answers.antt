@@ -1,4 +1,4 @@
--- `Table::remove` meets its contract: what the search leaves open.
+-- Without the value of a key the values of the table still ascend by their keys.
 use Rattle.acct_tables.proofs.Ascending.{is_ascending-filter}
 use Rattle.acct_tables.proofs.table.Table.remove.Goals as goal
 

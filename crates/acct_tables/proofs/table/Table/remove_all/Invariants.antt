@@ -1,4 +1,4 @@
--- What the loop of `Table::remove_all` keeps.
+-- Removing the keys of the values left gives what removing all of them gives, and no room is lost.
 use Rattle.std.proofs.Common.{◌≡◌, ◌≤◌, drop}
 use Rattle.acct_tables.specs.Keyed.{without_all}
 use Rattle.acct_tables.proofs.table.Table.remove_all.Given as goal

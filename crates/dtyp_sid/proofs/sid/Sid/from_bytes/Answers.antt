@@ -1,4 +1,4 @@
--- `from_bytes` meets its contract: what the search leaves open.
+-- Bytes of which a SID was read begin with the bytes of this SID.
 use Rattle.std.proofs.Common.{◌≡◌, ap, ◌∙◌, arith, drop, subst, w8}
 use Rattle.std.specs.Prelude.{slice_index}
 use Rattle.std.proofs.Math.Facts.{Fits-lt-pow}
@@ -21,5 +21,5 @@ returns-clause-spelled c =
     } in
     let same : sid ≡ c.from_front.result = cc (c.from_front.ensures) in
     subst (λ (sid : SidValue). BeginWithSid bytes sid) same
-    (spelled bytes (omega arith) (omega (arith, c.if-bytes-ne1.false))
+    (spelled bytes (omega arith) (omega (arith, c.if-bytes-ne-SID_REVISION.false))
     (omega (arith, c.if-bytes-count.false, c.from-count.ensures)) (λ i. Fits-lt-pow {w = w8} (c.type_inv.bytes i)))

@@ -1,4 +1,4 @@
--- What the loop of `from_front` keeps.
+-- The first so many slots have the sub-authorities at the front of the bytes, and those behind them are zero.
 use Rattle.std.proofs.Common.{◌≡◌, take}
 use Rattle.dtyp_sid.specs.Slots.{AreSlots}
 use Rattle.dtyp_sid.specs.Bytes.{subs_at_front}

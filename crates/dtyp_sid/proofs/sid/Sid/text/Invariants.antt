@@ -1,4 +1,4 @@
--- What the loop of `text` keeps.
+-- The text so far is `S-1-`, the authority and the first so many sub-authorities.
 use Rattle.std.proofs.Common.{◌≡◌, ◌++◌, take, codes}
 use Rattle.std.specs.String.{string_bytes}
 use Rattle.dtyp_sid.specs.Text.{authority_text, subs_text}

@@ -1,4 +1,4 @@
--- `with_rid` meets its contract: what the search leaves open.
+-- A SID of fewer than 15 sub-authorities is still one with one more: there are few enough, and zeros behind.
 use Rattle.std.proofs.Common.{arith}
 use Rattle.dtyp_sid.specs.Slots.{pushed}
 use Rattle.dtyp_sid.proofs.sid.Sid.with_rid.Goals as goal
