@@ -18,8 +18,8 @@ use Rattle.acct_layouts.specs.declared.fields.Connect.{Connect}
 use Rattle.acct_layouts.specs.declared.fields.Connect.TheVariants as connect
 use Rattle.acct_layouts.specs.declared.fields.Fields.{Fields}
 use Rattle.acct_layouts.specs.declared.fields.Fields.TheVariants as fields
-use Rattle.acct_layouts.specs.declared.fields.Plain.{Plain}
-use Rattle.acct_layouts.specs.declared.fields.Plain.TheVariants as plain
+use Rattle.acct_layouts.specs.declared.fields.ScalarFields.{ScalarFields}
+use Rattle.acct_layouts.specs.declared.fields.ScalarFields.TheVariants as plain
 use Rattle.acct_layouts.specs.declared.fields.PolicyFields.{PolicyFields}
 use Rattle.acct_layouts.specs.declared.fields.PolicyFields.TheVariants as policies
 use Rattle.acct_layouts.specs.declared.fields.Search.{Search}
@@ -29,7 +29,7 @@ use Rattle.acct_layouts.specs.declared.fields.Translation.TheVariants as transla
 use Rattle.acct_layouts.specs.declared.outputs.Listed.TheVariants as listed
 use Rattle.acct_layouts.specs.declared.outputs.Outputs.{Outputs}
 use Rattle.acct_layouts.specs.declared.outputs.Outputs.TheVariants as outputs
-use Rattle.acct_layouts.specs.declared.outputs.Plainly.TheVariants as plainly
+use Rattle.acct_layouts.specs.declared.outputs.ScalarOutputs.TheVariants as scalar
 use Rattle.acct_layouts.specs.declared.outputs.PolicyOutputs.TheVariants as policy
 use Rattle.acct_layouts.specs.declared.table.Layout.{Layout}
 
@@ -42,7 +42,7 @@ no_opening : (c : Connect) (context filter preferred : ℕ) → AreConnectArgs c
 no_opening connect.Connect2 context filter preferred h = h
 no_opening _ context filter preferred h = h
 
-no_plain : (p : Plain) (context filter preferred : ℕ) → ArePlainArgs p (args.Page context filter preferred) → ⊥
+no_plain : (p : ScalarFields) (context filter preferred : ℕ) → ArePlainArgs p (args.Page context filter preferred) → ⊥
 no_plain plain.Nothing context filter preferred h = h
 no_plain _ context filter preferred h = h
 
@@ -64,7 +64,7 @@ searched_context _ context filter preferred h = absurd h
 page_context : (f : Fields) (context filter preferred : ℕ) → AreArguments f (args.Page context filter preferred)
     → IsLong context
 page_context (fields.Connect c) context filter preferred h = absurd (no_opening c context filter preferred h)
-page_context (fields.Plain p) context filter preferred h = absurd (no_plain p context filter preferred h)
+page_context (fields.Scalar p) context filter preferred h = absurd (no_plain p context filter preferred h)
 page_context (fields.Search s) context filter preferred h = searched_context s context filter preferred h
 page_context (fields.Policy p) context filter preferred h = absurd (no_policy p context filter preferred h)
 page_context (fields.Translation t) context filter preferred h = absurd (no_translation t context filter preferred h)
@@ -85,13 +85,13 @@ handle_fits _ h is = is
 
 are_outputs : (o : Outputs) (a : Args) (h : Handle) → IsLong (context_of a) → IsHandle h
     → AreOutputs o (refused_outs o a h)
-are_outputs (outputs.Plain plainly.Nothing) a h long fits = tt
-are_outputs (outputs.Plain plainly.Handle) a h long fits = lit< tt
-are_outputs (outputs.Plain plainly.HandleBack) a h long fits = fits
-are_outputs (outputs.Plain plainly.Connected) a h long fits = lit< tt
-are_outputs (outputs.Plain plainly.Created) a h long fits = (lit< tt, refl, lit< tt)
-are_outputs (outputs.Plain plainly.Granted) a h long fits = (lit< tt, lit< tt, lit< tt)
-are_outputs (outputs.Plain plainly.Sid) a h long fits = tt
+are_outputs (outputs.Scalar scalar.Nothing) a h long fits = tt
+are_outputs (outputs.Scalar scalar.Handle) a h long fits = lit< tt
+are_outputs (outputs.Scalar scalar.HandleBack) a h long fits = fits
+are_outputs (outputs.Scalar scalar.Connected) a h long fits = lit< tt
+are_outputs (outputs.Scalar scalar.Created) a h long fits = (lit< tt, refl, lit< tt)
+are_outputs (outputs.Scalar scalar.Granted) a h long fits = (lit< tt, lit< tt, lit< tt)
+are_outputs (outputs.Scalar scalar.Sid) a h long fits = tt
 are_outputs (outputs.Listed listed.Page) a h long fits = (long, tt)
 are_outputs (outputs.Listed listed.Rids) a h long fits = no_elements IsLong
 are_outputs (outputs.Listed listed.RidUses) a h long fits = (no_elements IsLong, no_elements IsLong)
@@ -113,13 +113,13 @@ are_outputs (outputs.Translation translation.Sids) a h long fits =
     (no_elements IsDomain, no_elements IsTranslatedName, lit< tt)
 
 no_domains : (o : Outputs) (a : Args) (h : Handle) → domains_of (refused_outs o a h) ≡ []
-no_domains (outputs.Plain plainly.Nothing) a h = refl
-no_domains (outputs.Plain plainly.Handle) a h = refl
-no_domains (outputs.Plain plainly.HandleBack) a h = refl
-no_domains (outputs.Plain plainly.Connected) a h = refl
-no_domains (outputs.Plain plainly.Created) a h = refl
-no_domains (outputs.Plain plainly.Granted) a h = refl
-no_domains (outputs.Plain plainly.Sid) a h = refl
+no_domains (outputs.Scalar scalar.Nothing) a h = refl
+no_domains (outputs.Scalar scalar.Handle) a h = refl
+no_domains (outputs.Scalar scalar.HandleBack) a h = refl
+no_domains (outputs.Scalar scalar.Connected) a h = refl
+no_domains (outputs.Scalar scalar.Created) a h = refl
+no_domains (outputs.Scalar scalar.Granted) a h = refl
+no_domains (outputs.Scalar scalar.Sid) a h = refl
 no_domains (outputs.Listed listed.Page) a h = refl
 no_domains (outputs.Listed listed.Rids) a h = refl
 no_domains (outputs.Listed listed.RidUses) a h = refl

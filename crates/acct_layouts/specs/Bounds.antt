@@ -7,7 +7,7 @@ use Rattle.dtyp_sid.specs.Value.{IsSid}
 use Rattle.acct_calls.specs.declared.handle.Handle.{Handle}
 use Rattle.acct_calls.specs.declared.lists.Privilege.{Privilege}
 use Rattle.acct_calls.specs.declared.lists.RidName.{RidName}
-use Rattle.acct_calls.specs.declared.lists.Place.{Place}
+use Rattle.acct_calls.specs.declared.lists.ReferencedDomain.{ReferencedDomain}
 use Rattle.acct_calls.specs.declared.lists.RidBits.{RidBits}
 use Rattle.acct_calls.specs.declared.lists.TranslatedSid.{TranslatedSid}
 use Rattle.acct_calls.specs.declared.lists.TranslatedName.{TranslatedName}
@@ -41,7 +41,7 @@ IsPrivilegeSet privileges = (length privileges ≤ most_privileges) × All IsPri
 abbrev pub IsAccount : RidName → Type 0
 IsAccount account = (account.rid < 2 ^ 32) × IsText account.name
 
-abbrev pub IsDomain : Place → Type 0
+abbrev pub IsDomain : ReferencedDomain → Type 0
 IsDomain place = IsText place.name × IsSid place.sid
 
 abbrev pub IsMember : RidBits → Type 0

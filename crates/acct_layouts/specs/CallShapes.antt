@@ -23,8 +23,8 @@ use Rattle.acct_layouts.specs.declared.fields.Creation.{Creation}
 use Rattle.acct_layouts.specs.declared.fields.Creation.TheVariants as creation
 use Rattle.acct_layouts.specs.declared.fields.Fields.{Fields}
 use Rattle.acct_layouts.specs.declared.fields.Fields.TheVariants as fields
-use Rattle.acct_layouts.specs.declared.fields.Plain.{Plain}
-use Rattle.acct_layouts.specs.declared.fields.Plain.TheVariants as plain
+use Rattle.acct_layouts.specs.declared.fields.ScalarFields.{ScalarFields}
+use Rattle.acct_layouts.specs.declared.fields.ScalarFields.TheVariants as plain
 use Rattle.acct_layouts.specs.declared.fields.PolicyFields.{PolicyFields}
 use Rattle.acct_layouts.specs.declared.fields.PolicyFields.TheVariants as policy
 use Rattle.acct_layouts.specs.declared.fields.Search.{Search}
@@ -41,7 +41,7 @@ AreConnectArgs connect.Connect5 (args.Access access) = IsLong access
 AreConnectArgs connect.OpenPolicy2 (args.Policy rooted access) = IsLong access
 AreConnectArgs _ _ = ⊥
 
-abbrev pub ArePlainArgs : Plain → Args → Type 0
+abbrev pub ArePlainArgs : ScalarFields → Args → Type 0
 ArePlainArgs plain.Nothing args.Nothing = Unit {0}
 ArePlainArgs plain.Rid (args.Rid rid) = IsLong rid
 ArePlainArgs plain.Member (args.RidBits rid bits) = IsLong rid × IsLong bits
@@ -102,7 +102,7 @@ IsPut (Some a) value = IsValue a value
 
 abbrev pub AreArguments : Fields → Args → Type 0
 AreArguments (fields.Connect c) a = AreConnectArgs c a
-AreArguments (fields.Plain p) a = ArePlainArgs p a
+AreArguments (fields.Scalar p) a = ArePlainArgs p a
 AreArguments (fields.Search s) a = AreSearchArgs s a
 AreArguments (fields.Creation c) a = AreCreationArgs c a
 AreArguments (fields.Class s) (args.Class class) = IsClass s class

@@ -1,4 +1,4 @@
--- Which value a class of information has, by the kind of the object (MS-SAMR 2.2.3 to 2.2.6, MS-LSAD 2.2.4).
+-- Which value an information class has, by the kind of the object (MS-SAMR 2.2.3 to 2.2.6, MS-LSAD 2.2.4).
 use Rattle.std.specs.Prelude.{ℕ, Bool, false, ◌==◌, ◌||◌, Option, Some, None, if◌then◌else◌}
 use Rattle.acct_codes.specs.InfoClasses.{domain_password_information, domain_oem_information, domain_name_information}
 use Rattle.acct_codes.specs.InfoClasses.{domain_lockout_information, group_general_information, group_name_information}

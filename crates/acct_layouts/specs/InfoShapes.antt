@@ -1,4 +1,4 @@
--- Which values a class of information has.
+-- Which values an information class has.
 use Rattle.std.specs.Prelude.{Option, Some, None}
 use Rattle.dtyp_sid.specs.Value.{IsSid}
 use Rattle.acct_calls.specs.declared.info.Info.{Info}

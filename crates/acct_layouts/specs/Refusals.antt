@@ -1,6 +1,7 @@
 -- Which statuses are refusals (MS-ERREF 2.3), and which outputs a refusal has: zero handles, null pointers, zero
 -- numbers and empty lists.
 use Rattle.std.specs.Prelude.{ℕ, Bool, ◌&&◌, ◌==◌, not, nat_le, [], None}
+use Rattle.acct_calls.specs.Calls.{zero_handle}
 use Rattle.acct_calls.specs.declared.calls.Args.{Args}
 use Rattle.acct_calls.specs.declared.calls.Args.TheVariants as args
 use Rattle.acct_calls.specs.declared.handle.Handle.{Handle}
@@ -14,8 +15,8 @@ use Rattle.acct_layouts.specs.declared.outputs.Listed.{Listed}
 use Rattle.acct_layouts.specs.declared.outputs.Listed.TheVariants as listed
 use Rattle.acct_layouts.specs.declared.outputs.Outputs.{Outputs}
 use Rattle.acct_layouts.specs.declared.outputs.Outputs.TheVariants as outputs
-use Rattle.acct_layouts.specs.declared.outputs.Plainly.{Plainly}
-use Rattle.acct_layouts.specs.declared.outputs.Plainly.TheVariants as plainly
+use Rattle.acct_layouts.specs.declared.outputs.ScalarOutputs.{ScalarOutputs}
+use Rattle.acct_layouts.specs.declared.outputs.ScalarOutputs.TheVariants as scalar
 use Rattle.acct_layouts.specs.declared.outputs.PolicyOutputs.{PolicyOutputs}
 use Rattle.acct_layouts.specs.declared.outputs.PolicyOutputs.TheVariants as policy
 
@@ -23,23 +24,20 @@ use Rattle.acct_layouts.specs.declared.outputs.PolicyOutputs.TheVariants as poli
 abbrev pub is_refusal : ℕ → Bool
 is_refusal status = nat_le 0xC0000000 status && not (status == status_none_mapped)
 
-abbrev pub zero_handle : Handle
-zero_handle = record { number = 0 }
-
 -- where the enumeration begins that a call asks for
 abbrev pub context_of : Args → ℕ
 context_of (args.Page context filter preferred) = context
 context_of _ = 0
 
 -- A handle that is sent in and out comes back as it was given.
-abbrev pub refused_plain : Plainly → Handle → Outs
-refused_plain plainly.Nothing h = outs.Nothing
-refused_plain plainly.Handle h = outs.Handle zero_handle
-refused_plain plainly.HandleBack h = outs.Handle h
-refused_plain plainly.Connected h = outs.Handle zero_handle
-refused_plain plainly.Created h = outs.Created zero_handle 0 0
-refused_plain plainly.Granted h = outs.Created zero_handle 0 0
-refused_plain plainly.Sid h = outs.OneSid None
+abbrev pub refused_plain : ScalarOutputs → Handle → Outs
+refused_plain scalar.Nothing h = outs.Nothing
+refused_plain scalar.Handle h = outs.Handle zero_handle
+refused_plain scalar.HandleBack h = outs.Handle h
+refused_plain scalar.Connected h = outs.Handle zero_handle
+refused_plain scalar.Created h = outs.Created zero_handle 0 0
+refused_plain scalar.Granted h = outs.Created zero_handle 0 0
+refused_plain scalar.Sid h = outs.OneSid None
 
 -- The context of an enumeration comes back as it was given.
 abbrev pub refused_lists : Listed → Args → Outs
@@ -66,7 +64,7 @@ refused_translation translation.Sids = outs.Names [] [] 0
 
 -- the outputs of a refusal of a call that brought these arguments and this handle
 abbrev pub refused_outs : Outputs → Args → Handle → Outs
-refused_outs (outputs.Plain p) a h = refused_plain p h
+refused_outs (outputs.Scalar p) a h = refused_plain p h
 refused_outs (outputs.Listed l) a h = refused_lists l a
 refused_outs (outputs.Shown s) a h = outs.Shown 0 None
 refused_outs (outputs.Policy p) a h = refused_policy p a

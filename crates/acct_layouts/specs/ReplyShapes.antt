@@ -4,7 +4,7 @@ use Rattle.std.specs.Prelude.{◌≡◌, ℕ, true, List, [], Option, Some, None
 use Rattle.dtyp_sid.specs.Value.{IsSid}
 use Rattle.acct_calls.specs.declared.calls.Face.{Face}
 use Rattle.acct_calls.specs.declared.info.Info.{Info}
-use Rattle.acct_calls.specs.declared.lists.Place.{Place}
+use Rattle.acct_calls.specs.declared.lists.ReferencedDomain.{ReferencedDomain}
 use Rattle.acct_calls.specs.declared.replies.Outs.{Outs}
 use Rattle.acct_calls.specs.declared.replies.Outs.TheVariants as outs
 use Rattle.acct_calls.specs.declared.replies.Reply.{Reply}
@@ -22,8 +22,8 @@ use Rattle.acct_layouts.specs.declared.outputs.Listed.{Listed}
 use Rattle.acct_layouts.specs.declared.outputs.Listed.TheVariants as listed
 use Rattle.acct_layouts.specs.declared.outputs.Outputs.{Outputs}
 use Rattle.acct_layouts.specs.declared.outputs.Outputs.TheVariants as outputs
-use Rattle.acct_layouts.specs.declared.outputs.Plainly.{Plainly}
-use Rattle.acct_layouts.specs.declared.outputs.Plainly.TheVariants as plainly
+use Rattle.acct_layouts.specs.declared.outputs.ScalarOutputs.{ScalarOutputs}
+use Rattle.acct_layouts.specs.declared.outputs.ScalarOutputs.TheVariants as scalar
 use Rattle.acct_layouts.specs.declared.outputs.PolicyOutputs.{PolicyOutputs}
 use Rattle.acct_layouts.specs.declared.outputs.PolicyOutputs.TheVariants as policy
 use Rattle.acct_layouts.specs.declared.table.Layout.{Layout}
@@ -32,15 +32,15 @@ use Rattle.acct_layouts.specs.declared.table.Layout.{Layout}
 -- each below 2^16 (IsText), a list fewer than 2^32 elements of a kind (IsListed). What a pointer may leave out is of
 -- its kind where it is there (IfThere).
 
-abbrev pub ArePlain : Plainly → Outs → Type 0
-ArePlain plainly.Nothing outs.Nothing = Unit {0}
-ArePlain plainly.Handle (outs.Handle h) = IsHandle h
-ArePlain plainly.HandleBack (outs.Handle h) = IsHandle h
-ArePlain plainly.Connected (outs.Handle h) = IsHandle h
+abbrev pub ArePlain : ScalarOutputs → Outs → Type 0
+ArePlain scalar.Nothing outs.Nothing = Unit {0}
+ArePlain scalar.Handle (outs.Handle h) = IsHandle h
+ArePlain scalar.HandleBack (outs.Handle h) = IsHandle h
+ArePlain scalar.Connected (outs.Handle h) = IsHandle h
 -- the granted access isn't among the outputs, and is 0
-ArePlain plainly.Created (outs.Created h granted rid) = IsHandle h × (granted ≡ 0) × IsLong rid
-ArePlain plainly.Granted (outs.Created h granted rid) = IsHandle h × IsLong granted × IsLong rid
-ArePlain plainly.Sid (outs.OneSid s) = IfThere IsSid s
+ArePlain scalar.Created (outs.Created h granted rid) = IsHandle h × (granted ≡ 0) × IsLong rid
+ArePlain scalar.Granted (outs.Created h granted rid) = IsHandle h × IsLong granted × IsLong rid
+ArePlain scalar.Sid (outs.OneSid s) = IfThere IsSid s
 ArePlain _ _ = ⊥
 
 abbrev pub AreLists : Listed → Outs → Type 0
@@ -82,14 +82,14 @@ AreTranslated translation.Sids (outs.Names domains entries mapped) =
 AreTranslated _ _ = ⊥
 
 abbrev pub AreOutputs : Outputs → Outs → Type 0
-AreOutputs (outputs.Plain p) o = ArePlain p o
+AreOutputs (outputs.Scalar p) o = ArePlain p o
 AreOutputs (outputs.Listed l) o = AreLists l o
 AreOutputs (outputs.Shown s) o = AreShown s o
 AreOutputs (outputs.Policy p) o = ArePolicyOuts p o
 AreOutputs (outputs.Translation t) o = AreTranslated t o
 
 -- the domains that a translation refers to
-abbrev pub domains_of : Outs → List Place
+abbrev pub domains_of : Outs → List ReferencedDomain
 domains_of (outs.Sids domains entries mapped) = domains
 domains_of (outs.Names domains entries mapped) = domains
 domains_of _ = []

@@ -1,4 +1,4 @@
-// Classes of information: which value a class has, by the object that it is of.
+// Information classes: which value a class has, by the object that it is of.
 ghost use Rattle.std.specs.Prelude.{◌≡◌};
 ghost use Rattle.acct_layouts.specs.Classes.{is_password_class, set_arm, shown_arm};
 
@@ -14,7 +14,7 @@ use acct_codes::info_class::{
     USER_INTERNAL5_NEW_INFORMATION, USER_NAME_INFORMATION, USER_PRIMARY_GROUP_INFORMATION,
 };
 
-/// The objects that have classes of information.
+/// The objects that have information classes.
 #[derive(Clone, Copy, Debug, PartialEq, Eq)]
 pub enum Subject {
     Domain,
@@ -24,7 +24,7 @@ pub enum Subject {
     Policy,
 }
 
-/// What the value of a class of information is.
+/// What the value of an information class is.
 #[derive(Clone, Copy, Debug, PartialEq, Eq)]
 pub enum Arm {
     Number,

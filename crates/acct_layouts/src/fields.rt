@@ -12,7 +12,7 @@ pub enum Connect {
 
 /// Fields of which each is a number, a SID or a text.
 #[derive(Clone, Copy, Debug, PartialEq, Eq)]
-pub enum Plain {
+pub enum ScalarFields {
     Nothing,
     Rid,
     Member,
@@ -66,12 +66,12 @@ pub enum Translation {
 #[derive(Clone, Copy, Debug, PartialEq, Eq)]
 pub enum Fields {
     Connect(Connect),
-    Plain(Plain),
+    Scalar(ScalarFields),
     Search(Search),
     Creation(Creation),
-    /// A class of information that is asked for.
+    /// An information class that is asked for.
     Class(Subject),
-    /// A class of information that is set.
+    /// An information class that is set.
     Put(Subject),
     Policy(PolicyFields),
     Translation(Translation),

@@ -4,7 +4,7 @@ use crate::fields::Translation;
 
 /// Outputs of which each is a number, a handle or a SID.
 #[derive(Clone, Copy, Debug, PartialEq, Eq)]
-pub enum Plainly {
+pub enum ScalarOutputs {
     Nothing,
     /// The handle that the call opens.
     Handle,
@@ -48,9 +48,9 @@ pub enum PolicyOutputs {
 /// The outputs of a reply, before its status.
 #[derive(Clone, Copy, Debug, PartialEq, Eq)]
 pub enum Outputs {
-    Plain(Plainly),
+    Scalar(ScalarOutputs),
     Listed(Listed),
-    /// A class of information.
+    /// An information class.
     Shown(Subject),
     Policy(PolicyOutputs),
     Translation(Translation),

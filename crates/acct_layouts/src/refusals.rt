@@ -4,9 +4,9 @@ ghost use Rattle.acct_layouts.specs.Refusals.{context_of, is_refusal, refused_li
 ghost use Rattle.acct_layouts.specs.Refusals.{refused_policy, refused_translation};
 
 use crate::fields::Translation;
-use crate::outputs::{Listed, Outputs, Plainly, PolicyOutputs};
+use crate::outputs::{Listed, Outputs, PolicyOutputs, ScalarOutputs};
 use acct_base::Seq;
-use acct_calls::{Args, Handle, Names, Outs};
+use acct_calls::{Args, Handle, Names, Outs, ZERO_HANDLE};
 use acct_codes::status::STATUS_NONE_MAPPED;
 use std::alloc::Global;
 
@@ -27,20 +27,19 @@ fn context_of(args: &Args) -> u32
     }
 }
 
-fn refused_plain(outputs: Plainly, handle: Handle) -> Outs
+fn refused_plain(outputs: ScalarOutputs, handle: Handle) -> Outs
     ensures { result ≡ refused_plain outputs handle }
 {
-    let zero = Handle { number: 0 };
     match outputs {
-        Plainly::Nothing => Outs::Nothing,
-        Plainly::Handle | Plainly::Connected => Outs::Handle(zero),
-        Plainly::HandleBack => Outs::Handle(handle),
-        Plainly::Created | Plainly::Granted => Outs::Created {
-            handle: zero,
+        ScalarOutputs::Nothing => Outs::Nothing,
+        ScalarOutputs::Handle | ScalarOutputs::Connected => Outs::Handle(ZERO_HANDLE),
+        ScalarOutputs::HandleBack => Outs::Handle(handle),
+        ScalarOutputs::Created | ScalarOutputs::Granted => Outs::Created {
+            handle: ZERO_HANDLE,
             granted: 0,
             rid: 0,
         },
-        Plainly::Sid => Outs::OneSid(None),
+        ScalarOutputs::Sid => Outs::OneSid(None),
     }
 }
 
@@ -110,7 +109,7 @@ pub fn refused_outs(alloc: Global, outputs: Outputs, args: &Args, handle: Handle
     ensures { result ≡ refused_outs outputs args.now handle }
 {
     match outputs {
-        Outputs::Plain(plain) => refused_plain(plain, handle),
+        Outputs::Scalar(plain) => refused_plain(plain, handle),
         Outputs::Listed(listed) => refused_lists(alloc, listed, args),
         Outputs::Shown(_) => Outs::Shown {
             class: 0,

@@ -3,8 +3,8 @@ ghost use Rattle.std.specs.Prelude.{◌≡◌};
 ghost use Rattle.acct_layouts.specs.Table.{layout_of, lsa_layout, samr_layout};
 
 use crate::classes::Subject;
-use crate::fields::{Connect, Creation, Fields, Plain, PolicyFields, Search, Translation};
-use crate::outputs::{Listed, Outputs, Plainly, PolicyOutputs};
+use crate::fields::{Connect, Creation, Fields, PolicyFields, ScalarFields, Search, Translation};
+use crate::outputs::{Listed, Outputs, PolicyOutputs, ScalarOutputs};
 use acct_calls::Face;
 use acct_codes::{lsa_opnum, samr_opnum};
 
@@ -20,16 +20,16 @@ pub struct Layout {
 fn samr_layout(opnum: u16) -> Option<Layout>
     ensures { result ≡ samr_layout opnum }
 {
-    let handle = Outputs::Plain(Plainly::Handle);
-    let handle_back = Outputs::Plain(Plainly::HandleBack);
-    let nothing = Outputs::Plain(Plainly::Nothing);
-    let created = Outputs::Plain(Plainly::Created);
-    let granted = Outputs::Plain(Plainly::Granted);
-    let connected = Outputs::Plain(Plainly::Connected);
+    let handle = Outputs::Scalar(ScalarOutputs::Handle);
+    let handle_back = Outputs::Scalar(ScalarOutputs::HandleBack);
+    let nothing = Outputs::Scalar(ScalarOutputs::Nothing);
+    let created = Outputs::Scalar(ScalarOutputs::Created);
+    let granted = Outputs::Scalar(ScalarOutputs::Granted);
+    let connected = Outputs::Scalar(ScalarOutputs::Connected);
     let page = Outputs::Listed(Listed::Page);
     let names = Fields::Search(Search::Names);
     let rids = Fields::Search(Search::Rids);
-    let brings_nothing = Fields::Plain(Plain::Nothing);
+    let brings_nothing = Fields::Scalar(ScalarFields::Nothing);
     let domain_shown = Outputs::Shown(Subject::Domain);
     let group_shown = Outputs::Shown(Subject::Group);
     let alias_shown = Outputs::Shown(Subject::Alias);
@@ -40,13 +40,13 @@ fn samr_layout(opnum: u16) -> Option<Layout>
         | samr_opnum::SAMR_DELETE_ALIAS
         | samr_opnum::SAMR_DELETE_USER => (brings_nothing, handle_back),
         samr_opnum::SAMR_LOOKUP_DOMAIN_IN_SAM_SERVER => (
-            Fields::Plain(Plain::Name),
-            Outputs::Plain(Plainly::Sid),
+            Fields::Scalar(ScalarFields::Name),
+            Outputs::Scalar(ScalarOutputs::Sid),
         ),
         samr_opnum::SAMR_ENUMERATE_DOMAINS_IN_SAM_SERVER
         | samr_opnum::SAMR_ENUMERATE_GROUPS_IN_DOMAIN
         | samr_opnum::SAMR_ENUMERATE_ALIASES_IN_DOMAIN => (Fields::Search(Search::Page), page),
-        samr_opnum::SAMR_OPEN_DOMAIN => (Fields::Plain(Plain::OpenDomain), handle),
+        samr_opnum::SAMR_OPEN_DOMAIN => (Fields::Scalar(ScalarFields::OpenDomain), handle),
         samr_opnum::SAMR_QUERY_INFORMATION_DOMAIN | samr_opnum::SAMR_QUERY_INFORMATION_DOMAIN2 => (
             Fields::Class(Subject::Domain),
             domain_shown,
@@ -65,18 +65,18 @@ fn samr_layout(opnum: u16) -> Option<Layout>
         samr_opnum::SAMR_LOOKUP_NAMES_IN_DOMAIN => (names, Outputs::Listed(Listed::RidUses)),
         samr_opnum::SAMR_LOOKUP_IDS_IN_DOMAIN => (rids, Outputs::Listed(Listed::NameUses)),
         samr_opnum::SAMR_OPEN_GROUP | samr_opnum::SAMR_OPEN_ALIAS | samr_opnum::SAMR_OPEN_USER => (
-            Fields::Plain(Plain::OpenAccount),
+            Fields::Scalar(ScalarFields::OpenAccount),
             handle,
         ),
         samr_opnum::SAMR_QUERY_INFORMATION_GROUP => (Fields::Class(Subject::Group), group_shown),
         samr_opnum::SAMR_SET_INFORMATION_GROUP => (Fields::Put(Subject::Group), nothing),
-        samr_opnum::SAMR_ADD_MEMBER_TO_GROUP => (Fields::Plain(Plain::Member), nothing),
-        samr_opnum::SAMR_REMOVE_MEMBER_FROM_GROUP => (Fields::Plain(Plain::Rid), nothing),
+        samr_opnum::SAMR_ADD_MEMBER_TO_GROUP => (Fields::Scalar(ScalarFields::Member), nothing),
+        samr_opnum::SAMR_REMOVE_MEMBER_FROM_GROUP => (Fields::Scalar(ScalarFields::Rid), nothing),
         samr_opnum::SAMR_GET_MEMBERS_IN_GROUP => (brings_nothing, Outputs::Listed(Listed::Members)),
         samr_opnum::SAMR_QUERY_INFORMATION_ALIAS => (Fields::Class(Subject::Alias), alias_shown),
         samr_opnum::SAMR_SET_INFORMATION_ALIAS => (Fields::Put(Subject::Alias), nothing),
         samr_opnum::SAMR_ADD_MEMBER_TO_ALIAS | samr_opnum::SAMR_REMOVE_MEMBER_FROM_ALIAS => (
-            Fields::Plain(Plain::Sid),
+            Fields::Scalar(ScalarFields::Sid),
             nothing,
         ),
         samr_opnum::SAMR_GET_MEMBERS_IN_ALIAS => (brings_nothing, Outputs::Listed(Listed::Sids)),
@@ -93,7 +93,10 @@ fn samr_layout(opnum: u16) -> Option<Layout>
         samr_opnum::SAMR_CONNECT2 => (Fields::Connect(Connect::Connect2), handle),
         samr_opnum::SAMR_CONNECT4 => (Fields::Connect(Connect::Connect4), handle),
         samr_opnum::SAMR_CONNECT5 => (Fields::Connect(Connect::Connect5), connected),
-        samr_opnum::SAMR_RID_TO_SID => (Fields::Plain(Plain::Rid), Outputs::Plain(Plainly::Sid)),
+        samr_opnum::SAMR_RID_TO_SID => (
+            Fields::Scalar(ScalarFields::Rid),
+            Outputs::Scalar(ScalarOutputs::Sid),
+        ),
         _ => return None,
     };
     Some(Layout { fields, outputs })
@@ -104,11 +107,11 @@ fn samr_layout(opnum: u16) -> Option<Layout>
 fn lsa_layout(opnum: u16) -> Option<Layout>
     ensures { result ≡ lsa_layout opnum }
 {
-    let handle = Outputs::Plain(Plainly::Handle);
-    let handle_back = Outputs::Plain(Plainly::HandleBack);
-    let nothing = Outputs::Plain(Plainly::Nothing);
+    let handle = Outputs::Scalar(ScalarOutputs::Handle);
+    let handle_back = Outputs::Scalar(ScalarOutputs::HandleBack);
+    let nothing = Outputs::Scalar(ScalarOutputs::Nothing);
     let page = Fields::Search(Search::Page);
-    let brings_nothing = Fields::Plain(Plain::Nothing);
+    let brings_nothing = Fields::Scalar(ScalarFields::Nothing);
     let policy_shown = Outputs::Shown(Subject::Policy);
     let names = Fields::Translation(Translation::Names);
     let sids = Fields::Translation(Translation::Sids);
@@ -145,13 +148,13 @@ fn lsa_layout(opnum: u16) -> Option<Layout>
             Fields::Policy(PolicyFields::SystemAccess),
             nothing,
         ),
-        lsa_opnum::LSAR_LOOKUP_PRIVILEGE_VALUE => (Fields::Plain(Plain::Name), luid),
+        lsa_opnum::LSAR_LOOKUP_PRIVILEGE_VALUE => (Fields::Scalar(ScalarFields::Name), luid),
         lsa_opnum::LSAR_LOOKUP_PRIVILEGE_NAME => (Fields::Policy(PolicyFields::Luid), name),
         lsa_opnum::LSAR_ENUMERATE_ACCOUNTS_WITH_USER_RIGHT => (
             right,
             Outputs::Listed(Listed::Sids),
         ),
-        lsa_opnum::LSAR_ENUMERATE_ACCOUNT_RIGHTS => (Fields::Plain(Plain::Sid), rights),
+        lsa_opnum::LSAR_ENUMERATE_ACCOUNT_RIGHTS => (Fields::Scalar(ScalarFields::Sid), rights),
         lsa_opnum::LSAR_ADD_ACCOUNT_RIGHTS => (Fields::Policy(PolicyFields::AddRights), nothing),
         lsa_opnum::LSAR_REMOVE_ACCOUNT_RIGHTS => (
             Fields::Policy(PolicyFields::RemoveRights),

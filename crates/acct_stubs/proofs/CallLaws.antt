@@ -1,4 +1,4 @@
--- The laws of calls, from those of their shapes.
+-- A served stub is read exactly as the one call that it spells, and what a lawful interface writes is read again.
 use Rattle.std.proofs.Common.{◌≡◌, ℕ, Bool, true, false, cond, List, [], ◌++◌, Option, Some, None, Result, Ok, Err}
 use Rattle.std.proofs.Common.{refl, ◌⊎◌, inl, inr, sym, ap, subst, ◌∙◌}
 use Rattle.std.specs.Prelude.{IfOk}
@@ -22,7 +22,8 @@ use Rattle.ndr_types.specs.Handles.{handle}
 use Rattle.acct_stubs.proofs.CallValues.{FieldsFit, call_fits, call_kind, class_of}
 use Rattle.acct_stubs.proofs.Complete.{stub_complete}
 use Rattle.acct_stubs.specs.Arguments.{arguments}
-use Rattle.acct_stubs.specs.Calls.{ReadsStub, AreTheSpelledCalls, HasOneCall, IsCallOf, IsReadAgain, IsReadWhereSpelled}
+use Rattle.acct_stubs.specs.Calls.{ReadsAllIfRoom, AreTheSpelledCalls, HasOneCall, IsCallOf, IsReadAgain}
+use Rattle.acct_stubs.specs.Calls.{IsReadWhereSpelled}
 use Rattle.acct_stubs.specs.Calls.{IsServed, IsSpelled, Spells, call_at, call_in, call_of, call_read, carries_password}
 use Rattle.acct_stubs.specs.Calls.{class_behind, is_withheld, nothing_written, spell, spelled_in, start, stub_of}
 use Rattle.acct_stubs.specs.Calls.{withheld_class}
@@ -107,8 +108,8 @@ pub read_where_spelled : (w : Wire) → IsReadWhereSpelled w
 read_where_spelled w opnum stub call =
     (call_found w opnum stub call, λ h. call_only w opnum stub call h.0 h.1 h.2)
 
-pub is_found : (w : Wire) (opnum : ℕ) (stub : List ℕ) (r : Result Call WireError) → ReadsStub r (call_at w opnum stub)
-    → IfOk r (λ call. IsFound w opnum stub call)
+pub is_found : (w : Wire) (opnum : ℕ) (stub : List ℕ) (r : Result Call WireError)
+    → ReadsAllIfRoom r (call_at w opnum stub) → IfOk r (λ call. IsFound w opnum stub call)
 is_found w opnum stub (Ok call) h = call_found w opnum stub call (sym h)
 is_found w opnum stub (Err e) h = tt
 
@@ -148,8 +149,8 @@ class_read : (w : Wire) (f : Fields) (h : Handle) (a : Args) (stub : List ℕ) (
 unfolding stub_of arguments class_set
 class_read w (fields.Connect c) h a stub end s =
     nothing_withheld (fields.Connect c) (λ class. refl) (class_behind.read (start stub))
-class_read w (fields.Plain p) h a stub end s =
-    nothing_withheld (fields.Plain p) (λ class. refl) (class_behind.read (start stub))
+class_read w (fields.Scalar p) h a stub end s =
+    nothing_withheld (fields.Scalar p) (λ class. refl) (class_behind.read (start stub))
 class_read w (fields.Search p) h a stub end s =
     nothing_withheld (fields.Search p) (λ class. refl) (class_behind.read (start stub))
 class_read w (fields.Creation c) h a stub end s =
@@ -224,7 +225,7 @@ pub the_spelled_calls : (w : Wire) → IsLawful w → AreTheSpelledCalls w
 the_spelled_calls w l call = (some_stub w l call, λ h. can_be_spelled w l call h.0 h.1 h.2 h.3)
 
 pub can_be_written : (w : Wire) → IsLawful w → (opnum : ℕ) (stub : List ℕ) (r : Result Call WireError) → IsBytes stub
-    → ReadsStub r (call_at w opnum stub) → IfOk r (λ call. IsCallOf w call)
+    → ReadsAllIfRoom r (call_at w opnum stub) → IfOk r (λ call. IsCallOf w call)
 can_be_written w l opnum stub (Ok call) bytes h =
     let f = call_found w opnum stub call (sym h) in
     can_be_spelled w l call stub bytes (subst (λ (n : ℕ). IsServed w n stub) (sym f.0) f.1) f.2

@@ -18,8 +18,8 @@ use Rattle.acct_layouts.specs.Classes.{set_arm}
 use Rattle.acct_layouts.specs.Table.{layout_of}
 use Rattle.acct_layouts.specs.declared.fields.Fields.{Fields}
 use Rattle.acct_layouts.specs.declared.fields.Fields.TheVariants as fields
-use Rattle.acct_layouts.specs.declared.fields.Plain.{Plain}
-use Rattle.acct_layouts.specs.declared.fields.Plain.TheVariants as plain
+use Rattle.acct_layouts.specs.declared.fields.ScalarFields.{ScalarFields}
+use Rattle.acct_layouts.specs.declared.fields.ScalarFields.TheVariants as plain
 use Rattle.acct_layouts.specs.declared.fields.Search.{Search}
 use Rattle.acct_layouts.specs.declared.fields.Search.TheVariants as search
 use Rattle.acct_layouts.specs.declared.table.Layout.{Layout}
@@ -43,7 +43,7 @@ use Rattle.acct_stubs.specs.Wire.{Wire}
 
 -- ---- numbers, SIDs and texts
 
-plain_kind : (p : Plain) (a : Args) → (plain_args p).Fits a → ArePlainArgs p a
+plain_kind : (p : ScalarFields) (a : Args) → (plain_args p).Fits a → ArePlainArgs p a
 unfolding plain_args
 plain_kind plain.Nothing args.Nothing f = tt
 plain_kind plain.Nothing _ f = absurd (cc f)
@@ -55,7 +55,7 @@ plain_kind plain.OpenDomain (args.AccessSid access s) f = (f.0.0, sid_kind s f.0
 plain_kind plain.OpenAccount (args.AccessRid access rid) f = (f.0.0, f.0.1)
 plain_kind _ _ f = absurd (cc f.1)
 
-plain_fits : (p : Plain) (a : Args) → ArePlainArgs p a → (plain_args p).Fits a
+plain_fits : (p : ScalarFields) (a : Args) → ArePlainArgs p a → (plain_args p).Fits a
 unfolding plain_args
 plain_fits plain.Nothing args.Nothing is = refl
 plain_fits plain.Rid (args.Rid rid) is = (is, refl)
@@ -129,7 +129,7 @@ IsFree f a = carries_password f (class_of a) ≡ false
 -- Arguments that can be spelled bring no such class.
 are_free : (f : Fields) (a : Args) → AreArguments f a → IsFree f a
 are_free (fields.Connect c) a is = refl
-are_free (fields.Plain p) a is = refl
+are_free (fields.Scalar p) a is = refl
 are_free (fields.Search s) a is = refl
 are_free (fields.Creation c) a is = refl
 are_free (fields.Policy p) a is = refl
@@ -142,7 +142,7 @@ arguments_kind : (w : Wire) → IsLawful w → (f : Fields) (a : Args) → (argu
     → AreArguments f a
 unfolding arguments class_set
 arguments_kind w l (fields.Connect c) a fits free = l.kind (fields.Connect c) a fits
-arguments_kind w l (fields.Plain p) a fits free = plain_kind p a fits
+arguments_kind w l (fields.Scalar p) a fits free = plain_kind p a fits
 arguments_kind w l (fields.Search s) a fits free = search_kind s a fits
 arguments_kind w l (fields.Creation c) a fits free = l.kind (fields.Creation c) a fits
 arguments_kind w l (fields.Class s) (args.Class class) fits free = (fits.0, free)
@@ -159,7 +159,7 @@ arguments_fit : (w : Wire) → IsLawful w → (f : Fields) (a : Args) → IsFiel
     → (arguments w f).Fits a
 unfolding arguments class_set
 arguments_fit w l (fields.Connect c) a own is = l.fits (fields.Connect c) a own is
-arguments_fit w l (fields.Plain p) a own is = plain_fits p a is
+arguments_fit w l (fields.Scalar p) a own is = plain_fits p a is
 arguments_fit w l (fields.Search s) a own is = search_fits s a is
 arguments_fit w l (fields.Creation c) a own is = l.fits (fields.Creation c) a own is
 arguments_fit w l (fields.Class s) (args.Class class) own is = (is.0, refl)
@@ -176,8 +176,8 @@ stub_kind : (w : Wire) → IsLawful w → (f : Fields) (h : Handle) (a : Args) �
 unfolding stub_of
 stub_kind w l (fields.Connect c) h a fits free =
     (ap (λ (x : Handle × Args). x.0.number) (sym fits.1), arguments_kind w l (fields.Connect c) a fits.0 free)
-stub_kind w l (fields.Plain p) h a fits free =
-    ((handle_values h).0 fits.0, arguments_kind w l (fields.Plain p) a fits.1 free)
+stub_kind w l (fields.Scalar p) h a fits free =
+    ((handle_values h).0 fits.0, arguments_kind w l (fields.Scalar p) a fits.1 free)
 stub_kind w l (fields.Search s) h a fits free =
     ((handle_values h).0 fits.0, arguments_kind w l (fields.Search s) a fits.1 free)
 stub_kind w l (fields.Creation c) h a fits free =
@@ -195,7 +195,7 @@ stub_fits : (w : Wire) (f : Fields) (h : Handle) (a : Args) → IsHandleOf f h �
     → (stub_of w f).Fits (h, a)
 unfolding stub_of
 stub_fits w (fields.Connect c) h a is fits = (fits, ap (λ (n : ℕ). (handle_of n, a)) (sym is))
-stub_fits w (fields.Plain p) h a is fits = ((handle_values h).1 is, fits)
+stub_fits w (fields.Scalar p) h a is fits = ((handle_values h).1 is, fits)
 stub_fits w (fields.Search s) h a is fits = ((handle_values h).1 is, fits)
 stub_fits w (fields.Creation c) h a is fits = ((handle_values h).1 is, fits)
 stub_fits w (fields.Class s) h a is fits = ((handle_values h).1 is, fits)

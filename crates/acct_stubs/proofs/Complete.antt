@@ -21,8 +21,8 @@ use Rattle.acct_layouts.specs.declared.classes.Arm.TheVariants as arm
 use Rattle.acct_layouts.specs.declared.classes.Subject.{Subject}
 use Rattle.acct_layouts.specs.declared.fields.Fields.{Fields}
 use Rattle.acct_layouts.specs.declared.fields.Fields.TheVariants as fields
-use Rattle.acct_layouts.specs.declared.fields.Plain.{Plain}
-use Rattle.acct_layouts.specs.declared.fields.Plain.TheVariants as plain
+use Rattle.acct_layouts.specs.declared.fields.ScalarFields.{ScalarFields}
+use Rattle.acct_layouts.specs.declared.fields.ScalarFields.TheVariants as plain
 use Rattle.acct_layouts.specs.declared.fields.Search.{Search}
 use Rattle.acct_layouts.specs.declared.fields.Search.TheVariants as search
 use Rattle.ndr_types.proofs.Digits.{handle_complete}
@@ -54,7 +54,7 @@ server_name_complete = record { fits = λ u c d bytes h. server_name_fits }
 
 -- ---- numbers, SIDs and texts
 
-plain_complete : (p : Plain) → IsComplete (plain_args p)
+plain_complete : (p : ScalarFields) → IsComplete (plain_args p)
 unfolding plain_args
 plain_complete plain.Nothing = given_complete args.Nothing
 plain_complete plain.Rid = made_complete args.Rid rid_in u32_complete (λ x h. (h, refl))
@@ -108,7 +108,7 @@ searched_complete search.Names = made_complete args.NameList names_in (sought_co
 searched_complete search.Rids =
     made_complete args.RidList rids_in (sought_complete (flat u32) long_has) (λ x h. (h, refl))
 
--- ---- classes of information
+-- ---- information classes
 
 abbrev pub Anything : Unit {0} → Type 0
 Anything u = Unit {0}
@@ -216,7 +216,7 @@ own_complete w l f = record { fits = l.writable f }
 arguments_complete : (w : Wire) → IsLawful w → (f : Fields) → IsComplete (arguments w f)
 unfolding arguments
 arguments_complete w l (fields.Connect c) = own_complete w l (fields.Connect c)
-arguments_complete w l (fields.Plain p) = plain_complete p
+arguments_complete w l (fields.Scalar p) = plain_complete p
 arguments_complete w l (fields.Search s) = searched_complete s
 arguments_complete w l (fields.Creation c) = own_complete w l (fields.Creation c)
 arguments_complete w l (fields.Class s) = made_complete args.Class class_in u16_complete (λ x h. (h, refl))
@@ -232,7 +232,7 @@ pub stub_complete : (w : Wire) → IsLawful w → (f : Fields) → IsComplete (s
 unfolding stub_of
 stub_complete w l (fields.Connect c) =
     made_complete without_handle second (arguments_complete w l (fields.Connect c)) (λ x h. (h, refl))
-stub_complete w l (fields.Plain p) = behind_handle w l (fields.Plain p)
+stub_complete w l (fields.Scalar p) = behind_handle w l (fields.Scalar p)
 stub_complete w l (fields.Search s) = behind_handle w l (fields.Search s)
 stub_complete w l (fields.Creation c) = behind_handle w l (fields.Creation c)
 stub_complete w l (fields.Class s) = behind_handle w l (fields.Class s)

@@ -24,8 +24,8 @@ use Rattle.acct_layouts.specs.declared.outputs.Listed.{Listed}
 use Rattle.acct_layouts.specs.declared.outputs.Listed.TheVariants as listed
 use Rattle.acct_layouts.specs.declared.outputs.Outputs.{Outputs}
 use Rattle.acct_layouts.specs.declared.outputs.Outputs.TheVariants as outputs
-use Rattle.acct_layouts.specs.declared.outputs.Plainly.{Plainly}
-use Rattle.acct_layouts.specs.declared.outputs.Plainly.TheVariants as plainly
+use Rattle.acct_layouts.specs.declared.outputs.ScalarOutputs.{ScalarOutputs}
+use Rattle.acct_layouts.specs.declared.outputs.ScalarOutputs.TheVariants as scalar
 use Rattle.ndr_types.proofs.Digits.{handle_complete}
 use Rattle.ndr_types.proofs.Parts.{whole_complete}
 use Rattle.ndr_types.proofs.Records.{pointer_has, rid_bits_has}
@@ -61,21 +61,21 @@ revision_fits =
 revision_complete : IsComplete revision_answered
 revision_complete = record { fits = λ u c d bytes h. revision_fits }
 
-plainly_complete : (p : Plainly) → IsComplete (plain_outs p)
+scalar_complete : (p : ScalarOutputs) → IsComplete (plain_outs p)
 unfolding plain_outs
-plainly_complete plainly.Nothing = given_complete outs.Nothing
-plainly_complete plainly.Handle = made_complete outs.Handle handle_out handle_complete (λ x h. (h, refl))
-plainly_complete plainly.HandleBack = made_complete outs.Handle handle_out handle_complete (λ x h. (h, refl))
-plainly_complete plainly.Connected =
+scalar_complete scalar.Nothing = given_complete outs.Nothing
+scalar_complete scalar.Handle = made_complete outs.Handle handle_out handle_complete (λ x h. (h, refl))
+scalar_complete scalar.HandleBack = made_complete outs.Handle handle_out handle_complete (λ x h. (h, refl))
+scalar_complete scalar.Connected =
     ignored_complete tt revision_complete
     (made_complete outs.Handle handle_out handle_complete (λ x h. (h, refl))) revision_fits
-plainly_complete plainly.Created =
+scalar_complete scalar.Created =
     made_complete (λ x. outs.Created x.0 0 x.1) created_out (chain_complete handle_complete (λ x h. u32_complete))
     (λ x h. (h, refl))
-plainly_complete plainly.Granted =
+scalar_complete scalar.Granted =
     made_complete (λ x. outs.Created x.0 x.1.0 x.1.1) granted_out
     (chain_complete handle_complete (λ x h. chain_complete u32_complete (λ y k. u32_complete))) (λ x h. (h, refl))
-plainly_complete plainly.Sid = made_complete outs.OneSid sid_out (to_complete sid sid_complete) (λ x h. (h, refl))
+scalar_complete scalar.Sid = made_complete outs.OneSid sid_out (to_complete sid sid_complete) (λ x h. (h, refl))
 
 count_kind : (entries : Option (List RidName)) → IfThere (IsListOf any IsAccount) entries → how_many entries < 2 ^ 32
 count_kind None h = lit< tt
@@ -143,8 +143,8 @@ status_complete p = made_complete done_of parts_of_reply (chain_complete p (λ x
 pub reply_writable : (w : Wire) → IsLawful w → (o : Outputs) (r : Reply) (start end : Cursor) → IsBytes start.stub
     → (reply_stub w o).Spells r start end → RefersRightly r → (reply_stub w o).Fits r
 unfolding reply_stub
-reply_writable w l (outputs.Plain p) r start end bytes s refers =
-    (status_complete (plainly_complete p)).fits r start end bytes s
+reply_writable w l (outputs.Scalar p) r start end bytes s refers =
+    (status_complete (scalar_complete p)).fits r start end bytes s
 reply_writable w l (outputs.Listed k) r start end bytes s refers =
     (status_complete (listed_complete k)).fits r start end bytes s
 reply_writable w l (outputs.Shown k) r start end bytes s refers =
@@ -157,7 +157,7 @@ reply_writable w l (outputs.Translation t) r start end bytes s refers =
 -- What a stub spells can be written, where both interfaces have the outputs.
 pub shared_writable : (w : Wire) (o : Outputs) → shared_outputs o ≡ true → IsComplete (reply_stub w o)
 unfolding reply_stub
-shared_writable w (outputs.Plain p) e = status_complete (plainly_complete p)
+shared_writable w (outputs.Scalar p) e = status_complete (scalar_complete p)
 shared_writable w (outputs.Listed l) e = status_complete (listed_complete l)
 shared_writable w (outputs.Shown s) e = status_complete (shown_complete s)
 shared_writable w _ e = absurd cc

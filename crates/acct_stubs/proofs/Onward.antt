@@ -24,16 +24,16 @@ use Rattle.acct_layouts.specs.declared.classes.Arm.TheVariants as arm
 use Rattle.acct_layouts.specs.declared.classes.Subject.{Subject}
 use Rattle.acct_layouts.specs.declared.fields.Fields.{Fields}
 use Rattle.acct_layouts.specs.declared.fields.Fields.TheVariants as fields
-use Rattle.acct_layouts.specs.declared.fields.Plain.{Plain}
-use Rattle.acct_layouts.specs.declared.fields.Plain.TheVariants as plain
+use Rattle.acct_layouts.specs.declared.fields.ScalarFields.{ScalarFields}
+use Rattle.acct_layouts.specs.declared.fields.ScalarFields.TheVariants as plain
 use Rattle.acct_layouts.specs.declared.fields.Search.{Search}
 use Rattle.acct_layouts.specs.declared.fields.Search.TheVariants as search
 use Rattle.acct_layouts.specs.declared.outputs.Listed.{Listed}
 use Rattle.acct_layouts.specs.declared.outputs.Listed.TheVariants as listed
 use Rattle.acct_layouts.specs.declared.outputs.Outputs.{Outputs}
 use Rattle.acct_layouts.specs.declared.outputs.Outputs.TheVariants as outputs
-use Rattle.acct_layouts.specs.declared.outputs.Plainly.{Plainly}
-use Rattle.acct_layouts.specs.declared.outputs.Plainly.TheVariants as plainly
+use Rattle.acct_layouts.specs.declared.outputs.ScalarOutputs.{ScalarOutputs}
+use Rattle.acct_layouts.specs.declared.outputs.ScalarOutputs.TheVariants as scalar
 use Rattle.acct_layouts.specs.declared.table.Layout.{Layout}
 use Rattle.ndr_types.proofs.Onward.{Takes, TakesPart, any_size, handle_onward, list_onward, long, rid_list_onward}
 use Rattle.ndr_types.proofs.Onward.{short}
@@ -77,7 +77,7 @@ server_name_onward = takes_made 0 _ _ (to_value string string_onward)
 
 -- ---- numbers, SIDs and texts
 
-plain_onward : (p : Plain) → Takes 0 (plain_args p)
+plain_onward : (p : ScalarFields) → Takes 0 (plain_args p)
 unfolding plain_args
 plain_onward plain.Nothing = takes_given args.Nothing
 plain_onward plain.Rid = takes_made 0 _ _ long
@@ -106,7 +106,7 @@ searched_onward search.Sids = takes_made 0 _ _ (sid_list_onward most_member_sids
 searched_onward search.Names = takes_made 0 _ _ (sought_onward text takes_text)
 searched_onward search.Rids = takes_made 0 _ _ (sought_onward (flat u32) (takes_flat u32 long))
 
--- ---- classes of information
+-- ---- information classes
 
 text_tail_onward : (s : ℕ × Bool) → Takes 0 (text_tail s)
 unfolding text
@@ -194,15 +194,15 @@ revision_answered_onward =
     (takes_ignored 0 1 (such_long is_one)
     (takes_ignored 0 3 (such_long is_three) (takes_ignored 0 0 (such_long is_zero) (takes_given tt))))
 
-plainly_onward : (p : Plainly) → Takes 0 (plain_outs p)
+scalar_onward : (p : ScalarOutputs) → Takes 0 (plain_outs p)
 unfolding plain_outs
-plainly_onward plainly.Nothing = takes_given outs.Nothing
-plainly_onward plainly.Handle = takes_made 0 _ _ handle_onward
-plainly_onward plainly.HandleBack = takes_made 0 _ _ handle_onward
-plainly_onward plainly.Connected = takes_ignored 0 tt revision_answered_onward (takes_made 0 _ _ handle_onward)
-plainly_onward plainly.Created = takes_made 0 _ _ (takes_chain 0 handle_onward (λ x. long))
-plainly_onward plainly.Granted = takes_made 0 _ _ (takes_chain 0 handle_onward (λ x. takes_chain 0 long (λ y. long)))
-plainly_onward plainly.Sid = takes_made 0 _ _ (to_value sid sid_onward)
+scalar_onward scalar.Nothing = takes_given outs.Nothing
+scalar_onward scalar.Handle = takes_made 0 _ _ handle_onward
+scalar_onward scalar.HandleBack = takes_made 0 _ _ handle_onward
+scalar_onward scalar.Connected = takes_ignored 0 tt revision_answered_onward (takes_made 0 _ _ handle_onward)
+scalar_onward scalar.Created = takes_made 0 _ _ (takes_chain 0 handle_onward (λ x. long))
+scalar_onward scalar.Granted = takes_made 0 _ _ (takes_chain 0 handle_onward (λ x. takes_chain 0 long (λ y. long)))
+scalar_onward scalar.Sid = takes_made 0 _ _ (to_value sid sid_onward)
 
 listed_onward : (l : Listed) → Takes 0 (listed_outs l)
 unfolding listed_outs
@@ -237,7 +237,7 @@ own_reply w l o = record { onward = l.reply_onward o }
 arguments_onward : (w : Wire) → IsLawful w → (f : Fields) → Takes 0 (arguments w f)
 unfolding arguments
 arguments_onward w l (fields.Connect c) = own_onward w l (fields.Connect c)
-arguments_onward w l (fields.Plain p) = plain_onward p
+arguments_onward w l (fields.Scalar p) = plain_onward p
 arguments_onward w l (fields.Search s) = searched_onward s
 arguments_onward w l (fields.Creation c) = own_onward w l (fields.Creation c)
 arguments_onward w l (fields.Class s) = takes_made 0 _ _ short
@@ -251,7 +251,7 @@ behind_handle w l f = takes_chain 0 handle_onward (λ x. arguments_onward w l f)
 pub stub_onward : (w : Wire) → IsLawful w → (f : Fields) → Takes 0 (stub_of w f)
 unfolding stub_of
 stub_onward w l (fields.Connect c) = takes_made 0 _ _ (arguments_onward w l (fields.Connect c))
-stub_onward w l (fields.Plain p) = behind_handle w l (fields.Plain p)
+stub_onward w l (fields.Scalar p) = behind_handle w l (fields.Scalar p)
 stub_onward w l (fields.Search s) = behind_handle w l (fields.Search s)
 stub_onward w l (fields.Creation c) = behind_handle w l (fields.Creation c)
 stub_onward w l (fields.Class s) = behind_handle w l (fields.Class s)
@@ -261,7 +261,7 @@ stub_onward w l (fields.Translation t) = behind_handle w l (fields.Translation t
 
 pub reply_onward : (w : Wire) → IsLawful w → (o : Outputs) → Takes 0 (reply_stub w o)
 unfolding reply_stub
-reply_onward w l (outputs.Plain p) = status_onward (plainly_onward p)
+reply_onward w l (outputs.Scalar p) = status_onward (scalar_onward p)
 reply_onward w l (outputs.Listed k) = status_onward (listed_onward k)
 reply_onward w l (outputs.Shown s) = status_onward (shown_onward s)
 reply_onward w l (outputs.Policy p) = own_reply w l (outputs.Policy p)

@@ -1,4 +1,4 @@
--- The laws of replies, from those of their shapes.
+-- A stub is read exactly as the one reply that it spells, and what a lawful interface writes is read again.
 use Rattle.std.proofs.Common.{◌≡◌, ℕ, Bool, true, false, List, [], ◌++◌, Option, Some, None, Result, Ok, Err, refl, sym}
 use Rattle.std.proofs.Common.{ap, subst, ◌∙◌}
 use Rattle.std.specs.Prelude.{IfOk, ◌||◌}
@@ -15,7 +15,7 @@ use Rattle.acct_layouts.specs.declared.table.Layout.{Layout}
 use Rattle.acct_stubs.proofs.CompleteReplies.{reply_writable, shared_writable}
 use Rattle.acct_stubs.proofs.ReplyValues.{OutputsFit, refers_rightly, reply_kind, shape_fits, shape_kind, shape_refers}
 use Rattle.acct_stubs.proofs.Shared.{layouts_of_their_face}
-use Rattle.acct_stubs.specs.Calls.{ReadsStub, nothing_written, start}
+use Rattle.acct_stubs.specs.Calls.{ReadsAllIfRoom, nothing_written, start}
 use Rattle.acct_stubs.specs.Lawful.{IsLawful}
 use Rattle.acct_stubs.specs.Outputs.{reply_stub}
 use Rattle.acct_stubs.specs.Replies.{AreTheSpelledReplies, EachSpelledReplyHasShape, HasOneReply, IsReplyReadAgain}
@@ -59,7 +59,7 @@ pub read_where_spelled : (w : Wire) → IsReplyReadWhereSpelled w
 read_where_spelled w opnum stub r = (reply_found w opnum stub r, reply_only w opnum stub r)
 
 pub is_found : (w : Wire) (opnum : ℕ) (stub : List ℕ) (x : Result Reply WireError)
-    → ReadsStub x (reply_at w opnum stub) → IfOk x (λ r. SpellsReply w opnum r stub)
+    → ReadsAllIfRoom x (reply_at w opnum stub) → IfOk x (λ r. SpellsReply w opnum r stub)
 is_found w opnum stub (Ok r) h = reply_found w opnum stub r (sym h)
 is_found w opnum stub (Err e) h = tt
 
@@ -116,7 +116,7 @@ the_spelled_replies w l opnum r = (
 )
 
 pub can_be_written : (w : Wire) → IsLawful w → (opnum : ℕ) (stub : List ℕ) (x : Result Reply WireError)
-    → IsBytes stub → ReadsStub x (reply_at w opnum stub) → IfOk x (λ r. RefersRightly r → HasShape w.face opnum r)
+    → IsBytes stub → ReadsAllIfRoom x (reply_at w opnum stub) → IfOk x (λ r. RefersRightly r → HasShape w.face opnum r)
 can_be_written w l opnum stub (Ok r) bytes h =
     λ refers. has_shape w l opnum stub r bytes (reply_found w opnum stub r (sym h)) refers
 can_be_written w l opnum stub (Err e) bytes h = tt
@@ -145,7 +145,7 @@ the_shared_replies w l none opnum r = (
 )
 
 pub shared_can_be_written : (w : Wire) → IsLawful w → ((o : Outputs) → own_outputs w.face o ≡ false) → (opnum : ℕ)
-    → (stub : List ℕ) (x : Result Reply WireError) → IsBytes stub → ReadsStub x (reply_at w opnum stub)
+    → (stub : List ℕ) (x : Result Reply WireError) → IsBytes stub → ReadsAllIfRoom x (reply_at w opnum stub)
     → IfOk x (λ r. HasShape w.face opnum r)
 shared_can_be_written w l none opnum stub (Ok r) bytes h =
     let found = reply_found w opnum stub r (sym h) in

@@ -20,8 +20,8 @@ use Rattle.acct_layouts.specs.declared.outputs.Listed.{Listed}
 use Rattle.acct_layouts.specs.declared.outputs.Listed.TheVariants as listed
 use Rattle.acct_layouts.specs.declared.outputs.Outputs.{Outputs}
 use Rattle.acct_layouts.specs.declared.outputs.Outputs.TheVariants as outputs
-use Rattle.acct_layouts.specs.declared.outputs.Plainly.{Plainly}
-use Rattle.acct_layouts.specs.declared.outputs.Plainly.TheVariants as plainly
+use Rattle.acct_layouts.specs.declared.outputs.ScalarOutputs.{ScalarOutputs}
+use Rattle.acct_layouts.specs.declared.outputs.ScalarOutputs.TheVariants as scalar
 use Rattle.acct_layouts.specs.declared.table.Layout.{Layout}
 use Rattle.ndr_types.proofs.Digits.{handle_values}
 use Rattle.ndr_types.proofs.Parts.{Has, whole_fits, whole_kind}
@@ -49,30 +49,30 @@ use Rattle.acct_stubs.specs.Wire.{Wire}
 to_sid : Has (pointer_to sid) (IfThere IsSid)
 to_sid = pointer_has sid sid_fits sid_kind sid_complete
 
-plain_kind : (p : Plainly) (o : Outs) → (plain_outs p).Fits o → ArePlain p o
+plain_kind : (p : ScalarOutputs) (o : Outs) → (plain_outs p).Fits o → ArePlain p o
 unfolding plain_outs
-plain_kind plainly.Nothing outs.Nothing f = tt
-plain_kind plainly.Nothing _ f = absurd (cc f)
-plain_kind plainly.Handle (outs.Handle h) f = (handle_values h).0 f.0
-plain_kind plainly.HandleBack (outs.Handle h) f = (handle_values h).0 f.0
-plain_kind plainly.Connected (outs.Handle h) f = (handle_values h).0 f.0.1.0
-plain_kind plainly.Connected _ f = absurd (cc f.0.1.1)
-plain_kind plainly.Created (outs.Created h granted rid) f =
+plain_kind scalar.Nothing outs.Nothing f = tt
+plain_kind scalar.Nothing _ f = absurd (cc f)
+plain_kind scalar.Handle (outs.Handle h) f = (handle_values h).0 f.0
+plain_kind scalar.HandleBack (outs.Handle h) f = (handle_values h).0 f.0
+plain_kind scalar.Connected (outs.Handle h) f = (handle_values h).0 f.0.1.0
+plain_kind scalar.Connected _ f = absurd (cc f.0.1.1)
+plain_kind scalar.Created (outs.Created h granted rid) f =
     ((handle_values h).0 f.0.0, (let e : 0 ≡ granted = cc f.1 in sym e), f.0.1)
-plain_kind plainly.Granted (outs.Created h granted rid) f = ((handle_values h).0 f.0.0, f.0.1.0, f.0.1.1)
-plain_kind plainly.Sid (outs.OneSid s) f = whole_kind (pointer_to sid) to_sid s f.0
+plain_kind scalar.Granted (outs.Created h granted rid) f = ((handle_values h).0 f.0.0, f.0.1.0, f.0.1.1)
+plain_kind scalar.Sid (outs.OneSid s) f = whole_kind (pointer_to sid) to_sid s f.0
 plain_kind _ _ f = absurd (cc f.1)
 
-plain_fits : (p : Plainly) (o : Outs) → ArePlain p o → (plain_outs p).Fits o
+plain_fits : (p : ScalarOutputs) (o : Outs) → ArePlain p o → (plain_outs p).Fits o
 unfolding plain_outs
-plain_fits plainly.Nothing outs.Nothing is = refl
-plain_fits plainly.Handle (outs.Handle h) is = ((handle_values h).1 is, refl)
-plain_fits plainly.HandleBack (outs.Handle h) is = ((handle_values h).1 is, refl)
-plain_fits plainly.Connected (outs.Handle h) is = ((revision_fits, ((handle_values h).1 is, refl)), refl)
-plain_fits plainly.Created (outs.Created h granted rid) is =
+plain_fits scalar.Nothing outs.Nothing is = refl
+plain_fits scalar.Handle (outs.Handle h) is = ((handle_values h).1 is, refl)
+plain_fits scalar.HandleBack (outs.Handle h) is = ((handle_values h).1 is, refl)
+plain_fits scalar.Connected (outs.Handle h) is = ((revision_fits, ((handle_values h).1 is, refl)), refl)
+plain_fits scalar.Created (outs.Created h granted rid) is =
     (((handle_values h).1 is.0, is.2), ap (λ (n : ℕ). outs.Created h n rid) (sym is.1))
-plain_fits plainly.Granted (outs.Created h granted rid) is = (((handle_values h).1 is.0, (is.1, is.2)), refl)
-plain_fits plainly.Sid (outs.OneSid s) is = (whole_fits (pointer_to sid) to_sid s is, refl)
+plain_fits scalar.Granted (outs.Created h granted rid) is = (((handle_values h).1 is.0, (is.1, is.2)), refl)
+plain_fits scalar.Sid (outs.OneSid s) is = (whole_fits (pointer_to sid) to_sid s is, refl)
 plain_fits _ _ is = absurd is
 
 -- ---- lists
@@ -150,10 +150,10 @@ shown_fits s _ is = absurd is
 
 -- ---- only translations refer to domains
 
-plain_refers : (p : Plainly) (o : Outs) → ArePlain p o → domains_of o ≡ []
-plain_refers plainly.Nothing (outs.Sids domains entries mapped) is = absurd is
+plain_refers : (p : ScalarOutputs) (o : Outs) → ArePlain p o → domains_of o ≡ []
+plain_refers scalar.Nothing (outs.Sids domains entries mapped) is = absurd is
 plain_refers _ (outs.Sids domains entries mapped) is = absurd is
-plain_refers plainly.Nothing (outs.Names domains entries mapped) is = absurd is
+plain_refers scalar.Nothing (outs.Names domains entries mapped) is = absurd is
 plain_refers _ (outs.Names domains entries mapped) is = absurd is
 plain_refers _ _ is = refl
 
@@ -199,8 +199,8 @@ refers_rightly o (reply.Fault status) h = tt
 
 pub reply_kind : (w : Wire) → IsLawful w → (o : Outputs) (r : Reply) → (reply_stub w o).Fits r → IsReplyOf o r
 unfolding reply_stub
-reply_kind w l (outputs.Plain p) r f =
-    is_reply (outputs.Plain p) (plain_refers p) r (status_kind _ {P = ArePlain p} (plain_kind p) r f)
+reply_kind w l (outputs.Scalar p) r f =
+    is_reply (outputs.Scalar p) (plain_refers p) r (status_kind _ {P = ArePlain p} (plain_kind p) r f)
 reply_kind w l (outputs.Listed k) r f =
     is_reply (outputs.Listed k) (lists_refer k) r (status_kind _ {P = AreLists k} (lists_kind k) r f)
 reply_kind w l (outputs.Shown s) r f =
@@ -214,8 +214,8 @@ AreOutputsOf w o = shared_outputs o || own_outputs w.face o ≡ true
 reply_fits : (w : Wire) → IsLawful w → (o : Outputs) (r : Reply) → AreOutputsOf w o → IsReplyOf o r
     → (reply_stub w o).Fits r
 unfolding reply_stub
-reply_fits w l (outputs.Plain p) r own is =
-    status_fits _ {P = ArePlain p} (plain_fits p) r (has_status (outputs.Plain p) r is)
+reply_fits w l (outputs.Scalar p) r own is =
+    status_fits _ {P = ArePlain p} (plain_fits p) r (has_status (outputs.Scalar p) r is)
 reply_fits w l (outputs.Listed k) r own is =
     status_fits _ {P = AreLists k} (lists_fit k) r (has_status (outputs.Listed k) r is)
 reply_fits w l (outputs.Shown s) r own is =

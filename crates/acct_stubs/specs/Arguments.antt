@@ -13,8 +13,8 @@ use Rattle.acct_calls.specs.declared.info.Info.TheVariants as info
 use Rattle.acct_codes.specs.Limits.{most_searched, most_member_sids}
 use Rattle.acct_layouts.specs.declared.fields.Fields.{Fields}
 use Rattle.acct_layouts.specs.declared.fields.Fields.TheVariants as fields
-use Rattle.acct_layouts.specs.declared.fields.Plain.{Plain}
-use Rattle.acct_layouts.specs.declared.fields.Plain.TheVariants as plain
+use Rattle.acct_layouts.specs.declared.fields.ScalarFields.{ScalarFields}
+use Rattle.acct_layouts.specs.declared.fields.ScalarFields.TheVariants as plain
 use Rattle.acct_layouts.specs.declared.fields.Search.{Search}
 use Rattle.acct_layouts.specs.declared.fields.Search.TheVariants as search
 use Rattle.ndr_types.specs.Lists.{sid_list}
@@ -79,7 +79,7 @@ put_in _ = (0, info.Unserved)
 
 -- ---- the layouts
 
-unfoldable pub plain_args : Plain → Codec Args
+unfoldable pub plain_args : ScalarFields → Codec Args
 plain_args plain.Nothing = given args.Nothing
 -- a relative identifier
 plain_args plain.Rid = made args.Rid rid_in u32
@@ -118,7 +118,7 @@ searched search.Rids = made args.RidList rids_in (sought (flat u32))
 
 -- behind the handle, if the operation takes one
 unfoldable pub arguments : Wire → Fields → Codec Args
-arguments w (fields.Plain p) = plain_args p
+arguments w (fields.Scalar p) = plain_args p
 arguments w (fields.Search s) = searched s
 arguments w (fields.Class s) = made args.Class class_in u16
 arguments w (fields.Put s) = made (λ (class, value). args.Put class value) put_in (class_set s)

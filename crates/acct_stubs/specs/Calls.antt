@@ -92,11 +92,11 @@ call_in w opnum (Some layout) stub =
 unfoldable pub call_at : Wire → ℕ → List ℕ → Result Call WireError
 call_at w opnum stub = call_in w opnum (layout_of w.face opnum) stub
 
--- ReadsStub, of the family of Reads, of a whole stub, which has no cursor: value and refusal are this, and want of
+-- ReadsAllIfRoom, of the family of Reads, of a whole stub, which has no cursor: value and refusal are this, and want of
 -- memory may come anywhere.
-abbrev pub ReadsStub : {A : Type 0} → Result A WireError → Result A WireError → Type 0
-ReadsStub (Err Memory) right = Unit {0}
-ReadsStub result right = result ≡ right
+abbrev pub ReadsAllIfRoom : {A : Type 0} → Result A WireError → Result A WireError → Type 0
+ReadsAllIfRoom (Err Memory) right = Unit {0}
+ReadsAllIfRoom result right = result ≡ right
 
 -- ---- writing
 

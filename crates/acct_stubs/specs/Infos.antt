@@ -1,4 +1,4 @@
--- How the value of a class of information stands in a stub (MS-SAMR 2.2.3 to 2.2.6, MS-LSAD 2.2.4).
+-- How the value of an information class stands in a stub (MS-SAMR 2.2.3 to 2.2.6, MS-LSAD 2.2.4).
 use Rattle.std.specs.Prelude.{ℕ, Bool, true, false, ◌==◌, List, [], Option, Some, None}
 use Rattle.ndr_core.specs.Codec.{Codec}
 use Rattle.ndr_core.specs.Cursor.{is_zero}

@@ -19,8 +19,8 @@ use Rattle.acct_layouts.specs.declared.outputs.Listed.{Listed}
 use Rattle.acct_layouts.specs.declared.outputs.Listed.TheVariants as listed
 use Rattle.acct_layouts.specs.declared.outputs.Outputs.{Outputs}
 use Rattle.acct_layouts.specs.declared.outputs.Outputs.TheVariants as outputs
-use Rattle.acct_layouts.specs.declared.outputs.Plainly.{Plainly}
-use Rattle.acct_layouts.specs.declared.outputs.Plainly.TheVariants as plainly
+use Rattle.acct_layouts.specs.declared.outputs.ScalarOutputs.{ScalarOutputs}
+use Rattle.acct_layouts.specs.declared.outputs.ScalarOutputs.TheVariants as scalar
 use Rattle.ndr_types.specs.Accounts.{any, rid_names}
 use Rattle.ndr_types.specs.Handles.{handle, handle_of}
 use Rattle.ndr_types.specs.Lists.{rid_list, sid_list, text_list}
@@ -96,21 +96,21 @@ revision_answered =
     ignored 1 (u32_such is_one)
     (ignored 1 (u32_such is_one) (ignored 3 (u32_such is_three) (ignored 0 (u32_such is_zero) (given tt))))
 
-unfoldable pub plain_outs : Plainly → Codec Outs
-plain_outs plainly.Nothing = given outs.Nothing
+unfoldable pub plain_outs : ScalarOutputs → Codec Outs
+plain_outs scalar.Nothing = given outs.Nothing
 -- a handle
-plain_outs plainly.Handle = made outs.Handle handle_out handle
+plain_outs scalar.Handle = made outs.Handle handle_out handle
 -- the handle that the call brought
-plain_outs plainly.HandleBack = made outs.Handle handle_out handle
+plain_outs scalar.HandleBack = made outs.Handle handle_out handle
 -- OutVersion, OutRevisionInfo, ServerHandle
-plain_outs plainly.Connected = ignored tt revision_answered (made outs.Handle handle_out handle)
+plain_outs scalar.Connected = ignored tt revision_answered (made outs.Handle handle_out handle)
 -- a handle, and the relative identifier of the new account
-plain_outs plainly.Created = made (λ (h, rid). outs.Created h 0 rid) created_out (chain handle (λ _. u32))
+plain_outs scalar.Created = made (λ (h, rid). outs.Created h 0 rid) created_out (chain handle (λ _. u32))
 -- UserHandle, GrantedAccess, RelativeId
-plain_outs plainly.Granted =
+plain_outs scalar.Granted =
     made (λ (h, (granted, rid)). outs.Created h granted rid) granted_out (chain handle (λ _. chain u32 (λ _. u32)))
 -- a pointer to a SID
-plain_outs plainly.Sid = made outs.OneSid sid_out (whole (pointer_to sid))
+plain_outs scalar.Sid = made outs.OneSid sid_out (whole (pointer_to sid))
 
 unfoldable pub listed_outs : Listed → Codec Outs
 -- EnumerationContext, Buffer, CountReturned, which isn't looked at
@@ -148,7 +148,7 @@ unfoldable pub shown_outs : Subject → Codec Outs
 shown_outs s = made (λ (class, value). outs.Shown class value) shown_out (class_shown s)
 
 unfoldable pub reply_stub : Wire → Outputs → Codec Reply
-reply_stub w (outputs.Plain p) = with_status (plain_outs p)
+reply_stub w (outputs.Scalar p) = with_status (plain_outs p)
 reply_stub w (outputs.Listed l) = with_status (listed_outs l)
 reply_stub w (outputs.Shown s) = with_status (shown_outs s)
 -- what the interface has alone

@@ -13,7 +13,7 @@ use Rattle.acct_layouts.specs.declared.table.Layout.{Layout}
 
 -- the fields whose codecs stand in this crate
 abbrev pub are_shared : Fields → Bool
-are_shared (fields.Plain p) = true
+are_shared (fields.Scalar p) = true
 are_shared (fields.Search s) = true
 are_shared (fields.Class s) = true
 are_shared (fields.Put s) = true
@@ -43,7 +43,7 @@ own_outputs Lsa (outputs.Translation t) = true
 own_outputs _ _ = false
 
 abbrev pub shared_outputs : Outputs → Bool
-shared_outputs (outputs.Plain p) = true
+shared_outputs (outputs.Scalar p) = true
 shared_outputs (outputs.Listed l) = true
 shared_outputs (outputs.Shown s) = true
 shared_outputs _ = false

@@ -10,7 +10,7 @@ use crate::numbers::read_wanted;
 use acct_base::Seq;
 use acct_calls::{Args, Names};
 use acct_codes::limit::{MOST_MEMBER_SIDS, MOST_SEARCHED};
-use acct_layouts::{Fields, Plain, Search};
+use acct_layouts::{Fields, ScalarFields, Search};
 use ndr_core::{In, NdrError, Out};
 use ndr_types::{
     Embedded, read_array, read_sid, read_sid_list, read_text, write_heads, write_sid,
@@ -19,28 +19,28 @@ use ndr_types::{
 use std::alloc::Global;
 
 #[tactic(auto, unfolding(crate::specs::Arguments::plain_args))]
-fn read_plain(alloc: Global, from: &mut In<'_>, layout: Plain) -> Result<Args, NdrError>
+fn read_plain(alloc: Global, from: &mut In<'_>, layout: ScalarFields) -> Result<Args, NdrError>
     ensures { ReadsIfRoom result from.new ((plain_args layout).read from.old) }
 {
     match layout {
-        Plain::Nothing => Ok(Args::Nothing),
-        Plain::Rid => from.u32().map(Args::Rid),
-        Plain::Member => {
+        ScalarFields::Nothing => Ok(Args::Nothing),
+        ScalarFields::Rid => from.u32().map(Args::Rid),
+        ScalarFields::Member => {
             let rid = from.u32()?;
             let bits = from.u32()?;
             Ok(Args::RidBits { rid, bits })
         }
-        Plain::Sid => read_sid(from).map(Args::OneSid),
-        Plain::Name => {
+        ScalarFields::Sid => read_sid(from).map(Args::OneSid),
+        ScalarFields::Name => {
             let name = read_text(alloc, from)?;
             Ok(Args::OneName(Some(name)))
         }
-        Plain::OpenDomain => {
+        ScalarFields::OpenDomain => {
             let access = from.u32()?;
             let sid = read_sid(from)?;
             Ok(Args::AccessSid { access, sid })
         }
-        Plain::OpenAccount => {
+        ScalarFields::OpenAccount => {
             let access = from.u32()?;
             let rid = from.u32()?;
             Ok(Args::AccessRid { access, rid })
@@ -49,24 +49,24 @@ fn read_plain(alloc: Global, from: &mut In<'_>, layout: Plain) -> Result<Args, N
 }
 
 #[tactic(auto, using(crate::proofs::Asked::short_text), unfolding(crate::specs::Arguments::plain_args))]
-fn write_plain(to: &mut Out, layout: Plain, args: &Args) -> Result<(), NoMemory>
+fn write_plain(to: &mut Out, layout: ScalarFields, args: &Args) -> Result<(), NoMemory>
     requires { (plain_args layout).Fits args.now }
     ensures { OnOk result (to.new ≡ (plain_args layout).write args.now to.old) }
 {
     match (layout, args) {
-        (Plain::Nothing, Args::Nothing) => Ok(()),
-        (Plain::Rid, Args::Rid(rid)) => to.u32(*rid),
-        (Plain::Member, Args::RidBits { rid, bits }) => {
+        (ScalarFields::Nothing, Args::Nothing) => Ok(()),
+        (ScalarFields::Rid, Args::Rid(rid)) => to.u32(*rid),
+        (ScalarFields::Member, Args::RidBits { rid, bits }) => {
             to.u32(*rid)?;
             to.u32(*bits)
         }
-        (Plain::Sid, Args::OneSid(sid)) => write_sid(to, sid),
-        (Plain::Name, Args::OneName(Some(name))) => write_text(to, name),
-        (Plain::OpenDomain, Args::AccessSid { access, sid }) => {
+        (ScalarFields::Sid, Args::OneSid(sid)) => write_sid(to, sid),
+        (ScalarFields::Name, Args::OneName(Some(name))) => write_text(to, name),
+        (ScalarFields::OpenDomain, Args::AccessSid { access, sid }) => {
             to.u32(*access)?;
             write_sid(to, sid)
         }
-        (Plain::OpenAccount, Args::AccessRid { access, rid }) => {
+        (ScalarFields::OpenAccount, Args::AccessRid { access, rid }) => {
             to.u32(*access)?;
             to.u32(*rid)
         }
@@ -186,7 +186,7 @@ pub fn read_arguments<I: Interface>(
     ensures { ReadsIfRoom result from.new ((arguments I.wire fields).read from.old) }
 {
     match fields {
-        Fields::Plain(plain) => read_plain(alloc, from, plain),
+        Fields::Scalar(plain) => read_plain(alloc, from, plain),
         Fields::Search(search) => read_searched(alloc, from, search),
         Fields::Class(_) => {
             let class = from.u16()?;
@@ -214,7 +214,7 @@ pub fn write_arguments<I: Interface>(
     ensures { OnOk result (to.new ≡ (arguments I.wire fields).write args.now to.old) }
 {
     match fields {
-        Fields::Plain(plain) => write_plain(to, plain, args),
+        Fields::Scalar(plain) => write_plain(to, plain, args),
         Fields::Search(search) => write_searched(to, search, args),
         Fields::Class(_) => {
             let Args::Class(class) = args else {

@@ -2,13 +2,14 @@
 ghost use Rattle.std.specs.Prelude.{◌≡◌, IfOk, OnOk, Ok};
 ghost use Rattle.ndr_types.specs.Outcomes.{ReadsIfRoom};
 ghost use Rattle.acct_calls.specs.declared.calls.Call.{Call};
-ghost use Rattle.acct_stubs.specs.Calls.{ReadsStub, IsCallOf, IsServed, Spells, call_at, class_behind, is_withheld};
+ghost use Rattle.acct_stubs.specs.Calls.{ReadsAllIfRoom, IsCallOf, IsServed, Spells, call_at, class_behind};
+ghost use Rattle.acct_stubs.specs.Calls.{is_withheld};
 ghost use Rattle.acct_stubs.specs.Calls.{carries_password, spell, stub_of};
 
 use crate::arguments::{read_arguments, write_arguments};
 use crate::interface::Interface;
 use crate::{NoMemory, WireError};
-use acct_calls::{Args, Call, Handle};
+use acct_calls::{Args, Call, Handle, ZERO_HANDLE};
 use acct_layouts::{Fields, is_password, layout_of};
 use ndr_core::{In, NdrError, Out};
 use ndr_types::{read_handle, write_handle};
@@ -49,7 +50,7 @@ fn read_stub<I: Interface>(
     ensures { ReadsIfRoom result from.new ((stub_of I.wire fields).read from.old) }
 {
     let handle = match fields {
-        Fields::Connect(_) => Handle { number: 0 },
+        Fields::Connect(_) => ZERO_HANDLE,
         _ => read_handle(from)?,
     };
     let args = read_arguments::<I>(alloc, from, fields)?;
@@ -58,7 +59,7 @@ fn read_stub<I: Interface>(
 
 #[tactic(auto, unfolding(crate::specs::Calls::call_at))]
 fn call_in<I: Interface>(alloc: Global, opnum: u16, stub: &[u8]) -> Result<Call, WireError>
-    ensures { ReadsStub result (call_at I.wire opnum stub.now) }
+    ensures { ReadsAllIfRoom result (call_at I.wire opnum stub.now) }
 {
     let face = I::face();
     let Some(layout) = layout_of(face, opnum) else {
@@ -85,9 +86,9 @@ pub fn read_call<I: Interface>(alloc: Global, opnum: u16, stub: &[u8]) -> Result
         (λ call. (call.opnum ≡ opnum) × IsServed I.wire opnum stub.now × Spells I.wire call stub.now) }
     // What is served and spelled is read, unless there is no memory.
     ensures only { (call : Call) → call.opnum ≡ opnum → IsServed I.wire opnum stub.now → Spells I.wire call stub.now
-        → ReadsStub result (Ok call) }
+        → ReadsAllIfRoom result (Ok call) }
     // Why there is no call.
-    ensures exact { ReadsStub result (call_at I.wire opnum stub.now) }
+    ensures exact { ReadsAllIfRoom result (call_at I.wire opnum stub.now) }
     // What is read can be written.
     ensures spelled { IfOk result (λ call. IsCallOf I.wire call) }
 {

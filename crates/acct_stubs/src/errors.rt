@@ -5,7 +5,7 @@ use thiserror::Error;
 /// Why a stub is no call, or no reply, of an operation.
 #[derive(Clone, Copy, Debug, PartialEq, Eq, Error)]
 pub enum WireError {
-    /// There is no operation of this opnum, or the call asks for a class of information that carries a password.
+    /// There is no operation of this opnum, or the call asks for an information class that carries a password.
     #[error("operation {0} isn't served")]
     NotServed(u16),
     /// The first field in reading order that has no reading, by its place in bytes from the stub's start.

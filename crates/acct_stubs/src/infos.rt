@@ -1,4 +1,4 @@
-// Classes of information.
+// Information classes.
 ghost use Rattle.std.specs.Prelude.{◌≡◌, OnOk, false};
 ghost use Rattle.ndr_core.specs.Cursor.{Reads};
 ghost use Rattle.ndr_core.specs.Parts.{flat, join, whole};

@@ -11,7 +11,7 @@ use crate::interface::Interface;
 use crate::members::{read_members, write_members};
 use crate::numbers::read_wanted;
 use acct_calls::{Outs, Reply, RidBits};
-use acct_layouts::{Listed, Outputs, Plainly, Subject};
+use acct_layouts::{Listed, Outputs, ScalarOutputs, Subject};
 use ndr_core::{In, NdrError, Out};
 use ndr_types::{
     read_handle, read_list, read_rid_list, read_rid_names, read_sid, read_sid_list, read_text_list,
@@ -42,17 +42,17 @@ fn write_revision(to: &mut Out) -> Result<(), NoMemory>
 }
 
 #[tactic(auto, unfolding(crate::specs::Outputs::plain_outs))]
-fn read_plainly(from: &mut In<'_>, layout: Plainly) -> Result<Outs, NdrError>
+fn read_scalars(from: &mut In<'_>, layout: ScalarOutputs) -> Result<Outs, NdrError>
     ensures { Reads result from.new ((plain_outs layout).read from.old) }
 {
     match layout {
-        Plainly::Nothing => Ok(Outs::Nothing),
-        Plainly::Handle | Plainly::HandleBack => read_handle(from).map(Outs::Handle),
-        Plainly::Connected => {
+        ScalarOutputs::Nothing => Ok(Outs::Nothing),
+        ScalarOutputs::Handle | ScalarOutputs::HandleBack => read_handle(from).map(Outs::Handle),
+        ScalarOutputs::Connected => {
             read_revision(from)?;
             read_handle(from).map(Outs::Handle)
         }
-        Plainly::Created => {
+        ScalarOutputs::Created => {
             let handle = read_handle(from)?;
             let rid = from.u32()?;
             Ok(Outs::Created {
@@ -61,7 +61,7 @@ fn read_plainly(from: &mut In<'_>, layout: Plainly) -> Result<Outs, NdrError>
                 rid,
             })
         }
-        Plainly::Granted => {
+        ScalarOutputs::Granted => {
             let handle = read_handle(from)?;
             let granted = from.u32()?;
             let rid = from.u32()?;
@@ -71,7 +71,7 @@ fn read_plainly(from: &mut In<'_>, layout: Plainly) -> Result<Outs, NdrError>
                 rid,
             })
         }
-        Plainly::Sid => {
+        ScalarOutputs::Sid => {
             if !from.pointer()? {
                 return Ok(Outs::OneSid(None));
             }
@@ -82,24 +82,24 @@ fn read_plainly(from: &mut In<'_>, layout: Plainly) -> Result<Outs, NdrError>
 }
 
 #[tactic(auto, unfolding(crate::specs::Outputs::plain_outs))]
-fn write_plainly(to: &mut Out, layout: Plainly, outs: &Outs) -> Result<(), NoMemory>
+fn write_scalars(to: &mut Out, layout: ScalarOutputs, outs: &Outs) -> Result<(), NoMemory>
     requires { (plain_outs layout).Fits outs.now }
     ensures { OnOk result (to.new ≡ (plain_outs layout).write outs.now to.old) }
 {
     match (layout, outs) {
-        (Plainly::Nothing, Outs::Nothing) => Ok(()),
-        (Plainly::Handle, Outs::Handle(handle)) => write_handle(to, handle),
-        (Plainly::HandleBack, Outs::Handle(handle)) => write_handle(to, handle),
-        (Plainly::Connected, Outs::Handle(handle)) => {
+        (ScalarOutputs::Nothing, Outs::Nothing) => Ok(()),
+        (ScalarOutputs::Handle, Outs::Handle(handle)) => write_handle(to, handle),
+        (ScalarOutputs::HandleBack, Outs::Handle(handle)) => write_handle(to, handle),
+        (ScalarOutputs::Connected, Outs::Handle(handle)) => {
             write_revision(to)?;
             write_handle(to, handle)
         }
-        (Plainly::Created, Outs::Created { handle, rid, .. }) => {
+        (ScalarOutputs::Created, Outs::Created { handle, rid, .. }) => {
             write_handle(to, handle)?;
             to.u32(*rid)
         }
         (
-            Plainly::Granted,
+            ScalarOutputs::Granted,
             Outs::Created {
                 handle,
                 granted,
@@ -110,8 +110,8 @@ fn write_plainly(to: &mut Out, layout: Plainly, outs: &Outs) -> Result<(), NoMem
             to.u32(*granted)?;
             to.u32(*rid)
         }
-        (Plainly::Sid, Outs::OneSid(None)) => to.pointer(false),
-        (Plainly::Sid, Outs::OneSid(Some(sid))) => {
+        (ScalarOutputs::Sid, Outs::OneSid(None)) => to.pointer(false),
+        (ScalarOutputs::Sid, Outs::OneSid(Some(sid))) => {
             to.pointer(true)?;
             write_sid(to, sid)
         }
@@ -234,7 +234,7 @@ pub fn read_done<I: Interface>(
     ensures { ReadsIfRoom result from.new ((reply_stub I.wire outputs).read from.old) }
 {
     let outs = match outputs {
-        Outputs::Plain(plain) => read_plainly(from, plain)?,
+        Outputs::Scalar(plain) => read_scalars(from, plain)?,
         Outputs::Listed(listed) => read_listed(alloc, from, listed)?,
         Outputs::Shown(subject) => read_shown(alloc, from, subject)?,
         Outputs::Policy(_) => return I::read_reply(alloc, from, outputs),
@@ -263,7 +263,7 @@ pub fn write_done<I: Interface>(
         unreachable!()
     };
     match outputs {
-        Outputs::Plain(plain) => write_plainly(to, plain, outs)?,
+        Outputs::Scalar(plain) => write_scalars(to, plain, outs)?,
         Outputs::Listed(listed) => write_listed(to, listed, outs)?,
         Outputs::Shown(subject) => write_shown(to, subject, outs)?,
         _ => unreachable!(),

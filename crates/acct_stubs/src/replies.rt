@@ -2,7 +2,7 @@
 ghost use Rattle.std.specs.Prelude.{◌≡◌, IfOk, Ok};
 ghost use Rattle.acct_calls.specs.declared.replies.Reply.{Reply};
 ghost use Rattle.acct_layouts.specs.ReplyShapes.{HasShape, RefersRightly};
-ghost use Rattle.acct_stubs.specs.Calls.{ReadsStub};
+ghost use Rattle.acct_stubs.specs.Calls.{ReadsAllIfRoom};
 ghost use Rattle.acct_stubs.specs.Replies.{SpellsReply, reply_at, spell_reply};
 
 use crate::interface::Interface;
@@ -15,7 +15,7 @@ use std::alloc::Global;
 
 #[tactic(auto, unfolding(crate::specs::Replies::reply_at))]
 fn reply_in<I: Interface>(alloc: Global, opnum: u16, stub: &[u8]) -> Result<Reply, WireError>
-    ensures { ReadsStub result (reply_at I.wire opnum stub.now) }
+    ensures { ReadsAllIfRoom result (reply_at I.wire opnum stub.now) }
 {
     let Some(layout) = layout_of(I::face(), opnum) else {
         return Err(WireError::NotServed(opnum));
@@ -29,9 +29,9 @@ pub fn read_reply<I: Interface>(alloc: Global, opnum: u16, stub: &[u8]) -> Resul
     // What is read is spelled.
     ensures found { IfOk result (λ reply. SpellsReply I.wire opnum reply stub.now) }
     // What is spelled is read, unless there is no memory.
-    ensures only { (reply : Reply) → SpellsReply I.wire opnum reply stub.now → ReadsStub result (Ok reply) }
+    ensures only { (reply : Reply) → SpellsReply I.wire opnum reply stub.now → ReadsAllIfRoom result (Ok reply) }
     // Why there is no reply.
-    ensures exact { ReadsStub result (reply_at I.wire opnum stub.now) }
+    ensures exact { ReadsAllIfRoom result (reply_at I.wire opnum stub.now) }
     // What is read can be written, but for a refusal that refers to a domain.
     ensures shaped { IfOk result (λ reply. RefersRightly reply → HasShape I.wire.face opnum reply) }
 {

@@ -2,7 +2,7 @@
 use Rattle.std.proofs.Common.{ℕ, ◌^◌, ◌<◌, ◌≤◌, All, List, length, Option, Some, None, arith}
 use Rattle.ndr_core.specs.Parts.{PartFits, flat}
 use Rattle.acct_codes.specs.Limits.{most_privileges, most_translated_names}
-use Rattle.acct_calls.specs.declared.lists.Place.{Place}
+use Rattle.acct_calls.specs.declared.lists.ReferencedDomain.{ReferencedDomain}
 use Rattle.acct_calls.specs.declared.lists.Privilege.{Privilege}
 use Rattle.acct_calls.specs.declared.lists.RidName.{RidName}
 use Rattle.acct_calls.specs.declared.lists.TranslatedName.{TranslatedName}
@@ -64,12 +64,13 @@ entries_listed most entries h =
     let k = (list_values most translated_name translated_name_has entries).0 h in
     (k.1, all_as {P = IsTranslatedName} {Q = HasShortText} entries (λ t is. is.1.0) k.2)
 
-short_places : (domains : Option (List Place)) → IfThere (IsListOf any IsDomain) domains
+short_places : (domains : Option (List ReferencedDomain)) → IfThere (IsListOf any IsDomain) domains
     → IfThere (IsListed IsShortPlace) domains
 short_places None h = tt
 short_places (Some ps) h = (h.1, all_as {P = IsDomain} {Q = IsShortPlace} ps (λ p is. is.0.0) h.2)
 
-pub domains_listed : (domains : Option (List Place)) → referenced.Fits domains → IfThere (IsListed IsShortPlace) domains
+pub domains_listed : (domains : Option (List ReferencedDomain)) → referenced.Fits domains
+    → IfThere (IsListed IsShortPlace) domains
 domains_listed domains h = short_places domains ((referenced_values domains).0 h)
 
 -- ---- arrays behind their counts

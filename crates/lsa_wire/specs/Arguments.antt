@@ -19,6 +19,7 @@ use Rattle.acct_layouts.specs.declared.fields.PolicyFields.{PolicyFields}
 use Rattle.acct_layouts.specs.declared.fields.PolicyFields.TheVariants as policy
 use Rattle.acct_layouts.specs.declared.fields.Translation.{Translation}
 use Rattle.acct_layouts.specs.declared.fields.Translation.TheVariants as translation
+use Rattle.acct_stubs.specs.Infos.{no_sid}
 use Rattle.acct_stubs.specs.ServerNames.{server_name}
 use Rattle.ndr_types.specs.Lists.{sid_list, text_list}
 use Rattle.ndr_types.specs.Pointers.{text_pointer, privilege_set_pointer}
@@ -26,12 +27,9 @@ use Rattle.ndr_types.specs.Privileges.{privilege_set}
 use Rattle.ndr_types.specs.Sids.{sid}
 use Rattle.ndr_types.specs.Texts.{text}
 use Rattle.ndr_types.specs.Translations.{translated_names, translated_sids}
-use Rattle.lsa_wire.specs.ObjectAttributes.{object_attributes}
+use Rattle.lsa_wire.specs.Opening.{object_attributes}
 
 -- ---- what is written for arguments: their parts, in the fields' order
-
-abbrev pub no_sid : SidValue
-no_sid = record { authority = 0; subs = [] }
 
 abbrev pub opening_in : Args → Bool × ℕ
 opening_in (args.Policy rooted access) = (rooted, access)

@@ -34,7 +34,7 @@ use Rattle.ndr_types.proofs.Texts.{text_has}
 use Rattle.lsa_wire.specs.Arguments.{connect_args, flag, flag_number, policy_args, counted, translation_args}
 use Rattle.lsa_wire.specs.Arguments.{own_fields, opening_in, account_in, added_in, removed_in, bits_in, luid_in}
 use Rattle.lsa_wire.specs.Arguments.{right_in, rights_in, all_rights_in, names_in, sids_in}
-use Rattle.lsa_wire.specs.ObjectAttributes.{object_attributes}
+use Rattle.lsa_wire.specs.Opening.{object_attributes}
 use Rattle.acct_stubs.proofs.Complete.{server_name_complete, server_name_fits, unspelled_complete}
 
 -- ---- the opening of the policy
@@ -161,7 +161,7 @@ unfolding own_fields
 fields_complete (fields.Connect c) = connect_complete c
 fields_complete (fields.Policy p) = policy_complete p
 fields_complete (fields.Translation t) = translation_complete t
-fields_complete (fields.Plain p) = unspelled_complete
+fields_complete (fields.Scalar p) = unspelled_complete
 fields_complete (fields.Search s) = unspelled_complete
 fields_complete (fields.Creation c) = unspelled_complete
 fields_complete (fields.Class s) = unspelled_complete

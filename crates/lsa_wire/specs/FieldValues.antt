@@ -140,7 +140,7 @@ unfolding own_fields
 fields_kind (fields.Connect c) a f = connect_kind c a f
 fields_kind (fields.Policy p) a f = policy_kind p a f
 fields_kind (fields.Translation t) a f = translation_kind t a f
-fields_kind (fields.Plain p) a f = absurd f
+fields_kind (fields.Scalar p) a f = absurd f
 fields_kind (fields.Search s) a f = absurd f
 fields_kind (fields.Creation c) a f = absurd f
 fields_kind (fields.Class s) a f = absurd f

@@ -2,7 +2,7 @@
 use Rattle.ndr_types.proofs.Onward.{goes_onward}
 use Rattle.ndr_types.proofs.Spelled.{writable}
 use Rattle.acct_stubs.specs.Lawful.{IsLawful}
-use Rattle.lsa_wire.specs.Wires.{lsa}
+use Rattle.lsa_wire.specs.Interface.{lsa}
 use Rattle.lsa_wire.specs.Complete.{fields_complete}
 use Rattle.lsa_wire.specs.FieldValues.{fields_kind, fields_fit}
 use Rattle.lsa_wire.specs.Onward.{fields_onward, replies_onward}

@@ -1,7 +1,7 @@
-pub mod ObjectAttributes
+pub mod Opening
 pub mod Arguments
 pub mod Outputs
-pub mod Wires
+pub mod Interface
 pub mod Complete
 pub mod FieldValues
 pub mod ReplyValues

@@ -27,8 +27,8 @@ use Rattle.ndr_types.proofs.Onward.{referenced_onward}
 use Rattle.ndr_types.proofs.OnwardEntries.{privilege_names_onward, privilege_set_pointer_onward, text_pointer_onward}
 use Rattle.ndr_types.proofs.OnwardEntries.{translated_names_onward, translated_sids_onward}
 use Rattle.lsa_wire.specs.Arguments.{connect_args, flag, policy_args, counted, translation_args, own_fields}
-use Rattle.lsa_wire.specs.ObjectAttributes.{is_null, attributes_head, attributes_tail, quality, object_attributes}
-use Rattle.lsa_wire.specs.ObjectAttributes.{root_byte}
+use Rattle.lsa_wire.specs.Opening.{is_null, attributes_head, attributes_tail, quality, object_attributes}
+use Rattle.lsa_wire.specs.Opening.{root_byte}
 use Rattle.acct_stubs.specs.Outputs.{with_status}
 use Rattle.lsa_wire.specs.Outputs.{policy_outs, translated, own_replies}
 use Rattle.acct_stubs.proofs.Onward.{server_name_onward, takes_unspelled}
@@ -117,7 +117,7 @@ unfolding own_fields
 fields_onward (fields.Connect c) = connect_onward c
 fields_onward (fields.Policy p) = policy_onward p
 fields_onward (fields.Translation t) = translation_onward t
-fields_onward (fields.Plain p) = takes_unspelled
+fields_onward (fields.Scalar p) = takes_unspelled
 fields_onward (fields.Search s) = takes_unspelled
 fields_onward (fields.Creation c) = takes_unspelled
 fields_onward (fields.Class s) = takes_unspelled
@@ -154,6 +154,6 @@ pub replies_onward : (o : Outputs) → Takes 0 (own_replies o)
 unfolding own_replies
 replies_onward (outputs.Policy p) = status_onward p
 replies_onward (outputs.Translation t) = translated_onward t
-replies_onward (outputs.Plain p) = takes_unspelled
+replies_onward (outputs.Scalar p) = takes_unspelled
 replies_onward (outputs.Listed l) = takes_unspelled
 replies_onward (outputs.Shown s) = takes_unspelled

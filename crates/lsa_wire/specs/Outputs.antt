@@ -4,7 +4,7 @@ use Rattle.std.specs.Prelude.{ℕ, Option, Some, None, List, [], if◌then◌els
 use Rattle.ndr_core.specs.Codec.{Codec}
 use Rattle.ndr_core.specs.Shapes.{u32, unspelled, chain, made}
 use Rattle.dtyp_sid.specs.Value.{SidValue}
-use Rattle.acct_calls.specs.declared.lists.Place.{Place}
+use Rattle.acct_calls.specs.declared.lists.ReferencedDomain.{ReferencedDomain}
 use Rattle.acct_calls.specs.declared.lists.Privilege.{Privilege}
 use Rattle.acct_calls.specs.declared.lists.RidName.{RidName}
 use Rattle.acct_calls.specs.declared.lists.TranslatedName.{TranslatedName}
@@ -82,12 +82,12 @@ policy_outs policy.Rights = made outs.NameList names_out (text_list any)
 -- ---- translations
 
 -- A refusal, which refers to no domain, has a null pointer; another reply has a list, which may be empty.
-abbrev pub referred_of : ℕ → List Place → Option (List Place)
+abbrev pub referred_of : ℕ → List ReferencedDomain → Option (List ReferencedDomain)
 referred_of status domains = if is_refusal status then None else Some domains
 
 -- ReferencedDomains, the translations, MappedCount and the status
 abbrev pub TranslatedParts : Type 0 → Type 0
-TranslatedParts A = Option (List Place) × (List A × (ℕ × ℕ))
+TranslatedParts A = Option (List ReferencedDomain) × (List A × (ℕ × ℕ))
 
 abbrev pub sids_done : TranslatedParts TranslatedSid → Reply
 sids_done = λ (domains, (entries, (mapped, status))). reply.Done status (outs.Sids (or_empty domains) entries mapped)

@@ -9,7 +9,7 @@ use Rattle.ndr_core.specs.Parts.{Part, flat, list_of}
 use Rattle.ndr_core.specs.Written.{IsBytes}
 use Rattle.ndr_core.proofs.Complete.{IsComplete, u32_complete, chain_complete, made_complete}
 use Rattle.acct_calls.specs.declared.calls.Face.TheVariants.{Lsa}
-use Rattle.acct_calls.specs.declared.lists.Place.{Place}
+use Rattle.acct_calls.specs.declared.lists.ReferencedDomain.{ReferencedDomain}
 use Rattle.acct_calls.specs.declared.lists.TranslatedName.{TranslatedName}
 use Rattle.acct_calls.specs.declared.lists.TranslatedSid.{TranslatedSid}
 use Rattle.acct_calls.specs.declared.replies.Outs.{Outs}
@@ -110,26 +110,27 @@ nowhere _ _ is = absurd is
 
 -- ---- the domains that a translation refers to
 
-domains_kind : (domains : Option (List Place)) → referenced.Fits domains → IsListed IsDomain (or_empty domains)
+domains_kind : (domains : Option (List ReferencedDomain)) → referenced.Fits domains
+    → IsListed IsDomain (or_empty domains)
 domains_kind None f = (lit< tt, All-nil IsDomain)
 domains_kind (Some ps) f = let k = (referenced_values (Some ps)).0 f in (k.1, k.2)
 
-domains_fit : (b : Bool) (domains : List Place) → IsListed IsDomain domains
+domains_fit : (b : Bool) (domains : List ReferencedDomain) → IsListed IsDomain domains
     → referenced.Fits (cond b None (Some domains))
 domains_fit true domains is = (referenced_values None).1 tt
 domains_fit false domains is = (referenced_values (Some domains)).1 (omega (arith, is.0), is.0, is.1)
 
-domains_back : (b : Bool) (domains : List Place) → (b ≡ true → domains ≡ [])
+domains_back : (b : Bool) (domains : List ReferencedDomain) → (b ≡ true → domains ≡ [])
     → or_empty (cond b None (Some domains)) ≡ domains
 domains_back true domains h = sym (h refl)
 domains_back false domains h = refl
 
-refused_none : (b : Bool) (domains : List Place) → or_empty (cond b None (Some domains)) ≡ domains → b ≡ true
+refused_none : (b : Bool) (domains : List ReferencedDomain) → or_empty (cond b None (Some domains)) ≡ domains → b ≡ true
     → domains ≡ []
 refused_none true domains e h = sym e
 refused_none false domains e h = absurd (cc h)
 
-domains_in : Reply → List Place
+domains_in : Reply → List ReferencedDomain
 domains_in (reply.Done status o) = domains_of o
 domains_in (reply.Fault status) = []
 
@@ -189,7 +190,7 @@ translated_fits translation.Names (reply.Done status (outs.Sids domains entries 
     domains_fit (is_refusal status) domains is.1.0,
     (listed_fits (flat translated_sid) translated_sid_has entries is.1.1, (is.1.2, is.0)),
   ),
-  ap (λ (ds : List Place). reply.Done status (outs.Sids ds entries mapped))
+  ap (λ (ds : List ReferencedDomain). reply.Done status (outs.Sids ds entries mapped))
       (domains_back (is_refusal status) domains is.2),
 )
 translated_fits translation.Sids (reply.Done status (outs.Names domains entries mapped)) is = (
@@ -197,7 +198,7 @@ translated_fits translation.Sids (reply.Done status (outs.Names domains entries 
     domains_fit (is_refusal status) domains is.1.0,
     (listed_fits translated_name translated_name_has entries is.1.1, (is.1.2, is.0)),
   ),
-  ap (λ (ds : List Place). reply.Done status (outs.Names ds entries mapped))
+  ap (λ (ds : List ReferencedDomain). reply.Done status (outs.Names ds entries mapped))
       (domains_back (is_refusal status) domains is.2),
 )
 translated_fits translation.Names (reply.Done status _) is = absurd is.1
@@ -238,7 +239,7 @@ pub reply_kind : (o : Outputs) (r : Reply) → (own_replies o).Fits r → IsRepl
 unfolding own_replies
 reply_kind (outputs.Policy p) r f = status_kind p r f
 reply_kind (outputs.Translation t) r f = translated_kind t r f
-reply_kind (outputs.Plain p) r f = absurd f
+reply_kind (outputs.Scalar p) r f = absurd f
 reply_kind (outputs.Listed l) r f = absurd f
 reply_kind (outputs.Shown s) r f = absurd f
 
@@ -253,6 +254,6 @@ pub reply_writable : (o : Outputs) (r : Reply) (start end : Cursor) → IsBytes 
 unfolding own_replies
 reply_writable (outputs.Policy p) r start end bytes s rightly = (status_complete p).fits r start end bytes s
 reply_writable (outputs.Translation t) r start end bytes s rightly = translated_writable t r start end bytes s rightly
-reply_writable (outputs.Plain p) r start end bytes s rightly = absurd s
+reply_writable (outputs.Scalar p) r start end bytes s rightly = absurd s
 reply_writable (outputs.Listed l) r start end bytes s rightly = absurd s
 reply_writable (outputs.Shown p) r start end bytes s rightly = absurd s

@@ -1,8 +1,8 @@
 // Calls as stubs.
 ghost use Rattle.std.specs.Prelude.{◌≡◌, IfOk, Ok};
 ghost use Rattle.acct_calls.specs.declared.calls.Call.{Call};
-ghost use Rattle.acct_stubs.specs.Calls.{ReadsStub, IsCallOf, IsServed, Spells, call_at, spell};
-ghost use Rattle.lsa_wire.specs.Wires.{lsa};
+ghost use Rattle.acct_stubs.specs.Calls.{ReadsAllIfRoom, IsCallOf, IsServed, Spells, call_at, spell};
+ghost use Rattle.lsa_wire.specs.Interface.{lsa};
 
 use crate::NoMemory;
 use crate::interface::Lsa;
@@ -18,9 +18,9 @@ pub fn read_call(alloc: Global, opnum: u16, stub: &[u8]) -> Result<Call, WireErr
         (λ call. (call.opnum ≡ opnum) × IsServed lsa opnum stub.now × Spells lsa call stub.now) }
     // What is served and spelled is read, unless there is no memory.
     ensures only { (call : Call) → call.opnum ≡ opnum → IsServed lsa opnum stub.now → Spells lsa call stub.now
-        → ReadsStub result (Ok call) }
+        → ReadsAllIfRoom result (Ok call) }
     // Why there is no call.
-    ensures exact { ReadsStub result (call_at lsa opnum stub.now) }
+    ensures exact { ReadsAllIfRoom result (call_at lsa opnum stub.now) }
     // What is read can be written.
     ensures spelled { IfOk result (λ call. IsCallOf lsa call) }
 {

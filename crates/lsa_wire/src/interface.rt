@@ -1,6 +1,6 @@
 // The interface, by the codecs of the layouts that it has alone.
 ghost use Rattle.acct_stubs.specs.Wire.{Wire};
-ghost use Rattle.lsa_wire.specs.Wires.{lsa};
+ghost use Rattle.lsa_wire.specs.Interface.{lsa};
 ghost use Rattle.lsa_wire.specs.Lawful.{lsa_lawful};
 
 use crate::{NoMemory, arguments, outputs};
@@ -37,7 +37,7 @@ impl Interface for Lsa {
     fn write_reply(to: &mut Out, outputs: Outputs, reply: &Reply) -> Result<(), NoMemory> {
         match outputs {
             Outputs::Policy(_) | Outputs::Translation(_) => outputs::write_own(to, outputs, reply),
-            Outputs::Plain(_) | Outputs::Listed(_) | Outputs::Shown(_) => Ok(()),
+            Outputs::Scalar(_) | Outputs::Listed(_) | Outputs::Shown(_) => Ok(()),
         }
     }
 

@@ -3,7 +3,7 @@ ghost use Rattle.acct_stubs.specs.Calls.{AreTheSpelledCalls, HasOneCall, IsReadA
 ghost use Rattle.acct_stubs.specs.Calls.{NoCallWantsMemory};
 ghost use Rattle.acct_stubs.specs.Replies.{AreTheSpelledReplies, HasOneReply, IsReplyReadAgain};
 ghost use Rattle.acct_stubs.specs.Replies.{IsReplyReadWhereSpelled, NoReplyWantsMemory};
-ghost use Rattle.lsa_wire.specs.Wires.{lsa};
+ghost use Rattle.lsa_wire.specs.Interface.{lsa};
 
 /// A call is read exactly where its stub is served and spells it, no stub spells two calls of one opnum, and the calls
 /// that can be written are those that some served stub spells.

@@ -2,9 +2,9 @@
 ghost use Rattle.std.specs.Prelude.{◌≡◌, IfOk, Ok};
 ghost use Rattle.acct_calls.specs.declared.replies.Reply.{Reply};
 ghost use Rattle.acct_layouts.specs.ReplyShapes.{HasShape, RefersRightly};
-ghost use Rattle.acct_stubs.specs.Calls.{ReadsStub};
+ghost use Rattle.acct_stubs.specs.Calls.{ReadsAllIfRoom};
 ghost use Rattle.acct_stubs.specs.Replies.{SpellsReply, reply_at, spell_reply};
-ghost use Rattle.lsa_wire.specs.Wires.{lsa};
+ghost use Rattle.lsa_wire.specs.Interface.{lsa};
 
 use crate::NoMemory;
 use crate::interface::Lsa;
@@ -18,9 +18,9 @@ pub fn read_reply(alloc: Global, opnum: u16, stub: &[u8]) -> Result<Reply, WireE
     // What is read is spelled.
     ensures found { IfOk result (λ reply. SpellsReply lsa opnum reply stub.now) }
     // What is spelled is read, unless there is no memory.
-    ensures only { (reply : Reply) → SpellsReply lsa opnum reply stub.now → ReadsStub result (Ok reply) }
+    ensures only { (reply : Reply) → SpellsReply lsa opnum reply stub.now → ReadsAllIfRoom result (Ok reply) }
     // Why there is no reply.
-    ensures exact { ReadsStub result (reply_at lsa opnum stub.now) }
+    ensures exact { ReadsAllIfRoom result (reply_at lsa opnum stub.now) }
     // What is read can be written, but for a refusal that refers to a domain.
     ensures shaped { IfOk result (λ reply. RefersRightly reply → HasShape lsa.face opnum reply) }
 {

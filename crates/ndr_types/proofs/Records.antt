@@ -11,7 +11,7 @@ use Rattle.ndr_core.proofs.Complete.{chain_complete, made_complete, led_by_compl
 use Rattle.ndr_core.proofs.Complete.{times_complete, times_length}
 use Rattle.acct_codes.specs.Limits.{most_privileges}
 use Rattle.acct_calls.specs.declared.lists.Privilege.{Privilege}
-use Rattle.acct_calls.specs.declared.lists.Place.{Place}
+use Rattle.acct_calls.specs.declared.lists.ReferencedDomain.{ReferencedDomain}
 use Rattle.acct_calls.specs.declared.lists.RidBits.{RidBits}
 use Rattle.ndr_types.specs.Privileges.{privilege, privilege_of, parts_of_privilege, privilege_set}
 use Rattle.ndr_types.specs.Accounts.{any, rid_name, rid_name_of, parts_of_rid_name}
@@ -133,7 +133,7 @@ count_of : (s : ℕ × Bool) → (list any place).head.Fits s → s.0 < 2 ^ 32
 unfolding list
 count_of s h = h.0.0
 
-count_long : (xs : List Place) → (list any place).head.Fits ((list any place).head_of xs)
+count_long : (xs : List ReferencedDomain) → (list any place).head.Fits ((list any place).head_of xs)
     → ((list any place).head_of xs).0 < 2 ^ 32
 count_long xs h = count_of ((list any place).head_of xs) h
 

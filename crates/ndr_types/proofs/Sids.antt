@@ -7,7 +7,7 @@ use Rattle.ndr_core.specs.Shapes.{u32, u8_such, ignored, made, chain}
 use Rattle.ndr_core.specs.Parts.{flat, times}
 use Rattle.ndr_core.proofs.Complete.{IsComplete, u8_complete, u32_complete, such_complete, chain_complete}
 use Rattle.ndr_core.proofs.Complete.{made_complete, led_by_complete, ignored_same, times_complete, times_length}
-use Rattle.dtyp_sid.specs.Value.{SidValue, IsSid}
+use Rattle.dtyp_sid.specs.Value.{SidValue, IsSid, sid_max_sub_authorities, sid_revision}
 use Rattle.ndr_types.specs.Sids.{authority, sid, sid_of, parts_of_sid, sid_pointer, is_revision}
 use Rattle.acct_layouts.specs.Bounds.{IsLong}
 use Rattle.ndr_types.proofs.Digits.{authority_fits, authority_below, authority_complete}
@@ -24,13 +24,14 @@ and_right false b e = absurd cc
 pub and_both : (a b : Bool) → a ≡ true → b ≡ true → (a && b) ≡ true
 and_both a b p q = rw (p, q) refl
 
-count_passes : (n : ℕ) → n ≤ 15 → ((n == n) && nat_le n 15) ≡ true
-count_passes n le = and_both (n == n) (nat_le n 15) (eq-eqb n n refl) (le-leb n 15 le)
+count_passes : (n : ℕ) → n ≤ sid_max_sub_authorities → ((n == n) && nat_le n sid_max_sub_authorities) ≡ true
+count_passes n le =
+    and_both (n == n) (nat_le n sid_max_sub_authorities) (eq-eqb n n refl) (le-leb n sid_max_sub_authorities le)
 
 -- what stands behind the maximum count
 abbrev after_count : ℕ → Codec SidValue
-after_count n = ignored 1 (u8_such is_revision)
-    (ignored n (u8_such (λ count. (count == n) && nat_le count 15))
+after_count n = ignored sid_revision (u8_such is_revision)
+    (ignored n (u8_such (λ count. (count == n) && nat_le count sid_max_sub_authorities))
     (made sid_of parts_of_sid (chain authority (λ _. times n u32))))
 
 pub sid_fits : (s : SidValue) → IsSid s → sid.Fits s
@@ -63,7 +64,7 @@ sid_kind s h =
     let inner = h.0.1.0.1.0 in
     record {
       authority_fits = authority_below s.authority inner.1.0.0;
-      count_fits = leb-true n 15 (and_right (n == n) (nat_le n 15) inner.0.1);
+      count_fits = leb-true n sid_max_sub_authorities (and_right (n == n) (nat_le n sid_max_sub_authorities) inner.0.1);
       subs_fit = times_all n u32 s.subs inner.1.0.1;
     }
 
@@ -72,10 +73,10 @@ unfolding sid
 sid_complete =
     led_by_complete (λ s. length s.subs) u32_complete
     (λ n f. ignored_same 1 (such_complete 1 is_revision u8_complete)
-    (ignored_same n (such_complete 1 (λ count. (count == n) && nat_le count 15) u8_complete)
+    (ignored_same n (such_complete 1 (λ count. (count == n) && nat_le count sid_max_sub_authorities) u8_complete)
     (made_complete sid_of parts_of_sid (chain_complete authority_complete (λ a k. times_complete n u32_complete))
     (λ x k. (k, refl)))
-    (λ count k. eqb-true count n (and_left (count == n) (nat_le count 15) k.1)))
+    (λ count k. eqb-true count n (and_left (count == n) (nat_le count sid_max_sub_authorities) k.1)))
     (λ r k. eqb-true r 1 k.1))
     (λ n s f h.
     let len = times_length n u32 s.subs h.0.1.0.1.0.1 in

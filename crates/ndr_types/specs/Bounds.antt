@@ -1,7 +1,7 @@
 -- What a writer asks of a value.
 use Rattle.std.specs.Prelude.{ℕ, ◌≤◌, List, length}
 use Rattle.acct_calls.specs.declared.lists.RidName.{RidName}
-use Rattle.acct_calls.specs.declared.lists.Place.{Place}
+use Rattle.acct_calls.specs.declared.lists.ReferencedDomain.{ReferencedDomain}
 use Rattle.acct_calls.specs.declared.lists.TranslatedName.{TranslatedName}
 
 -- A text's length in bytes has 16 bits and is even.
@@ -14,7 +14,7 @@ AnyValue x = Unit {0}
 abbrev pub HasShortName : RidName → Type 0
 HasShortName account = IsShort account.name
 
-abbrev pub IsShortPlace : Place → Type 0
+abbrev pub IsShortPlace : ReferencedDomain → Type 0
 IsShortPlace place = IsShort place.name
 
 abbrev pub HasShortText : TranslatedName → Type 0

@@ -11,12 +11,12 @@ ghost use Rattle.ndr_types.specs.Outcomes.{ReadsIfRoom};
 use crate::array::{read_list_head, read_list_tail, write_list_head, write_list_tail};
 use crate::{Embedded, NoMemory};
 use acct_base::Seq;
-use acct_calls::{Name, Place, Places};
+use acct_calls::{Name, Places, ReferencedDomain};
 use dtyp_sid::Sid;
 use ndr_core::{In, NdrError, Out};
 use std::alloc::Global;
 
-impl Embedded for Place {
+impl Embedded for ReferencedDomain {
     type Head = ((u16, bool), bool);
 
     ghost part = { place };
@@ -35,10 +35,10 @@ impl Embedded for Place {
         alloc: Global,
         from: &mut In<'_>,
         head: &((u16, bool), bool),
-    ) -> Result<Place, NdrError> {
+    ) -> Result<ReferencedDomain, NdrError> {
         let name = Name::read_tail(alloc, from, &head.0)?;
         let sid = Sid::read_tail(alloc, from, &head.1)?;
-        Ok(Place { name, sid })
+        Ok(ReferencedDomain { name, sid })
     }
 
     #[tactic(auto, unfolding(crate::specs::Domains::place))]
@@ -58,7 +58,7 @@ impl Embedded for Place {
 fn read_places_head(from: &mut In<'_>) -> Result<(u32, bool), NdrError>
     ensures { Reads result from.new (places.head.read from.old) }
 {
-    let head = read_list_head::<Place>(from, u32::MAX)?;
+    let head = read_list_head::<ReferencedDomain>(from, u32::MAX)?;
     from.u32()?;
     Ok(head)
 }
@@ -105,7 +105,7 @@ pub fn read_referenced(alloc: Global, from: &mut In<'_>) -> Result<Places, NdrEr
 }
 
 #[tactic(auto, unfolding(crate::specs::Domains::places))]
-fn write_places_head(to: &mut Out, list: &[Place]) -> Result<(), NoMemory>
+fn write_places_head(to: &mut Out, list: &[ReferencedDomain]) -> Result<(), NoMemory>
     requires { IsListed IsShortPlace list.now }
     ensures { OnOk result (to.new ≡ places.head.write (places.head_of list.now) to.old) }
 {
@@ -114,7 +114,7 @@ fn write_places_head(to: &mut Out, list: &[Place]) -> Result<(), NoMemory>
 }
 
 #[tactic(auto, unfolding(crate::specs::Domains::places))]
-fn write_places_tail(to: &mut Out, list: &[Place]) -> Result<(), NoMemory>
+fn write_places_tail(to: &mut Out, list: &[ReferencedDomain]) -> Result<(), NoMemory>
     requires { IsListed IsShortPlace list.now }
     ensures { OnOk result (to.new ≡ (places.tail (places.head_of list.now)).write list.now to.old) }
 {

@@ -148,20 +148,36 @@ pub fn read_privilege_names(alloc: Global, from: &mut In<'_>) -> Result<RidNames
     read_names_tail(alloc, from, &head)
 }
 
+#[tactic(auto, unfolding(ndr_core::specs::Parts::list))]
+fn write_names_head(to: &mut Out, values: &[RidName]) -> Result<(), NoMemory>
+    requires { IsListed HasShortName values.now }
+    ensures { OnOk result (to.new
+        ≡ (list any privilege_name).head.write ((list any privilege_name).head_of values.now) to.old) }
+{
+    to.u32(values.len() as u32)?;
+    to.pointer(!values.is_empty())
+}
+
+#[tactic(auto, unfolding(ndr_core::specs::Parts::list))]
+fn write_names_tail(to: &mut Out, values: &[RidName]) -> Result<(), NoMemory>
+    requires { IsListed HasShortName values.now }
+    ensures { OnOk result (to.new
+        ≡ ((list any privilege_name).tail ((list any privilege_name).head_of values.now)).write values.now to.old) }
+{
+    if values.is_empty() {
+        return Ok(());
+    }
+    to.conformant(values.len() as u32)?;
+    write_heads(to, values)?;
+    write_tails(to, values)
+}
+
 /// A list of privileges by their names, with the low parts of their LUIDs.
-#[tactic(auto, unfolding(crate::specs::PrivilegeNames::privilege_names, ndr_core::specs::Parts::list_of, ndr_core::specs::Parts::list,),)]
+#[tactic(auto, unfolding(crate::specs::PrivilegeNames::privilege_names, ndr_core::specs::Parts::list_of))]
 pub fn write_privilege_names(to: &mut Out, value: &RidNames) -> Result<(), NoMemory>
     requires { IsListed HasShortName value.now }
     ensures { OnOk result (to.new ≡ privilege_names.write value.now to.old) }
 {
-    let values = value.as_slice();
-    let count = values.len() as u32;
-    to.u32(count)?;
-    to.pointer(!values.is_empty())?;
-    if values.is_empty() {
-        return Ok(());
-    }
-    to.conformant(count)?;
-    write_heads(to, values)?;
-    write_tails(to, values)
+    write_names_head(to, value.as_slice())?;
+    write_names_tail(to, value.as_slice())
 }

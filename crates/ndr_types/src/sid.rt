@@ -1,5 +1,6 @@
 // SIDs.
 ghost use Rattle.std.specs.Prelude.{◌≡◌, ◌<◌, ◌≤◌, ◌^◌, IfOk, OnOk};
+ghost use Rattle.dtyp_sid.specs.Value.{sid_max_sub_authorities};
 ghost use Rattle.ndr_core.specs.Cursor.{Reads};
 ghost use Rattle.ndr_core.specs.Parts.{times};
 ghost use Rattle.ndr_core.specs.Shapes.{chain, made, u32};
@@ -9,7 +10,7 @@ ghost use Rattle.ndr_types.specs.Sids.{authority, parts_of_sid, sid, sid_of, sid
 use crate::number::{read_numbers, write_numbers};
 use crate::smalls::{read_four_smalls, write_four_smalls};
 use crate::{Embedded, NoMemory};
-use dtyp_sid::Sid;
+use dtyp_sid::{SID_MAX_SUB_AUTHORITIES, SID_REVISION, Sid};
 use ndr_core::{In, NdrError, Out};
 use std::alloc::Global;
 
@@ -26,12 +27,12 @@ fn read_authority(from: &mut In<'_>) -> Result<u64, NdrError>
 
 /// A SID behind its counts: the authority, and so many sub-authorities.
 fn read_counted(from: &mut In<'_>, count: u32) -> Result<Sid, NdrError>
-    requires { count ≤ 15 }
+    requires { count ≤ sid_max_sub_authorities }
     ensures { Reads result from.new
         ((made sid_of parts_of_sid (chain authority (λ _. times count u32))).read from.old) }
 {
     let authority = read_authority(from)?;
-    let mut slots = [0; 15];
+    let mut slots = [0; SID_MAX_SUB_AUTHORITIES];
     let subs = &mut slots[..count as usize];
     read_numbers(from, subs)?;
     let Ok(sid) = Sid::new(authority, subs) else {
@@ -46,11 +47,11 @@ pub fn read_sid(from: &mut In<'_>) -> Result<Sid, NdrError>
     ensures { Reads result from.new (sid.read from.old) }
 {
     let count = from.conformant()?;
-    if from.u8()? != 1 {
+    if from.u8()? != SID_REVISION {
         return Err(from.broken(1));
     }
     let same = from.u8()?;
-    if same as u32 != count || same > 15 {
+    if same as u32 != count || usize::from(same) > SID_MAX_SUB_AUTHORITIES {
         return Err(from.broken(1));
     }
     read_counted(from, count)
@@ -74,7 +75,7 @@ pub fn write_sid(to: &mut Out, value: &Sid) -> Result<(), NoMemory>
 {
     let count = value.subs().len();
     to.conformant(count as u32)?;
-    to.u8(1)?;
+    to.u8(SID_REVISION)?;
     to.u8(count as u8)?;
     write_authority(to, value.authority())?;
     write_numbers(to, value.subs())

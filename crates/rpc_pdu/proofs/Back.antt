@@ -10,11 +10,11 @@ use Rattle.rpc_pdu.specs.declared.syntaxes.Syntax.{Syntax}
 use Rattle.rpc_pdu.specs.declared.pdus.Element.{Element}
 use Rattle.rpc_pdu.specs.declared.pdus.Outcome.{Outcome}
 use Rattle.rpc_pdu.specs.Numbers.{u16_bytes}
-use Rattle.rpc_pdu.specs.Reading.{Reader, front_at, many}
+use Rattle.acct_base.specs.Reading.{Reader, front_at, many}
 use Rattle.rpc_pdu.specs.Syntaxes.{syntax_of, syntax_bytes}
 use Rattle.rpc_pdu.specs.Lists.{syntax_at, element_at, outcome_at}
 use Rattle.rpc_pdu.specs.Written.{element_bytes, outcome_bytes, IsWhole, IsWholeElement, IsWholeOutcome}
-use Rattle.rpc_pdu.proofs.Many.{many-none, many-one}
+use Rattle.acct_base.proofs.Many.{many-none, many-one}
 use Rattle.rpc_pdu.proofs.Sizes.{length-syntax_bytes}
 
 pub u16_back : (n : ℕ) → n % 256 + 256 * (n / 256) ≡ n

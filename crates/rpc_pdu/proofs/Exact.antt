@@ -4,6 +4,9 @@ use Rattle.std.proofs.Common.{get_or, Option, Some, None, refl, sym, ap, subst, 
 use Rattle.std.specs.List.{sum_by}
 use Rattle.std.proofs.lemmas.Bool.{ltb-false, le-ltb, eqb-true, false≢true}
 use Rattle.std.proofs.lemmas.List.{length-take-le}
+use Rattle.acct_codes.specs.PduTypes.{ptype_request, ptype_response, ptype_fault, ptype_bind, ptype_bind_ack}
+use Rattle.acct_codes.specs.PduTypes.{ptype_bind_nak, ptype_alter_context, ptype_alter_context_resp, ptype_co_cancel}
+use Rattle.acct_codes.specs.PduTypes.{ptype_orphaned}
 use Rattle.rpc_pdu.specs.declared.pdus.Side.{Side}
 use Rattle.rpc_pdu.specs.declared.pdus.Side.TheVariants.{Server, Client}
 use Rattle.rpc_pdu.specs.declared.pdus.Element.{Element}
@@ -15,7 +18,7 @@ use Rattle.rpc_pdu.specs.declared.headers.Kind.{Kind}
 use Rattle.rpc_pdu.specs.declared.headers.Kind.TheVariants as kind
 use Rattle.rpc_pdu.specs.Numbers.{u16_at, u32_at}
 use Rattle.rpc_pdu.specs.Headers.{kind_of, has_object, least_length}
-use Rattle.rpc_pdu.specs.Reading.{many}
+use Rattle.acct_base.specs.Reading.{many}
 use Rattle.rpc_pdu.specs.Lists.{element_at, outcome_at, element_size}
 use Rattle.rpc_pdu.specs.Bodies.{bind_of, alter_of, outcomes_place, outcomes_in, bind_ack_of, alter_resp_of, body_of}
 use Rattle.rpc_pdu.specs.Front.{Whole, front}
@@ -32,16 +35,16 @@ use Rattle.rpc_pdu.proofs.ReadBack.{kind_of_pdu, kind_is_read}
 -- ---- the types by their numbers
 
 number_of : Kind → ℕ
-number_of kind.Request = 0
-number_of kind.Response = 2
-number_of kind.Fault = 3
-number_of kind.Bind = 11
-number_of kind.BindAck = 12
-number_of kind.BindNak = 13
-number_of kind.Alter = 14
-number_of kind.AlterResp = 15
-number_of kind.Cancel = 18
-number_of kind.Orphaned = 19
+number_of kind.Request = ptype_request
+number_of kind.Response = ptype_response
+number_of kind.Fault = ptype_fault
+number_of kind.Bind = ptype_bind
+number_of kind.BindAck = ptype_bind_ack
+number_of kind.BindNak = ptype_bind_nak
+number_of kind.Alter = ptype_alter_context
+number_of kind.AlterResp = ptype_alter_context_resp
+number_of kind.Cancel = ptype_co_cancel
+number_of kind.Orphaned = ptype_orphaned
 
 side_of : Kind → Side
 side_of kind.Request = Server
@@ -77,17 +80,17 @@ none_of side ptype found e = absurd cc
 read_kind : (side : Side) (ptype : ℕ) (k : Kind) → kind_of side ptype ≡ Some k → IsRead side ptype k
 unfolding number_of side_of
 read_kind Server ptype k e =
-    one_of Server ptype 0 kind.Request _ k refl refl e
-    (λ e. one_of Server ptype 11 kind.Bind _ k refl refl e
-    (λ e. one_of Server ptype 14 kind.Alter _ k refl refl e
-    (λ e. one_of Server ptype 18 kind.Cancel _ k refl refl e
-    (λ e. one_of Server ptype 19 kind.Orphaned _ k refl refl e (none_of Server ptype k)))))
+    one_of Server ptype ptype_request kind.Request _ k refl refl e
+    (λ e. one_of Server ptype ptype_bind kind.Bind _ k refl refl e
+    (λ e. one_of Server ptype ptype_alter_context kind.Alter _ k refl refl e
+    (λ e. one_of Server ptype ptype_co_cancel kind.Cancel _ k refl refl e
+    (λ e. one_of Server ptype ptype_orphaned kind.Orphaned _ k refl refl e (none_of Server ptype k)))))
 read_kind Client ptype k e =
-    one_of Client ptype 2 kind.Response _ k refl refl e
-    (λ e. one_of Client ptype 3 kind.Fault _ k refl refl e
-    (λ e. one_of Client ptype 12 kind.BindAck _ k refl refl e
-    (λ e. one_of Client ptype 13 kind.BindNak _ k refl refl e
-    (λ e. one_of Client ptype 15 kind.AlterResp _ k refl refl e (none_of Client ptype k)))))
+    one_of Client ptype ptype_response kind.Response _ k refl refl e
+    (λ e. one_of Client ptype ptype_fault kind.Fault _ k refl refl e
+    (λ e. one_of Client ptype ptype_bind_ack kind.BindAck _ k refl refl e
+    (λ e. one_of Client ptype ptype_bind_nak kind.BindNak _ k refl refl e
+    (λ e. one_of Client ptype ptype_alter_context_resp kind.AlterResp _ k refl refl e (none_of Client ptype k)))))
 
 -- ---- bodies
 

@@ -1,4 +1,3 @@
-pub mod Many
 pub mod HeaderFacts
 pub mod Whole
 pub mod Stubs

@@ -10,12 +10,12 @@ use Rattle.rpc_pdu.specs.declared.syntaxes.Syntax.{Syntax}
 use Rattle.rpc_pdu.specs.declared.pdus.Element.{Element}
 use Rattle.rpc_pdu.specs.declared.pdus.Outcome.{Outcome}
 use Rattle.rpc_pdu.specs.Numbers.{u16_at, u32_at}
-use Rattle.rpc_pdu.specs.Reading.{Reader, ◌>>=◌, front_at, many}
+use Rattle.acct_base.specs.Reading.{Reader, ◌>>=◌, front_at, many}
 use Rattle.rpc_pdu.specs.Syntaxes.{syntax_of}
 use Rattle.rpc_pdu.specs.Lists.{syntax_at, element_at, outcome_at, element_size}
 use Rattle.rpc_pdu.specs.Grammar.{SyntaxAt, ElementAt, OutcomeAt, EachAt}
 use Rattle.rpc_pdu.proofs.HeaderFacts.{chosen}
-use Rattle.rpc_pdu.proofs.Many.{many-none, many-one}
+use Rattle.acct_base.proofs.Many.{many-none, many-one}
 
 -- what one reader reads from a place on stands there, and takes so many bytes
 pub record ReadsAt (A : Type 0) (one : Reader A) (At : List ℕ → ℕ → A → Type 0) (size : A → ℕ) : Type 0 where

@@ -12,7 +12,7 @@ use Rattle.rpc_pdu.specs.declared.headers.Kind.{Kind}
 use Rattle.rpc_pdu.specs.declared.headers.Kind.TheVariants.{Request, Response, Fault, Bind, BindAck, BindNak, Alter}
 use Rattle.rpc_pdu.specs.declared.headers.Kind.TheVariants.{AlterResp, Cancel, Orphaned}
 use Rattle.rpc_pdu.specs.declared.headers.Header.TheVariants.{Long}
-use Rattle.rpc_pdu.specs.Reading.{◌>>=◌, many}
+use Rattle.acct_base.specs.Reading.{◌>>=◌, many}
 use Rattle.rpc_pdu.specs.Headers.{header_of}
 use Rattle.rpc_pdu.specs.Bodies.{body_of, bind_of, alter_of, bind_ack_of, alter_resp_of, outcomes_in, takes_memory}
 use Rattle.rpc_pdu.specs.Front.{front_of_body, front}

@@ -1,8 +1,8 @@
 -- What a whole PDU says, by its type (C706, section 12.6.4).
 use Rattle.std.specs.Prelude.{◌≡◌, ℕ, ◌+◌, ◌*◌, ◌/◌, Bool, true, false, List, length, drop, Option, Some, None, Result}
 use Rattle.std.specs.Prelude.{Ok, Err, if◌then◌else◌, nat_lt, slice_index}
-use Rattle.rpc_pdu.specs.declared.lists.Lack.{Lack}
-use Rattle.rpc_pdu.specs.declared.lists.Lack.TheVariants.{Memory, Short}
+use Rattle.acct_base.specs.declared.fields.Unread.{Unread}
+use Rattle.acct_base.specs.declared.fields.Unread.TheVariants.{Memory, Misspelled}
 use Rattle.rpc_pdu.specs.declared.headers.Kind.{Kind}
 use Rattle.rpc_pdu.specs.declared.headers.Kind.TheVariants as kind
 use Rattle.rpc_pdu.specs.declared.pdus.Outcome.{Outcome}
@@ -11,7 +11,7 @@ use Rattle.rpc_pdu.specs.declared.pdus.Pdu.TheVariants.{Bind, Alter, Request, Ca
 use Rattle.rpc_pdu.specs.declared.pdus.Pdu.TheVariants.{BindNak, Response, Fault}
 use Rattle.rpc_pdu.specs.Numbers.{u16_at, u32_at}
 use Rattle.rpc_pdu.specs.Headers.{has_object}
-use Rattle.rpc_pdu.specs.Reading.{◌>>=◌, many}
+use Rattle.acct_base.specs.Reading.{◌>>=◌, many}
 use Rattle.rpc_pdu.specs.Lists.{element_at, outcome_at}
 
 unfoldable pub bind_of : List ℕ → Option Pdu
@@ -89,7 +89,7 @@ takes_memory kind.Cancel = false
 takes_memory kind.Orphaned = false
 
 -- memory runs out only for a type that takes some
-abbrev pub OnlyWhereTaken : {A : Type 0} → Kind → Result A Lack → Type 0
+abbrev pub OnlyWhereTaken : {A : Type 0} → Kind → Result A Unread → Type 0
 OnlyWhereTaken _ (Ok x) = Unit {0}
-OnlyWhereTaken _ (Err Short) = Unit {0}
+OnlyWhereTaken _ (Err Misspelled) = Unit {0}
 OnlyWhereTaken known (Err Memory) = takes_memory known ≡ true

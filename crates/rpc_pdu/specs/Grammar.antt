@@ -2,6 +2,10 @@
 -- MS-RPCE, section 2.2.2).
 use Rattle.std.specs.Prelude.{◌≡◌, ℕ, ◌+◌, ◌*◌, ◌/◌, ◌≤◌, true, false, List, [], ◌∷◌, length, take, drop, slice_index}
 use Rattle.uuid.specs.Parts.{swap_fields}
+use Rattle.acct_codes.specs.PduHeaders.{rpc_vers, most_rpc_vers_minor, drep_little_endian_ascii, drep_ieee}
+use Rattle.acct_codes.specs.PduTypes.{ptype_request, ptype_response, ptype_fault, ptype_bind, ptype_bind_ack}
+use Rattle.acct_codes.specs.PduTypes.{ptype_bind_nak, ptype_alter_context, ptype_alter_context_resp, ptype_co_cancel}
+use Rattle.acct_codes.specs.PduTypes.{ptype_orphaned}
 use Rattle.rpc_pdu.specs.declared.syntaxes.Syntax.{Syntax}
 use Rattle.rpc_pdu.specs.declared.pdus.Side.{Side}
 use Rattle.rpc_pdu.specs.declared.pdus.Side.TheVariants.{Server, Client}
@@ -14,15 +18,14 @@ use Rattle.rpc_pdu.specs.Numbers.{u16_at, u32_at}
 use Rattle.rpc_pdu.specs.Headers.{has_object}
 use Rattle.rpc_pdu.specs.Lists.{element_size}
 
--- a header: version 5.0 or 5.1, the type, integers low byte first with ASCII (0x10) and IEEE floats (0), the PDU's own
--- length, no verifier,
--- the call id. Its flags stand at 3, and bytes 6 and 7 aren't looked at
+-- a header: version 5.0 or 5.1, the type, integers low byte first with ASCII and IEEE floats, the PDU's own length, no
+-- verifier, the call id. Its flags stand at 3, and bytes 6 and 7 aren't looked at
 pub record IsHeader (bytes : List ℕ) (ptype id : ℕ) : Type 0 where
-  pub version : slice_index bytes 0 ≡ 5
-  pub minor : slice_index bytes 1 ≤ 1
+  pub version : slice_index bytes 0 ≡ rpc_vers
+  pub minor : slice_index bytes 1 ≤ most_rpc_vers_minor
   pub kind : slice_index bytes 2 ≡ ptype
-  pub integers : slice_index bytes 4 ≡ 0x10
-  pub floats : slice_index bytes 5 ≡ 0
+  pub integers : slice_index bytes 4 ≡ drep_little_endian_ascii
+  pub floats : slice_index bytes 5 ≡ drep_ieee
   pub frag_length : u16_at bytes 8 ≡ length bytes
   pub auth_length : u16_at bytes 10 ≡ 0
   pub call_id : u32_at bytes 12 ≡ id
@@ -104,18 +107,20 @@ pub record IsBindNak (bytes : List ℕ) (reason : ℕ) : Type 0 where
 
 -- these bytes are exactly one PDU of a type that the side reads, with these fields
 abbrev pub IsPdu : Side → Pdu → List ℕ → Type 0
-IsPdu Server (Request id flags context opnum stub) bytes = IsHeader bytes 0 id
+IsPdu Server (Request id flags context opnum stub) bytes = IsHeader bytes ptype_request id
     × IsRequest bytes flags context opnum stub
-IsPdu Server (Bind id xmit recv group elements) bytes = IsHeader bytes 11 id × IsBinding bytes xmit recv group elements
-IsPdu Server (Alter id xmit recv group elements) bytes = IsHeader bytes 14 id × IsBinding bytes xmit recv group elements
-IsPdu Server (Cancel id) bytes = IsHeader bytes 18 id × (16 ≤ length bytes)
-IsPdu Server (Orphaned id) bytes = IsHeader bytes 19 id × (16 ≤ length bytes)
-IsPdu Client (Response id flags context hint stub) bytes = IsHeader bytes 2 id
+IsPdu Server (Bind id xmit recv group elements) bytes = IsHeader bytes ptype_bind id
+    × IsBinding bytes xmit recv group elements
+IsPdu Server (Alter id xmit recv group elements) bytes = IsHeader bytes ptype_alter_context id
+    × IsBinding bytes xmit recv group elements
+IsPdu Server (Cancel id) bytes = IsHeader bytes ptype_co_cancel id × (16 ≤ length bytes)
+IsPdu Server (Orphaned id) bytes = IsHeader bytes ptype_orphaned id × (16 ≤ length bytes)
+IsPdu Client (Response id flags context hint stub) bytes = IsHeader bytes ptype_response id
     × IsResponse bytes flags context hint stub
-IsPdu Client (Fault id context status) bytes = IsHeader bytes 3 id × IsFault bytes context status
-IsPdu Client (BindAck id xmit recv group outcomes) bytes = IsHeader bytes 12 id
+IsPdu Client (Fault id context status) bytes = IsHeader bytes ptype_fault id × IsFault bytes context status
+IsPdu Client (BindAck id xmit recv group outcomes) bytes = IsHeader bytes ptype_bind_ack id
     × IsBindingAnswer bytes xmit recv group outcomes
-IsPdu Client (BindNak id reason) bytes = IsHeader bytes 13 id × IsBindNak bytes reason
-IsPdu Client (AlterResp id xmit recv group outcomes) bytes = IsHeader bytes 15 id
+IsPdu Client (BindNak id reason) bytes = IsHeader bytes ptype_bind_nak id × IsBindNak bytes reason
+IsPdu Client (AlterResp id xmit recv group outcomes) bytes = IsHeader bytes ptype_alter_context_resp id
     × IsBindingAnswer bytes xmit recv group outcomes
 IsPdu side pdu bytes = ⊥

@@ -1,10 +1,14 @@
 -- The header of a PDU (C706, section 12.6.3.1), and which of it is refused: version, representation, packet type,
--- length, verifier, in
--- this order, each with its place.
+-- length, verifier, in this order, each with its place.
 use Rattle.std.specs.Prelude.{ℕ, ◌==◌, Bool, List, Option, Some, None, if◌then◌else◌, nat_lt, nat_le, not, ◌&&◌}
 use Rattle.std.specs.Prelude.{bit_and, slice_index}
 use Rattle.acct_codes.specs.Causes.{cause_version, cause_representation, cause_packet_type, cause_length}
 use Rattle.acct_codes.specs.Causes.{cause_verifier}
+use Rattle.acct_codes.specs.PduHeaders.{rpc_vers, most_rpc_vers_minor, pfc_object_uuid, drep_little_endian_ascii}
+use Rattle.acct_codes.specs.PduHeaders.{drep_ieee}
+use Rattle.acct_codes.specs.PduTypes.{ptype_request, ptype_response, ptype_fault, ptype_bind, ptype_bind_ack}
+use Rattle.acct_codes.specs.PduTypes.{ptype_bind_nak, ptype_alter_context, ptype_alter_context_resp, ptype_co_cancel}
+use Rattle.acct_codes.specs.PduTypes.{ptype_orphaned}
 use Rattle.rpc_pdu.specs.declared.pdus.Side.{Side}
 use Rattle.rpc_pdu.specs.declared.pdus.Side.TheVariants.{Server, Client}
 use Rattle.rpc_pdu.specs.declared.headers.Kind.{Kind}
@@ -17,21 +21,21 @@ use Rattle.rpc_pdu.specs.Numbers.{u16_at}
 -- the type with this number, where the side reads it
 abbrev pub kind_of : Side → ℕ → Option Kind
 kind_of Server ptype =
-    if ptype == 0 then Some Request
-    else (if ptype == 11 then Some Bind
-    else (if ptype == 14 then Some Alter
-    else (if ptype == 18 then Some Cancel
-    else (if ptype == 19 then Some Orphaned else None))))
+    if ptype == ptype_request then Some Request
+    else (if ptype == ptype_bind then Some Bind
+    else (if ptype == ptype_alter_context then Some Alter
+    else (if ptype == ptype_co_cancel then Some Cancel
+    else (if ptype == ptype_orphaned then Some Orphaned else None))))
 kind_of Client ptype =
-    if ptype == 2 then Some Response
-    else (if ptype == 3 then Some Fault
-    else (if ptype == 12 then Some BindAck
-    else (if ptype == 13 then Some BindNak
-    else (if ptype == 15 then Some AlterResp else None))))
+    if ptype == ptype_response then Some Response
+    else (if ptype == ptype_fault then Some Fault
+    else (if ptype == ptype_bind_ack then Some BindAck
+    else (if ptype == ptype_bind_nak then Some BindNak
+    else (if ptype == ptype_alter_context_resp then Some AlterResp else None))))
 
--- flag PFC_OBJECT_UUID
+-- whether the flags tell of an object UUID
 abbrev pub has_object : ℕ → Bool
-has_object flags = not (bit_and flags 0x80 == 0)
+has_object flags = not (bit_and flags pfc_object_uuid == 0)
 
 -- the length that a PDU has at least, by its type and flags
 abbrev pub least_length : Kind → ℕ → ℕ
@@ -55,6 +59,8 @@ sized head (Some known) =
 -- the first of these causes that holds of 16 bytes, or the type and the length of the PDU
 unfoldable pub header_of : Side → List ℕ → Header
 header_of side head =
-    if not ((slice_index head 0 == 5) && nat_le (slice_index head 1) 1) then Bad 0 cause_version
-    else (if not ((slice_index head 4 == 0x10) && (slice_index head 5 == 0)) then Bad 4 cause_representation
+    if not ((slice_index head 0 == rpc_vers) && nat_le (slice_index head 1) most_rpc_vers_minor) then
+    Bad 0 cause_version
+    else (if not ((slice_index head 4 == drep_little_endian_ascii) && (slice_index head 5 == drep_ieee)) then
+    Bad 4 cause_representation
     else sized head (kind_of side (slice_index head 2)))

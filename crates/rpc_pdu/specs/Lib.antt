@@ -1,5 +1,4 @@
 pub mod Numbers
-pub mod Reading
 pub mod Syntaxes
 pub mod Lists
 pub mod Headers

@@ -4,7 +4,7 @@ use Rattle.rpc_pdu.specs.declared.pdus.Element.{Element}
 use Rattle.rpc_pdu.specs.declared.pdus.Outcome.{Outcome}
 use Rattle.rpc_pdu.specs.declared.syntaxes.Syntax.{Syntax}
 use Rattle.rpc_pdu.specs.Numbers.{u16_at}
-use Rattle.rpc_pdu.specs.Reading.{Reader, ◌>>=◌, front_at, many}
+use Rattle.acct_base.specs.Reading.{Reader, ◌>>=◌, front_at, many}
 use Rattle.rpc_pdu.specs.Syntaxes.{syntax_of}
 
 unfoldable pub syntax_at : Reader Syntax

@@ -2,6 +2,11 @@
 -- otherwise.
 use Rattle.std.specs.Prelude.{◌≡◌, ℕ, ◌+◌, ◌*◌, ◌≤◌, ◌++◌, false, List, [], ◌∷◌, length, All, sum_by}
 use Rattle.std.specs.List.{flat_map}
+use Rattle.acct_codes.specs.PduHeaders.{rpc_vers, rpc_vers_minor, pfc_first_frag, pfc_last_frag, pfc_did_not_execute}
+use Rattle.acct_codes.specs.PduHeaders.{drep_little_endian_ascii, drep_ieee}
+use Rattle.acct_codes.specs.PduTypes.{ptype_request, ptype_response, ptype_fault, ptype_bind, ptype_bind_ack}
+use Rattle.acct_codes.specs.PduTypes.{ptype_bind_nak, ptype_alter_context, ptype_alter_context_resp, ptype_co_cancel}
+use Rattle.acct_codes.specs.PduTypes.{ptype_orphaned}
 use Rattle.rpc_pdu.specs.declared.syntaxes.Syntax.{Syntax}
 use Rattle.rpc_pdu.specs.declared.pdus.Side.{Side}
 use Rattle.rpc_pdu.specs.declared.pdus.Side.TheVariants.{Server, Client}
@@ -17,16 +22,16 @@ use Rattle.rpc_pdu.specs.Syntaxes.{syntax_bytes}
 
 -- the number of the type
 abbrev pub type_of : Pdu → ℕ
-type_of (Request id flags context opnum stub) = 0
-type_of (Response id flags context hint stub) = 2
-type_of (Fault id context status) = 3
-type_of (Bind id xmit recv group elements) = 11
-type_of (BindAck id xmit recv group outcomes) = 12
-type_of (BindNak id reason) = 13
-type_of (Alter id xmit recv group elements) = 14
-type_of (AlterResp id xmit recv group outcomes) = 15
-type_of (Cancel id) = 18
-type_of (Orphaned id) = 19
+type_of (Request id flags context opnum stub) = ptype_request
+type_of (Response id flags context hint stub) = ptype_response
+type_of (Fault id context status) = ptype_fault
+type_of (Bind id xmit recv group elements) = ptype_bind
+type_of (BindAck id xmit recv group outcomes) = ptype_bind_ack
+type_of (BindNak id reason) = ptype_bind_nak
+type_of (Alter id xmit recv group elements) = ptype_alter_context
+type_of (AlterResp id xmit recv group outcomes) = ptype_alter_context_resp
+type_of (Cancel id) = ptype_co_cancel
+type_of (Orphaned id) = ptype_orphaned
 
 -- the side that reads the type
 abbrev pub reader_of : Pdu → Side
@@ -53,22 +58,28 @@ call_id (AlterResp id xmit recv group outcomes) = id
 call_id (Cancel id) = id
 call_id (Orphaned id) = id
 
--- first and last fragment; a fault has PFC_DID_NOT_EXECUTE too
+-- the flags of a PDU that is its call's only fragment
+abbrev pub whole_flags : ℕ
+whole_flags = pfc_first_frag + pfc_last_frag
+
+-- a PDU is whole where its value doesn't say otherwise; a fault says too that the call was not carried out
 abbrev pub flags_of : Pdu → ℕ
 flags_of (Request id flags context opnum stub) = flags
 flags_of (Response id flags context hint stub) = flags
-flags_of (Fault id context status) = 0x23
-flags_of (Bind id xmit recv group elements) = 0x03
-flags_of (BindAck id xmit recv group outcomes) = 0x03
-flags_of (BindNak id reason) = 0x03
-flags_of (Alter id xmit recv group elements) = 0x03
-flags_of (AlterResp id xmit recv group outcomes) = 0x03
-flags_of (Cancel id) = 0x03
-flags_of (Orphaned id) = 0x03
+flags_of (Fault id context status) = whole_flags + pfc_did_not_execute
+flags_of (Bind id xmit recv group elements) = whole_flags
+flags_of (BindAck id xmit recv group outcomes) = whole_flags
+flags_of (BindNak id reason) = whole_flags
+flags_of (Alter id xmit recv group elements) = whole_flags
+flags_of (AlterResp id xmit recv group outcomes) = whole_flags
+flags_of (Cancel id) = whole_flags
+flags_of (Orphaned id) = whole_flags
 
 -- the 16 bytes of a header
 abbrev pub header_bytes : ℕ → ℕ → ℕ → ℕ → List ℕ
-header_bytes ptype flags size id = 5 ∷ 0 ∷ ptype ∷ flags ∷ 0x10 ∷ 0 ∷ 0 ∷ 0 ∷ u16_bytes size ++ 0 ∷ 0 ∷ u32_bytes id
+header_bytes ptype flags size id =
+    rpc_vers ∷ rpc_vers_minor ∷ ptype ∷ flags ∷ drep_little_endian_ascii ∷ drep_ieee ∷ 0 ∷ 0 ∷ u16_bytes size
+    ++ 0 ∷ 0 ∷ u32_bytes id
 
 -- a context element with its transfer syntaxes
 unfoldable pub element_bytes : Element → List ℕ
@@ -101,7 +112,7 @@ body_bytes (Fault id context status) = u32_bytes 0 ++ u16_bytes context ++ 0 ∷
 body_bytes (Bind id xmit recv group elements) = sizes_bytes xmit recv group ++ elements_bytes elements
 body_bytes (BindAck id xmit recv group outcomes) =
     sizes_bytes xmit recv group ++ 1 ∷ 0 ∷ 0 ∷ 0 ∷ outcomes_bytes outcomes
-body_bytes (BindNak id reason) = u16_bytes reason ++ 1 ∷ 5 ∷ 0 ∷ 0 ∷ 0 ∷ 0 ∷ []
+body_bytes (BindNak id reason) = u16_bytes reason ++ 1 ∷ rpc_vers ∷ rpc_vers_minor ∷ 0 ∷ 0 ∷ 0 ∷ []
 body_bytes (Alter id xmit recv group elements) = sizes_bytes xmit recv group ++ elements_bytes elements
 body_bytes (AlterResp id xmit recv group outcomes) =
     sizes_bytes xmit recv group ++ 0 ∷ 0 ∷ 0 ∷ 0 ∷ outcomes_bytes outcomes

@@ -1,23 +1,23 @@
 // What a whole PDU says, by its type.
 ghost use Rattle.std.specs.Prelude.{◌≡◌, ◌≤◌, length, slice_index};
 ghost use Rattle.rpc_pdu.specs.Headers.{least_length};
-ghost use Rattle.rpc_pdu.specs.Reading.{ReadsWhole};
+ghost use Rattle.acct_base.specs.Reading.{ReadsWhole};
 ghost use Rattle.rpc_pdu.specs.Bodies.{stub_place, bind_of, alter_of, request_of, response_of, outcomes_place};
 ghost use Rattle.rpc_pdu.specs.Bodies.{outcomes_in, bind_ack_of, alter_resp_of, fault_of, body_of, OnlyWhereTaken};
 
 use crate::headers::{Kind, has_object};
-use crate::lists::{Fields, Lack};
+use crate::lists::{read_elements, read_outcomes};
 use crate::numbers::{u16_at, u32_at};
 use crate::pdus::{Outcome, Pdu};
-use acct_base::{Seq, rest_of};
+use acct_base::{Fields, Seq, Unread, rest_of};
 use std::alloc::Global;
 
 #[tactic(auto, unfolding(crate::specs::Bodies::bind_of))]
-fn bind_of(alloc: Global, bytes: &[u8]) -> Result<Pdu, Lack>
+fn bind_of(alloc: Global, bytes: &[u8]) -> Result<Pdu, Unread>
     requires { 28 ≤ length bytes.now }
     ensures { ReadsWhole result (bind_of bytes.now) }
 {
-    let elements = Fields::new(rest_of(bytes, 28)).elements(alloc, bytes[24])?;
+    let elements = read_elements(alloc, &mut Fields::new(rest_of(bytes, 28)), bytes[24])?;
     Ok(Pdu::Bind {
         id: u32_at(bytes, 12),
         xmit: u16_at(bytes, 16),
@@ -28,11 +28,11 @@ fn bind_of(alloc: Global, bytes: &[u8]) -> Result<Pdu, Lack>
 }
 
 #[tactic(auto, unfolding(crate::specs::Bodies::alter_of))]
-fn alter_of(alloc: Global, bytes: &[u8]) -> Result<Pdu, Lack>
+fn alter_of(alloc: Global, bytes: &[u8]) -> Result<Pdu, Unread>
     requires { 28 ≤ length bytes.now }
     ensures { ReadsWhole result (alter_of bytes.now) }
 {
-    let elements = Fields::new(rest_of(bytes, 28)).elements(alloc, bytes[24])?;
+    let elements = read_elements(alloc, &mut Fields::new(rest_of(bytes, 28)), bytes[24])?;
     Ok(Pdu::Alter {
         id: u32_at(bytes, 12),
         xmit: u16_at(bytes, 16),
@@ -51,19 +51,23 @@ fn outcomes_place(bytes: &[u8]) -> usize
 }
 
 #[tactic(auto, unfolding(crate::specs::Bodies::outcomes_in))]
-fn outcomes_in(alloc: Global, bytes: &[u8]) -> Result<Seq<Outcome>, Lack>
+fn outcomes_in(alloc: Global, bytes: &[u8]) -> Result<Seq<Outcome>, Unread>
     requires { 26 ≤ length bytes.now }
     ensures { ReadsWhole result (outcomes_in bytes.now) }
 {
     let place = outcomes_place(bytes);
     if bytes.len() < place + 4 {
-        return Err(Lack::Short);
+        return Err(Unread::Misspelled);
     }
-    Fields::new(rest_of(bytes, place + 4)).outcomes(alloc, bytes[place])
+    read_outcomes(
+        alloc,
+        &mut Fields::new(rest_of(bytes, place + 4)),
+        bytes[place],
+    )
 }
 
 #[tactic(auto, unfolding(crate::specs::Bodies::bind_ack_of))]
-fn bind_ack_of(alloc: Global, bytes: &[u8]) -> Result<Pdu, Lack>
+fn bind_ack_of(alloc: Global, bytes: &[u8]) -> Result<Pdu, Unread>
     requires { 26 ≤ length bytes.now }
     ensures { ReadsWhole result (bind_ack_of bytes.now) }
 {
@@ -78,7 +82,7 @@ fn bind_ack_of(alloc: Global, bytes: &[u8]) -> Result<Pdu, Lack>
 }
 
 #[tactic(auto, unfolding(crate::specs::Bodies::alter_resp_of))]
-fn alter_resp_of(alloc: Global, bytes: &[u8]) -> Result<Pdu, Lack>
+fn alter_resp_of(alloc: Global, bytes: &[u8]) -> Result<Pdu, Unread>
     requires { 26 ≤ length bytes.now }
     ensures { ReadsWhole result (alter_resp_of bytes.now) }
 {
@@ -92,7 +96,7 @@ fn alter_resp_of(alloc: Global, bytes: &[u8]) -> Result<Pdu, Lack>
     })
 }
 
-fn request_of(alloc: Global, bytes: &[u8]) -> Result<Pdu, Lack>
+fn request_of(alloc: Global, bytes: &[u8]) -> Result<Pdu, Unread>
     requires { least_length Kind.Request (slice_index bytes.now 3) ≤ length bytes.now }
     ensures { ReadsWhole result (request_of bytes.now) }
 {
@@ -107,7 +111,7 @@ fn request_of(alloc: Global, bytes: &[u8]) -> Result<Pdu, Lack>
     })
 }
 
-fn response_of(alloc: Global, bytes: &[u8]) -> Result<Pdu, Lack>
+fn response_of(alloc: Global, bytes: &[u8]) -> Result<Pdu, Unread>
     requires { 24 ≤ length bytes.now }
     ensures { ReadsWhole result (response_of bytes.now) }
 {
@@ -133,7 +137,7 @@ fn fault_of(bytes: &[u8]) -> Pdu
 
 /// What a whole PDU says, if its body has a reading.
 #[tactic(auto, unfolding(crate::specs::Bodies::body_of))]
-pub fn body_of(alloc: Global, kind: Kind, bytes: &[u8]) -> Result<Pdu, Lack>
+pub fn body_of(alloc: Global, kind: Kind, bytes: &[u8]) -> Result<Pdu, Unread>
     requires header { 16 ≤ length bytes.now }
     requires long { least_length kind (slice_index bytes.now 3) ≤ length bytes.now }
     ensures says { ReadsWhole result (body_of kind bytes.now) }

@@ -3,9 +3,9 @@ ghost use Rattle.rpc_pdu.specs.ReadPdu.{IsRead, IsWithin};
 
 use crate::bodies::body_of;
 use crate::headers::{Header, header_of};
-use crate::lists::Lack;
 use crate::numbers::u32_at;
 use crate::pdus::{Pdu, Side};
+use acct_base::Unread;
 use acct_codes::cause::CAUSE_BODY;
 use std::alloc::Global;
 
@@ -69,8 +69,8 @@ pub fn read_pdu(alloc: Global, side: Side, bytes: &[u8]) -> ReadPdu
             }
             let (whole, _) = bytes.split_at(used);
             match body_of(alloc, kind, whole) {
-                Err(Lack::Memory) => ReadPdu::NoMemory,
-                Err(Lack::Short) => ReadPdu::Refused {
+                Err(Unread::Memory) => ReadPdu::NoMemory,
+                Err(Unread::Misspelled) => ReadPdu::Refused {
                     place: 16,
                     cause: CAUSE_BODY,
                     ptype: head[2],

@@ -7,6 +7,10 @@ use crate::pdus::Side;
 use acct_codes::cause::{
     CAUSE_LENGTH, CAUSE_PACKET_TYPE, CAUSE_REPRESENTATION, CAUSE_VERIFIER, CAUSE_VERSION,
 };
+use acct_codes::pdu_header::{
+    DREP_IEEE, DREP_LITTLE_ENDIAN_ASCII, MOST_RPC_VERS_MINOR, PFC_OBJECT_UUID, RPC_VERS,
+};
+use acct_codes::pdu_type;
 
 /// The types of PDUs that are read.
 #[derive(Clone, Copy)]
@@ -37,19 +41,19 @@ fn kind_of(side: Side, ptype: u8) -> Option<Kind>
 {
     match side {
         Side::Server => match ptype {
-            0 => Some(Kind::Request),
-            11 => Some(Kind::Bind),
-            14 => Some(Kind::Alter),
-            18 => Some(Kind::Cancel),
-            19 => Some(Kind::Orphaned),
+            pdu_type::PTYPE_REQUEST => Some(Kind::Request),
+            pdu_type::PTYPE_BIND => Some(Kind::Bind),
+            pdu_type::PTYPE_ALTER_CONTEXT => Some(Kind::Alter),
+            pdu_type::PTYPE_CO_CANCEL => Some(Kind::Cancel),
+            pdu_type::PTYPE_ORPHANED => Some(Kind::Orphaned),
             _ => None,
         },
         Side::Client => match ptype {
-            2 => Some(Kind::Response),
-            3 => Some(Kind::Fault),
-            12 => Some(Kind::BindAck),
-            13 => Some(Kind::BindNak),
-            15 => Some(Kind::AlterResp),
+            pdu_type::PTYPE_RESPONSE => Some(Kind::Response),
+            pdu_type::PTYPE_FAULT => Some(Kind::Fault),
+            pdu_type::PTYPE_BIND_ACK => Some(Kind::BindAck),
+            pdu_type::PTYPE_BIND_NAK => Some(Kind::BindNak),
+            pdu_type::PTYPE_ALTER_CONTEXT_RESP => Some(Kind::AlterResp),
             _ => None,
         },
     }
@@ -59,7 +63,7 @@ fn kind_of(side: Side, ptype: u8) -> Option<Kind>
 pub fn has_object(flags: u8) -> bool
     ensures { result ≡ has_object flags }
 {
-    flags & 0x80 != 0
+    flags & PFC_OBJECT_UUID != 0
 }
 
 /// The length that a PDU has at least.
@@ -82,13 +86,13 @@ pub fn header_of(side: Side, head: &[u8]) -> Header
     requires { length head.now ≡ 16 }
     ensures { result ≡ header_of side head.now }
 {
-    if head[0] != 5 || head[1] > 1 {
+    if head[0] != RPC_VERS || head[1] > MOST_RPC_VERS_MINOR {
         return Header::Bad {
             place: 0,
             cause: CAUSE_VERSION,
         };
     }
-    if head[4] != 0x10 || head[5] != 0 {
+    if head[4] != DREP_LITTLE_ENDIAN_ASCII || head[5] != DREP_IEEE {
         return Header::Bad {
             place: 4,
             cause: CAUSE_REPRESENTATION,

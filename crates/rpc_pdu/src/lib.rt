@@ -21,4 +21,4 @@ pub use laws::{bytes_divide_once, front_is_stable, whole_is_exactly_a_pdu, writt
 pub use numbers::{u16_bytes, u32_bytes};
 pub use pdus::{Element, Outcome, Pdu, Side};
 pub use syntaxes::{Syntax, is_same_syntax, lsarpc, ndr, samr};
-pub use writing::{NoMemory, write_pdu};
+pub use writing::{FAULT_FLAGS, NoMemory, WHOLE_FLAGS, write_pdu};

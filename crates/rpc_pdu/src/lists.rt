@@ -1,138 +1,92 @@
 // The lists in a binding PDU and its answer: context elements, transfer syntaxes, outcomes.
-ghost use Rattle.std.specs.Prelude.{◌≡◌, length, IfOk};
-ghost use Rattle.rpc_pdu.specs.declared.lists.Lack.TheVariants.{Memory};
-ghost use Rattle.rpc_pdu.specs.Reading.{front_at, many, Reads, ReadsBy};
+ghost use Rattle.std.specs.Prelude.{◌≡◌, length};
+ghost use Rattle.acct_base.specs.Reading.{many, Reads};
 ghost use Rattle.rpc_pdu.specs.Lists.{syntax_at, element_at, outcome_at};
 ghost use Rattle.rpc_pdu.specs.Syntaxes.{syntax_of};
 
 use crate::numbers::{u16_at, u32_at};
 use crate::pdus::{Element, Outcome};
 use crate::syntaxes::Syntax;
-use acct_base::Seq;
-use std::alloc::{AllocError, Global};
-use std::marker::Model;
+use acct_base::{Fields, Seq, Unread};
+use std::alloc::Global;
 use uuid::Uuid;
 
-/// Why nothing was read.
-#[derive(Drop)]
-pub enum Lack {
-    /// Memory ran out.
-    Memory,
-    /// Bytes are missing.
-    Short,
+#[tactic(auto, unfolding(crate::specs::Lists::syntax_at))]
+fn read_syntax(fields: &mut Fields<'_>) -> Result<Syntax, Unread>
+    ensures { Reads result fields.new (syntax_at fields.old) }
+{
+    let front = fields.take(20)?;
+    Ok(syntax_of(front))
 }
 
-impl From<AllocError> for Lack {
-    ghost from_gives = { λ _ e. e ≡ Memory };
-
-    fn from(_e: AllocError) -> Lack {
-        Lack::Memory
+fn read_syntaxes(alloc: Global, fields: &mut Fields<'_>, count: u8) -> Result<Seq<Syntax>, Unread>
+    ensures { Reads result fields.new (many syntax_at count fields.old) }
+{
+    let mut syntaxes = Seq::new(alloc);
+    for _ in 0..count {
+        let syntax = read_syntax(fields)?;
+        syntaxes.push(syntax)?;
     }
+    Ok(syntaxes)
 }
 
-/// Reads fields one after the other. A contract sees the bytes that are left.
-#[derive(Drop)]
-pub struct Fields<'a> {
-    bytes: &'a [u8],
+#[tactic(auto, unfolding(crate::specs::Lists::element_at))]
+fn read_element(alloc: Global, fields: &mut Fields<'_>) -> Result<Element, Unread>
+    ensures { Reads result fields.new (element_at fields.old) }
+{
+    let head = fields.take(4)?;
+    let subject = read_syntax(fields)?;
+    let transfers = read_syntaxes(alloc, fields, head[2])?;
+    Ok(Element {
+        context: u16_at(head, 0),
+        subject,
+        transfers,
+    })
 }
 
-impl<'a> Model for Fields<'a> {
-    ghost use Rattle.std.specs.Prelude.{List, ℕ};
-
-    ghost Value = { List ℕ };
-
-    ghost view = { λ fields. fields.bytes.now };
+/// So many context elements.
+pub fn read_elements(
+    alloc: Global,
+    fields: &mut Fields<'_>,
+    count: u8,
+) -> Result<Seq<Element>, Unread>
+    ensures { Reads result fields.new (many element_at count fields.old) }
+{
+    let mut elements = Seq::new(alloc);
+    for _ in 0..count {
+        let element = read_element(alloc, fields)?;
+        elements.push(element)?;
+    }
+    Ok(elements)
 }
 
-impl<'a> Fields<'a> {
-    pub fn new(bytes: &'a [u8]) -> Fields<'a>
-        ensures { result ≡ bytes.now }
-    {
-        Fields { bytes }
-    }
+#[tactic(auto, unfolding(crate::specs::Lists::outcome_at))]
+fn read_outcome(fields: &mut Fields<'_>) -> Result<Outcome, Unread>
+    ensures { Reads result fields.new (outcome_at fields.old) }
+{
+    let head = fields.take(4)?;
+    let syntax = read_syntax(fields)?;
+    Ok(Outcome {
+        result: u16_at(head, 0),
+        reason: u16_at(head, 2),
+        syntax,
+    })
+}
 
-    /// So many bytes.
-    fn take(&mut self, count: usize) -> Result<&'a [u8], Lack>
-        ensures value { ReadsBy (λ front. front.now) result self.new (front_at count self.old) }
-        ensures length { IfOk result (λ front. length front.now ≡ count) }
-    {
-        if self.bytes.len() < count {
-            return Err(Lack::Short);
-        }
-        let (front, rest) = self.bytes.split_at(count);
-        self.bytes = rest;
-        Ok(front)
+/// So many outcomes.
+pub fn read_outcomes(
+    alloc: Global,
+    fields: &mut Fields<'_>,
+    count: u8,
+) -> Result<Seq<Outcome>, Unread>
+    ensures { Reads result fields.new (many outcome_at count fields.old) }
+{
+    let mut outcomes = Seq::new(alloc);
+    for _ in 0..count {
+        let outcome = read_outcome(fields)?;
+        outcomes.push(outcome)?;
     }
-
-    #[tactic(auto, unfolding(crate::specs::Lists::syntax_at))]
-    fn syntax(&mut self) -> Result<Syntax, Lack>
-        ensures { Reads result self.new (syntax_at self.old) }
-    {
-        let front = self.take(20)?;
-        Ok(syntax_of(front))
-    }
-
-    fn syntaxes(&mut self, alloc: Global, count: u8) -> Result<Seq<Syntax>, Lack>
-        ensures { Reads result self.new (many syntax_at count self.old) }
-    {
-        let mut syntaxes = Seq::new(alloc);
-        for _ in 0..count {
-            let syntax = self.syntax()?;
-            syntaxes.push(syntax)?;
-        }
-        Ok(syntaxes)
-    }
-
-    #[tactic(auto, unfolding(crate::specs::Lists::element_at))]
-    fn element(&mut self, alloc: Global) -> Result<Element, Lack>
-        ensures { Reads result self.new (element_at self.old) }
-    {
-        let head = self.take(4)?;
-        let subject = self.syntax()?;
-        let transfers = self.syntaxes(alloc, head[2])?;
-        Ok(Element {
-            context: u16_at(head, 0),
-            subject,
-            transfers,
-        })
-    }
-
-    /// So many context elements.
-    pub fn elements(&mut self, alloc: Global, count: u8) -> Result<Seq<Element>, Lack>
-        ensures { Reads result self.new (many element_at count self.old) }
-    {
-        let mut elements = Seq::new(alloc);
-        for _ in 0..count {
-            let element = self.element(alloc)?;
-            elements.push(element)?;
-        }
-        Ok(elements)
-    }
-
-    #[tactic(auto, unfolding(crate::specs::Lists::outcome_at))]
-    fn outcome(&mut self) -> Result<Outcome, Lack>
-        ensures { Reads result self.new (outcome_at self.old) }
-    {
-        let head = self.take(4)?;
-        let syntax = self.syntax()?;
-        Ok(Outcome {
-            result: u16_at(head, 0),
-            reason: u16_at(head, 2),
-            syntax,
-        })
-    }
-
-    /// So many outcomes.
-    pub fn outcomes(&mut self, alloc: Global, count: u8) -> Result<Seq<Outcome>, Lack>
-        ensures { Reads result self.new (many outcome_at count self.old) }
-    {
-        let mut outcomes = Seq::new(alloc);
-        for _ in 0..count {
-            let outcome = self.outcome()?;
-            outcomes.push(outcome)?;
-        }
-        Ok(outcomes)
-    }
+    Ok(outcomes)
 }
 
 /// The syntax in 20 bytes.

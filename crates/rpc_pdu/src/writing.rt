@@ -8,13 +8,25 @@ ghost use Rattle.rpc_pdu.specs.Written.{HasWholeIds};
 ghost use Rattle.rpc_pdu.specs.Numbers.{u16_bytes, u32_bytes};
 ghost use Rattle.rpc_pdu.specs.Syntaxes.{syntax_bytes};
 ghost use Rattle.uuid.specs.Parts.{swap_fields};
+ghost use Rattle.acct_codes.specs.PduHeaders.{rpc_vers, rpc_vers_minor};
 ghost use Rattle.rpc_pdu.specs.Laws.{IsReadBack};
 
 use crate::numbers::{push_bytes, push_u16, push_u32};
 use crate::pdus::{Element, Outcome, Pdu};
 use crate::syntaxes::Syntax;
+use acct_codes::pdu_header::{
+    DREP_IEEE, DREP_LITTLE_ENDIAN_ASCII, PFC_DID_NOT_EXECUTE, PFC_FIRST_FRAG, PFC_LAST_FRAG,
+    RPC_VERS, RPC_VERS_MINOR,
+};
+use acct_codes::pdu_type;
 use std::alloc::{AllocError, Global};
 use uuid::Uuid;
+
+/// The flags of a PDU that is its call's only fragment.
+pub const WHOLE_FLAGS: u8 = PFC_FIRST_FRAG | PFC_LAST_FRAG;
+
+/// The flags of a fault.
+pub const FAULT_FLAGS: u8 = WHOLE_FLAGS | PFC_DID_NOT_EXECUTE;
 
 /// Memory ran out.
 pub type NoMemory = AllocError;
@@ -24,16 +36,16 @@ fn type_of(pdu: &Pdu) -> u8
     ensures { result ≡ type_of pdu.now }
 {
     match pdu {
-        Pdu::Request { .. } => 0,
-        Pdu::Response { .. } => 2,
-        Pdu::Fault { .. } => 3,
-        Pdu::Bind { .. } => 11,
-        Pdu::BindAck { .. } => 12,
-        Pdu::BindNak { .. } => 13,
-        Pdu::Alter { .. } => 14,
-        Pdu::AlterResp { .. } => 15,
-        Pdu::Cancel { .. } => 18,
-        Pdu::Orphaned { .. } => 19,
+        Pdu::Request { .. } => pdu_type::PTYPE_REQUEST,
+        Pdu::Response { .. } => pdu_type::PTYPE_RESPONSE,
+        Pdu::Fault { .. } => pdu_type::PTYPE_FAULT,
+        Pdu::Bind { .. } => pdu_type::PTYPE_BIND,
+        Pdu::BindAck { .. } => pdu_type::PTYPE_BIND_ACK,
+        Pdu::BindNak { .. } => pdu_type::PTYPE_BIND_NAK,
+        Pdu::Alter { .. } => pdu_type::PTYPE_ALTER_CONTEXT,
+        Pdu::AlterResp { .. } => pdu_type::PTYPE_ALTER_CONTEXT_RESP,
+        Pdu::Cancel { .. } => pdu_type::PTYPE_CO_CANCEL,
+        Pdu::Orphaned { .. } => pdu_type::PTYPE_ORPHANED,
     }
 }
 
@@ -42,8 +54,8 @@ fn flags_of(pdu: &Pdu) -> u8
 {
     match pdu {
         Pdu::Request { flags, .. } | Pdu::Response { flags, .. } => *flags,
-        Pdu::Fault { .. } => 0x23,
-        _ => 0x03,
+        Pdu::Fault { .. } => FAULT_FLAGS,
+        _ => WHOLE_FLAGS,
     }
 }
 
@@ -73,7 +85,19 @@ fn push_header(
 ) -> Result<(), AllocError>
     ensures { OnOk result (out.new.items ≡ out.old.items ++ header_bytes ptype flags size id) }
 {
-    push_bytes(out, &[5, 0, ptype, flags, 0x10, 0, 0, 0])?;
+    push_bytes(
+        out,
+        &[
+            RPC_VERS,
+            RPC_VERS_MINOR,
+            ptype,
+            flags,
+            DREP_LITTLE_ENDIAN_ASCII,
+            DREP_IEEE,
+            0,
+            0,
+        ],
+    )?;
     push_u16(out, size)?;
     push_u16(out, 0)?;
     push_u32(out, id)
@@ -255,10 +279,10 @@ fn push_answer(
 /// What stands behind the header of a bind_nak.
 fn push_nak(out: &mut Vec<u8>, reason: u16) -> Result<(), AllocError>
     ensures { OnOk result
-        (out.new.items ≡ out.old.items ++ (u16_bytes reason ++ 1 ∷ 5 ∷ 0 ∷ 0 ∷ 0 ∷ 0 ∷ [])) }
+        (out.new.items ≡ out.old.items ++ (u16_bytes reason ++ 1 ∷ rpc_vers ∷ rpc_vers_minor ∷ 0 ∷ 0 ∷ 0 ∷ [])) }
 {
     push_u16(out, reason)?;
-    push_bytes(out, &[1, 5, 0, 0, 0, 0])
+    push_bytes(out, &[1, RPC_VERS, RPC_VERS_MINOR, 0, 0, 0])
 }
 
 /// What stands behind the header.

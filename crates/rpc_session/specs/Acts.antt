@@ -19,9 +19,43 @@ use Rattle.rpc_session.specs.Answers.{closing}
 use Rattle.rpc_session.specs.Sessions.{taken}
 use Rattle.rpc_session.specs.Hearings.{Heard, listed, hear, joined, on, HasRoom}
 
--- the acts of the whole stream of the connection with this number
+-- The acts of whole PDUs one after the other, each with its own bytes, the first of which begins at a place, and of the
+-- end behind them. Nothing behind a refusal is an act.
+abbrev pub acts_of_step : ℕ → Pdu → Step → (Session → List Act) → List Act
+acts_of_step place pdu (Refuses cause) later = closing place cause (type_of pdu) (call_id pdu) ∷ []
+acts_of_step place pdu (Goes act session) later = listed act ++ later session
+
+abbrev pub acts_of_end : ℕ → Front → List Act
+acts_of_end place (Whole pdu size) = []
+acts_of_end place Rest = []
+acts_of_end place (Refused at cause ptype id) = closing (place + at) cause ptype id ∷ []
+
+abbrev pub acts_of : ℕ → ℕ → Session → List (Pdu × List ℕ) → List ℕ → List Act
+acts_of conn place session [] end = acts_of_end place (front Server end)
+acts_of conn place session (part ∷ parts) end =
+    acts_of_step place part.0 (taken conn session part.0)
+    (λ after. acts_of conn (place + length part.1) after parts end)
+
+-- The acts of a stream: it is whole PDUs and an end, and these are the PDUs' acts in order, and then none or a refusal.
+pub record HasActs (conn : ℕ) (stream : List ℕ) (told : List Act) : Type 0 where
+  pub pdus : List (Pdu × List ℕ)
+  pub end : List ℕ
+  pub divided : IsDivided Server pdus end stream
+  pub acts_are : told ≡ acts_of conn 0 Unbound pdus end
+
+-- The same as a function, which tells what is left to hear as well: the acts of the whole stream of the connection with
+-- this number. That it has these acts and no others is the law `AreActs`.
 abbrev pub acts : ℕ → List ℕ → List Act
 acts conn stream = (hear conn 0 Unbound stream).acts
+
+-- the acts of a stream are those of its PDUs, however it is divided into some
+abbrev pub AreOfPdus : Type 0
+AreOfPdus = (conn : ℕ) (stream : List ℕ) (parts : List (Pdu × List ℕ)) (end : List ℕ)
+    → IsDivided Server parts end stream → acts conn stream ≡ acts_of conn 0 Unbound parts end
+
+-- the acts of a stream are these and no others
+abbrev pub AreActs : Type 0
+AreActs = (conn : ℕ) (stream : List ℕ) (told : List Act) → HasActs conn stream told ↔ (told ≡ acts conn stream)
 
 -- what was heard, and what is left to hear, after the stream so far
 pub record IsSoFar (conn : ℕ) (stream : List ℕ) (hearing : Hearing) (acts_so_far : List Act) : Type 0 where
@@ -61,36 +95,3 @@ IsLastOf heard i (Some act) = is_refusal act ≡ true → (i + 1 ≡ length hear
 abbrev pub AreRefusalsLast : Type 0
 AreRefusalsLast = (conn : ℕ) (stream : List ℕ) (i : ℕ)
     → IsLastOf (hear conn 0 Unbound stream) i (slice_get (hear conn 0 Unbound stream).acts i)
-
--- The acts of whole PDUs one after the other, each with its own bytes, the first of which begins at a place, and of the
--- end behind them. Nothing behind a refusal is an act.
-abbrev pub acts_of_step : ℕ → Pdu → Step → (Session → List Act) → List Act
-acts_of_step place pdu (Refuses cause) later = closing place cause (type_of pdu) (call_id pdu) ∷ []
-acts_of_step place pdu (Goes act session) later = listed act ++ later session
-
-abbrev pub acts_of_end : ℕ → Front → List Act
-acts_of_end place (Whole pdu size) = []
-acts_of_end place Rest = []
-acts_of_end place (Refused at cause ptype id) = closing (place + at) cause ptype id ∷ []
-
-abbrev pub acts_of : ℕ → ℕ → Session → List (Pdu × List ℕ) → List ℕ → List Act
-acts_of conn place session [] end = acts_of_end place (front Server end)
-acts_of conn place session (part ∷ parts) end =
-    acts_of_step place part.0 (taken conn session part.0)
-    (λ after. acts_of conn (place + length part.1) after parts end)
-
--- the acts of a stream are those of its PDUs, however it is divided into some
-abbrev pub AreOfPdus : Type 0
-AreOfPdus = (conn : ℕ) (stream : List ℕ) (parts : List (Pdu × List ℕ)) (end : List ℕ)
-    → IsDivided Server parts end stream → acts conn stream ≡ acts_of conn 0 Unbound parts end
-
--- in plain words: the stream is whole PDUs and an end, and these are their acts in order, and then none or a refusal
-pub record HasActs (conn : ℕ) (stream : List ℕ) (told : List Act) : Type 0 where
-  pub pdus : List (Pdu × List ℕ)
-  pub end : List ℕ
-  pub divided : IsDivided Server pdus end stream
-  pub acts_are : told ≡ acts_of conn 0 Unbound pdus end
-
--- the acts of a stream are these and no others
-abbrev pub AreActs : Type 0
-AreActs = (conn : ℕ) (stream : List ℕ) (told : List Act) → HasActs conn stream told ↔ (told ≡ acts conn stream)

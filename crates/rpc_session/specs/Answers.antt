@@ -3,6 +3,8 @@ use Rattle.std.specs.Prelude.{ℕ, ◌==◌, List, map, min, max, if◌then◌el
 use Rattle.acct_codes.specs.Causes.{cause_version}
 use Rattle.acct_codes.specs.Faults.{fault_protocol_error}
 use Rattle.acct_codes.specs.Limits.{least_fragment, most_fragment}
+use Rattle.acct_codes.specs.Negotiation.{reject_none, reject_protocol_version}
+use Rattle.acct_codes.specs.PduTypes.{ptype_bind}
 use Rattle.rpc_pdu.specs.declared.pdus.Element.{Element}
 use Rattle.rpc_pdu.specs.declared.pdus.Pdu.TheVariants.{BindAck, AlterResp, BindNak}
 use Rattle.rpc_pdu.specs.Written.{written}
@@ -27,12 +29,12 @@ bind_answer conn id sizes elements = written (BindAck id sizes.xmit sizes.recv c
 unfoldable pub alter_answer : ℕ → ℕ → Sizes → List Element → List ℕ
 alter_answer conn id sizes elements = written (AlterResp id sizes.xmit sizes.recv conn (map outcome elements))
 
--- The answer to a PDU that is refused: a bind_nak where its type byte is 11, with reason 4 (protocol version not
--- supported)
--- where the version is refused; otherwise the fault nca_s_proto_error, on context 0.
+-- The answer to a PDU that is refused: a bind_nak where its type byte is that of a bind, whose reason tells if the
+-- version is refused; otherwise the fault nca_s_proto_error, on context 0.
 unfoldable pub refusal_bytes : ℕ → ℕ → ℕ → List ℕ
 refusal_bytes cause ptype id =
-    if ptype == 11 then written (BindNak id (if cause == cause_version then 4 else 0))
+    if ptype == ptype_bind then
+    written (BindNak id (if cause == cause_version then reject_protocol_version else reject_none))
     else fault_bytes id 0 fault_protocol_error
 
 abbrev pub closing : ℕ → ℕ → ℕ → ℕ → Act

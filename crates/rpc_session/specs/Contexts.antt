@@ -2,6 +2,8 @@
 -- and 12.6.4.4).
 use Rattle.std.specs.Prelude.{ℕ, ◌==◌, Bool, not, List, [], ◌∷◌, ◌++◌, Option, Some, None, if◌then◌else◌}
 use Rattle.std.specs.List.{filter, find, list_any}
+use Rattle.acct_codes.specs.Negotiation.{result_acceptance, result_provider_rejection, reason_none}
+use Rattle.acct_codes.specs.Negotiation.{reason_abstract_syntax, reason_transfer_syntaxes}
 use Rattle.rpc_pdu.specs.declared.pdus.Element.{Element}
 use Rattle.rpc_pdu.specs.declared.pdus.Outcome.{Outcome}
 use Rattle.rpc_pdu.specs.declared.syntaxes.Syntax.{Syntax}
@@ -31,11 +33,15 @@ accepted e = judged (face_of e.subject) (offers_ndr e.transfers)
 abbrev pub no_syntax : Syntax
 no_syntax = record { id = 0 ∷ 0 ∷ 0 ∷ 0 ∷ 0 ∷ 0 ∷ 0 ∷ 0 ∷ 0 ∷ 0 ∷ 0 ∷ 0 ∷ 0 ∷ 0 ∷ 0 ∷ 0 ∷ []; version = 0 }
 
--- an acceptance, or a rejection by the provider (2), because of the abstract syntax (1) or the transfer syntaxes (2)
+-- a rejection by the provider
+abbrev pub rejected : ℕ → Outcome
+rejected reason = record { result = result_provider_rejection; reason = reason; syntax = no_syntax }
+
+-- an acceptance, or a rejection because of the abstract syntax or the transfer syntaxes
 abbrev pub answered : Option Face → Bool → Outcome
-answered None offered = record { result = 2; reason = 1; syntax = no_syntax }
-answered (Some face) offered = if offered then record { result = 0; reason = 0; syntax = ndr }
-    else record { result = 2; reason = 2; syntax = no_syntax }
+answered None offered = rejected reason_abstract_syntax
+answered (Some face) offered = if offered then record { result = result_acceptance; reason = reason_none; syntax = ndr }
+    else rejected reason_transfer_syntaxes
 
 unfoldable pub outcome : Element → Outcome
 outcome e = answered (face_of e.subject) (offers_ndr e.transfers)

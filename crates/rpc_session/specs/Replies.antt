@@ -3,6 +3,7 @@ use Rattle.std.specs.Prelude.{◌≡◌, ℕ, zero, suc, ◌+◌, ◌-◌, ◌*�
 use Rattle.std.specs.Prelude.{length, take, drop, min, if◌then◌else◌, nat_le}
 use Rattle.std.specs.List.{concat}
 use Rattle.acct_codes.specs.Limits.{least_fragment}
+use Rattle.acct_codes.specs.PduHeaders.{pfc_first_frag, pfc_last_frag}
 use Rattle.rpc_pdu.specs.declared.pdus.Pdu.TheVariants.{Response, Fault}
 use Rattle.rpc_pdu.specs.Written.{written}
 
@@ -14,7 +15,7 @@ abbrev pub most_of : ℕ → ℕ
 most_of size = 8 * ((size - 24) / 8)
 
 abbrev pub first_flag : Bool → ℕ
-first_flag true = 1
+first_flag true = pfc_first_frag
 first_flag false = 0
 
 -- a response with a part of the stub, of which so many bytes are left with this part
@@ -23,9 +24,10 @@ response id context flags left part = written (Response id flags context (min le
 
 -- In at most so many responses and one: each but the last has as many bytes as fit, the last has the others.
 unfoldable pub reply_in : ℕ → ℕ → ℕ → ℕ → Bool → List ℕ → List ℕ
-reply_in zero id context most first stub = response id context (first_flag first + 2) (length stub) stub
+reply_in zero id context most first stub =
+    response id context (first_flag first + pfc_last_frag) (length stub) stub
 reply_in (suc turns) id context most first stub =
-    if nat_le (length stub) most then response id context (first_flag first + 2) (length stub) stub
+    if nat_le (length stub) most then response id context (first_flag first + pfc_last_frag) (length stub) stub
     else response id context (first_flag first) (length stub) (take most stub)
     ++ reply_in turns id context most false (drop most stub)
 
@@ -36,12 +38,12 @@ reply_from id context most first stub = reply_in (length stub) id context most f
 abbrev pub reply_bytes : ℕ → ℕ → ℕ → List ℕ → List ℕ
 reply_bytes id context size stub = reply_from id context (most_of size) true stub
 
--- The responses that bring the parts of a stub one after the other: FIRST is on the first alone and LAST on the last
--- alone, and each
--- hint is the number of stub bytes from that response on.
+-- The responses that bring the parts of a stub one after the other: PFC_FIRST_FRAG is on the first alone and
+-- PFC_LAST_FRAG on the last alone, and each hint is the number of stub bytes from that response on.
 abbrev pub responses : ℕ → ℕ → Bool → List (List ℕ) → List ℕ
 responses id context first [] = []
-responses id context first (part ∷ []) = response id context (first_flag first + 2) (length part) part
+responses id context first (part ∷ []) =
+    response id context (first_flag first + pfc_last_frag) (length part) part
 responses id context first (part ∷ next ∷ parts) =
     response id context (first_flag first) (length (concat (part ∷ next ∷ parts))) part
     ++ responses id context false (next ∷ parts)

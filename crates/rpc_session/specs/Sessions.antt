@@ -5,6 +5,7 @@ use Rattle.acct_codes.specs.Causes.{cause_first_twice, cause_no_first, cause_stu
 use Rattle.acct_codes.specs.Causes.{cause_too_many_contexts}
 use Rattle.acct_codes.specs.Faults.{fault_unknown_interface}
 use Rattle.acct_codes.specs.Limits.{most_stub, most_contexts}
+use Rattle.acct_codes.specs.PduHeaders.{pfc_first_frag, pfc_last_frag}
 use Rattle.rpc_pdu.specs.declared.pdus.Pdu.{Pdu}
 use Rattle.rpc_pdu.specs.declared.pdus.Pdu.TheVariants.{Bind, Alter, Request, Cancel, Orphaned}
 use Rattle.rpc_session.specs.declared.contexts.Context.{Context}
@@ -31,11 +32,11 @@ abbrev pub asked : PartialRequest → ℕ → Option Context → Act
 asked g size None = Answered (fault_bytes g.id g.context fault_unknown_interface)
 asked g size (Some c) = Call g.id g.context c.face g.opnum size g.stub
 
--- a request with one more fragment, which has these flags: 0x02 marks the last
+-- a request with one more fragment, which has these flags: PFC_LAST_FRAG marks the last
 abbrev pub gathers : Association → ℕ → PartialRequest → Step
 gathers b flags g =
     if nat_lt most_stub (length g.stub) then Refuses cause_stub_too_long
-    else (if bit_and flags 2 == 0 then Goes None (Bound (record b { partial = Some g }))
+    else (if bit_and flags pfc_last_frag == 0 then Goes None (Bound (record b { partial = Some g }))
     else Goes (Some (asked g b.sizes.xmit (face_at g.context b.contexts))) (Bound (record b { partial = None })))
 
 abbrev pub begins : Association → ℕ → PartialRequest → Option PartialRequest → Step
@@ -47,10 +48,10 @@ goes_on b flags id stub None = Refuses cause_no_first
 goes_on b flags id stub (Some g) = if g.id == id then gathers b flags (record g { stub = g.stub ++ stub })
     else Refuses cause_no_first
 
--- flag 0x01 marks the first fragment, which gives the call id, the context and the opnum
+-- PFC_FIRST_FRAG marks the first fragment, which gives the call id, the context and the opnum
 abbrev pub requests : Association → ℕ → ℕ → ℕ → ℕ → List ℕ → Step
 requests b id flags context opnum stub =
-    if bit_and flags 1 == 0 then goes_on b flags id stub b.partial
+    if bit_and flags pfc_first_frag == 0 then goes_on b flags id stub b.partial
     else begins b flags (record { id = id; context = context; opnum = opnum; stub = stub }) b.partial
 
 -- the partial request, if it is not of the call with this id

@@ -10,6 +10,8 @@ use acct_base::Seq;
 use acct_codes::cause::CAUSE_VERSION;
 use acct_codes::fault::NCA_S_PROTO_ERROR;
 use acct_codes::limit::{LEAST_FRAGMENT, MOST_FRAGMENT};
+use acct_codes::negotiation::{REJECT_NONE, REJECT_PROTOCOL_VERSION};
+use acct_codes::pdu_type::PTYPE_BIND;
 use rpc_pdu::{Element, NoMemory, Pdu, write_pdu};
 use std::alloc::{AllocError, Global};
 
@@ -91,8 +93,12 @@ pub fn alter_answer(
 fn refusal_bytes(alloc: Global, cause: u8, ptype: u8, id: u32) -> Result<Seq<u8>, NoMemory>
     ensures { IfOk result (λ bytes. bytes ≡ refusal_bytes cause ptype id) }
 {
-    if ptype == 11 {
-        let reason = if cause == CAUSE_VERSION { 4 } else { 0 };
+    if ptype == PTYPE_BIND {
+        let reason = if cause == CAUSE_VERSION {
+            REJECT_PROTOCOL_VERSION
+        } else {
+            REJECT_NONE
+        };
         return bytes_of(alloc, Pdu::BindNak { id, reason });
     }
     Seq::copy_of(alloc, &fault_bytes(id, 0, NCA_S_PROTO_ERROR))

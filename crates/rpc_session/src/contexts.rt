@@ -1,11 +1,15 @@
 // Which presentation contexts are accepted.
 ghost use Rattle.std.specs.Prelude.{◌≡◌, ◌==◌, not, map, Some, None, IfOk, OnOk};
 ghost use Rattle.std.specs.List.{filter};
-ghost use Rattle.rpc_session.specs.Contexts.{no_syntax, face_of, offers_ndr, judged, accepted, answered, outcome};
+ghost use Rattle.rpc_session.specs.Contexts.{face_of, offers_ndr, judged, accepted, answered, outcome, rejected};
 ghost use Rattle.rpc_session.specs.Contexts.{replaced, with_element, with_elements, face_at};
 
 use acct_base::Seq;
 use acct_calls::Face;
+use acct_codes::negotiation::{
+    REASON_ABSTRACT_SYNTAX, REASON_NONE, REASON_TRANSFER_SYNTAXES, RESULT_ACCEPTANCE,
+    RESULT_PROVIDER_REJECTION,
+};
 use rpc_pdu::{Element, NoMemory, Outcome, Syntax, is_same_syntax, lsarpc, ndr, samr};
 use std::alloc::Global;
 use uuid::Uuid;
@@ -49,10 +53,10 @@ fn accepted(element: &Element) -> Option<Face>
 }
 
 fn rejected(reason: u16) -> Outcome
-    ensures { result ≡ record { result = 2; reason = reason; syntax = no_syntax } }
+    ensures { result ≡ rejected reason }
 {
     Outcome {
-        result: 2,
+        result: RESULT_PROVIDER_REJECTION,
         reason,
         syntax: Syntax {
             id: Uuid::from_bytes([0, 0, 0, 0, 0, 0, 0, 0, 0, 0, 0, 0, 0, 0, 0, 0]),
@@ -67,14 +71,14 @@ fn outcome(element: &Element) -> Outcome
 {
     let offered = offers_ndr(element.transfers.as_slice());
     match face_of(&element.subject) {
-        None => rejected(1),
+        None => rejected(REASON_ABSTRACT_SYNTAX),
         Some(_) => {
             if !offered {
-                return rejected(2);
+                return rejected(REASON_TRANSFER_SYNTAXES);
             }
             Outcome {
-                result: 0,
-                reason: 0,
+                result: RESULT_ACCEPTANCE,
+                reason: REASON_NONE,
                 syntax: ndr(),
             }
         }

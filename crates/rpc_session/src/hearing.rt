@@ -9,8 +9,8 @@ ghost use Rattle.rpc_session.specs.Acts.{acts, IsSoFar};
 
 use crate::answers::closing;
 use crate::laws::streams_are_cut_anywhere;
-use crate::sessions::{Act, Session, Step, extended, take_pdu};
-use acct_base::{Seq, rest_of};
+use crate::sessions::{Act, Session, Step, take_pdu};
+use acct_base::{Seq, extended, kept, rest_of};
 use rpc_pdu::{NoMemory, ReadPdu, Side, front_is_stable, read_pdu};
 use std::alloc::{AllocError, Global};
 use std::marker::Model;
@@ -105,18 +105,6 @@ fn heard_next(
             }
         }
     }
-}
-
-/// The bytes from a place on. They are copied where some in front are left out, so that no more memory is kept than
-/// they take.
-fn kept(alloc: Global, bytes: Seq<u8>, place: usize) -> Result<Seq<u8>, NoMemory>
-    requires { place ≤ length bytes }
-    ensures { IfOk result (λ rest. rest ≡ drop place bytes) }
-{
-    if place == 0 {
-        return Ok(bytes);
-    }
-    Seq::copy_of(alloc, rest_of(bytes.as_slice(), place))
 }
 
 fn add(acts: &mut Vec<Act>, act: Option<Act>) -> Result<(), NoMemory>

@@ -21,5 +21,5 @@ pub use laws::{
     acts_are_of_pdus, calls_fit, refusals_are_last, replies_bring_stubs, room_by_length,
     streams_are_cut_anywhere,
 };
-pub use replies::{fault_bytes, reply_bytes};
-pub use sessions::{Act, Association, PartialRequest, Session, Sizes};
+pub use replies::{fault_bytes, first_flag, hint_of, reply_bytes};
+pub use sessions::{Act, Association, PartialRequest, Session, Sizes, is_first, is_last};

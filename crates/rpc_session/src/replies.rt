@@ -1,14 +1,20 @@
 // The bytes that answer a call.
-ghost use Rattle.std.specs.Prelude.{◌≡◌, ◌++◌, ◌≤◌, ◌<◌, ◌^◌, length, take, min, IfOk, OnOk};
+ghost use Rattle.std.specs.Prelude.{◌≡◌, ◌+◌, ◌∷◌, ◌++◌, ◌≤◌, ◌<◌, ◌^◌, length, min, IfOk, OnOk};
 ghost use Rattle.acct_codes.specs.Limits.{least_fragment, most_fragment};
-ghost use Rattle.rpc_session.specs.Replies.{fault_bytes, first_flag, response, reply_bytes};
+ghost use Rattle.acct_codes.specs.PduTypes.{ptype_response};
+ghost use Rattle.rpc_pdu.specs.Numbers.{u16_bytes, u32_bytes};
+ghost use Rattle.rpc_pdu.specs.Written.{header_bytes};
+ghost use Rattle.rpc_session.specs.Replies.{fault_bytes, first_flag, reply_bytes};
 
-use acct_base::rest_of;
-use rpc_pdu::{NoMemory, u16_bytes, u32_bytes};
+use acct_base::{front_of, rest_of};
+use acct_codes::pdu_header::{
+    DREP_IEEE, DREP_LITTLE_ENDIAN_ASCII, PFC_FIRST_FRAG, PFC_LAST_FRAG, RPC_VERS, RPC_VERS_MINOR,
+};
+use acct_codes::pdu_type::{PTYPE_FAULT, PTYPE_RESPONSE};
+use rpc_pdu::{FAULT_FLAGS, NoMemory, u16_bytes, u32_bytes};
 use std::alloc::Global;
 
 /// A fault with a status, on a call and a context. It takes no memory.
-#[tactic(auto, unfolding(crate::specs::Replies::fault_bytes, rpc_pdu::specs::Written::written, rpc_pdu::specs::Written::body_bytes))]
 pub fn fault_bytes(id: u32, context: u16, status: u32) -> [u8; 32]
     ensures { result ≡ fault_bytes id context status }
 {
@@ -16,14 +22,43 @@ pub fn fault_bytes(id: u32, context: u16, status: u32) -> [u8; 32]
     let on = u16_bytes(context);
     let code = u32_bytes(status);
     [
-        5, 0, 3, 0x23, 0x10, 0, 0, 0, 32, 0, 0, 0, call[0], call[1], call[2], call[3], 0, 0, 0, 0,
-        on[0], on[1], 0, 0, code[0], code[1], code[2], code[3], 0, 0, 0, 0,
+        RPC_VERS,
+        RPC_VERS_MINOR,
+        PTYPE_FAULT,
+        FAULT_FLAGS,
+        DREP_LITTLE_ENDIAN_ASCII,
+        DREP_IEEE,
+        0,
+        0,
+        32,
+        0,
+        0,
+        0,
+        call[0],
+        call[1],
+        call[2],
+        call[3],
+        0,
+        0,
+        0,
+        0,
+        on[0],
+        on[1],
+        0,
+        0,
+        code[0],
+        code[1],
+        code[2],
+        code[3],
+        0,
+        0,
+        0,
+        0,
     ]
 }
 
 /// A response with a part of the stub, written behind what is there. `left` is the number of stub bytes that are left
 /// with this part.
-#[tactic(auto, unfolding(crate::specs::Replies::response, rpc_pdu::specs::Written::written, rpc_pdu::specs::Written::body_bytes))]
 fn push_response(
     out: &mut Vec<u8>,
     id: u32,
@@ -33,21 +68,44 @@ fn push_response(
     part: &[u8],
 ) -> Result<(), NoMemory>
     requires { length part.now < 8192 }
-    ensures { OnOk result (out.new.items ≡ out.old.items ++ response id context flags left part.now) }
+    ensures { OnOk result (out.new.items ≡ out.old.items ++ (header_bytes ptype_response flags (24 + length part.now) id
+        ++ (u32_bytes (min left 0xFFFFFFFF) ++ u16_bytes context ++ 0 ∷ 0 ∷ part.now))) }
 {
     let size = u16_bytes(24 + part.len() as u16);
     let call = u32_bytes(id);
     let hint = u32_bytes(hint_of(left));
     let on = u16_bytes(context);
     out.extend_from_slice(&[
-        5, 0, 2, flags, 0x10, 0, 0, 0, size[0], size[1], 0, 0, call[0], call[1], call[2], call[3],
-        hint[0], hint[1], hint[2], hint[3], on[0], on[1], 0, 0,
+        RPC_VERS,
+        RPC_VERS_MINOR,
+        PTYPE_RESPONSE,
+        flags,
+        DREP_LITTLE_ENDIAN_ASCII,
+        DREP_IEEE,
+        0,
+        0,
+        size[0],
+        size[1],
+        0,
+        0,
+        call[0],
+        call[1],
+        call[2],
+        call[3],
+        hint[0],
+        hint[1],
+        hint[2],
+        hint[3],
+        on[0],
+        on[1],
+        0,
+        0,
     ])?;
     out.extend_from_slice(part)
 }
 
 /// The number of stub bytes that are left, as far as 32 bits tell it.
-fn hint_of(left: usize) -> u32
+pub fn hint_of(left: usize) -> u32
     ensures { result ≡ min left 0xFFFFFFFF }
 {
     if left < 0xFFFFFFFF {
@@ -57,20 +115,12 @@ fn hint_of(left: usize) -> u32
     }
 }
 
-fn first_flag(first: bool) -> u8
+/// The flag of a fragment that isn't the last: whether it is the first.
+pub fn first_flag(first: bool) -> u8
     ensures value { result ≡ first_flag first }
     ensures small { result ≤ 1 }
 {
-    if first { 1 } else { 0 }
-}
-
-fn front_of(bytes: &[u8], count: usize) -> &[u8]
-    requires { count ≤ length bytes.now }
-    ensures value { result.now ≡ take count bytes.now }
-    ensures length { length result.now ≡ count }
-{
-    let (front, _) = bytes.split_at(count);
-    front
+    if first { PFC_FIRST_FRAG } else { 0 }
 }
 
 /// The responses that bring a stub, each of at most `size` bytes.
@@ -95,7 +145,7 @@ pub fn reply_bytes(
         rest = rest_of(rest, most);
         first = false;
     }
-    let flags = first_flag(first) + 2;
+    let flags = first_flag(first) + PFC_LAST_FRAG;
     push_response(&mut out, id, context, flags, rest.len(), rest)?;
     Ok(out)
 }

@@ -1,6 +1,7 @@
 // What one whole PDU does in a session.
 ghost use Rattle.std.specs.Prelude.{◌≡◌, ◌==◌, ◌++◌, ◌≤◌, [], not, bit_and, IfOk, length, Some, None};
 ghost use Rattle.acct_codes.specs.Limits.{most_stub};
+ghost use Rattle.acct_codes.specs.PduHeaders.{pfc_first_frag, pfc_last_frag};
 ghost use Rattle.rpc_pdu.specs.Written.{HasFewParts};
 ghost use Rattle.rpc_session.specs.Answers.{bind_answer, alter_answer};
 ghost use Rattle.rpc_session.specs.Contexts.{with_elements};
@@ -10,7 +11,7 @@ ghost use Rattle.rpc_session.specs.Sessions.{taken_later, taken};
 use crate::answers::{alter_answer, bind_answer, sizes_for};
 use crate::contexts::{Context, face_at, with_elements};
 use crate::replies::fault_bytes;
-use acct_base::Seq;
+use acct_base::{Seq, extended};
 use acct_calls::Face;
 use acct_codes::cause::{
     CAUSE_BIND_ORDER, CAUSE_FIRST_TWICE, CAUSE_NO_FIRST, CAUSE_STUB_TOO_LONG,
@@ -18,6 +19,7 @@ use acct_codes::cause::{
 };
 use acct_codes::fault::NCA_S_UNK_IF;
 use acct_codes::limit::{MOST_CONTEXTS, MOST_STUB};
+use acct_codes::pdu_header::{PFC_FIRST_FRAG, PFC_LAST_FRAG};
 use rpc_pdu::{Element, NoMemory, Pdu};
 use std::alloc::{AllocError, Global};
 
@@ -131,16 +133,18 @@ fn asked(
     }
 }
 
-fn is_first(flags: u8) -> bool
-    ensures { result ≡ not (bit_and flags 1 == 0) }
+/// Whether the flags of a request or a response mark the first fragment.
+pub fn is_first(flags: u8) -> bool
+    ensures { result ≡ not (bit_and flags pfc_first_frag == 0) }
 {
-    flags & 1 != 0
+    flags & PFC_FIRST_FRAG != 0
 }
 
-fn is_last(flags: u8) -> bool
-    ensures { result ≡ not (bit_and flags 2 == 0) }
+/// Whether they mark the last fragment.
+pub fn is_last(flags: u8) -> bool
+    ensures { result ≡ not (bit_and flags pfc_last_frag == 0) }
 {
-    flags & 2 != 0
+    flags & PFC_LAST_FRAG != 0
 }
 
 /// A request with one more fragment: it waits for the others, or is whole.
@@ -206,15 +210,6 @@ fn begins(
         return Ok(Step::Refuses(CAUSE_STUB_TOO_LONG));
     }
     put(alloc, association, flags, request)
-}
-
-/// The bytes of both. The first grow in place.
-pub fn extended(bytes: Seq<u8>, more: &[u8]) -> Result<Seq<u8>, NoMemory>
-    ensures { IfOk result (λ all. all ≡ bytes ++ more.now) }
-{
-    let mut bytes = bytes.into_vec();
-    bytes.extend_from_slice(more)?;
-    Ok(Seq::from_vec(bytes))
 }
 
 /// A later fragment, for the request gathered so far.

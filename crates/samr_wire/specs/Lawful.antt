@@ -30,7 +30,7 @@ use Rattle.acct_stubs.specs.Outputs.{is_one}
 use Rattle.acct_stubs.specs.Shared.{are_own, opens_server, own_outputs}
 use Rattle.samr_wire.specs.Creations.{created, made_in, typed_in}
 use Rattle.samr_wire.specs.Openings.{connect_args, desired_access, revision_asked}
-use Rattle.samr_wire.specs.Samr.{own_fields, samr}
+use Rattle.samr_wire.specs.Interface.{own_fields, samr}
 
 -- ======== what some stub spells can be written
 
@@ -145,7 +145,7 @@ own_complete : (f : Fields) → IsComplete (own_fields f)
 unfolding own_fields
 own_complete (fields.Connect c) = connect_complete c
 own_complete (fields.Creation c) = created_complete c
-own_complete (fields.Plain p) = unspelled_complete
+own_complete (fields.Scalar p) = unspelled_complete
 own_complete (fields.Search s) = unspelled_complete
 own_complete (fields.Class s) = unspelled_complete
 own_complete (fields.Put s) = unspelled_complete
@@ -156,7 +156,7 @@ own_onward : (f : Fields) → Takes 0 (own_fields f)
 unfolding own_fields
 own_onward (fields.Connect c) = connect_onward c
 own_onward (fields.Creation c) = created_onward c
-own_onward (fields.Plain p) = takes_unspelled
+own_onward (fields.Scalar p) = takes_unspelled
 own_onward (fields.Search s) = takes_unspelled
 own_onward (fields.Class s) = takes_unspelled
 own_onward (fields.Put s) = takes_unspelled
@@ -167,7 +167,7 @@ own_kind : (f : Fields) (a : Args) → (own_fields f).Fits a → AreArguments f 
 unfolding own_fields
 own_kind (fields.Connect c) a fits = connect_kind c a fits
 own_kind (fields.Creation c) a fits = creation_kind c a fits
-own_kind (fields.Plain p) a fits = absurd fits
+own_kind (fields.Scalar p) a fits = absurd fits
 own_kind (fields.Search s) a fits = absurd fits
 own_kind (fields.Class s) a fits = absurd fits
 own_kind (fields.Put s) a fits = absurd fits
@@ -178,7 +178,7 @@ own_fit : (f : Fields) (a : Args) → are_own Samr f ≡ true → AreArguments f
 unfolding own_fields
 own_fit (fields.Connect c) a own is = connect_fits c a own is
 own_fit (fields.Creation c) a own is = creation_fits c a is
-own_fit (fields.Plain p) a own is = absurd cc
+own_fit (fields.Scalar p) a own is = absurd cc
 own_fit (fields.Search s) a own is = absurd cc
 own_fit (fields.Class s) a own is = absurd cc
 own_fit (fields.Put s) a own is = absurd cc
@@ -186,7 +186,7 @@ own_fit (fields.Policy p) a own is = absurd cc
 own_fit (fields.Translation t) a own is = absurd cc
 
 pub no_outputs : (o : Outputs) → own_outputs Samr o ≡ false
-no_outputs (outputs.Plain p) = refl
+no_outputs (outputs.Scalar p) = refl
 no_outputs (outputs.Listed l) = refl
 no_outputs (outputs.Shown s) = refl
 no_outputs (outputs.Policy p) = refl

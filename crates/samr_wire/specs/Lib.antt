@@ -1,4 +1,4 @@
 pub mod Openings
 pub mod Creations
-pub mod Samr
+pub mod Interface
 pub mod Lawful

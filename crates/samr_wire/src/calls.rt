@@ -2,8 +2,8 @@
 ghost use Rattle.std.specs.Prelude.{◌≡◌, IfOk, Ok};
 ghost use Rattle.acct_calls.specs.declared.calls.Call.{Call};
 ghost use Rattle.acct_layouts.specs.CallShapes.{CanBeSpelled};
-ghost use Rattle.acct_stubs.specs.Calls.{ReadsStub, IsServed, Spells, call_at, spell};
-ghost use Rattle.samr_wire.specs.Samr.{samr};
+ghost use Rattle.acct_stubs.specs.Calls.{ReadsAllIfRoom, IsServed, Spells, call_at, spell};
+ghost use Rattle.samr_wire.specs.Interface.{samr};
 
 use crate::interface::Samr;
 use crate::{NoMemory, WireError};
@@ -19,9 +19,9 @@ pub fn read_call(alloc: Global, opnum: u16, stub: &[u8]) -> Result<Call, WireErr
         (λ call. (call.opnum ≡ opnum) × IsServed samr opnum stub.now × Spells samr call stub.now) }
     // What is served and spelled is read, unless there is no memory.
     ensures only { (call : Call) → call.opnum ≡ opnum → IsServed samr opnum stub.now → Spells samr call stub.now
-        → ReadsStub result (Ok call) }
+        → ReadsAllIfRoom result (Ok call) }
     // Why there is no call.
-    ensures exact { ReadsStub result (call_at samr opnum stub.now) }
+    ensures exact { ReadsAllIfRoom result (call_at samr opnum stub.now) }
     // What is read is of this interface, and can be written.
     ensures spelled { IfOk result (λ call. (call.face ≡ Face.Samr) × CanBeSpelled call) }
 {

@@ -1,5 +1,5 @@
 // The interface of the account database.
-ghost use Rattle.samr_wire.specs.Samr.{samr};
+ghost use Rattle.samr_wire.specs.Interface.{samr};
 ghost use Rattle.samr_wire.specs.Lawful.{samr_lawful};
 
 use crate::NoMemory;
@@ -23,7 +23,7 @@ impl Interface for Samr {
         Face::Samr
     }
 
-    #[tactic(auto, unfolding(crate::specs::Samr::own_fields))]
+    #[tactic(auto, unfolding(crate::specs::Interface::own_fields))]
     fn read_fields(alloc: Global, from: &mut In<'_>, fields: Fields) -> Result<Args, NdrError> {
         match fields {
             Fields::Connect(connect) => read_connect(from, connect),
@@ -32,7 +32,7 @@ impl Interface for Samr {
         }
     }
 
-    #[tactic(auto, unfolding(crate::specs::Samr::own_fields))]
+    #[tactic(auto, unfolding(crate::specs::Interface::own_fields))]
     fn write_fields(to: &mut Out, fields: Fields, args: &Args) -> Result<(), NoMemory> {
         match fields {
             Fields::Connect(connect) => write_connect(to, connect, args),

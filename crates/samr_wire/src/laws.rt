@@ -3,7 +3,7 @@ ghost use Rattle.acct_stubs.specs.Calls.{AreTheSpelledCalls, HasOneCall, IsReadA
 ghost use Rattle.acct_stubs.specs.Calls.{NoCallWantsMemory};
 ghost use Rattle.acct_stubs.specs.Replies.{EachSpelledReplyHasShape, HasOneReply, IsReplyReadAgain};
 ghost use Rattle.acct_stubs.specs.Replies.{IsReplyReadWhereSpelled, NoReplyWantsMemory};
-ghost use Rattle.samr_wire.specs.Samr.{samr};
+ghost use Rattle.samr_wire.specs.Interface.{samr};
 
 /// A call is read exactly where its stub is served and spells it, no stub spells two calls of one opnum, and the calls
 /// that can be written are those that some served stub spells.

@@ -2,9 +2,9 @@
 ghost use Rattle.std.specs.Prelude.{◌≡◌, IfOk, Ok};
 ghost use Rattle.acct_calls.specs.declared.replies.Reply.{Reply};
 ghost use Rattle.acct_layouts.specs.ReplyShapes.{HasShape};
-ghost use Rattle.acct_stubs.specs.Calls.{ReadsStub};
+ghost use Rattle.acct_stubs.specs.Calls.{ReadsAllIfRoom};
 ghost use Rattle.acct_stubs.specs.Replies.{SpellsReply, reply_at, spell_reply};
-ghost use Rattle.samr_wire.specs.Samr.{samr};
+ghost use Rattle.samr_wire.specs.Interface.{samr};
 
 use crate::interface::Samr;
 use crate::{NoMemory, WireError};
@@ -17,9 +17,9 @@ pub fn read_reply(alloc: Global, opnum: u16, stub: &[u8]) -> Result<Reply, WireE
     // What is read is spelled.
     ensures found { IfOk result (λ reply. SpellsReply samr opnum reply stub.now) }
     // What is spelled is read, unless there is no memory.
-    ensures only { (reply : Reply) → SpellsReply samr opnum reply stub.now → ReadsStub result (Ok reply) }
+    ensures only { (reply : Reply) → SpellsReply samr opnum reply stub.now → ReadsAllIfRoom result (Ok reply) }
     // Why there is no reply.
-    ensures exact { ReadsStub result (reply_at samr opnum stub.now) }
+    ensures exact { ReadsAllIfRoom result (reply_at samr opnum stub.now) }
     // What is read can be written.
     ensures shaped { IfOk result (λ reply. HasShape Face.Samr opnum reply) }
 {

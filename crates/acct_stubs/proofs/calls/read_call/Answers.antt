@@ -5,7 +5,7 @@ use Rattle.std.proofs.Math.Facts.{Fits-lt-pow}
 use Rattle.acct_calls.specs.declared.calls.Call.{Call}
 use Rattle.ndr_core.specs.Written.{IsByte, IsBytes}
 use Rattle.acct_stubs.specs.declared.errors.WireError.{WireError}
-use Rattle.acct_stubs.specs.Calls.{ReadsStub}
+use Rattle.acct_stubs.specs.Calls.{ReadsAllIfRoom}
 use Rattle.acct_stubs.proofs.CallLaws.{is_found, call_only, can_be_written}
 use Rattle.acct_stubs.proofs.calls.read_call.Goals as goal
 
@@ -15,7 +15,7 @@ returns-clause-found g c =
 
 pub returns-clause-only : goal.returns-clause-only
 returns-clause-only g c = λ call e served h.
-    subst (λ (r : Result Call WireError). ReadsStub c.call_in.result r)
+    subst (λ (r : Result Call WireError). ReadsAllIfRoom c.call_in.result r)
     (call_only g.I.Interface.wire c.args.opnum c.args.stub.now call e served h) c.call_in.ensures
 
 pub returns-clause-spelled : goal.returns-clause-spelled

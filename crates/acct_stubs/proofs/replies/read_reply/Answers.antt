@@ -5,7 +5,7 @@ use Rattle.std.proofs.Math.Facts.{Fits-lt-pow}
 use Rattle.acct_calls.specs.declared.replies.Reply.{Reply}
 use Rattle.ndr_core.specs.Written.{IsByte, IsBytes}
 use Rattle.acct_stubs.specs.declared.errors.WireError.{WireError}
-use Rattle.acct_stubs.specs.Calls.{ReadsStub}
+use Rattle.acct_stubs.specs.Calls.{ReadsAllIfRoom}
 use Rattle.acct_stubs.proofs.ReplyLaws.{is_found, reply_only, can_be_written}
 use Rattle.acct_stubs.proofs.replies.read_reply.Goals as goal
 
@@ -15,7 +15,7 @@ returns-clause-found g c =
 
 pub returns-clause-only : goal.returns-clause-only
 returns-clause-only g c = λ r h.
-    subst (λ (x : Result Reply WireError). ReadsStub c.reply_in.result x)
+    subst (λ (x : Result Reply WireError). ReadsAllIfRoom c.reply_in.result x)
     (reply_only g.I.Interface.wire c.args.opnum c.args.stub.now r h) c.reply_in.ensures
 
 pub returns-clause-shaped : goal.returns-clause-shaped

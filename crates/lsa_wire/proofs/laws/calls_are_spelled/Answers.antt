@@ -1,7 +1,7 @@
--- From the laws of every lawful interface.
+-- A served stub is read exactly as the one call of LSA that it spells, and these are all that can be written.
 use Rattle.acct_stubs.proofs.CallLaws.{one_call, read_where_spelled, the_spelled_calls}
 use Rattle.lsa_wire.specs.Lawful.{lsa_lawful}
-use Rattle.lsa_wire.specs.Wires.{lsa}
+use Rattle.lsa_wire.specs.Interface.{lsa}
 use Rattle.lsa_wire.proofs.laws.calls_are_spelled.Goals as goal
 
 pub returns-clause-read : goal.returns-clause-read

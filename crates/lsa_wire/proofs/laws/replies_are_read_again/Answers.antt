@@ -1,7 +1,7 @@
--- From the law of every lawful interface.
+-- A reply of LSA that is written is read again as that reply, as with every lawful interface.
 use Rattle.acct_stubs.proofs.ReplyLaws.{read_again}
 use Rattle.lsa_wire.specs.Lawful.{lsa_lawful}
-use Rattle.lsa_wire.specs.Wires.{lsa}
+use Rattle.lsa_wire.specs.Interface.{lsa}
 use Rattle.lsa_wire.proofs.laws.replies_are_read_again.Goals as goal
 
 pub returns : goal.returns

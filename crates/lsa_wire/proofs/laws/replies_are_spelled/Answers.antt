@@ -1,7 +1,7 @@
--- From the laws of every lawful interface.
+-- A stub is read exactly as the one reply of LSA that it spells; these, if they refer rightly, are all of a shape.
 use Rattle.acct_stubs.proofs.ReplyLaws.{one_reply, read_where_spelled, the_spelled_replies}
 use Rattle.lsa_wire.specs.Lawful.{lsa_lawful}
-use Rattle.lsa_wire.specs.Wires.{lsa}
+use Rattle.lsa_wire.specs.Interface.{lsa}
 use Rattle.lsa_wire.proofs.laws.replies_are_spelled.Goals as goal
 
 pub returns-clause-read : goal.returns-clause-read

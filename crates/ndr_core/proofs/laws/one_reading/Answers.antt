@@ -1,4 +1,4 @@
--- From the law of every shape.
+-- Integers, pointers and counts have one reading at each place of a stub, as every shape has.
 use Rattle.ndr_core.proofs.Again.{one_reading as holds}
 use Rattle.ndr_core.specs.Shapes.{u8, u16, u32, pointer, varying}
 use Rattle.ndr_core.proofs.laws.one_reading.Goals as goal

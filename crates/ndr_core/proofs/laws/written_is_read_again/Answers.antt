@@ -1,4 +1,4 @@
--- From the law of every shape.
+-- Integers, pointers and counts that are written are read again as the same, as with every shape.
 use Rattle.ndr_core.proofs.Again.{read_again as holds}
 use Rattle.ndr_core.specs.Shapes.{u8, u16, u32, pointer, varying}
 use Rattle.ndr_core.proofs.laws.written_is_read_again.Goals as goal

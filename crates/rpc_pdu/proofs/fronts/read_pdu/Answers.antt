@@ -1,10 +1,10 @@
--- `read_pdu` meets its contract: what the search leaves open.
+-- A bad header is refused, a whole PDU has its type, id and bounds, and only a body that takes memory may want it.
 use Rattle.std.proofs.Common.{◌≡◌, ◌≤◌, List, ℕ, length, get_or, take, Err, subst, sym, ap, ◌∙◌, arith, rules, w8}
 use Rattle.std.proofs.Math.Facts.{Fits-lt-pow}
 use Rattle.std.proofs.lemmas.List.{get_or-take, length-take-le}
 use Rattle.rpc_pdu.specs.declared.headers.Header.TheVariants.{Long}
 use Rattle.rpc_pdu.specs.Headers.{least_length, header_of}
-use Rattle.rpc_pdu.specs.declared.lists.Lack.{Lack}
+use Rattle.acct_base.specs.declared.fields.Unread.{Unread}
 use Rattle.rpc_pdu.specs.declared.pdus.Pdu.{Pdu}
 use Rattle.rpc_pdu.specs.Bodies.{body_of, OnlyWhereTaken}
 use Rattle.rpc_pdu.specs.Numbers.{u32_at}
@@ -113,5 +113,5 @@ returns-in-Err-Memory-clause-front c =
     ap (λ (x : List ℕ). header_of c.args.side x) (sym c.split_at.ensures.front) ∙ sym c.in-Long.ensures in
     wants_front c.args.side c.args.bytes.now c.in-Long.kind c.in-Long.size c.if-bytes-lt16.false header
     c.if-bytes-used.false
-    (subst (λ (e : Lack). OnlyWhereTaken {A = Pdu} c.in-Long.kind
+    (subst (λ (e : Unread). OnlyWhereTaken {A = Pdu} c.in-Long.kind
     (Err e)) c.in-Err-Memory.field-0-is c.in-Err-Memory.ensures.wants)

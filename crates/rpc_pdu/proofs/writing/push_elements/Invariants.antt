@@ -1,4 +1,4 @@
--- What the loop of `push_elements` keeps.
+-- The bytes of the first so many elements were added, and each UUID in these elements has its 16 bytes.
 use Rattle.rpc_pdu.specs.Written.{element_bytes}
 use Rattle.rpc_pdu.specs.Written.{IsWholeElement}
 use Rattle.rpc_pdu.proofs.Pushes.{Pushed}

@@ -1,4 +1,4 @@
--- What the loop of `push_outcomes` keeps.
+-- The bytes of the first so many outcomes were added, and the UUID of each of these has its 16 bytes.
 use Rattle.rpc_pdu.specs.Written.{outcome_bytes}
 use Rattle.rpc_pdu.specs.Written.{IsWholeOutcome}
 use Rattle.rpc_pdu.proofs.Pushes.{Pushed}

@@ -1,4 +1,4 @@
--- `push_syntax` meets its contract: what the search leaves open.
+-- The UUID's bytes, and behind them the version's, are the bytes of the syntax.
 use Rattle.std.proofs.Common.{◌∙◌, ◌++◌, List, ℕ, ap, append_assoc}
 use Rattle.std.proofs.lemmas.Result.{on_ok_weaker}
 use Rattle.uuid.specs.Parts.{swap_fields}

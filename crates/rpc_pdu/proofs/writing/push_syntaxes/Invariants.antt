@@ -1,4 +1,4 @@
--- What the loop of `push_syntaxes` keeps.
+-- The bytes of the first so many syntaxes were added, and the UUID of each of these has its 16 bytes.
 use Rattle.rpc_pdu.specs.Syntaxes.{syntax_bytes}
 use Rattle.rpc_pdu.specs.Written.{IsWhole}
 use Rattle.rpc_pdu.proofs.Pushes.{Pushed}

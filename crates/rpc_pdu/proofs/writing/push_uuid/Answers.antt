@@ -1,4 +1,4 @@
--- `push_uuid` meets its contract: what the search leaves open.
+-- A UUID that is read with its low bytes first is written with the bytes of its first three fields turned round.
 use Rattle.std.proofs.Common.{◌∙◌, ◌++◌, List, ℕ, ap}
 use Rattle.std.proofs.lemmas.Result.{on_ok_weaker}
 use Rattle.rpc_pdu.proofs.writing.push_uuid.Goals as goal

@@ -1,4 +1,4 @@
--- `write_pdu` meets its contract: what the search leaves open.
+-- The size fits 16 bits, header and body are the bytes of the PDU, and its reader gets the PDU back.
 use Rattle.std.proofs.Common.{◌≡◌, List, ℕ, ◌++◌, length, ap, ◌∙◌, arith, w16, rules}
 use Rattle.std.proofs.Math.Facts.{Fits-of_lt}
 use Rattle.rpc_pdu.specs.Written.{body_bytes}

@@ -1,4 +1,4 @@
--- `add_elements` meets its contract: what the search leaves open.
+-- After each element the contexts are those that the elements so far make of the old ones.
 use Rattle.rpc_session.proofs.Elements.{added}
 use Rattle.rpc_session.proofs.contexts.add_elements.Goals as goal
 

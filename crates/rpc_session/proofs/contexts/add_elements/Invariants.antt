@@ -1,4 +1,4 @@
--- What the loop of `add_elements` keeps.
+-- Adding the elements left to the contexts so far gives what adding all of them to the first contexts gives.
 use Rattle.rpc_session.proofs.Elements.{IsAdding}
 use Rattle.rpc_session.proofs.contexts.add_elements.Given as goal
 

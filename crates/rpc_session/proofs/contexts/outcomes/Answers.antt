@@ -1,4 +1,4 @@
--- `outcomes` meets its contract: what the search leaves open.
+-- After each element the outcomes are those of the elements so far, in their order.
 use Rattle.std.proofs.Common.{◌∙◌, ◌++◌, [], ◌∷◌, ap, sym}
 use Rattle.std.proofs.lemmas.List.{map_more}
 use Rattle.rpc_session.specs.Contexts.{outcome}

@@ -1,4 +1,4 @@
--- What the loop of `outcomes` keeps.
+-- The outcomes so far are those of the first so many elements.
 use Rattle.std.proofs.Common.{◌≡◌, map, take}
 use Rattle.rpc_session.specs.Contexts.{outcome}
 use Rattle.rpc_session.proofs.contexts.outcomes.Given as goal

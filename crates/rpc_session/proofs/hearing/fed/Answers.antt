@@ -1,4 +1,4 @@
--- `fed` meets its contract: what the search leaves open.
+-- Without memory to join the piece to the rest the hearing is lost, and none of the piece's acts was added.
 use Rattle.std.proofs.Common.{[], sym, refl, rules}
 use Rattle.std.proofs.lemmas.List.{append-nil}
 use Rattle.rpc_session.specs.Hearings.{on}

@@ -1,4 +1,4 @@
--- `hear` meets its contract: what the search leaves open.
+-- The acts so far and those of the bytes ahead are all acts; after want of memory the first of them stand.
 use Rattle.std.proofs.Common.{◌≡◌, ◌∙◌, sym, ap, arith, drop, length, List, ℕ, ◌+◌}
 use Rattle.rpc_session.specs.declared.sessions.Act.{Act}
 use Rattle.rpc_session.specs.declared.hearing.Next.TheVariants as next

@@ -1,4 +1,4 @@
--- What the loop of `hear` keeps.
+-- The acts added so far, with what is heard in the bytes left, are all that is heard in the bytes.
 use Rattle.std.proofs.Common.{◌≡◌, ◌+◌, ◌-◌, ◌≤◌, length, drop}
 use Rattle.rpc_session.specs.Hearings.{hear}
 use Rattle.rpc_session.proofs.Steps.{IsHearing}

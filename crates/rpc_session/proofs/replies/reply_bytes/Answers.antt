@@ -1,10 +1,12 @@
--- `reply_bytes` meets its contract: what the search leaves open.
+-- The responses so far, and those that the rest of the stub takes, are the whole reply.
 use Rattle.std.proofs.Common.{◌≡◌, ◌∙◌, ap, arith, ℕ, ◌++◌, ◌*◌, ◌/◌, ◌-◌, ◌+◌, true, length, take}
+use Rattle.rpc_pdu.specs.Written.{written, body_bytes}
 use Rattle.rpc_session.specs.Replies.{first_flag, response, reply_from}
 use Rattle.rpc_session.proofs.Parts.{parts_go_on, parts_end}
 use Rattle.rpc_session.proofs.replies.reply_bytes.Goals as goal
 
 pub loop-rest-preserved : goal.loop-rest-preserved
+unfolding response written body_bytes
 loop-rest-preserved c =
     let most = 8 * ((c.args.size - 24) / 8) in
     let low = c.requires.low in
@@ -20,6 +22,7 @@ loop-rest-preserved c =
     (omega (arith, low)) c.loop-rest-test.true c.loop-rest.invariant)
 
 pub returns : goal.returns
+unfolding response written body_bytes
 returns c =
     let most = 8 * ((c.args.size - 24) / 8) in
     let all = reply_from c.args.id c.args.context most true c.args.stub.now in

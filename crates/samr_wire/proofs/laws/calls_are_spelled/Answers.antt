@@ -1,6 +1,6 @@
--- From the laws of every lawful interface.
+-- A served stub is read exactly as the one call of SAMR that it spells, and these are all that can be written.
 use Rattle.acct_stubs.proofs.CallLaws.{one_call, read_where_spelled, the_spelled_calls}
-use Rattle.samr_wire.specs.Samr.{samr}
+use Rattle.samr_wire.specs.Interface.{samr}
 use Rattle.samr_wire.specs.Lawful.{samr_lawful}
 use Rattle.samr_wire.proofs.laws.calls_are_spelled.Goals as goal
 

@@ -1,6 +1,6 @@
--- From the laws of every lawful interface.
+-- No stub of a call or a reply of SAMR is read as a want of memory, as with every lawful interface.
 use Rattle.acct_stubs.proofs.Onward.{no_call_wants_memory, no_reply_wants_memory}
-use Rattle.samr_wire.specs.Samr.{samr}
+use Rattle.samr_wire.specs.Interface.{samr}
 use Rattle.samr_wire.specs.Lawful.{samr_lawful}
 use Rattle.samr_wire.proofs.laws.readings_want_no_memory.Goals as goal
 

@@ -1,6 +1,6 @@
--- From the laws of every lawful interface that has no replies of its own.
+-- A stub is read exactly as the one reply of SAMR that it spells, and these are all that have a shape.
 use Rattle.acct_stubs.proofs.ReplyLaws.{one_reply, read_where_spelled, the_shared_replies}
-use Rattle.samr_wire.specs.Samr.{samr}
+use Rattle.samr_wire.specs.Interface.{samr}
 use Rattle.samr_wire.specs.Lawful.{no_outputs, samr_lawful}
 use Rattle.samr_wire.proofs.laws.replies_are_spelled.Goals as goal
 

@@ -1,4 +1,4 @@
--- `feed` meets its contract: what the search leaves open.
+-- A piece fed behind a stream gives the acts of the stream and the piece as one.
 use Rattle.std.proofs.Common.{◌∙◌, ap}
 use Rattle.std.proofs.lemmas.Result.{on_ok_weaker}
 use Rattle.rpc_session.specs.declared.hearing.Hearing.{Hearing}

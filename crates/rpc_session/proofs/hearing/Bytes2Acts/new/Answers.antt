@@ -1,4 +1,4 @@
--- `new` meets its contract: what the search leaves open.
+-- A hearing to which nothing has come is that of the empty stream, which has no acts.
 use Rattle.rpc_session.proofs.Steps.{heard_nothing}
 use Rattle.rpc_session.proofs.hearing.Bytes2Acts.new.Goals as goal
 

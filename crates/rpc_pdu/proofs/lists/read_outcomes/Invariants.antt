@@ -1,0 +1,7 @@
+-- The outcomes read so far, with those that the bytes left give, are what reading all of them gives.
+use Rattle.rpc_pdu.specs.Lists.{outcome_at}
+use Rattle.acct_base.proofs.Many.{SoFar}
+use Rattle.rpc_pdu.proofs.lists.read_outcomes.Given as goal
+
+abbrev pub invariant-loop : goal.invariant-loop
+invariant-loop l = SoFar outcome_at l.outcomes l.count l.counter l.fn.fields l.fields
