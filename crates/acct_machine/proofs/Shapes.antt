@@ -14,8 +14,8 @@ use Rattle.acct_calls.specs.declared.replies.Reply.TheVariants.{Done}
 use Rattle.acct_layouts.specs.Bounds.{IsHandle, IsLong}
 use Rattle.acct_layouts.specs.declared.outputs.Outputs.{Outputs}
 use Rattle.acct_layouts.specs.declared.outputs.Outputs.TheVariants as outputs
-use Rattle.acct_layouts.specs.declared.outputs.Plainly.{Plainly}
-use Rattle.acct_layouts.specs.declared.outputs.Plainly.TheVariants as plainly
+use Rattle.acct_layouts.specs.declared.outputs.ScalarOutputs.{ScalarOutputs}
+use Rattle.acct_layouts.specs.declared.outputs.ScalarOutputs.TheVariants as scalar
 use Rattle.acct_layouts.specs.declared.outputs.Listed.{Listed}
 use Rattle.acct_layouts.specs.declared.outputs.Listed.TheVariants as listed
 use Rattle.acct_layouts.specs.declared.outputs.PolicyOutputs.{PolicyOutputs}
@@ -49,11 +49,11 @@ refusal-shaped law call status spelled long =
 
 -- ---- openings
 
-plain-handle : (p : Plainly) (zero handle : Handle) → ArePlain p (outs.Handle zero) → IsHandle handle
+plain-handle : (p : ScalarOutputs) (zero handle : Handle) → ArePlain p (outs.Handle zero) → IsHandle handle
     → ArePlain p (outs.Handle handle)
-plain-handle plainly.Handle zero handle are fits = fits
-plain-handle plainly.HandleBack zero handle are fits = fits
-plain-handle plainly.Connected zero handle are fits = fits
+plain-handle scalar.Handle zero handle are fits = fits
+plain-handle scalar.HandleBack zero handle are fits = fits
+plain-handle scalar.Connected zero handle are fits = fits
 plain-handle _ zero handle are fits = absurd are
 
 lists-handle : (l : Listed) (zero handle : Handle) → AreLists l (outs.Handle zero) → AreLists l (outs.Handle handle)
@@ -72,17 +72,17 @@ translated-handle _ zero handle are = absurd are
 
 handle-are : (o : Outputs) (zero handle : Handle) → AreOutputs o (outs.Handle zero) → IsHandle handle
     → AreOutputs o (outs.Handle handle)
-handle-are (outputs.Plain p) zero handle are fits = plain-handle p zero handle are fits
+handle-are (outputs.Scalar p) zero handle are fits = plain-handle p zero handle are fits
 handle-are (outputs.Listed l) zero handle are fits = lists-handle l zero handle are
 handle-are (outputs.Shown s) zero handle are fits = absurd are
 handle-are (outputs.Policy p) zero handle are fits = policy-handle p zero handle are
 handle-are (outputs.Translation t) zero handle are fits = translated-handle t zero handle are
 
-plain-created : (p : Plainly) (zero handle : Handle) (none granted rid : ℕ) → ArePlain p (outs.Created zero none rid)
-    → IsHandle handle → IsLong granted
-    → ArePlain p (outs.Created handle (shown_grant (outputs.Plain p) granted) rid)
-plain-created plainly.Created zero handle none granted rid are fits long = (fits, refl, are.2)
-plain-created plainly.Granted zero handle none granted rid are fits long = (fits, long, are.2)
+plain-created : (p : ScalarOutputs) (zero handle : Handle) (none granted rid : ℕ)
+    → ArePlain p (outs.Created zero none rid) → IsHandle handle → IsLong granted
+    → ArePlain p (outs.Created handle (shown_grant (outputs.Scalar p) granted) rid)
+plain-created scalar.Created zero handle none granted rid are fits long = (fits, refl, are.2)
+plain-created scalar.Granted zero handle none granted rid are fits long = (fits, long, are.2)
 plain-created _ zero handle none granted rid are fits long = absurd are
 
 lists-created : (l : Listed) (zero handle : Handle) (none granted rid : ℕ) → AreLists l (outs.Created zero none rid)
@@ -105,7 +105,7 @@ translated-created _ zero handle none granted rid are = absurd are
 created-are : (o : Outputs) (zero handle : Handle) (none granted rid : ℕ) → AreOutputs o (outs.Created zero none rid)
     → IsHandle handle → IsLong granted
     → AreOutputs o (outs.Created handle (shown_grant o granted) rid)
-created-are (outputs.Plain p) zero handle none granted rid are fits long =
+created-are (outputs.Scalar p) zero handle none granted rid are fits long =
     plain-created p zero handle none granted rid are fits long
 created-are (outputs.Listed l) zero handle none granted rid are fits long = lists-created l zero handle none 0 rid are
 created-are (outputs.Shown s) zero handle none granted rid are fits long = absurd are

@@ -5,6 +5,8 @@ use Rattle.acct_keeper.specs.declared.keeper.KeepError.{KeepError}
 use Rattle.acct_keeper.specs.declared.keeper.KeepError.TheVariants as keeps
 use Rattle.acct_keeper.specs.declared.pairs.Change.{Change}
 use Rattle.acct_keeper.specs.declared.pairs.Pair.{Pair}
+use Rattle.acct_rows.specs.declared.pairs.loading.PairsError.{PairsError}
+use Rattle.acct_rows.specs.declared.pairs.loading.PairsError.TheVariants as no_rows
 use Rattle.acct_rows.specs.Rows.{Lists}
 use Rattle.acct_rows.specs.Seed.{seed_lists}
 use Rattle.acct_streams.specs.Causes.{Rose}
@@ -38,6 +40,11 @@ count_after count (Err Memory) = count
 abbrev pub unopened : KeepError → OpenError
 unopened keeps.Failed = StoreFault
 unopened keeps.NoMemory = Memory
+
+-- what pairs that are no rows make of it
+abbrev pub unloaded : PairsError → OpenError
+unloaded (no_rows.BadPair key) = StoredPair key
+unloaded no_rows.Memory = Memory
 
 -- a pair is put at its key
 abbrev pub put_of : Pair → Change

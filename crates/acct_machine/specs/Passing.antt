@@ -18,7 +18,7 @@ AreOfOthers k [] = ⊤
 AreOfOthers k (e ∷ es) = (conn_of e ≢ k) × AreOfOthers k es
 
 -- The history went on, and whatever is said of the connection is as it was.
-pub record Passes (start : Start) (k : ℕ) (before after : List Entry) : Type 0 where
+pub record KeepsConnection (start : Start) (k : ℕ) (before after : List Entry) : Type 0 where
   pub calls : calls_of k after ≡ calls_of k before
   pub replies : replies start k after ≡ replies start k before
   pub live : is_live k (state_at start after).conns ≡ is_live k (state_at start before).conns
@@ -26,7 +26,8 @@ pub record Passes (start : Start) (k : ℕ) (before after : List Entry) : Type 0
 -- entries of other connections change nothing that is said of a connection
 abbrev pub OthersChangeNothing : Type 0
 OthersChangeNothing =
-    (start : Start) (k : ℕ) (before rest : List Entry) → AreOfOthers k rest → Passes start k before (before ++ rest)
+    (start : Start) (k : ℕ) (before rest : List Entry) → AreOfOthers k rest
+    → KeepsConnection start k before (before ++ rest)
 
 -- each entry of a legal history is of one of its connections, which are numbered from 1
 abbrev pub EntriesAreNumbered : Type 0

@@ -20,6 +20,7 @@ use crate::room::most_entries;
 use crate::store::Store;
 use crate::{Call, Config, Entry, Keeper, Limits, NoMemory, Reply, Rows};
 use std::alloc::Global;
+use std::fmt;
 use std::marker::Model;
 
 /// What an opening of a connection answers.
@@ -45,6 +46,12 @@ pub enum Acted {
 #[derive(Drop)]
 pub struct NoMachine<K> {
     pub keeper: K,
+}
+
+impl<K> fmt::Display for NoMachine<K> {
+    fn fmt<W: fmt::Write>(&self, f: &mut fmt::Formatter<W>) -> fmt::Result {
+        f.write_str("there is no memory for a machine")
+    }
 }
 
 /// The machine, over a keeper of its rows. It shows where its history began, which was with a right configuration and

@@ -5,7 +5,7 @@ ghost use Rattle.acct_keeper.specs.Causes.{KeepCause};
 ghost use Rattle.acct_keeper.specs.Pairs.{after};
 ghost use Rattle.acct_rows.specs.Seed.{seed_lists};
 ghost use Rattle.acct_rows.specs.Sound.{IsSoundRows};
-ghost use Rattle.acct_machine.specs.Opened.{OpensRows, OpenCause, count_after, put_of, unopened};
+ghost use Rattle.acct_machine.specs.Opened.{OpensRows, OpenCause, count_after, put_of, unopened, unloaded};
 ghost use Rattle.acct_rows.specs.PairsOf.{ArePairsOf};
 ghost use Rattle.acct_machine.specs.Storing.{HoldsRows};
 
@@ -15,24 +15,41 @@ use acct_keeper::{Change, KeepError, Pair};
 use acct_rows::PairsError;
 use acct_rows::pairs::laws::ascending_keys_differ;
 use std::alloc::Global;
+use thiserror::Error;
 
 /// Why a store isn't opened.
-#[derive(Debug, Drop)]
+#[derive(Debug, Drop, Error)]
 pub enum OpenError {
     /// The keeper failed, and its count of faults rose.
+    #[error("the store failed")]
     StoreFault,
     /// The pairs break a rule: the smallest key that is broken.
+    #[error("a stored pair breaks a rule")]
     StoredPair(Seq<u8>),
     /// Memory was wanted.
+    #[error("there is no memory to open the store")]
     Memory,
 }
 
-fn unopened(e: KeepError) -> OpenError
-    ensures { result ≡ unopened e }
-{
-    match e {
-        KeepError::Failed => OpenError::StoreFault,
-        KeepError::NoMemory => OpenError::Memory,
+impl From<KeepError> for OpenError {
+    ghost from_gives = { λ e error. error ≡ unopened e };
+
+    fn from(e: KeepError) -> Self {
+        match e {
+            KeepError::Failed => OpenError::StoreFault,
+            KeepError::NoMemory => OpenError::Memory,
+        }
+    }
+}
+
+impl From<PairsError> for OpenError {
+    ghost from_gives = { λ e error. error ≡ unloaded e };
+
+    fn from(e: PairsError) -> Self {
+        match e {
+            PairsError::BadPair(key) => OpenError::StoredPair(key),
+            PairsError::Memory => OpenError::Memory,
+        }
     }
 }
 
@@ -86,7 +103,7 @@ fn seed_store<K: Keeper>(alloc: Global, config: &Config, keeper: &mut K) -> Resu
         Ok(()) => Ok(rows),
         Err(e) => {
             drop(rows);
-            Err(unopened(e))
+            Err(OpenError::from(e))
         }
     }
 }
@@ -108,17 +125,10 @@ pub fn open_store<K: Keeper>(
     ensures later { K.faults keeper.old ≤ K.faults keeper.new }
     ensures count { K.faults keeper.new ≡ count_after (K.faults keeper.old) result }
 {
-    let pairs = match keeper.load() {
-        Ok(pairs) => pairs,
-        Err(e) => return Err(unopened(e)),
-    };
+    let pairs = keeper.load()?;
     if pairs.is_empty() {
         return seed_store(alloc, config, keeper);
     }
     ascending_keys_differ();
-    match Rows::from_pairs(alloc, &pairs) {
-        Ok(rows) => Ok(rows),
-        Err(PairsError::BadPair(key)) => Err(OpenError::StoredPair(key)),
-        Err(PairsError::Memory) => Err(OpenError::Memory),
-    }
+    Ok(Rows::from_pairs(alloc, &pairs)?)
 }

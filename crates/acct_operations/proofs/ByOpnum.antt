@@ -11,6 +11,7 @@ use Rattle.std.proofs.lemmas.List.{get_or_past}
 use Rattle.std.proofs.lemmas.List.FromFn.{get_or-map-range_with_len, length-map-range_with_len}
 use Rattle.acct_calls.specs.declared.calls.Face.{Face}
 use Rattle.acct_calls.specs.declared.calls.Face.TheVariants.{Samr, Lsa}
+use Rattle.acct_codes.specs.Opnums.{samr_rid_to_sid, lsar_query_information_policy2}
 use Rattle.acct_operations.specs.Table.{operation, same_face, is_work_of, work_of, works}
 use Rattle.acct_operations.specs.declared.table.Work.{Work}
 
@@ -30,21 +31,21 @@ behind face n opnum (x ∷ xs) all over =
     (another (same_face face (operation x).profile.face) n opnum (operation x).profile.opnum (first_so _ _ all) over)
     ∙ behind face n opnum xs (second_so _ _ all) over
 
-samr_below : list_all (is_below Samr 66) works ≡ true
+samr_below : list_all (is_below Samr (samr_rid_to_sid + 1)) works ≡ true
 unfolding operation
 samr_below = refl
 
-lsa_below : list_all (is_below Lsa 47) works ≡ true
+lsa_below : list_all (is_below Lsa (lsar_query_information_policy2 + 1)) works ≡ true
 unfolding operation
 lsa_below = refl
 
-samr_behind : (opnum : ℕ) → 66 ≤ opnum → work_of Samr opnum ≡ None
+samr_behind : (opnum : ℕ) → samr_rid_to_sid + 1 ≤ opnum → work_of Samr opnum ≡ None
 unfolding work_of
-samr_behind opnum over = behind Samr 66 opnum works samr_below over
+samr_behind opnum over = behind Samr (samr_rid_to_sid + 1) opnum works samr_below over
 
-lsa_behind : (opnum : ℕ) → 47 ≤ opnum → work_of Lsa opnum ≡ None
+lsa_behind : (opnum : ℕ) → lsar_query_information_policy2 + 1 ≤ opnum → work_of Lsa opnum ≡ None
 unfolding work_of
-lsa_behind opnum over = behind Lsa 47 opnum works lsa_below over
+lsa_behind opnum over = behind Lsa (lsar_query_information_policy2 + 1) opnum works lsa_below over
 
 -- what stands at the place of an opnum among those below a number, behind which nothing is served
 at_opnum : (face : Face) (n opnum : ℕ) → (n ≤ opnum → work_of face opnum ≡ None)
@@ -62,8 +63,10 @@ at_opnum face n opnum over =
           get_or_past (map (work_of face) (range_with_len 0 n)) opnum None end ∙ sym (over past)
     ]
 
-pub samr_at : (opnum : ℕ) → get_or (map (work_of Samr) (range_with_len 0 66)) opnum None ≡ work_of Samr opnum
-samr_at opnum = at_opnum Samr 66 opnum (samr_behind opnum)
+pub samr_at : (opnum : ℕ)
+    → get_or (map (work_of Samr) (range_with_len 0 (samr_rid_to_sid + 1))) opnum None ≡ work_of Samr opnum
+samr_at opnum = at_opnum Samr (samr_rid_to_sid + 1) opnum (samr_behind opnum)
 
-pub lsa_at : (opnum : ℕ) → get_or (map (work_of Lsa) (range_with_len 0 47)) opnum None ≡ work_of Lsa opnum
-lsa_at opnum = at_opnum Lsa 47 opnum (lsa_behind opnum)
+pub lsa_at : (opnum : ℕ)
+    → get_or (map (work_of Lsa) (range_with_len 0 (lsar_query_information_policy2 + 1))) opnum None ≡ work_of Lsa opnum
+lsa_at opnum = at_opnum Lsa (lsar_query_information_policy2 + 1) opnum (lsa_behind opnum)

@@ -10,7 +10,8 @@ use Rattle.acct_rows.specs.Objects.{exists}
 use Rattle.acct_rows.specs.Rows.{Lists}
 use Rattle.acct_rows.specs.Sound.{IsSoundRows}
 use Rattle.acct_rules.specs.declared.profile.Kinds.{Kinds}
-use Rattle.acct_rules.specs.Planned.{zero_handle, opens, closes}
+use Rattle.acct_calls.specs.Calls.{zero_handle}
+use Rattle.acct_rules.specs.Planned.{opens, closes}
 use Rattle.acct_rules.specs.Operations.{IsRight, Keeps, KeepsRows}
 use Rattle.acct_operations.specs.Openings.{connect, open_policy}
 use Rattle.acct_operations.specs.Closings.{close}

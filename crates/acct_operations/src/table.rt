@@ -4,6 +4,7 @@ ghost use Rattle.std.specs.List.{range_with_len};
 ghost use Rattle.acct_calls.specs.declared.calls.Face.TheVariants.{Samr, Lsa};
 ghost use Rattle.acct_rules.specs.Planned.{decision};
 ghost use Rattle.acct_rules.specs.Profiles.{asking, is_anywhere};
+ghost use Rattle.acct_codes.specs.Opnums.{samr_rid_to_sid, lsar_query_information_policy2};
 ghost use Rattle.acct_codes.specs.Rights.{domain_lookup, policy_lookup_names, policy_create_account};
 ghost use Rattle.acct_codes.specs.declared.kind.Kind.TheVariants as kind;
 ghost use Rattle.acct_rules.specs.declared.profile.Kinds.TheVariants.{Only};
@@ -256,10 +257,10 @@ pub fn works() -> &'static [Work]
     ]
 }
 
-// The operations of SAMR, each at the place that its opnum says.
+// The operations of SAMR up to the last opnum that is served, each at the place that its opnum says.
 #[tactic(auto, unfolding(crate::specs::Table::work_of, crate::specs::Table::operation))]
 fn samr_works() -> &'static [Option<Work>]
-    ensures { result.now ≡ map (work_of Samr) (range_with_len 0 66) }
+    ensures { result.now ≡ map (work_of Samr) (range_with_len 0 (samr_rid_to_sid + 1)) }
 {
     &[
         None,
@@ -331,10 +332,10 @@ fn samr_works() -> &'static [Option<Work>]
     ]
 }
 
-// The operations of LSARPC, each at the place that its opnum says.
+// The operations of LSARPC up to the last opnum that is served, each at the place that its opnum says.
 #[tactic(auto, unfolding(crate::specs::Table::work_of, crate::specs::Table::operation))]
 fn lsa_works() -> &'static [Option<Work>]
-    ensures { result.now ≡ map (work_of Lsa) (range_with_len 0 47) }
+    ensures { result.now ≡ map (work_of Lsa) (range_with_len 0 (lsar_query_information_policy2 + 1)) }
 {
     &[
         Some(Work::LsarClose),

@@ -21,7 +21,8 @@ use Rattle.acct_rows.specs.PairRules.{is_earlier, is_other, is_missing}
 use Rattle.acct_rows.specs.PairsOf.{IsRowOf}
 use Rattle.acct_rows.specs.Rows.{Lists, account_key, same_kind, domain_at, account_at, has_name, find_name}
 use Rattle.acct_rows.specs.Spelled.{stored_key, key_of, Fits}
-use Rattle.acct_rows.specs.Stored.{◌>>=◌, row_of}
+use Rattle.acct_base.specs.Reading.{◌>>=◌}
+use Rattle.acct_rows.specs.Stored.{row_of}
 use Rattle.acct_rows.specs.declared.row.DomainRow.{DomainRow}
 use Rattle.acct_rows.specs.declared.row.AccountRow.{AccountRow}
 use Rattle.acct_rows.specs.declared.row.Row.{Row}

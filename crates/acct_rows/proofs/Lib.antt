@@ -18,7 +18,6 @@ pub mod Together
 pub mod Listed
 pub mod Loaded
 pub mod Lookups
-pub mod Many
 pub mod Passing
 pub mod Seeded
 pub mod Once

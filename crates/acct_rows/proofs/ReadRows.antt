@@ -14,7 +14,8 @@ use Rattle.dtyp_sid.specs.Bytes.{bytes_of, WrittenBytesAreRead, WrittenBytesHave
 use Rattle.acct_rows.specs.Sound.{is_account_kind}
 use Rattle.acct_rows.specs.Spelled.{text_bytes, rid_bytes, number_bytes, held_bytes, kind_byte, stored_key}
 use Rattle.acct_rows.specs.Spelled.{domain_value, account_value, lsa_value, FitsHeld, IsSpelled}
-use Rattle.acct_rows.specs.Stored.{Reader, ◌>>=◌, is_end, whole_sid}
+use Rattle.acct_base.specs.Reading.{Reader, ◌>>=◌, is_end}
+use Rattle.acct_rows.specs.Stored.{whole_sid}
 use Rattle.acct_rows.specs.Stored.{held_at, kind_of_byte, domain_key_of, account_key_of}
 use Rattle.acct_rows.specs.Stored.{member_key_of}
 use Rattle.acct_rows.specs.Stored.{alias_key_of, lsa_key_of, lettered, row_key, domain_of, account_of, member_of}

@@ -19,7 +19,8 @@ use Rattle.acct_rows.specs.PairRules.{is_broken, AreUnbroken, IsSmallestBroken, 
 use Rattle.acct_rows.specs.PairsOf.{HoldPairs, keys_differ, AscendingKeysDiffer}
 use Rattle.acct_rows.specs.Rows.{Lists, same_kind}
 use Rattle.acct_rows.specs.Spelled.{stored_key}
-use Rattle.acct_rows.specs.Stored.{◌>>=◌, row_of}
+use Rattle.acct_base.specs.Reading.{◌>>=◌}
+use Rattle.acct_rows.specs.Stored.{row_of}
 use Rattle.acct_rows.specs.declared.pairs.loading.PairsError.{PairsError}
 use Rattle.acct_rows.specs.declared.pairs.loading.PairsError.TheVariants.{BadPair, Memory}
 use Rattle.acct_rows.specs.declared.row.Row.{Row}

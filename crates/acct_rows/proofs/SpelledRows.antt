@@ -12,7 +12,8 @@ use Rattle.acct_rows.specs.Sound.{is_account_kind}
 use Rattle.acct_rows.specs.Spelled.{text_bytes, rid_bytes, number_bytes, held_bytes, kind_byte, stored_key, key_of}
 use Rattle.acct_rows.specs.Spelled.{stored_value, domain_value, account_value, lsa_value, Fits, FitsText, FitsHeld}
 use Rattle.acct_rows.specs.Spelled.{FitsDomain, FitsAccount, FitsMember, FitsLsa}
-use Rattle.acct_rows.specs.Stored.{◌>>=◌, only_if, is_end, number_at, rid_at, text_at, sid_at, whole_sid, many}
+use Rattle.acct_base.specs.Reading.{◌>>=◌, is_end, many}
+use Rattle.acct_rows.specs.Stored.{only_if, number_at, rid_at, text_at, sid_at, whole_sid}
 use Rattle.acct_rows.specs.Stored.{held_at, kind_of_byte, domain_key_of, account_key_of, member_key_of}
 use Rattle.acct_rows.specs.Stored.{alias_key_of, lsa_key_of, lettered, row_key, domain_of, account_of, member_of}
 use Rattle.acct_rows.specs.Stored.{alias_of, lsa_of, valued, row_of, SpelledRowsAreRead}

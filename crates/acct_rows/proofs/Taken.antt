@@ -22,10 +22,11 @@ use Rattle.dtyp_sid.specs.Value.{SidValue, IsSid}
 use Rattle.dtyp_sid.specs.Bytes.{bytes_of, sid_of_bytes, WrittenBytesAreRead, WrittenBytesHaveLengths}
 use Rattle.dtyp_sid.specs.Bytes.{ReadBytesAreWritten}
 use Rattle.acct_rows.specs.Spelled.{text_bytes, rid_bytes, number_bytes, held_bytes, FitsText, FitsHeld}
-use Rattle.acct_rows.specs.Stored.{Reader, ◌>>=◌, only_if, is_end, front_at, many, byte_at, unit_at, number_at, rid_at}
+use Rattle.acct_base.specs.Reading.{Reader, ◌>>=◌, is_end, front_at, many}
+use Rattle.acct_rows.specs.Stored.{only_if, byte_at, unit_at, number_at, rid_at}
 use Rattle.acct_rows.specs.Stored.{text_at, sid_at, domain_number_at, held_at}
 use Rattle.acct_rows.specs.declared.row.Held.{Held}
-use Rattle.acct_rows.proofs.Many.{many-none, many-one}
+use Rattle.acct_base.proofs.Many.{many-none, many-one}
 
 abbrev pub IsBytes : List ℕ → Type 0
 IsBytes bytes = (i : ℕ) → get_or bytes i 0 < 256

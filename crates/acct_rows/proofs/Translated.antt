@@ -10,7 +10,8 @@ use Rattle.acct_rows.specs.Keyed.{at}
 use Rattle.acct_rows.specs.Rows.{Lists, domain_at, account_at, member_at, alias_row_at, lsa_at, domain_key, account_key}
 use Rattle.acct_rows.specs.Rows.{member_key, alias_key, lsa_key, sid_key, is_of}
 use Rattle.acct_rows.specs.Spelled.{stored_key, key_of, pair_of, format_key, format_pair, Fits}
-use Rattle.acct_rows.specs.Stored.{◌>>=◌, row_key, row_of, byte_at, lettered}
+use Rattle.acct_base.specs.Reading.{◌>>=◌}
+use Rattle.acct_rows.specs.Stored.{row_key, row_of, byte_at, lettered}
 use Rattle.acct_rows.specs.PairRules.{pair_key, pair_at, is_there, row_in, as_domain, as_account, domain_in, account_in}
 use Rattle.acct_rows.specs.PairRules.{is_other, is_missing}
 use Rattle.acct_rows.specs.PairsOf.{IsRowOf, HoldPairs}

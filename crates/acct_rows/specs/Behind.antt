@@ -2,7 +2,8 @@
 use Rattle.std.specs.Prelude.{ℕ, ◌+◌, ◌*◌, ◌==◌, ◌&&◌, List, length, Option}
 use Rattle.acct_codes.specs.declared.kind.Kind.{Kind}
 use Rattle.dtyp_sid.specs.Value.{SidValue}
-use Rattle.acct_rows.specs.Stored.{◌>>=◌, only_if, is_end, text_at}
+use Rattle.acct_base.specs.Reading.{◌>>=◌, is_end}
+use Rattle.acct_rows.specs.Stored.{only_if, text_at}
 use Rattle.acct_rows.specs.declared.row.Row.{Row}
 use Rattle.acct_rows.specs.declared.row.Row.TheVariants as rows
 

@@ -20,7 +20,8 @@ use Rattle.acct_rows.specs.Keyed.{at}
 use Rattle.acct_rows.specs.Rows.{same_kind}
 use Rattle.acct_rows.specs.Sound.{control_is_good, good_primary}
 use Rattle.acct_rows.specs.Spelled.{stored_key, format_key, format_value}
-use Rattle.acct_rows.specs.Stored.{◌>>=◌, row_of}
+use Rattle.acct_base.specs.Reading.{◌>>=◌}
+use Rattle.acct_rows.specs.Stored.{row_of}
 use Rattle.acct_rows.specs.declared.row.DomainRow.{DomainRow}
 use Rattle.acct_rows.specs.declared.row.AccountRow.{AccountRow}
 use Rattle.acct_rows.specs.declared.row.Held.{Held}

@@ -1,49 +1,23 @@
 -- What a pair says: the row that it spells exactly, read from left to right. A field is a value and the bytes after it.
-use Rattle.std.specs.Prelude.{◌≡◌, ℕ, zero, suc, ◌+◌, ◌*◌, ◌^◌, ◌==◌, Bool, ◌&&◌, List, [], ◌∷◌, length, drop, take}
-use Rattle.std.specs.Prelude.{Option, Some, None, Result, Ok, Err, nat_lt, nat_le, slice_index, if◌then◌else◌, All, ◌<◌}
+use Rattle.std.specs.Prelude.{◌≡◌, ℕ, ◌+◌, ◌*◌, ◌^◌, ◌==◌, Bool, ◌&&◌, List, length, drop, Option, Some, None}
+use Rattle.std.specs.Prelude.{nat_le, slice_index, if◌then◌else◌, All, ◌<◌}
 use Rattle.std.specs.Result.{result_ok}
 use Rattle.std.specs.Int.{w16, w32, from_le_bytes, from_be_bytes}
+use Rattle.acct_base.specs.Reading.{Reader, ◌>>=◌, is_end, front_at, many}
 use Rattle.acct_codes.specs.declared.kind.Kind.{Kind}
 use Rattle.acct_codes.specs.declared.kind.Kind.TheVariants.{Group, Alias, User}
 use Rattle.dtyp_sid.specs.Bytes.{sid_of_bytes}
 use Rattle.dtyp_sid.specs.Value.{SidValue}
 use Rattle.acct_keeper.specs.declared.pairs.Pair.{Pair}
 use Rattle.acct_rows.specs.Spelled.{ascend, Fits, IsSpelled, pair_of}
-use Rattle.acct_rows.specs.declared.pairs.fields.Unread.{Unread}
-use Rattle.acct_rows.specs.declared.pairs.fields.Unread.TheVariants.{Memory, Misspelled}
 use Rattle.acct_rows.specs.declared.row.Held.{Held}
 use Rattle.acct_rows.specs.declared.row.Row.{Row}
 use Rattle.acct_rows.specs.declared.row.Row.TheVariants as rows
 use Rattle.acct_rows.specs.declared.row.RowKey.{RowKey}
 use Rattle.acct_rows.specs.declared.row.RowKey.TheVariants as keys
 
--- a reader gives a value and the bytes after it, or nothing
-abbrev pub Reader : Type 0 → Type 0
-Reader A = List ℕ → Option (A × List ℕ)
-
-infixl 10 ◌>>=◌
-abbrev pub ◌>>=◌ : {A B : Type 0} → Option A → (A → Option B) → Option B
-(Some x) >>= f = f x
-None >>= f = None
-
 abbrev pub only_if : {A : Type 0} → Bool → A → Option A
 only_if test x = if test then Some x else None
-
--- no byte is left over
-abbrev pub is_end : List ℕ → Bool
-is_end bytes = length bytes == 0
-
--- so many bytes
-abbrev pub front_at : ℕ → Reader (List ℕ)
-front_at n bytes = if nat_lt (length bytes) n then None else Some (take n bytes, drop n bytes)
-
--- so many of what one reader reads
-unfoldable pub many : {A : Type 0} → Reader A → ℕ → Reader (List A)
-many one zero bytes = Some ([], bytes)
-many one (suc n) bytes = do
-  first ← one bytes
-  others ← many one n first.1
-  Some (first.0 ∷ others.0, others.1)
 
 unfoldable pub byte_at : Reader ℕ
 byte_at bytes = do
@@ -207,25 +181,6 @@ unfoldable pub row_of : Pair → Option Row
 row_of pair = do
   key ← row_key pair.key
   valued key pair.value
-
--- Nothing was read: the bytes spell nothing, or memory ran out.
-abbrev pub ReadsNothing : {Y : Type 0} → Unread → Option Y → Type 0
-ReadsNothing Memory read = Unit {0}
-ReadsNothing Misspelled read = read ≡ None
-
--- What code reads, as it is seen, is the value that stands in front, and the bytes after it are left.
-abbrev pub ReadsBy : {X A : Type 0} → (X → A) → Result X Unread → List ℕ → Option (A × List ℕ) → Type 0
-ReadsBy view (Ok x) after read = read ≡ Some (view x, after)
-ReadsBy view (Err e) after read = ReadsNothing e read
-
--- The same of a value that is seen as it is.
-abbrev pub Reads : {A : Type 0} → Result A Unread → List ℕ → Option (A × List ℕ) → Type 0
-Reads result after read = ReadsBy (λ x. x) result after read
-
--- The same of a whole list of bytes, of which nothing is left to tell.
-abbrev pub ReadsWhole : {A : Type 0} → Result A Unread → Option A → Type 0
-ReadsWhole (Ok x) read = read ≡ Some x
-ReadsWhole (Err e) read = ReadsNothing e read
 
 -- keys and values are bytes
 pub record AreBytes (pair : Pair) : Type 0 where

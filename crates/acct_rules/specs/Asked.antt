@@ -7,7 +7,7 @@ use Rattle.acct_calls.specs.declared.info.Info.{Info}
 use Rattle.acct_calls.specs.declared.info.Info.TheVariants as info
 use Rattle.acct_rows.specs.Rows.{Lists, lsa_at}
 
--- the class of information that is asked for, or set
+-- the information class that is asked for, or set
 abbrev pub class_of : Args → ℕ
 class_of (args.Class class) = class
 class_of (args.Put class value) = class
@@ -83,7 +83,7 @@ made_bits _ = 0
 
 -- ---- what a set asks for
 
--- the text of a class of information that is one text
+-- the text of an information class that is one text
 abbrev pub text_of : Info → Option (List ℕ)
 text_of (info.Text text) = Some text
 text_of _ = None

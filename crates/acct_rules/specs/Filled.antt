@@ -5,11 +5,11 @@ use Rattle.acct_calls.specs.declared.replies.Outs.{Outs}
 use Rattle.acct_calls.specs.declared.replies.Outs.TheVariants as outs
 use Rattle.acct_layouts.specs.declared.outputs.Outputs.{Outputs}
 use Rattle.acct_layouts.specs.declared.outputs.Outputs.TheVariants as outputs
-use Rattle.acct_layouts.specs.declared.outputs.Plainly.TheVariants as plainly
+use Rattle.acct_layouts.specs.declared.outputs.ScalarOutputs.TheVariants as scalar
 
 -- the grant, where the layout has one
 abbrev pub shown_grant : Outputs → ℕ → ℕ
-shown_grant (outputs.Plain plainly.Granted) granted = granted
+shown_grant (outputs.Scalar scalar.Granted) granted = granted
 shown_grant _ granted = 0
 
 -- the handle that was opened in place of the zero handle, with its grant

@@ -3,7 +3,7 @@
 use Rattle.std.specs.Prelude.{ℕ, Bool, true, false, not, List, [], ◌∷◌, ◌||◌, nat_lt, length, Option, Some}
 use Rattle.std.specs.Prelude.{None, if◌then◌else◌}
 use Rattle.std.specs.List.{list_all}
-use Rattle.acct_calls.specs.declared.handle.Handle.{Handle}
+use Rattle.acct_calls.specs.Calls.{zero_handle}
 use Rattle.acct_calls.specs.declared.replies.Outs.{Outs}
 use Rattle.acct_calls.specs.declared.replies.Outs.TheVariants as outs
 use Rattle.acct_codes.specs.Statuses.{status_success}
@@ -36,9 +36,6 @@ first_failed [] = None
 first_failed (c ∷ cs) = if c.fails then Some c.status else first_failed cs
 
 -- ---- common plans
-
-abbrev pub zero_handle : Handle
-zero_handle = record { number = 0 }
 
 -- an answer that changes nothing
 abbrev pub answers : ℕ → Outs → Planned

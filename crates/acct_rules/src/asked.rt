@@ -10,7 +10,7 @@ use acct_rows::Rows;
 use dtyp_sid::Sid;
 use std::alloc::Global;
 
-/// The class of information that is asked for, or set.
+/// The information class that is asked for, or set.
 pub fn class_of(args: &Args) -> u16
     ensures { result ≡ class_of args.now }
 {

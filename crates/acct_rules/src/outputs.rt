@@ -3,14 +3,14 @@ ghost use Rattle.std.specs.Prelude.{◌≡◌};
 ghost use Rattle.acct_rules.specs.Filled.{filled, shown_grant};
 
 use acct_calls::{Handle, Outs};
-use acct_layouts::{Outputs, Plainly};
+use acct_layouts::{Outputs, ScalarOutputs};
 
 // The grant, where the layout has one.
 fn shown_grant(outputs: Outputs, granted: u32) -> u32
     ensures { result ≡ shown_grant outputs granted }
 {
     match outputs {
-        Outputs::Plain(Plainly::Granted) => granted,
+        Outputs::Scalar(ScalarOutputs::Granted) => granted,
         _ => 0,
     }
 }

@@ -3,7 +3,7 @@ ghost use Rattle.std.specs.Prelude.{◌≡◌};
 ghost use Rattle.acct_rules.specs.Planned.{answers, opens, creates, puts, removes, closes, refusal};
 
 use acct_base::Seq;
-use acct_calls::{Handle, Outs};
+use acct_calls::{Outs, ZERO_HANDLE};
 use acct_codes::status::STATUS_SUCCESS;
 use acct_rows::{Object, Plan, Row, RowKey};
 use std::alloc::Global;
@@ -39,8 +39,6 @@ pub struct Planned {
     pub plan: Plan,
     pub effect: Effect,
 }
-
-const ZERO_HANDLE: Handle = Handle { number: 0 };
 
 /// An answer that changes nothing.
 pub fn answers(alloc: Global, status: u32, outs: Outs) -> Planned

@@ -50,7 +50,7 @@ pub enum Brings {
 #[derive(Clone, Copy, Debug, PartialEq, Eq)]
 pub enum Needs {
     Bits(u32),
-    /// Some for a class of information, and others for each other class.
+    /// Some for an information class, and others for each other class.
     ByClass { class: u16, bits: u32, others: u32 },
     /// Some where the policy has an account of the SID that is asked for, and others where it has none.
     ByAccount { bits: u32, missing: u32 },

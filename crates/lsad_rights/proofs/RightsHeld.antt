@@ -11,7 +11,7 @@ use Rattle.acct_rows.specs.declared.row.Held.{Held}
 use Rattle.acct_rows.specs.declared.row.LsaRow.{LsaRow}
 use Rattle.dtyp_sid.specs.Value.{SidValue}
 use Rattle.lsad_rights.specs.AccountObjects.{new_account}
-use Rattle.lsad_rights.specs.Held.{plainly_held, with_held, with_missing, without_held, held_at}
+use Rattle.lsad_rights.specs.Held.{scalar_held, with_held, with_missing, without_held, held_at}
 use Rattle.lsad_rights.specs.Holdings.{takes_all}
 use Rattle.lsad_rights.specs.ChangeLaws.{is_right, names_right}
 use Rattle.lsad_rights.specs.LogonRights.{bit_of, has_right}
@@ -44,14 +44,14 @@ has-with low p held =
 has-missing : (low q : ℕ) (held : List Held)
     → has_privilege low (with_missing q held) ≡ ((q == low) || has_privilege low held)
 has-missing low q held = elim (has_privilege q held) as
-    (λ b. has_privilege q held ≡ b → has_privilege low (cond b held (with_held (plainly_held q) held))
+    (λ b. has_privilege q held ≡ b → has_privilege low (cond b held (with_held (scalar_held q) held))
     ≡ ((q == low) || has_privilege low held)) [
       | true ↦ λ is. elim (q == low) as
           (λ e. (q == low) ≡ e → has_privilege low held ≡ (e || has_privilege low held)) [
             | true ↦ λ same. subst (λ n. has_privilege n held ≡ true) (equal q low same) is
             | false ↦ λ other. refl
           ] refl
-      | false ↦ λ is. has-with low (plainly_held q) held
+      | false ↦ λ is. has-with low (scalar_held q) held
     ] refl
 
 -- what was taken away isn't held; each other privilege is
@@ -168,10 +168,10 @@ rights-left right asked l = elim (takes_all asked) as
 kept-missing : (low q : ℕ) (h : Held) (held : List Held) → held_at low held ≡ Some h
     → held_at low (with_missing q held) ≡ Some h
 kept-missing low q h held was = elim (has_privilege q held) as
-    (λ b. has_privilege q held ≡ b → held_at low (cond b held (with_held (plainly_held q) held)) ≡ Some h) [
+    (λ b. has_privilege q held ≡ b → held_at low (cond b held (with_held (scalar_held q) held)) ≡ Some h) [
       | true ↦ λ is. was
-      | false ↦ λ is. held-with low (plainly_held q) held ∙ elim (q == low) as
-          (λ e. (q == low) ≡ e → cond e (Some (plainly_held q)) (held_at low held) ≡ Some h) [
+      | false ↦ λ is. held-with low (scalar_held q) held ∙ elim (q == low) as
+          (λ e. (q == low) ≡ e → cond e (Some (scalar_held q)) (held_at low held) ≡ Some h) [
             | true ↦ λ same. cc (here (equal q low same), is)
             | false ↦ λ other. was
           ] refl

@@ -18,7 +18,7 @@ use Rattle.dtyp_sid.specs.Value.{SidValue, IsSid}
 use Rattle.lsad_rights.specs.AccountObjects.{new_account}
 use Rattle.lsad_rights.specs.RightsChanges.{with_right, with_rights, without_right, without_rights, left_of}
 use Rattle.lsad_rights.specs.RightsChanges.{brought_names}
-use Rattle.lsad_rights.specs.Held.{is_known, is_unknown, held_of, plainly_held, with_held, with_missing, with_each}
+use Rattle.lsad_rights.specs.Held.{is_known, is_unknown, held_of, scalar_held, with_held, with_missing, with_each}
 use Rattle.lsad_rights.specs.Held.{without_held, without_each, is_among}
 use Rattle.lsad_rights.specs.Holdings as holdings
 use Rattle.lsad_rights.specs.Holdings.{brought_privileges, takes_all, brought_access, has_unknown_bits}
@@ -61,12 +61,12 @@ filter-good q held good = record {
   known = All-filter q IsKnown held good.known;
 }
 
-pub missing-good : (low : ℕ) (held : List Held) → IsKnown (plainly_held low) → AreGood held
+pub missing-good : (low : ℕ) (held : List Held) → IsKnown (scalar_held low) → AreGood held
     → AreGood (with_missing low held)
 missing-good low held known good =
-    elim (has_privilege low held) as (λ b. AreGood (cond b held (with_held (plainly_held low) held))) [
+    elim (has_privilege low held) as (λ b. AreGood (cond b held (with_held (scalar_held low) held))) [
       | true ↦ good
-      | false ↦ with-good (plainly_held low) held known good
+      | false ↦ with-good (scalar_held low) held known good
     ]
 
 pub each-good : (ps : List Privilege) (held : List Held) → All (λ p. IsKnown (held_of p)) ps → AreGood held

@@ -12,7 +12,8 @@ use Rattle.acct_rows.specs.declared.row.Row.TheVariants as rows
 use Rattle.acct_rows.specs.declared.row.RowKey.{RowKey}
 use Rattle.acct_rows.specs.declared.row.RowKey.TheVariants as keys
 use Rattle.acct_rules.specs.Asked.{asked_sid, desired_access}
-use Rattle.acct_rules.specs.Planned.{Ruled, when, answers, opens, zero_handle}
+use Rattle.acct_calls.specs.Calls.{zero_handle}
+use Rattle.acct_rules.specs.Planned.{Ruled, when, answers, opens}
 use Rattle.acct_rules.specs.declared.planned.Effect.TheVariants as effects
 use Rattle.dtyp_sid.specs.Value.{SidValue}
 use Rattle.lsad_rights.specs.Found.{account_of_sid, object_of_sid}

@@ -21,8 +21,8 @@ abbrev pub held_of : Privilege → Held
 held_of p = record { low = p.low; attributes = p.attributes }
 
 -- without attributes
-abbrev pub plainly_held : ℕ → Held
-plainly_held low = record { low = low; attributes = 0 }
+abbrev pub scalar_held : ℕ → Held
+scalar_held low = record { low = low; attributes = 0 }
 
 -- ---- the set
 
@@ -34,7 +34,7 @@ with_held p (h ∷ hs) =
 
 -- with a privilege, which stays as it is where it is held already
 abbrev pub with_missing : ℕ → List Held → List Held
-with_missing low held = if has_privilege low held then held else with_held (plainly_held low) held
+with_missing low held = if has_privilege low held then held else with_held (scalar_held low) held
 
 -- with each of some privileges, in order
 abbrev pub with_each : List Privilege → List Held → List Held

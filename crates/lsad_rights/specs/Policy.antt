@@ -1,4 +1,4 @@
--- The operation that shows what the policy is, by classes of information.
+-- The operation that shows what the policy is, by information classes.
 use Rattle.std.specs.Prelude.{ℕ, ◌==◌, Bool, ◌||◌, not, [], ◌∷◌}
 use Rattle.std.specs.Option.{option_map}
 use Rattle.acct_calls.specs.declared.calls.Args.{Args}

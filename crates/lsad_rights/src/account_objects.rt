@@ -7,7 +7,7 @@ ghost use Rattle.lsad_rights.specs.AccountObjects.{delete_account};
 
 use crate::found::{account_of_sid, object_of_sid};
 use acct_base::Seq;
-use acct_calls::{Args, Handle, Outs};
+use acct_calls::{Args, Outs, ZERO_HANDLE};
 use acct_codes::status::{
     STATUS_OBJECT_NAME_COLLISION, STATUS_OBJECT_NAME_NOT_FOUND, STATUS_SUCCESS,
 };
@@ -55,7 +55,7 @@ pub fn create_account(
     let puts = new_rows(alloc, asked_sid(args))?;
     Ok(Planned {
         status: STATUS_SUCCESS,
-        outs: Outs::Handle(Handle { number: 0 }),
+        outs: Outs::Handle(ZERO_HANDLE),
         plan: Plan {
             puts,
             removes: Seq::new(alloc),
@@ -109,6 +109,6 @@ pub fn delete_account(
     Ok(Planned {
         plan: Plan { puts, removes },
         effect: Effect::Deletes(account),
-        ..answers(alloc, STATUS_SUCCESS, Outs::Handle(Handle { number: 0 }))
+        ..answers(alloc, STATUS_SUCCESS, Outs::Handle(ZERO_HANDLE))
     })
 }

@@ -1,4 +1,4 @@
-// The operation that shows what the policy is, by classes of information.
+// The operation that shows what the policy is, by information classes.
 ghost use Rattle.std.specs.Prelude.{◌≡◌, true, IfOk, OnErr};
 ghost use Rattle.std.specs.Option.{option_copied, option_map};
 ghost use Rattle.acct_rules.specs.Planned.{decision, none_fails};

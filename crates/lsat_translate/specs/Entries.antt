@@ -5,7 +5,7 @@ use Rattle.std.specs.Prelude.{count_by, Option, Some, None, is_some, if◌then�
 use Rattle.std.specs.List.{list_any}
 use Rattle.std.specs.Option.{option_map}
 use Rattle.acct_calls.specs.Domains.{name_of_text}
-use Rattle.acct_calls.specs.declared.lists.Place.{Place}
+use Rattle.acct_calls.specs.declared.lists.ReferencedDomain.{ReferencedDomain}
 use Rattle.acct_calls.specs.declared.lists.TranslatedName.{TranslatedName}
 use Rattle.acct_calls.specs.declared.lists.TranslatedSid.{TranslatedSid}
 use Rattle.acct_rows.specs.Rows.{Lists}
@@ -37,7 +37,7 @@ with_domain None domains = domains
 with_domain (Some m) domains =
     if list_any (same_known (known_of m)) domains then domains else domains ++ known_of m ∷ []
 
-abbrev pub place_of : Lists → Known → Place
+abbrev pub place_of : Lists → Known → ReferencedDomain
 place_of r k = record { name = domain_name r k; sid = domain_sid r k }
 
 -- ---- the entries

@@ -10,20 +10,13 @@ use crate::known::Known;
 use crate::matches::{Match, rid_in, use_in};
 use acct_base::Seq;
 use acct_calls::{
-    Name, NamedList, NoMemory, Place, Places, Rids, Sids, Translated, TranslatedName, TranslatedSid,
+    Name, NamedList, NoMemory, Places, ReferencedDomain, Rids, Sids, Translated, TranslatedName,
+    TranslatedSid,
 };
 use acct_rows::Rows;
 use dtyp_sid::Sid;
 use indexmap::IndexSet;
 use std::alloc::Global;
-
-// The list with one value more at its end.
-fn with<T: Drop>(value: T, mut list: Seq<T>) -> Result<Seq<T>, NoMemory>
-    ensures { IfOk result (λ longer. longer ≡ list ++ value ∷ []) }
-{
-    list.push(value)?;
-    Ok(list)
-}
 
 // Adds the domain that a match refers to, unless it is there.
 fn refer(domains: &mut IndexSet<Known>, found: Option<Match>) -> Result<(), NoMemory>
@@ -64,10 +57,10 @@ fn index_in(domains: &IndexSet<Known>, found: Option<Match>) -> i32
     }
 }
 
-fn place_of(alloc: Global, rows: &Rows, domain: Known) -> Result<Place, NoMemory>
+fn place_of(alloc: Global, rows: &Rows, domain: Known) -> Result<ReferencedDomain, NoMemory>
     ensures { IfOk result (λ place. place ≡ place_of rows.now.lists domain) }
 {
-    Ok(Place {
+    Ok(ReferencedDomain {
         name: domain.name(alloc, rows)?,
         sid: domain.sid(rows),
     })
@@ -83,7 +76,7 @@ pub(crate) fn places(
 {
     let mut places = Seq::new(alloc);
     for domain in domains.as_slice() {
-        places = with(place_of(alloc, rows, *domain)?, places)?;
+        places = places.with(place_of(alloc, rows, *domain)?)?;
     }
     Ok(places)
 }
@@ -169,7 +162,7 @@ pub(crate) fn translated_names(
     let mut entries = Seq::new(alloc);
     for (place, sid) in sids.iter().enumerate() {
         let entry = translated_name(alloc, rows, domains, *sid, found[place])?;
-        entries = with(entry, entries)?;
+        entries = entries.with(entry)?;
     }
     Ok(entries)
 }

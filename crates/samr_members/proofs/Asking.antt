@@ -9,7 +9,7 @@ use Rattle.acct_codes.specs.Opnums.{samr_add_member_to_group, samr_add_member_to
 use Rattle.acct_layouts.specs.Bounds.{IsLong, IfThere}
 use Rattle.acct_layouts.specs.CallShapes.{CanBeSpelled, HasArguments, ArePlainArgs}
 use Rattle.acct_layouts.specs.Table.{layout_of, samr_layout}
-use Rattle.acct_layouts.specs.declared.fields.Plain.TheVariants as plain
+use Rattle.acct_layouts.specs.declared.fields.ScalarFields.TheVariants as plain
 use Rattle.acct_rules.specs.Asked.{asked_sid}
 use Rattle.dtyp_sid.specs.Value.{IsSid}
 use Rattle.samr_members.specs.Groups.{added_attributes}

@@ -7,7 +7,7 @@ use Rattle.acct_calls.specs.declared.calls.Face.{Face}
 use Rattle.acct_layouts.specs.Bounds.{IsLong}
 use Rattle.acct_layouts.specs.CallShapes.{CanBeSpelled, HasArguments, ArePlainArgs, AreSearchArgs}
 use Rattle.acct_layouts.specs.Table.{layout_of}
-use Rattle.acct_layouts.specs.declared.fields.Plain.TheVariants as plain
+use Rattle.acct_layouts.specs.declared.fields.ScalarFields.TheVariants as plain
 use Rattle.acct_layouts.specs.declared.fields.Search.TheVariants as search
 use Rattle.acct_rules.specs.Asked.{asked_names, asked_rids, asked_context, asked_rid}
 

@@ -49,7 +49,8 @@ use Rattle.acct_rows.specs.declared.row.Row.{Row}
 use Rattle.acct_rows.specs.declared.row.Row.TheVariants as rows
 use Rattle.acct_rules.specs.Asked.{made_name, made_bits, or_empty}
 use Rattle.acct_rules.specs.Operations.{Keeps, IsRight, KeepsRows, is_condition_status}
-use Rattle.acct_rules.specs.Planned.{creates, none_fails, when, zero_handle}
+use Rattle.acct_calls.specs.Calls.{zero_handle}
+use Rattle.acct_rules.specs.Planned.{creates, none_fails, when}
 use Rattle.samr_objects.specs.Creations.{new_conditions, new_rid, risen, risen_row, new_account, new_rows}
 use Rattle.samr_objects.specs.Creations.{new_group, new_user, new_control, new_member}
 use Rattle.samr_objects.specs.Laws.{IsCreated, Creates}

@@ -9,7 +9,8 @@ use Rattle.acct_rows.specs.Objects.{domain_of, rid_of}
 use Rattle.acct_rows.specs.Rows.{Lists, domain_at, is_primary}
 use Rattle.acct_rows.specs.declared.object.Object.{Object}
 use Rattle.acct_rows.specs.declared.row.RowKey.{RowKey}
-use Rattle.acct_rules.specs.Planned.{Ruled, when, answers, zero_handle}
+use Rattle.acct_calls.specs.Calls.{zero_handle}
+use Rattle.acct_rules.specs.Planned.{Ruled, when, answers}
 use Rattle.acct_rules.specs.declared.planned.Effect.TheVariants as effects
 use Rattle.acct_rules.specs.declared.planned.Planned.{Planned}
 use Rattle.dtyp_sid.specs.Value.{SidValue}

@@ -14,7 +14,8 @@ use Rattle.acct_rows.specs.Objects.{exists, domain_of, rid_of}
 use Rattle.acct_rows.specs.declared.object.Object.TheVariants as object
 use Rattle.acct_rules.specs.Asked.{class_of, made_name, or_empty}
 use Rattle.acct_rules.specs.Pages.{page, page_status}
-use Rattle.acct_rules.specs.Planned.{Ruled, none_fails, zero_handle, decision, answers}
+use Rattle.acct_calls.specs.Calls.{zero_handle}
+use Rattle.acct_rules.specs.Planned.{Ruled, none_fails, decision, answers}
 use Rattle.samr_objects.specs.Entries.{cost}
 use Rattle.samr_objects.specs.Enumerations.{left_of, last_rid, list_accounts}
 use Rattle.samr_objects.specs.Queries.{query_domain, query_group, query_alias, query_user}
@@ -222,7 +223,7 @@ pub record SetsAreShown : Type 0 where
   pub user : ShowsWhatIsSet set_information_user query_user
   pub user2 : ShowsWhatIsSet set_information_user2 query_user
 
--- ---- classes of information
+-- ---- information classes
 
 -- An object that is there shows each class of its kind that a reply can show, and refuses each other class.
 pub record ShowsItsClasses (r : Lists) (asked : Args) : Type 0 where

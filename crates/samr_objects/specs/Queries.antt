@@ -1,4 +1,4 @@
--- The operations that show what a domain or an account is, by classes of information.
+-- The operations that show what a domain or an account is, by information classes.
 use Rattle.std.specs.Prelude.{ℕ, ◌==◌, not, List, [], ◌∷◌, length, Option, Some, None, is_some}
 use Rattle.std.specs.Prelude.{if◌then◌else◌}
 use Rattle.acct_calls.specs.declared.calls.Args.{Args}

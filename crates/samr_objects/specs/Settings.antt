@@ -24,7 +24,7 @@ use Rattle.samr_objects.specs.Naming.{name_conditions, is_too_long}
 use Rattle.samr_objects.specs.declared.settings.Field.{Field}
 use Rattle.samr_objects.specs.declared.settings.Field.TheVariants as field
 
--- ---- what a class of information sets
+-- ---- what an information class sets
 
 -- GROUP_INFORMATION_CLASS (MS-SAMR 2.2.4.6)
 abbrev pub group_field : ℕ → Option Field

@@ -12,7 +12,7 @@ ghost use Rattle.samr_objects.specs.Creations.{new_rows, new_control, new_member
 ghost use Rattle.samr_objects.specs.Creations.{create_group, create_alias, create_user};
 
 use crate::naming::{gives_no_rid, refused_name};
-use crate::plans::{one_row, with_row};
+use crate::plans::one_row;
 use acct_base::Seq;
 use acct_calls::{Args, Name};
 use acct_codes::Kind;
@@ -111,7 +111,7 @@ fn new_rows(alloc: Global, rows: &Rows, account: AccountRow) -> Result<Seq<Row>,
     ensures { IfOk result (λ puts. puts ≡ new_rows rows.now.lists account) }
 {
     match risen_row(alloc, rows.domain(account.domain)) {
-        Ok(puts) => with_row(puts, Row::Account(account)),
+        Ok(puts) => puts.with(Row::Account(account)),
         Err(full) => {
             drop(account);
             Err(full)

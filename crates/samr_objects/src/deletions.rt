@@ -7,7 +7,7 @@ ghost use Rattle.samr_objects.specs.Deletions.{is_special, account_sid, keys_of,
 ghost use Rattle.samr_objects.specs.Deletions.{delete_group, delete_alias, delete_user};
 
 use acct_base::Seq;
-use acct_calls::{Args, Handle, Outs};
+use acct_calls::{Args, Outs, ZERO_HANDLE};
 use acct_codes::rid::FIRST_CREATED_RID;
 use acct_codes::status::{STATUS_MEMBERS_PRIMARY_GROUP, STATUS_SPECIAL_ACCOUNT, STATUS_SUCCESS};
 use acct_rows::{Object, Plan, RowKey, Rows};
@@ -66,7 +66,7 @@ fn deletes(alloc: Global, rows: &Rows, object: &Object) -> Result<Planned, NoMem
     Ok(Planned {
         plan: Plan { puts, removes },
         effect: Effect::Deletes(*object),
-        ..answers(alloc, STATUS_SUCCESS, Outs::Handle(Handle { number: 0 }))
+        ..answers(alloc, STATUS_SUCCESS, Outs::Handle(ZERO_HANDLE))
     })
 }
 

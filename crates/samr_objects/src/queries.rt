@@ -1,4 +1,4 @@
-// The operations that show what a domain or an account is, by classes of information.
+// The operations that show what a domain or an account is, by information classes.
 ghost use Rattle.std.specs.Prelude.{◌≡◌, true, IfOk, OnErr, length, is_some};
 ghost use Rattle.std.specs.Option.{option_copied};
 ghost use Rattle.acct_calls.specs.declared.info.Info.TheVariants as info;

@@ -48,7 +48,7 @@ pub enum Field {
     Primary,
 }
 
-/// What a class of information sets of an account of the kind, if it can be set.
+/// What an information class sets of an account of the kind, if it can be set.
 pub fn set_field(kind: Kind, class: u16) -> Option<Field>
     ensures { result ≡ set_field kind class }
 {

@@ -52,12 +52,7 @@ fn is_same_key(left: &RowKey, right: &RowKey) -> bool
 fn is_put(puts: &[Row], key: &RowKey) -> bool
     ensures { result ≡ is_put puts.now key.now }
 {
-    for row in puts {
-        if is_same_key(key, &row_key(row)) {
-            return true;
-        }
-    }
-    false
+    puts.iter().any(|row| is_same_key(key, &row_key(row)))
 }
 
 // Whether there is a row with the key.

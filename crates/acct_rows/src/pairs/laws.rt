@@ -66,8 +66,5 @@ pub fn read_back(alloc: Global, rows: &Rows) -> Result<Rows, PairsError>
     pairs_are_of_one();
     ascending_keys_differ();
     let pairs = rows.to_pairs(alloc)?;
-    match Rows::from_pairs(alloc, &pairs) {
-        Ok(again) => Ok(again),
-        Err(error) => Err(error),
-    }
+    Rows::from_pairs(alloc, &pairs)
 }

@@ -15,7 +15,6 @@ ghost use Rattle.acct_rows.specs.Rows.{with_puts};
 ghost use Rattle.acct_rows.specs.Sound.{IsSoundRows};
 ghost use Rattle.acct_rows.specs.Stored.{row_of};
 
-use super::fields::Unread;
 use super::laws::read_rows_are_spelled;
 use super::reading::read_row;
 use super::rules::breaks_alone;
@@ -24,7 +23,7 @@ use super::writing::{format_pair, key_bytes};
 use crate::row::{ACCOUNT_DOMAIN, BUILTIN_DOMAIN, Row, RowKey};
 use crate::rows::Rows;
 use crate::rows::tables::Tables;
-use acct_base::{Seq, is_same};
+use acct_base::{Seq, Unread, is_same};
 use acct_calls::NoMemory;
 use acct_calls::laws::same_is_equivalence;
 use acct_codes::rid::DOMAIN_GROUP_RID_USERS;
@@ -271,12 +270,9 @@ fn read_ascending(alloc: Global, pairs: &[Pair]) -> Result<Rows, PairsError>
 fn has_key(pairs: &[Pair], key: &[u8]) -> bool
     ensures { result ≡ list_any (λ q. same_key key.now q.key) pairs.now }
 {
-    for pair in pairs {
-        if key.cmp(pair.key.as_slice()).is_eq() {
-            return true;
-        }
-    }
-    false
+    pairs
+        .iter()
+        .any(|pair| key.cmp(pair.key.as_slice()).is_eq())
 }
 
 /// Whether no key stands twice. It takes time as the square of how many pairs there are: pairs that ascend need no
@@ -326,10 +322,7 @@ fn read_pairs(alloc: Global, pairs: &[Pair]) -> Result<Rows, PairsError>
         return read_ascending(alloc, pairs);
     }
     let ascending = sorted(alloc, pairs)?;
-    match read_ascending(alloc, &ascending) {
-        Ok(rows) => Ok(rows),
-        Err(error) => Err(error),
-    }
+    read_ascending(alloc, &ascending)
 }
 
 impl Rows {

@@ -2,14 +2,16 @@
 ghost use Rattle.std.specs.Prelude.{◌≡◌, List};
 ghost use Rattle.acct_rows.specs.Spelled.{ascend};
 ghost use Rattle.acct_rows.specs.Sound.{are_above};
-ghost use Rattle.acct_rows.specs.Stored.{Reads, ReadsWhole, only_if, is_end, domain_number_at, whole_sid, kind_of_byte};
+ghost use Rattle.acct_base.specs.Reading.{Reads, ReadsWhole, is_end};
+ghost use Rattle.acct_rows.specs.Stored.{only_if, domain_number_at, whole_sid, kind_of_byte};
 ghost use Rattle.acct_rows.specs.Stored.{lettered, row_key};
 ghost use Rattle.acct_rows.specs.Stored.{domain_key_of, account_key_of, member_key_of, alias_key_of, lsa_key_of};
 ghost use Rattle.acct_rows.specs.Stored.{domain_of, account_of, member_of, alias_of, lsa_of, valued, row_of};
 ghost use Rattle.acct_rows.specs.Behind.{named_domain, named_account};
 
-use super::fields::{Fields, Unread};
+use super::fields::{read_byte, read_number, read_privileges, read_rid, read_sid, read_text};
 use crate::row::{AccountRow, AliasRow, DomainRow, Held, LsaRow, MemberRow, Row, RowKey};
+use acct_base::{Fields, Unread};
 use acct_codes::Kind;
 use acct_keeper::Pair;
 use dtyp_sid::Sid;
@@ -29,7 +31,7 @@ fn row_key(key: &[u8]) -> Result<RowKey, Unread>
     ensures { ReadsWhole result (row_key key.now) }
 {
     let mut fields = Fields::new(key);
-    let letter = fields.byte()?;
+    let letter = read_byte(&mut fields)?;
     lettered(letter, fields)
 }
 
@@ -51,7 +53,7 @@ fn lettered(letter: u8, fields: Fields<'_>) -> Result<RowKey, Unread>
 fn domain_number(fields: &mut Fields<'_>) -> Result<u8, Unread>
     ensures { Reads result fields.new (domain_number_at fields.old) }
 {
-    let number = fields.byte()?;
+    let number = read_byte(fields)?;
     if number > 1 {
         return Err(Unread::Misspelled);
     }
@@ -73,7 +75,7 @@ fn whole<T: Drop>(value: T, fields: &Fields<'_>) -> Result<T, Unread>
 fn whole_sid(mut fields: Fields<'_>) -> Result<Sid, Unread>
     ensures { ReadsWhole result (whole_sid fields.entry) }
 {
-    let sid = fields.sid()?;
+    let sid = read_sid(&mut fields)?;
     whole(sid, &fields)
 }
 
@@ -90,7 +92,7 @@ fn account_key(mut fields: Fields<'_>) -> Result<RowKey, Unread>
     ensures { ReadsWhole result (account_key_of fields.entry) }
 {
     let domain = domain_number(&mut fields)?;
-    let rid = fields.rid()?;
+    let rid = read_rid(&mut fields)?;
     whole(RowKey::Account { domain, rid }, &fields)
 }
 
@@ -98,8 +100,8 @@ fn account_key(mut fields: Fields<'_>) -> Result<RowKey, Unread>
 fn member_key(mut fields: Fields<'_>) -> Result<RowKey, Unread>
     ensures { ReadsWhole result (member_key_of fields.entry) }
 {
-    let group = fields.rid()?;
-    let user = fields.rid()?;
+    let group = read_rid(&mut fields)?;
+    let user = read_rid(&mut fields)?;
     whole(RowKey::Member { group, user }, &fields)
 }
 
@@ -108,7 +110,7 @@ fn alias_key(mut fields: Fields<'_>) -> Result<RowKey, Unread>
     ensures { ReadsWhole result (alias_key_of fields.entry) }
 {
     let domain = domain_number(&mut fields)?;
-    let alias = fields.rid()?;
+    let alias = read_rid(&mut fields)?;
     let member = whole_sid(fields)?;
     Ok(RowKey::Alias {
         domain,
@@ -147,9 +149,9 @@ fn read_value(alloc: Global, key: &RowKey, value: &[u8]) -> Result<Row, Unread>
 fn read_domain(alloc: Global, number: u8, mut fields: Fields<'_>) -> Result<Row, Unread>
     ensures { ReadsWhole result (domain_of number fields.entry) }
 {
-    let next_rid = fields.number()?;
-    let size = fields.byte()?;
-    let sid = fields.sid()?;
+    let next_rid = read_number(&mut fields)?;
+    let size = read_byte(&mut fields)?;
+    let sid = read_sid(&mut fields)?;
     read_named_domain(alloc, number, next_rid, size, sid, fields)
 }
 
@@ -165,8 +167,8 @@ fn read_named_domain(
 ) -> Result<Row, Unread>
     ensures { ReadsWhole result (named_domain number next_rid size sid fields.entry) }
 {
-    let name = fields.text(alloc)?;
-    let oem = fields.text(alloc)?;
+    let name = read_text(alloc, &mut fields)?;
+    let oem = read_text(alloc, &mut fields)?;
     if usize::from(size) != 8 + 4 * sid.subs().len() {
         return Err(Unread::Misspelled);
     }
@@ -195,10 +197,10 @@ fn kind_of_byte(byte: u8) -> Result<Kind, Unread>
 fn read_account(alloc: Global, domain: u8, rid: u32, mut fields: Fields<'_>) -> Result<Row, Unread>
     ensures { ReadsWhole result (account_of domain rid fields.entry) }
 {
-    let byte = fields.byte()?;
+    let byte = read_byte(&mut fields)?;
     let kind = kind_of_byte(byte)?;
-    let bits = fields.number()?;
-    let primary = fields.number()?;
+    let bits = read_number(&mut fields)?;
+    let primary = read_number(&mut fields)?;
     read_named_account(alloc, domain, rid, kind, bits, primary, fields)
 }
 
@@ -215,9 +217,9 @@ fn read_named_account(
 ) -> Result<Row, Unread>
     ensures { ReadsWhole result (named_account domain rid kind bits primary fields.entry) }
 {
-    let name = fields.text(alloc)?;
-    let full_name = fields.text(alloc)?;
-    let comment = fields.text(alloc)?;
+    let name = read_text(alloc, &mut fields)?;
+    let full_name = read_text(alloc, &mut fields)?;
+    let comment = read_text(alloc, &mut fields)?;
     let row = AccountRow {
         domain,
         rid,
@@ -235,7 +237,7 @@ fn read_named_account(
 fn read_member(group: u32, user: u32, mut fields: Fields<'_>) -> Result<Row, Unread>
     ensures { ReadsWhole result (member_of group user fields.entry) }
 {
-    let attributes = fields.number()?;
+    let attributes = read_number(&mut fields)?;
     let row = MemberRow {
         group,
         user,
@@ -284,9 +286,9 @@ fn ascend(privileges: &[Held]) -> bool
 fn read_lsa(alloc: Global, sid: Sid, mut fields: Fields<'_>) -> Result<Row, Unread>
     ensures { ReadsWhole result (lsa_of sid fields.entry) }
 {
-    let access = fields.number()?;
-    let count = fields.byte()?;
-    let privileges = fields.privileges(alloc, count)?;
+    let access = read_number(&mut fields)?;
+    let count = read_byte(&mut fields)?;
+    let privileges = read_privileges(alloc, &mut fields, count)?;
     if !ascend(privileges.as_slice()) {
         return Err(Unread::Misspelled);
     }

@@ -1,4 +1,4 @@
--- `leave_conn` meets its contract: what the search leaves open.
+-- The handles of a connection, taken by key from the index by object, leave those of other connections there.
 use Rattle.std.proofs.Common.{◌≡◌, ◌==◌, Bool, true, not, List, sym, ap, ◌∙◌, rules}
 use Rattle.std.specs.List.{filter}
 use Rattle.acct_tables.specs.Keyed.{is_within, is_ascending, sorted, without_all}

@@ -1,4 +1,4 @@
--- `leave_object` meets its contract: what the search leaves open.
+-- The handles to an object, taken by key from the index by number, leave those to other objects there.
 use Rattle.std.proofs.Common.{◌≡◌, Bool, true, List, ap, ◌∙◌, rules}
 use Rattle.std.specs.List.{filter}
 use Rattle.acct_rows.specs.Objects.{same_object}

@@ -1,4 +1,4 @@
--- The law of `access_is_denied_exactly`, by the lemmas that are cited.
+-- A call that ran is answered STATUS_ACCESS_DENIED exactly where its grant lacks a bit or its opening is refused.
 use Rattle.std.proofs.Common.{Option, refl, sym, subst, ◌↔◌}
 use Rattle.acct_codes.specs.Statuses.{status_access_denied}
 use Rattle.acct_rules.specs.Operations.{Operation, IsRight}

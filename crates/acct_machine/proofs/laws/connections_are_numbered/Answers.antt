@@ -1,4 +1,4 @@
--- The law of `connections_are_numbered`, by the lemmas that are cited.
+-- The connections of a legal history are numbered from 1, at configured listeners, and each entry is of one.
 use Rattle.acct_machine.proofs.Connected.{are-connected}
 use Rattle.acct_machine.proofs.Passing.{entries-are-numbered}
 use Rattle.acct_machine.proofs.laws.connections_are_numbered.Goals as goal

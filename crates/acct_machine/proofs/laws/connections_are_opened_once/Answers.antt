@@ -1,4 +1,4 @@
--- The law of `connections_are_opened_once`, by the lemmas that are cited.
+-- Each connection of a legal history is opened once: the entries before its opening are of others.
 use Rattle.acct_machine.proofs.Passing.{opened-once}
 use Rattle.acct_machine.proofs.laws.connections_are_opened_once.Goals as goal
 

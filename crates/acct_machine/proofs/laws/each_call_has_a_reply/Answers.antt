@@ -1,4 +1,4 @@
--- The law of `each_call_has_a_reply`, by the lemmas that are cited.
+-- A connection has as many replies as calls in each history.
 use Rattle.acct_machine.specs.State.{first}
 use Rattle.acct_machine.proofs.History.{length-replies}
 use Rattle.acct_machine.proofs.laws.each_call_has_a_reply.Goals as goal

@@ -1,4 +1,4 @@
--- The law of `grants_come_from_openings`, by the lemmas that are cited.
+-- Each handle that is open after a history was opened in it by a call that ran, and has that opening's grant.
 use Rattle.std.proofs.Common.{[], refl, arith}
 use Rattle.acct_machine.specs.State.{first}
 use Rattle.acct_machine.proofs.Granting.{granted-after}

@@ -1,4 +1,4 @@
--- The law of `kept_states_are_sound`, by the lemmas that are cited.
+-- From sound rows each legal history leaves a sound state: operations keep the rows sound, and grants are valid.
 use Rattle.acct_machine.proofs.Sounds.{are-sound}
 use Rattle.acct_machine.proofs.laws.kept_states_are_sound.Goals as goal
 

@@ -1,4 +1,4 @@
--- The law of `openings_are_decided`, by the lemmas that are cited.
+-- In a right configuration openings grant what the check gives over the kind's descriptor and the listener's token.
 use Rattle.std.proofs.Common.{◌≡◌, ℕ, zero, suc, ◌<◌, Bool, true, false, cond, ◌==◌, List, [], ◌∷◌, length, Option}
 use Rattle.std.proofs.Common.{Some, refl, sym, subst, arith}
 use Rattle.std.specs.List.{All, slice_get}

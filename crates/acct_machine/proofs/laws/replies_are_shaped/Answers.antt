@@ -1,4 +1,4 @@
--- The law of `replies_are_shaped`, by the lemmas that are cited.
+-- Each reply of a legal history from sound rows is a fault or has its operation's shape, as long as there is room.
 use Rattle.acct_machine.proofs.Answering.{answers-in-history}
 use Rattle.acct_machine.proofs.laws.replies_are_shaped.Goals as goal
 

@@ -1,4 +1,4 @@
--- `find_conn` meets its contract: what the search leaves open.
+-- Connection n stands at place n - 1, so `find_conn` finds it there, and none for 0 or a number past the last.
 use Rattle.std.proofs.Common.{sym, arith}
 use Rattle.std.proofs.lemmas.Bool.Decides.{nat_tests}
 use Rattle.acct_machine.proofs.Places.{find-at, find-none}

@@ -1,4 +1,4 @@
--- `set_serial` meets its contract: what the search leaves open.
+-- Connection n stands at place n - 1, so its serial is set there, and none for 0 or a number past the last.
 use Rattle.std.proofs.Common.{◌-◌, set, sym, ◌∙◌, ap, arith}
 use Rattle.std.proofs.lemmas.Bool.Decides.{nat_tests}
 use Rattle.acct_machine.specs.declared.state.Conn.{Conn}

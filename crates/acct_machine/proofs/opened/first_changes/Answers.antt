@@ -1,4 +1,4 @@
--- `first_changes` meets its contract: what the search leaves open.
+-- Puts of pairs that ascend, made where no pair is, leave just these, and they are the pairs of the rows.
 use Rattle.std.proofs.Common.{[], List, sym, ◌∙◌, ap, subst}
 use Rattle.acct_keeper.specs.declared.pairs.Change.{Change}
 use Rattle.acct_keeper.specs.declared.pairs.Pair.{Pair}

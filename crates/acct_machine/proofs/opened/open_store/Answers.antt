@@ -1,11 +1,11 @@
--- `open_store` meets its contract: what the search leaves open.
+-- Pairs that the keeper holds break no rule where rows are read of them, and they are the pairs of these rows.
 use Rattle.std.proofs.Common.{sym, ◌∙◌}
 use Rattle.acct_machine.proofs.Loaded.{opened-of}
 use Rattle.acct_machine.proofs.opened.open_store.Goals as goal
 
-pub returns-in-Ok-from_pairs-clause-opened : goal.returns-in-Ok-from_pairs-clause-opened
-returns-in-Ok-from_pairs-clause-opened g c =
-    opened-of c.args.config.now (g.K.Keeper.held c.args.keeper.now) c.in-Ok.pairs.items c.deref.result.now
-    c.in-Ok-from_pairs.rows.lists c.in-Ok.pairs.len (sym c.in-Ok.pairs.ok.0)
-    (sym c.is_empty.ensures ∙ c.if-is_empty.false) c.in-Ok.ensures.all c.in-Ok.ensures.ascending c.deref.ensures.value
-    c.in-Ok-from_pairs.ensures.unbroken c.in-Ok-from_pairs.ensures.pairs
+pub returns-clause-opened : goal.returns-clause-opened
+returns-clause-opened g c =
+    opened-of c.args.config.now (g.K.Keeper.held c.args.keeper.now) c.in_ok-pairs.pairs.items c.deref.result.now
+    c.in_ok-from_pairs.field-0.lists c.in_ok-pairs.pairs.len (sym c.in_ok-pairs.pairs.ok.0)
+    (sym c.is_empty.ensures ∙ c.if-is_empty.false) c.in_ok-pairs.ensures.all c.in_ok-pairs.ensures.ascending
+    c.deref.ensures.value c.in_ok-from_pairs.ensures.unbroken c.in_ok-from_pairs.ensures.pairs

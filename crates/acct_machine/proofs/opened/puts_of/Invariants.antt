@@ -1,4 +1,4 @@
--- What the loop of `puts_of` keeps.
+-- The changes so far, followed by the puts of the pairs left, are the puts of all the pairs.
 use Rattle.std.proofs.Common.{◌≡◌, ◌++◌, map}
 use Rattle.std.specs.Vec.Iter.{into_iter_items}
 use Rattle.acct_machine.specs.Opened.{put_of}

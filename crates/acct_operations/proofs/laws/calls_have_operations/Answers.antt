@@ -1,4 +1,4 @@
--- The law of `calls_have_operations`, by the lemmas that are cited.
+-- Each call that some served stub spells has its operation in the table.
 use Rattle.acct_operations.proofs.Served.{calls-built}
 use Rattle.acct_operations.proofs.laws.calls_have_operations.Goals as goal
 

@@ -1,4 +1,4 @@
--- The law of `operations_are_right`, by the lemmas that are cited.
+-- Each operation of the table is right, and is found by its interface and its opnum.
 use Rattle.std.proofs.Common.{◌≡◌, lit<, Some, refl}
 use Rattle.acct_calls.specs.declared.calls.Face.TheVariants.{Samr, Lsa}
 use Rattle.acct_codes.specs.Opnums.{samr_connect2, samr_connect4, samr_connect5, samr_close_handle, lsar_open_policy2}

@@ -1,4 +1,4 @@
--- The law of `operations_keep_rows`, by the lemmas that are cited.
+-- Each operation of the table keeps the rows sound, and what it opens is there.
 use Rattle.acct_calls.specs.declared.calls.Face.TheVariants.{Samr, Lsa}
 use Rattle.acct_codes.specs.Opnums.{samr_connect2, samr_connect4, samr_connect5, samr_close_handle, lsar_open_policy2}
 use Rattle.acct_codes.specs.Opnums.{lsar_close}

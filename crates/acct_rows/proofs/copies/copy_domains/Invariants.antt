@@ -1,4 +1,4 @@
--- What the loop of `copy_domains` keeps.
+-- The copies so far are the first so many rows of domains.
 use Rattle.std.proofs.Common.{◌≡◌, take}
 use Rattle.acct_rows.proofs.copies.copy_domains.Given as goal
 

@@ -1,4 +1,4 @@
--- What the loop of `copy_lsa` keeps.
+-- The copies so far are the first so many rows of LSA accounts.
 use Rattle.std.proofs.Common.{◌≡◌, take}
 use Rattle.acct_rows.proofs.copies.copy_lsa.Given as goal
 

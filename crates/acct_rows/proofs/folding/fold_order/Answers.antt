@@ -1,4 +1,4 @@
--- `fold_order` meets its contract: what the search leaves open.
+-- `fold_order` may pass over folded code points that are equal; the first that differ decide, or the shorter text.
 use Rattle.std.proofs.Common.{◌≡◌, ◌≢◌, sym, ap, ◌∙◌, rules}
 use Rattle.std.specs.declared.cmp.Ordering.TheVariants.{Equal}
 use Rattle.std.specs.Ordering.{nat_cmp, ordering_then}

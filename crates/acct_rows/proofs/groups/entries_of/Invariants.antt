@@ -1,4 +1,4 @@
--- What the loop of `entries_of` keeps.
+-- The entries so far, by user, are those of the first so many rows of members.
 use Rattle.std.proofs.Common.{◌≡◌, take, map}
 use Rattle.acct_rows.specs.Users.{by_user}
 use Rattle.acct_rows.proofs.groups.entries_of.Given as goal

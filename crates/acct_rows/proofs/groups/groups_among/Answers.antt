@@ -1,4 +1,4 @@
--- `groups_among` meets its contract: what the search leaves open.
+-- The users rise, so what lies from the first row not below a user to the first above it is just its groups.
 use Rattle.std.proofs.Common.{leb, ltb, arith, rules}
 use Rattle.std.proofs.lemmas.List.Sorted.{IsPartitionPoint-from_clause, IsPartitionedBy-leb, IsPartitionedBy-ltb}
 use Rattle.acct_rows.proofs.Together.{in_order, together}

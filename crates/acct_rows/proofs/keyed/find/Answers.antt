@@ -1,4 +1,4 @@
--- `find` meets its contract: what the search leaves open.
+-- The row at the place that halving found is the one with the key; where it found none, no row has the key.
 use Rattle.std.proofs.Common.{sym, ◌∙◌}
 use Rattle.acct_rows.proofs.Places.{at-placed, at-unplaced}
 use Rattle.acct_rows.proofs.keyed.find.Goals as goal

@@ -1,4 +1,4 @@
--- `place` meets its contract: what the search leaves open.
+-- Halving finds where a key stands in rows that ascend, or would go, since each comparison is that of the keys.
 use Rattle.std.proofs.Common.{rules}
 use Rattle.std.proofs.lemmas.Fn.{always_returns_same}
 use Rattle.acct_rows.specs.Keyed.{compare}

@@ -1,4 +1,4 @@
--- `put` meets its contract: what the search leaves open.
+-- A row written over the one found, or inserted where none is, gives the rows with it put; there is room for it.
 use Rattle.std.proofs.Common.{sym, ap, ◌∙◌, ◌≡◌, true, Ok, Err, rules, insert, is_ok, if◌then◌else◌}
 use Rattle.acct_rows.proofs.Places.{put-placed}
 use Rattle.acct_rows.proofs.keyed.put.Goals as goal

@@ -1,4 +1,4 @@
--- `remove` meets its contract: what the search leaves open.
+-- Without the row at the place found the rows are those without the key; where none is found, they are so already.
 use Rattle.std.proofs.Common.{sym, ◌∙◌, Ok, Err}
 use Rattle.acct_rows.proofs.Places.{without-placed}
 use Rattle.acct_rows.proofs.keyed.remove.Goals as goal

@@ -1,4 +1,4 @@
--- `sort` meets its contract: what the search leaves open.
+-- The order that `sort` compares by is that of the keys, which is total, so the rows are left sorted by their keys.
 use Rattle.std.proofs.Common.{rules}
 use Rattle.std.specs.Cmp.Lexicographic.{nat_list_cmp_total}
 use Rattle.std.proofs.lemmas.List.Sorted.{ranks_by, answers_always}

@@ -1,4 +1,4 @@
--- The law of `each_is_good`, by the lemmas that are cited.
+-- Each domain and each account of sound rows stands at its key and keeps its rules.
 use Rattle.acct_rows.proofs.Keeping.{each_good}
 use Rattle.acct_rows.proofs.laws.each_is_good.Goals as goal
 

@@ -1,4 +1,4 @@
--- The law of `each_member_is_found`, by the lemmas that are cited.
+-- Each member row and each alias row of sound rows is found at its key.
 use Rattle.acct_rows.proofs.Keeping.{each_member_found}
 use Rattle.acct_rows.proofs.laws.each_member_is_found.Goals as goal
 

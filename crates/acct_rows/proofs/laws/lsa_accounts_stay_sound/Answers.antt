@@ -1,4 +1,4 @@
--- The law of `lsa_accounts_stay_sound`, by the lemmas that are cited.
+-- Rows stay sound when an account of the policy that keeps the rules is put.
 use Rattle.acct_rows.proofs.Moves.{lsa_sound}
 use Rattle.acct_rows.proofs.laws.lsa_accounts_stay_sound.Goals as goal
 

@@ -1,4 +1,4 @@
--- The law of `name_found_is_free`, by the lemmas that are cited.
+-- A name that is found as the account's own, in whatever case, is free for the account.
 use Rattle.acct_rows.proofs.Moves.{found_name_free}
 use Rattle.acct_rows.proofs.laws.name_found_is_free.Goals as goal
 

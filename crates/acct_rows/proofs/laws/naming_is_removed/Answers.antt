@@ -1,4 +1,4 @@
--- The law of `naming_is_removed`, by the lemmas that are cited.
+-- Without an account and the rows that name it the others are as they were, and its RID and name find nothing.
 use Rattle.acct_rows.proofs.Without.{naming_removed}
 use Rattle.acct_rows.proofs.laws.naming_is_removed.Goals as goal
 

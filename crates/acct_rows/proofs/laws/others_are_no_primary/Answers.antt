@@ -1,4 +1,4 @@
--- The law of `others_are_no_primary`, by the lemmas that are cited.
+-- An account of sound rows that is no group is no user's primary group.
 use Rattle.acct_rows.proofs.Purges.{no_primary}
 use Rattle.acct_rows.proofs.laws.others_are_no_primary.Goals as goal
 

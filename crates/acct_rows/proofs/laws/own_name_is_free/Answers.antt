@@ -1,4 +1,4 @@
--- The law of `own_name_is_free`, by the lemmas that are cited.
+-- The name that an account has is free for it.
 use Rattle.acct_rows.proofs.Moves.{own_name_free}
 use Rattle.acct_rows.proofs.laws.own_name_is_free.Goals as goal
 

@@ -1,4 +1,4 @@
--- The law of `puts_are_undone`, by the lemmas that are cited.
+-- A member row or an alias row that wasn't there, put and removed again, leaves the rows as they were.
 use Rattle.acct_rows.proofs.Undoing.{undone}
 use Rattle.acct_rows.proofs.laws.puts_are_undone.Goals as goal
 

@@ -1,4 +1,4 @@
--- The law of `removed_alias_rows_stay_sound`, by the lemmas that are cited.
+-- Rows stay sound when an alias row is removed.
 use Rattle.acct_rows.proofs.Moves.{removed_alias_row_sound}
 use Rattle.acct_rows.proofs.laws.removed_alias_rows_stay_sound.Goals as goal
 

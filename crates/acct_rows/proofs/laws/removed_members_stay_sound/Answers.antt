@@ -1,4 +1,4 @@
--- The law of `removed_members_stay_sound`, by the lemmas that are cited.
+-- Rows stay sound when a member row goes that isn't the user's for its primary group.
 use Rattle.acct_rows.proofs.Moves.{removed_member_sound}
 use Rattle.acct_rows.proofs.laws.removed_members_stay_sound.Goals as goal
 

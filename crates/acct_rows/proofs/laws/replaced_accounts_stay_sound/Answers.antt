@@ -1,4 +1,4 @@
--- The law of `replaced_accounts_stay_sound`, by the lemmas that are cited.
+-- Rows stay sound when an account gives way to one with its key and kind that keeps the rules.
 use Rattle.acct_rows.proofs.Moves.{replaced_sound}
 use Rattle.acct_rows.proofs.laws.replaced_accounts_stay_sound.Goals as goal
 

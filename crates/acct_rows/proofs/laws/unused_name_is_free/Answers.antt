@@ -1,4 +1,4 @@
--- The law of `unused_name_is_free`, by the lemmas that are cited.
+-- A name that finds no account of the domain is free.
 use Rattle.acct_rows.proofs.Moves.{unused_name_free}
 use Rattle.acct_rows.proofs.laws.unused_name_is_free.Goals as goal
 

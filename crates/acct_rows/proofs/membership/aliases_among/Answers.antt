@@ -1,4 +1,4 @@
--- `aliases_among` meets its contract: what the search leaves open.
+-- The RIDs of all SIDs, sorted and without those that stand twice, ascend strictly and are the same RIDs.
 use Rattle.std.proofs.Common.{◌≡◌, sym, ap, subst, ◌∙◌}
 use Rattle.std.proofs.lemmas.List.{take_all}
 use Rattle.std.proofs.lemmas.List.Filters.{dedup_is}

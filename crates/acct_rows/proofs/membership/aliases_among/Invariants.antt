@@ -1,4 +1,4 @@
--- What the loop of `aliases_among` keeps.
+-- The RIDs so far are the aliases of the domain that have the SIDs passed as members, SID by SID.
 use Rattle.std.proofs.Common.{◌≡◌, take}
 use Rattle.acct_rows.specs.Indexes.{held_by}
 use Rattle.acct_rows.proofs.membership.aliases_among.Given as goal

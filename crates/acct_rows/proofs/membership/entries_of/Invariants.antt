@@ -1,4 +1,4 @@
--- What the loop of `entries_of` keeps.
+-- The memberships so far are those of the first so many rows of aliases' members.
 use Rattle.std.proofs.Common.{◌≡◌, take, map}
 use Rattle.acct_rows.specs.Indexes.{membership_of}
 use Rattle.acct_rows.proofs.membership.entries_of.Given as goal

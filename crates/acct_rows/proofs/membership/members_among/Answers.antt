@@ -1,4 +1,4 @@
--- `members_among` meets its contract: what the search leaves open.
+-- The groups rise, so what lies from the first row not below a group to the first above it is just its members.
 use Rattle.std.proofs.Common.{leb, ltb, arith, rules}
 use Rattle.std.proofs.lemmas.List.Sorted.{IsPartitionPoint-from_clause, IsPartitionedBy-leb, IsPartitionedBy-ltb}
 use Rattle.acct_rows.proofs.Together.{group, groups_rise, in_order, together}

@@ -1,4 +1,4 @@
--- `push_aliases` meets its contract: what the search leaves open.
+-- The memberships of a SID in a domain are a run from the place found: those pushed so far and the run ahead are all.
 use Rattle.std.proofs.Common.{◌≡◌, ◌+◌, ◌-◌, true, [], ◌∷◌, ◌++◌, length}
 use Rattle.std.proofs.Common.{take, drop, map, sym, ap, ◌∙◌, append_assoc, rules}
 use Rattle.std.proofs.lemmas.List.{append-nil, take_rest}

@@ -1,4 +1,4 @@
--- What the loop of `push_aliases` keeps.
+-- The aliases so far, then those of the matching rows that come next, are all that have the SID in the domain.
 use Rattle.std.proofs.Common.{◌≡◌, ◌++◌, drop, map}
 use Rattle.std.specs.List.{filter}
 use Rattle.acct_rows.specs.Indexes.{is_for, alias_of}

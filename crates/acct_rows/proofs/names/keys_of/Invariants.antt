@@ -1,4 +1,4 @@
--- What the loop of `keys_of` keeps.
+-- The keys so far are the domains and RIDs of the first so many accounts.
 use Rattle.std.proofs.Common.{◌≡◌, take, map}
 use Rattle.acct_rows.specs.Indexes.{pair_of}
 use Rattle.acct_rows.proofs.names.keys_of.Given as goal

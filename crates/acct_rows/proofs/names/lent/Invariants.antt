@@ -1,4 +1,4 @@
--- What the loop of `lent` keeps.
+-- The rows lent so far are the first so many accounts, where they stand.
 use Rattle.std.proofs.Common.{◌≡◌, take, map}
 use Rattle.acct_rows.proofs.names.lent.Given as goal
 

@@ -1,4 +1,4 @@
--- `place` meets its contract: what the search leaves open.
+-- Halving finds where a name stands among keys that ascend by name, or would go, as each comparison is that of names.
 use Rattle.std.proofs.Common.{rules}
 use Rattle.std.proofs.lemmas.Fn.{always_returns_same}
 use Rattle.acct_rows.specs.Indexes.{named, key_at}

@@ -1,4 +1,4 @@
--- `remove` meets its contract: what the search leaves open.
+-- Without the key that an account's name finds, the keys are the other names; an absent account leaves all of them.
 use Rattle.std.proofs.Common.{◌≡◌, [], ◌∷◌, true, remove, Some, None, Ok, Err, sym, ap, subst, ◌∙◌, rules}
 use Rattle.acct_rows.specs.Indexes.{named, key_at, names_of}
 use Rattle.acct_rows.specs.Keyed.{at, place, is_ascending}

@@ -1,4 +1,4 @@
--- `row_order` meets its contract: what the search leaves open.
+-- Of accounts in one domain the folded names are compared first, and then the RIDs, as in the order of their keys.
 use Rattle.std.proofs.Common.{◌≡◌, sym, ◌∙◌, rules}
 use Rattle.std.specs.declared.cmp.Ordering.TheVariants.{Equal}
 use Rattle.std.specs.Ordering.{nat_cmp, ordering_then}

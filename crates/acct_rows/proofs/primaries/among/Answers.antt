@@ -1,4 +1,4 @@
--- `among` meets its contract: what the search leaves open.
+-- What lies from the first entry not below a primary group to the first above it is just the entries of its accounts.
 use Rattle.std.proofs.Common.{leb, ltb, arith, rules}
 use Rattle.std.proofs.lemmas.List.Sorted.{IsPartitionPoint-from_clause, IsPartitionedBy-leb, IsPartitionedBy-ltb}
 use Rattle.acct_rows.proofs.PrimaryGroups.{primary, primaries_rise}

@@ -1,4 +1,4 @@
--- What the loop of `entries_of` keeps.
+-- The entries so far, by primary group, are those of the first so many accounts.
 use Rattle.std.proofs.Common.{◌≡◌, take, map}
 use Rattle.acct_rows.specs.Primaries.{by_primary}
 use Rattle.acct_rows.proofs.primaries.entries_of.Given as goal

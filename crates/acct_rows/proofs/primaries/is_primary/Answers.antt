@@ -1,4 +1,4 @@
--- `is_primary` meets its contract: what the search leaves open.
+-- There is a user among the entries of a group just where the group is some user's primary group.
 use Rattle.std.proofs.Common.{◌≡◌, ap, ◌∙◌, rules}
 use Rattle.std.specs.List.{filter, list_any}
 use Rattle.acct_rows.specs.Primaries.{primaries_of, is_for}

@@ -1,4 +1,4 @@
--- `put` meets its contract: what the search leaves open.
+-- Without the old entry, and with the new one put, the entries are those of the accounts with the row put.
 use Rattle.std.proofs.Common.{ap, ◌∙◌}
 use Rattle.acct_rows.specs.Keyed.{put, without}
 use Rattle.acct_rows.specs.Primaries.{primary_key, by_primary, primaries_of}

@@ -1,4 +1,4 @@
--- `remove` meets its contract: what the search leaves open.
+-- Without the entry of an account the entries are those of the other accounts; where none is at the key, they stay.
 use Rattle.std.proofs.Common.{◌≡◌, List, ℕ, [], ◌∷◌, Some, None, ap, ◌∙◌, rules}
 use Rattle.acct_rows.specs.Keyed.{at, without}
 use Rattle.acct_rows.specs.Primaries.{primary_key, by_primary}

@@ -1,4 +1,4 @@
--- `accounts_behind` meets its contract: what the search leaves open.
+-- The accounts of a domain behind a RID lie between the two places that halving finds, and there is no other there.
 use Rattle.std.proofs.Common.{arith, rules}
 use Rattle.std.proofs.lemmas.List.Sorted.{IsPartitionPoint-from_clause}
 use Rattle.acct_rows.specs.Ranges.{is_behind}

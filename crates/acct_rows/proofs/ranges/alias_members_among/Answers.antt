@@ -1,4 +1,4 @@
--- `alias_members_among` meets its contract: what the search leaves open.
+-- What lies from the first row not below an alias to the first above it is just its members.
 use Rattle.std.proofs.Common.{arith, rules}
 use Rattle.std.proofs.lemmas.List.Sorted.{IsPartitionPoint-from_clause}
 use Rattle.acct_rows.specs.Rows.{is_in_alias}

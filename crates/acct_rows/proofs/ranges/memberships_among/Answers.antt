@@ -1,4 +1,4 @@
--- `memberships_among` meets its contract: what the search leaves open.
+-- What lies from the first membership not below a SID to the first above it is just its memberships.
 use Rattle.std.proofs.Common.{arith, rules}
 use Rattle.std.proofs.lemmas.List.Sorted.{IsPartitionPoint-from_clause}
 use Rattle.acct_rows.specs.Naming.{has_sid}

@@ -1,4 +1,4 @@
--- What the loop of `put_all` keeps.
+-- Putting the rows left gives what putting all gives, and each row that was put took one place of the room.
 use Rattle.std.proofs.Common.{◌≡◌, ◌+◌, ◌≤◌, length}
 use Rattle.std.specs.Vec.Iter.{into_iter_items}
 use Rattle.acct_rows.specs.Rows.{with_puts}

@@ -1,4 +1,4 @@
--- What the loop of `remove_all` keeps.
+-- Removing the keys left gives what removing all of them gives, and the room is what it was.
 use Rattle.std.proofs.Common.{◌≡◌, drop}
 use Rattle.acct_rows.specs.Rows.{removed}
 use Rattle.acct_rows.proofs.rows.remove_all.Given as goal

@@ -1,4 +1,4 @@
--- `push_groups` meets its contract: what the search leaves open.
+-- The three groups pushed one after the other are the seed groups behind the rows that were there.
 use Rattle.std.proofs.Common.{◌≡◌, List, [], ◌∷◌, ◌++◌, refl, append_assoc}
 use Rattle.acct_rows.proofs.seed.push_groups.Goals as goal
 

@@ -1,4 +1,4 @@
--- The law of `additions_are_undone`, by the lemmas that are cited.
+-- To remove a member that was added leaves the rows as they were, and a group's conditions allow it.
 use Rattle.samr_members.proofs.Undoing.{group-allows, group-undone, alias-undone}
 use Rattle.samr_members.proofs.laws.additions_are_undone.Goals as goal
 

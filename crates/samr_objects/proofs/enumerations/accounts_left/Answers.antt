@@ -1,4 +1,4 @@
--- `accounts_left` meets its contract: what is wanted stands behind the RID.
+-- All accounts that are wanted stand behind the RID, so none is missing from those that are walked.
 use Rattle.std.proofs.Common.{ap, ◌∙◌}
 use Rattle.std.specs.List.{filter}
 use Rattle.samr_objects.specs.Enumerations.{is_wanted}

@@ -1,4 +1,4 @@
--- `alias_member_count` meets its contract: there are fewer members of an alias than alias rows.
+-- An alias has no more members than there are alias rows, so their number fits 32 bits.
 use Rattle.std.proofs.Common.{◌≡◌, length, ap, arith}
 use Rattle.std.specs.List.{filter}
 use Rattle.acct_rows.specs.Rows.{is_in_alias}

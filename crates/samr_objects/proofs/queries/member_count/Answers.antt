@@ -1,4 +1,4 @@
--- `member_count` meets its contract: there are fewer members of a group than member rows.
+-- A group has no more members than there are member rows, so their number fits 32 bits.
 use Rattle.std.proofs.Common.{◌≡◌, length, ap, arith}
 use Rattle.std.specs.List.{filter}
 use Rattle.acct_rows.specs.Rows.{is_in_group}

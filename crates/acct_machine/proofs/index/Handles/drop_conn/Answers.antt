@@ -1,4 +1,4 @@
--- `Handles::drop_conn` meets its contract: what the search leaves open.
+-- After `drop_conn` both indices hold the same handles: those of other connections, in the order they came in.
 use Rattle.std.proofs.Common.{◌≡◌, ◌==◌, Bool, true, not, List, sym, ap, subst, ◌∙◌, rules, arith}
 use Rattle.std.specs.List.{filter}
 use Rattle.acct_tables.specs.Keyed.{is_within, is_ascending, sorted}

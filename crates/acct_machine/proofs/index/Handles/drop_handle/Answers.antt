@@ -1,4 +1,4 @@
--- `Handles::drop_handle` meets its contract: what the search leaves open.
+-- After `drop_handle` both indices hold the same handles: all but the connection's of that number, as they came in.
 use Rattle.std.proofs.Common.{◌≡◌, Bool, true, not, List, sym, ap, subst, ◌∙◌, rules, arith}
 use Rattle.std.specs.List.{filter}
 use Rattle.acct_tables.specs.Keyed.{is_within, is_ascending, sorted, without_all}

@@ -1,4 +1,4 @@
--- `Handles::drop_object` meets its contract: what the search leaves open.
+-- After `drop_object` both indices hold the same handles: those to other objects, in the order they came in.
 use Rattle.std.proofs.Common.{◌≡◌, Bool, true, not, List, sym, ap, subst, ◌∙◌, rules, arith}
 use Rattle.std.specs.List.{filter}
 use Rattle.acct_rows.specs.Objects.{same_object}

@@ -1,4 +1,4 @@
--- `Handles::find` meets its contract: what the search leaves open.
+-- What the index by number finds is the handle of the connection with the number, or none where there is none.
 use Rattle.std.proofs.Common.{◌≡◌, true, Some, None, option_map, List, ap, ◌∙◌, rules}
 use Rattle.std.specs.List.{find}
 use Rattle.acct_tables.specs.Keyed.{is_within, is_ascending}

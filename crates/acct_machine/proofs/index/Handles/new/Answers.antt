@@ -1,4 +1,4 @@
--- `Handles::new` meets its contract: what the search leaves open.
+-- Where no handle came in, both indices are empty, and so is the list of handles.
 use Rattle.std.proofs.Common.{List, sym, ap, subst, ◌∙◌, arith}
 use Rattle.acct_tables.specs.Keyed.{sorted}
 use Rattle.acct_machine.specs.declared.arrivals.Arrival.{Arrival}

@@ -1,4 +1,4 @@
--- `Handles::push` meets its contract: what the search leaves open.
+-- A handle that comes in goes into both indices with the latest turn, so that it stands last among the handles.
 use Rattle.std.proofs.Common.{◌≡◌, ◌+◌, true, List, [], ◌∷◌, ◌++◌, refl, sym, ap, subst, ◌∙◌, rules, arith}
 use Rattle.acct_tables.specs.Keyed.{is_ascending, sorted, put}
 use Rattle.acct_machine.specs.declared.arrivals.Arrival.{Arrival}

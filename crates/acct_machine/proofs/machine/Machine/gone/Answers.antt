@@ -1,4 +1,4 @@
--- `Machine::gone` meets its contract: what the search leaves open.
+-- There is room for the end of a live connection: entered, it leaves one less live, the same calls and the same rows.
 use Rattle.std.proofs.Common.{refl, ◌≡◌, ℕ, ◌≤◌, ◌<◌, List, [], ◌∷◌, ◌++◌, true, sym, ap, subst, arith, length}
 use Rattle.std.specs.Vec.{vec_capacity}
 use Rattle.std.proofs.lemmas.Grind.{common_steps}

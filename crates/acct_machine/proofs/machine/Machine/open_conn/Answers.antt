@@ -1,4 +1,4 @@
--- `Machine::open_conn` meets its contract: what the search leaves open.
+-- Below the limit an opening has room, gets the next number and is live and fresh; at the limit nothing is opened.
 use Rattle.std.proofs.Common.{refl, rules, ℕ, ◌≡◌, ◌+◌, ◌≤◌, ◌<◌, ◌^◌, Some, None, [], ◌∷◌, ◌++◌, sym, ◌∙◌, ap}
 use Rattle.std.proofs.Common.{subst, arith, length}
 use Rattle.std.specs.Vec.{vec_capacity}

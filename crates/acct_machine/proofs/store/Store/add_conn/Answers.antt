@@ -1,4 +1,4 @@
--- `Store::add_conn` meets its contract: what the search leaves open.
+-- With one more of the next number, the connections are numbered from 1 on as before, and have no less room.
 use Rattle.std.proofs.Common.{◌≡◌, ◌≤◌, ◌+◌, [], ◌∷◌, ◌++◌, length, sym, subst, arith, List}
 use Rattle.std.specs.Vec.{vec_capacity}
 use Rattle.std.proofs.lemmas.Grind.{common_steps}

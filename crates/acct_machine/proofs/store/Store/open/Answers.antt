@@ -1,4 +1,4 @@
--- `Store::open` meets its contract: what the search leaves open.
+-- A connection with another serial keeps its number, so that they are numbered from 1 on as before.
 use Rattle.std.proofs.Common.{List, sym, subst, arith}
 use Rattle.acct_machine.specs.declared.state.Conn.{Conn}
 use Rattle.acct_machine.specs.Sound.{IsNumberedFrom}

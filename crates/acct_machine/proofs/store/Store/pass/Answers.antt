@@ -1,4 +1,4 @@
--- `Store::pass` meets its contract: what the search leaves open.
+-- A plan leaves sound rows; `Store::pass` wants memory only where it may, and the keeper stays where no row changes.
 use Rattle.std.proofs.Common.{rules, ◌≡◌, subst, sym}
 use Rattle.acct_rows.specs.Rows.{after}
 use Rattle.acct_rows.specs.Sound.{IsSoundRows}

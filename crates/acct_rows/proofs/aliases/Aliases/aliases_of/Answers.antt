@@ -1,4 +1,4 @@
--- `Aliases::aliases_of` meets its contract: what the search leaves open.
+-- The RIDs that the index by SID gives, ascending and each once, are those of the aliases with one of the SIDs.
 use Rattle.std.proofs.Common.{◌≡◌, true, rules, subst}
 use Rattle.std.specs.Result.{IfOk}
 use Rattle.std.specs.Prelude.{◌↔◌, ℕ}

@@ -1,4 +1,4 @@
--- `Aliases::new` meets its contract: what the search leaves open.
+-- Where there is no alias row, the index by SID is empty as well.
 use Rattle.std.proofs.Common.{sym, ap, ◌∙◌, rules}
 use Rattle.acct_rows.specs.Indexes.{memberships_of}
 use Rattle.acct_rows.proofs.Holding.{no_memberships}

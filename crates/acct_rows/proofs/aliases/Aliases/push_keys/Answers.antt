@@ -1,4 +1,4 @@
--- `Aliases::push_keys` meets its contract: what the search leaves open.
+-- An account's alias rows are, in order, those with its SID below it, its members, and those with its SID above it.
 use Rattle.std.proofs.Common.{◌≡◌, Bool, true, false, ◌++◌, map, ap, ◌∙◌, rules}
 use Rattle.std.specs.List.{filter}
 use Rattle.acct_rows.specs.Indexes.{memberships_of}

@@ -1,4 +1,4 @@
--- `Aliases::put` meets its contract: what the search leaves open.
+-- A row put among the alias rows is put in the index by SID as well, which stays the memberships of the rows.
 use Rattle.std.proofs.Common.{◌≡◌, true, sym, ap, ◌∙◌, rules}
 use Rattle.acct_rows.specs.Indexes.{membership_key, membership_of, memberships_of}
 use Rattle.acct_rows.specs.Keyed.{put, is_ascending}

@@ -1,4 +1,4 @@
--- `Aliases::remove` meets its contract: what the search leaves open.
+-- A row taken from the alias rows is taken from the index by SID as well, which stays the memberships of the rows.
 use Rattle.std.proofs.Common.{◌≡◌, true, sym, ap, ◌∙◌, rules}
 use Rattle.acct_rows.specs.Indexes.{held, membership_key, memberships_of}
 use Rattle.acct_rows.specs.Keyed.{without, is_ascending}

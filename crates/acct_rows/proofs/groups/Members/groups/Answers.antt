@@ -1,4 +1,4 @@
--- `Members::groups` meets its contract: what the search leaves open.
+-- The groups that the index by user gives are those of the user among all the member rows, in the same order.
 use Rattle.std.proofs.Common.{◌≡◌, true, ap, map, ◌∙◌, rules}
 use Rattle.std.specs.List.{filter}
 use Rattle.acct_rows.specs.Keyed.{is_ascending}

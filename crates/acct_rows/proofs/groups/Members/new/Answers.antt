@@ -1,4 +1,4 @@
--- `Members::new` meets its contract: what the search leaves open.
+-- Where there is no member row, the index by user is empty as well.
 use Rattle.std.proofs.Common.{sym, ap, ◌∙◌, rules}
 use Rattle.acct_rows.specs.Users.{users_of}
 use Rattle.acct_rows.proofs.Users.{no_users}

@@ -1,4 +1,4 @@
--- `Members::push_keys` meets its contract: what the search leaves open.
+-- In the account domain an account's member rows are its lower groups, its members and its higher groups; else none.
 use Rattle.std.proofs.Common.{◌≡◌, ◌==◌, Bool, true, false, ◌++◌, map, sym, ap, ◌∙◌, arith, rules}
 use Rattle.std.proofs.lemmas.Bool.Decides.{nat_tests}
 use Rattle.std.proofs.lemmas.List.{append-nil}

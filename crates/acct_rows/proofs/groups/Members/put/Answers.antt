@@ -1,4 +1,4 @@
--- `Members::put` meets its contract: what the search leaves open.
+-- A row put among the member rows is put in the index by user as well, which stays that of the rows.
 use Rattle.std.proofs.Common.{◌≡◌, true, sym, ap, ◌∙◌, rules}
 use Rattle.acct_rows.specs.Keyed.{put, is_ascending}
 use Rattle.acct_rows.specs.Rows.{member_key}

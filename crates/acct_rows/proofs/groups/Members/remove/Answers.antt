@@ -1,4 +1,4 @@
--- `Members::remove` meets its contract: what the search leaves open.
+-- A row taken from the member rows is taken from the index by user as well, which stays that of the rows.
 use Rattle.std.proofs.Common.{◌≡◌, true, [], ◌∷◌, sym, ap, ◌∙◌, rules}
 use Rattle.acct_rows.specs.Keyed.{without, is_ascending}
 use Rattle.acct_rows.specs.Rows.{member_key}

@@ -1,4 +1,4 @@
--- `Table::put` meets its contract: what the search leaves open.
+-- A row that is put leaves the table ascending and uses up at most one place of its spare room.
 use Rattle.std.proofs.Common.{arith, ◌≡◌, ap}
 use Rattle.acct_rows.proofs.Tables.{is_ascending-put}
 use Rattle.acct_rows.proofs.keyed.Table.put.Goals as goal

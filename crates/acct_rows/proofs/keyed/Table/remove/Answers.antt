@@ -1,4 +1,4 @@
--- `Table::remove` meets its contract: what the search leaves open.
+-- A row that is removed leaves the table ascending and with all its spare room.
 use Rattle.std.proofs.Common.{arith}
 use Rattle.acct_rows.proofs.Tables.{is_ascending-filter}
 use Rattle.acct_rows.proofs.keyed.Table.remove.Goals as goal

@@ -1,4 +1,4 @@
--- `order` of memberships meets its contract: what the search leaves open.
+-- Comparing the SIDs, then the domains, then the aliases is comparing the keys of the memberships.
 use Rattle.std.proofs.Common.{◌≡◌, sym, ◌∙◌, rules}
 use Rattle.std.specs.Ordering.{nat_cmp, ordering_then}
 use Rattle.dtyp_sid.specs.Order.{sid_cmp}

@@ -1,4 +1,4 @@
--- `Names::find` meets its contract: what the search leaves open.
+-- The account at the place found among the names is the one with the name; where it has another, no account has it.
 use Rattle.std.proofs.Common.{◌≡◌, ◌≤◌, ◌<◌, [], ◌∷◌, true, false, cond, drop, length, get_or, Some, None, sym, ap}
 use Rattle.std.proofs.Common.{subst, ◌∙◌}
 use Rattle.std.proofs.Common.{rules}

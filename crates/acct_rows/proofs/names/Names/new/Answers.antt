@@ -1,4 +1,4 @@
--- `Names::new` meets its contract: what the search leaves open.
+-- Where there is no account, no name is kept.
 use Rattle.std.proofs.Common.{ap, ◌∙◌}
 use Rattle.acct_rows.proofs.Named.{no_names}
 use Rattle.acct_rows.proofs.names.Names.new.Goals as goal

@@ -1,4 +1,4 @@
--- `Names::put` meets its contract: what the search leaves open.
+-- Without its old key, and with its new one put where the keys ascend, the keys are the names with the row put.
 use Rattle.std.proofs.Common.{◌≡◌, true, sym, ap, subst, ◌∙◌, rules}
 use Rattle.acct_rows.specs.Indexes.{key_at, names_of, with_pair}
 use Rattle.acct_rows.specs.Keyed.{without, is_ascending}

@@ -1,4 +1,4 @@
--- What the loop of `push_removals` keeps.
+-- The changes so far, then the removals of the keys left, are those that were there and the removals of all keys.
 use Rattle.std.proofs.Common.{◌≡◌, ◌++◌, drop}
 use Rattle.acct_rows.specs.Changes.{removals}
 use Rattle.acct_rows.proofs.pairs.changes.push_removals.Given as goal

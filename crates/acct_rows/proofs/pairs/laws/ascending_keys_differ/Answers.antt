@@ -1,4 +1,4 @@
--- `ascending_keys_differ` meets its contract.
+-- Pairs that ascend hold no key twice.
 use Rattle.acct_rows.proofs.Shuffled.{ascending_differ}
 use Rattle.acct_rows.proofs.pairs.laws.ascending_keys_differ.Goals as goal
 

@@ -1,4 +1,4 @@
--- `pairs_are_of_one` meets its contract.
+-- Sound rows with the same pairs are the same rows, since bytes that are written are read back.
 use Rattle.acct_rows.proofs.Again.{one_rows}
 use Rattle.acct_rows.proofs.pairs.laws.pairs_are_of_one.Goals as goal
 

@@ -1,4 +1,4 @@
--- `read_rows_are_spelled` meets its contract.
+-- The row that is read of a pair is the one that the pair spells, since no other bytes are read than are written.
 use Rattle.acct_rows.proofs.ReadRows as known
 use Rattle.acct_rows.proofs.pairs.laws.read_rows_are_spelled.Goals as goal
 

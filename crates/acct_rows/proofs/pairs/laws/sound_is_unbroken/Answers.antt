@@ -1,4 +1,4 @@
--- `sound_is_unbroken` meets its contract.
+-- The pairs of sound rows break no rule, and tables of rows that fit, whose pairs break none, are sound.
 use Rattle.std.proofs.Common.{◌∙◌}
 use Rattle.acct_rows.proofs.Fitting.{all_fit}
 use Rattle.acct_rows.proofs.Members.{ascending-kept}

@@ -1,4 +1,4 @@
--- `spelled_rows_are_read` meets its contract.
+-- The row that a pair spells is the one that is read of it, since bytes that are written are read back.
 use Rattle.acct_rows.proofs.SpelledRows as known
 use Rattle.acct_rows.proofs.pairs.laws.spelled_rows_are_read.Goals as goal
 

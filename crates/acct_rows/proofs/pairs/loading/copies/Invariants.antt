@@ -1,4 +1,4 @@
--- What the loop of `copies` keeps.
+-- The copies so far are the first so many pairs.
 use Rattle.std.proofs.Common.{◌≡◌, take}
 use Rattle.acct_rows.proofs.pairs.loading.copies.Given as goal
 

@@ -1,4 +1,4 @@
--- What the loop of `first_broken` keeps.
+-- No pair that was passed breaks a rule: the pairs left decide which is the first that does.
 use Rattle.std.proofs.Common.{◌≡◌, drop}
 use Rattle.std.specs.List.{find}
 use Rattle.acct_rows.specs.PairRules.{is_broken_pair}

@@ -1,4 +1,4 @@
--- What the loop of `keys_differ` keeps.
+-- No key that was passed stands again behind it: the keys of the pairs left decide.
 use Rattle.std.proofs.Common.{◌≡◌, length}
 use Rattle.acct_rows.specs.PairsOf.{keys_differ}
 use Rattle.acct_rows.proofs.pairs.loading.keys_differ.Given as goal

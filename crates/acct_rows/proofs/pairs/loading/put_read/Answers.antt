@@ -1,4 +1,4 @@
--- `put_read` meets its contract: what the search leaves open.
+-- A pair that spells a row puts that row in its place, and one that spells none leaves the rows as they were.
 use Rattle.std.proofs.Common.{◌≡◌, [], ◌∷◌, Option, Some, None, sym, ap, ◌∙◌, rules}
 use Rattle.acct_rows.specs.Loading.{somes}
 use Rattle.acct_rows.specs.Rows.{with_puts}

@@ -1,4 +1,4 @@
--- What the loop of `put_reads` keeps.
+-- Putting the rows of the pairs left gives what putting all gives; each pair passed spells the row read of it.
 use Rattle.std.proofs.Common.{◌≡◌, ℕ, ◌+◌, ◌<◌, ◌≤◌, drop, length, map, get_or}
 use Rattle.acct_keeper.specs.declared.pairs.Pair.{Pair}
 use Rattle.acct_rows.specs.Loading.{IsReadWell, somes}

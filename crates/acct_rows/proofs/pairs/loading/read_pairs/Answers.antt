@@ -1,32 +1,38 @@
 -- `read_pairs` meets its contract: pairs in another order are the same pairs.
 use Rattle.std.proofs.Common.{◌≡◌, true, List, sym, subst}
+use Rattle.std.proofs.lemmas.Result.{MatchResult-weaker, IfOk-weaker, on_ok_weaker}
 use Rattle.std.specs.List.Sorted.{IsPermutation}
 use Rattle.acct_keeper.specs.declared.pairs.Pair.{Pair}
 use Rattle.acct_rows.specs.Keyed.{is_ascending}
 use Rattle.acct_rows.specs.PairRules.{pair_key}
+use Rattle.acct_rows.specs.PairsOf.{HoldPairs}
 use Rattle.acct_rows.proofs.Shuffled.{unbroken_alike, bad_alike, hold_alike}
 use Rattle.acct_rows.proofs.pairs.loading.read_pairs.Goals as goal
 
-pub returns-in-Ok-clause-pairs : goal.returns-in-Ok-clause-pairs
-returns-in-Ok-clause-pairs c =
-    hold_alike c.args.pairs.now c.deref.result.now c.requires
+pub returns-clause-pairs : goal.returns-clause-pairs
+returns-clause-pairs c =
+    IfOk-weaker c.read_ascending-2.result (λ rows. HoldPairs rows.lists c.deref.result.now)
+    (λ rows. HoldPairs rows.lists c.args.pairs.now)
+    (λ rows held. hold_alike c.args.pairs.now c.deref.result.now c.requires
     (subst (λ (qs : List Pair). IsPermutation c.args.pairs.now qs) (sym c.deref.ensures.value)
     c.in_ok-ascending.ensures.same)
     (subst (λ (qs : List Pair). is_ascending pair_key qs ≡ true) (sym c.deref.ensures.value)
-    c.in_ok-ascending.ensures.ascending) c.in-Ok.rows.lists c.in-Ok.ensures.pairs
+    c.in_ok-ascending.ensures.ascending) rows.lists held) c.read_ascending-2.ensures.pairs
 
-pub returns-in-Ok-clause-unbroken : goal.returns-in-Ok-clause-unbroken
-returns-in-Ok-clause-unbroken c =
-    unbroken_alike c.args.pairs.now c.deref.result.now c.requires
+pub returns-clause-unbroken : goal.returns-clause-unbroken
+returns-clause-unbroken c =
+    on_ok_weaker c.read_ascending-2.result
+    (λ unbroken. unbroken_alike c.args.pairs.now c.deref.result.now c.requires
     (subst (λ (qs : List Pair). IsPermutation c.args.pairs.now qs) (sym c.deref.ensures.value)
     c.in_ok-ascending.ensures.same)
     (subst (λ (qs : List Pair). is_ascending pair_key qs ≡ true) (sym c.deref.ensures.value)
-    c.in_ok-ascending.ensures.ascending) c.in-Ok.ensures.unbroken
+    c.in_ok-ascending.ensures.ascending) unbroken) c.read_ascending-2.ensures.unbroken
 
 pub returns-clause-broken : goal.returns-clause-broken
 returns-clause-broken c =
-    bad_alike c.args.pairs.now c.deref.result.now c.requires
+    MatchResult-weaker c.read_ascending-2.result c.read_ascending-2.ensures.broken (λ rows none. none)
+    (λ error bad. bad_alike c.args.pairs.now c.deref.result.now c.requires
     (subst (λ (qs : List Pair). IsPermutation c.args.pairs.now qs) (sym c.deref.ensures.value)
     c.in_ok-ascending.ensures.same)
     (subst (λ (qs : List Pair). is_ascending pair_key qs ≡ true) (sym c.deref.ensures.value)
-    c.in_ok-ascending.ensures.ascending) c.in-Err.error c.in-Err.ensures.broken
+    c.in_ok-ascending.ensures.ascending) error bad)

@@ -1,4 +1,4 @@
--- What the loop of `are_above` keeps.
+-- The privileges passed ascend from the number on: those left decide, which have to stand above the last.
 use Rattle.std.proofs.Common.{◌≡◌, drop}
 use Rattle.acct_rows.specs.Sound.{are_above}
 use Rattle.acct_rows.proofs.pairs.reading.are_above.Given as goal

@@ -1,4 +1,4 @@
--- `has` meets its contract: what the search leaves open.
+-- Where halving finds a place with the key there is a pair, and where it finds none no pair has the key.
 use Rattle.std.proofs.Common.{sym, ap, ◌∙◌}
 use Rattle.std.specs.Prelude.{is_some}
 use Rattle.acct_rows.specs.PairRules.{pair_key}

@@ -1,4 +1,4 @@
--- `loaded_rows_are_found` meets its contract.
+-- What is looked up among pairs is found among the rows that are loaded of them, since written bytes are read back.
 use Rattle.acct_rows.proofs.Found.{loaded_rows_are_found}
 use Rattle.acct_rows.proofs.pairs.store.loaded_rows_are_found.Goals as goal
 

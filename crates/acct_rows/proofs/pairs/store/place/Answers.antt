@@ -1,4 +1,4 @@
--- `place` meets its contract: what the search leaves open.
+-- Halving the pairs of a store finds where a key stands, or would go, since each comparison is that of the keys.
 use Rattle.std.proofs.Common.{rules}
 use Rattle.std.proofs.lemmas.Fn.{always_returns_same}
 use Rattle.acct_keeper.specs.declared.pairs.Pair.{Pair}

@@ -1,4 +1,4 @@
--- `Rows::seed` meets its contract: what the search leaves open.
+-- The seed rows of a domain whose name and SID are valid are sound.
 use Rattle.std.proofs.Common.{◌∙◌}
 use Rattle.std.proofs.lemmas.Result.{IfOk-weaker}
 use Rattle.acct_rows.specs.Sound.{IsSoundRows}

@@ -1,4 +1,4 @@
--- `Tables::seed` meets its contract: what the search leaves open.
+-- A domain's SID has a slot for a RID, so that aliases may be seeded under it, and the seed aliases ascend.
 use Rattle.acct_rows.proofs.Seeded.{has_slot, seed_aliases_ascend}
 use Rattle.acct_rows.proofs.rows.tables.Tables.seed.Goals as goal
 
