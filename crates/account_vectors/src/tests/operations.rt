@@ -12,6 +12,7 @@ mod creations;
 mod deletions;
 mod domains;
 mod enumerations;
+mod lists;
 mod members;
 mod parts;
 mod queries;
@@ -22,6 +23,7 @@ mod translations;
 mod words;
 
 use super::first_rows::seeded;
+use super::words::repeated;
 use acct_base::Seq;
 use acct_calls::Args;
 use acct_operations::{Work, decide, works};
@@ -154,7 +156,7 @@ fn decided_first(rt: &impl Abort, alloc: Global, row: &str) -> Result<Planned, F
     planned
 }
 
-/// What a large translation of a row answers.
+/// What a large translation or a long list of SIDs of a row answers.
 fn told_ends(rt: &impl Abort, alloc: Global, row: &str) -> Result<String, Fail> {
     let planned = decided_first(rt, alloc, row)?;
     let text = tell_ends(alloc, &planned);
@@ -162,7 +164,7 @@ fn told_ends(rt: &impl Abort, alloc: Global, row: &str) -> Result<String, Fail> 
     text
 }
 
-/// Each large translation of a table is told as what is wanted.
+/// Each large translation or long list of SIDs of a table is told as what is wanted.
 fn ends_are_right(rt: &impl Abort, alloc: Global, table: &str) -> Result<(), Fail> {
     for row in table.lines() {
         let told = told_ends(rt, alloc, row)?;
@@ -219,6 +221,14 @@ fn tables_are_right(rt: HostRuntime) -> Result<(), Fail> {
 fn each_right_and_large_translations_are_right(rt: HostRuntime) -> Result<(), Fail> {
     each_right_is_right(&rt, rt.alloc(), changes::EACH_RIGHT)?;
     ends_are_right(&rt, rt.alloc(), translations::LARGEST)
+}
+
+#[test]
+fn long_lists_and_full_pages_are_right(rt: HostRuntime) -> Result<(), Fail> {
+    let rows = repeated(rt.alloc(), lists::LISTS)?;
+    table_is_right(&rt, rt.alloc(), rows.as_str())?;
+    let rows = repeated(rt.alloc(), lists::SIDS)?;
+    ends_are_right(&rt, rt.alloc(), rows.as_str())
 }
 
 #[test]

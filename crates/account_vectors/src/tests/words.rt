@@ -1,5 +1,7 @@
-// The words of a row, and whether it is told.
+// The words of a row, its repeat signs, and whether it is told.
+use std::alloc::Global;
 use std::process::Abort;
+use std::test::Fail;
 
 /// The first word, and those behind it.
 pub fn word(text: &str) -> (&str, &str) {
@@ -18,6 +20,40 @@ pub fn number(text: &str) -> u32 {
 
 pub fn domain_number(text: &str) -> u8 {
     text.trim().parse::<u8>().ok().unwrap_or(0)
+}
+
+/// Adds a text with a number in place of `#`.
+fn push_numbered(
+    whole: &mut String,
+    alloc: Global,
+    repeated: &str,
+    number: u32,
+) -> Result<(), Fail> {
+    let digits = format!(in alloc; "{number}")?;
+    let text = repeated.replace(alloc, "#", digits.as_str())?;
+    whole.push_str(text.as_str())?;
+    Ok(())
+}
+
+/// Adds a text and the repeat sign behind it, where there is one.
+fn push_piece(whole: &mut String, alloc: Global, piece: &str) -> Result<(), Fail> {
+    let (text, sign) = piece.split_once('<').unwrap_or((piece, ""));
+    let (bounds, repeated) = sign.split_once(':').unwrap_or(("", ""));
+    let (first, last) = bounds.split_once('-').unwrap_or(("", ""));
+    whole.push_str(text)?;
+    for i in number(first)..=number(last) {
+        push_numbered(whole, alloc, repeated, i)?;
+    }
+    Ok(())
+}
+
+/// A text in which each repeat sign is spelled out: `<8-10:a#,>` is `a8,a9,a10,`.
+pub fn repeated(alloc: Global, text: &str) -> Result<String, Fail> {
+    let mut whole = String::new(alloc);
+    for piece in text.split('>') {
+        push_piece(&mut whole, alloc, piece)?;
+    }
+    Ok(whole)
 }
 
 /// Asserts that what is told of a row is what it wants.

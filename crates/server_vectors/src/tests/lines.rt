@@ -85,3 +85,37 @@ pub fn column(row: &str) -> (&str, &str) {
 pub fn number(digits: &str) -> u32 {
     digits.parse::<u32>().ok().unwrap_or(0)
 }
+
+/// Adds a text with the eight hexadecimal digits of a number in place of `#`.
+fn push_numbered(
+    whole: &mut String,
+    alloc: Global,
+    repeated: &str,
+    number: u32,
+) -> Result<(), Fail> {
+    let digits = hex::encode(alloc, &number.to_be_bytes())?;
+    let text = repeated.replace(alloc, "#", digits.as_str())?;
+    whole.push_str(text.as_str())?;
+    Ok(())
+}
+
+/// Adds a text and the repeat sign behind it, where there is one.
+fn push_piece(whole: &mut String, alloc: Global, piece: &str) -> Result<(), Fail> {
+    let (text, sign) = piece.split_once('<').unwrap_or((piece, ""));
+    let (bounds, repeated) = sign.split_once(':').unwrap_or(("", ""));
+    let (first, last) = bounds.split_once('-').unwrap_or(("", ""));
+    whole.push_str(text)?;
+    for i in number(first)..=number(last) {
+        push_numbered(whole, alloc, repeated, i)?;
+    }
+    Ok(())
+}
+
+/// A text in which each repeat sign is spelled out: `<9-10:a#>` is `a00000009a0000000a`.
+pub fn repeated(alloc: Global, text: &str) -> Result<String, Fail> {
+    let mut whole = String::new(alloc);
+    for piece in text.split('>') {
+        push_piece(&mut whole, alloc, piece)?;
+    }
+    Ok(whole)
+}

@@ -15,6 +15,7 @@ mod refusals;
 mod talks;
 mod words;
 
+use crate::tests::digits::repeated;
 use acct_client::{AskError, Asker};
 use digits::words_of;
 use std::alloc::Global;
@@ -61,6 +62,42 @@ fn dialogues_go_as_they_say(rt: HostRuntime) -> Result<(), Fail> {
 fn answers_may_be_cut_anywhere(rt: HostRuntime) -> Result<(), Fail> {
     for place in 0..160 {
         table_is_right(&rt, rt.alloc(), commands::COMMANDS, Cut::At(place))?;
+    }
+    Ok(())
+}
+
+/// The text that pieces between bars make, of which `N*REST` is REST so many times.
+fn joined(alloc: Global, pieces: &str) -> Result<String, Fail> {
+    let mut text = String::new(alloc);
+    for piece in pieces.split('|') {
+        let (times, rest) = repeated(piece);
+        for _ in 0..times {
+            text.push_str(rest)?;
+        }
+    }
+    Ok(text)
+}
+
+/// The dialogue of a thousand names with a peer that takes fragments of a size, and what is sent to it.
+fn thousand(alloc: Global, size: &str, sent: &str) -> Result<String, Fail> {
+    let sized = fragments::THOUSAND.replace(alloc, "SIZE", size)?;
+    let pieces = sized.replace(alloc, "SENT", sent)?;
+    joined(alloc, pieces.as_str())
+}
+
+fn thousand_is_right(rt: &impl Abort, alloc: Global, size: &str, sent: &str) -> Result<(), Fail> {
+    let dialogue = thousand(alloc, size, sent)?;
+    table_is_right(rt, alloc, dialogue.as_str(), Cut::At(usize::MAX))?;
+    table_is_right(rt, alloc, dialogue.as_str(), Cut::Bytes)
+}
+
+#[test]
+fn a_thousand_names_are_asked_for(rt: HostRuntime) -> Result<(), Fail> {
+    for row in fragments::SIZES.lines() {
+        let (sizes, sent) = row.split_once('|').unwrap_or((row, ""));
+        for size in sizes.split(' ') {
+            thousand_is_right(&rt, rt.alloc(), size, sent)?;
+        }
     }
     Ok(())
 }

@@ -1,7 +1,7 @@
 // Calls in words, and what they are answered in words.
 ghost use Rattle.acct_machine.specs.Calls.{IsCall};
 
-use crate::tests::words::word;
+use crate::tests::words::{self, word};
 use acct_machine::{Acted, Args, Call, Face, Handle, Outs, Reply};
 use dtyp_sid::Sid;
 use std::test::Fail;
@@ -13,7 +13,7 @@ fn number(digits: &str) -> u32 {
 /// The number of the handle of a connection and a serial, as in `1.3`.
 fn handle(text: &str) -> u128 {
     let (conn, serial) = text.split_once('.').unwrap_or((text, ""));
-    (number(conn) as u128) << 64 | number(serial) as u128
+    (words::number(conn) as u128) << 64 | words::number(serial) as u128
 }
 
 fn connect2(access: u32) -> Call

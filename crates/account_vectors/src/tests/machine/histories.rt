@@ -5,6 +5,7 @@ ghost use Rattle.acct_machine.specs.Machine.{state_of};
 
 use super::configs::{ALLOW_FIRST, DENY_FIRST};
 use super::scripts::{started, tell};
+use crate::tests::words::repeated;
 use acct_keeper::{Keeper, MemoryKeeper};
 use acct_machine::{Entry, Machine};
 use std::alloc::Global;
@@ -126,6 +127,31 @@ const INTERFACES_LEFT: &str =
 fn handles_are_opened_and_closed(rt: HostRuntime) -> Result<(), Fail> {
     leaves(&rt, rt.alloc(), &[], HANDLES, HANDLES_LEFT)?;
     leaves(&rt, rt.alloc(), &[], INTERFACES, INTERFACES_LEFT)
+}
+
+/// A hundred handles of one connection, with one of another among them, and more behind the first that are closed.
+const HUNDRED: &str = "\
+<1-60:1 connect2 20 = 0 1.#
+>2 connect2 20 = 0 2.1
+<61-100:1 policy 1 = 0 1.#
+><1-60:1 close 1.# = 0 0.0
+><101-140:1 connect2 20 = 0 1.#
+>2 close 2.1 = 0 0.0
+<61-100:1 lsar-close 1.# = 0 0.0
+><101-140:1 close 1.# = 0 0.0
+>1 close 1.140 = fault 1c00001a";
+
+const HUNDRED_LEFT: &str =
+    "opened 1 0;opened 2 1;<1-60:1 Samr 57 Ran 22;>2 Samr 57 Ran 22;<1-40:1 Lsa 44 Ran 22;>\
+    <1-60:1 Samr 1 Ran 22;><1-40:1 Samr 57 Ran 22;>2 Samr 1 Ran 22;<1-40:1 Lsa 0 Ran 22;><1-41:1 Samr 1 Ran 22;>\
+    gone 1;8-8 0-0 0";
+
+#[test]
+fn a_hundred_handles_are_opened_and_closed(rt: HostRuntime) -> Result<(), Fail> {
+    let alloc = rt.alloc();
+    let script = repeated(alloc, HUNDRED)?;
+    let wanted = repeated(alloc, HUNDRED_LEFT)?;
+    leaves(&rt, alloc, &[], script.as_str(), wanted.as_str())
 }
 
 /// Rights that a right configuration without a descriptor doesn't grant, generic rights, and none.

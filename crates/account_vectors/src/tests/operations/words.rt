@@ -1,6 +1,7 @@
 // Values in words, as the tables spell what is wanted. A value is told by its `Debug` text without the names of fields,
 // parentheses and commas, so that no function here knows a type; the tables' words are spelled out to the same.
 use super::parts::name_of;
+use acct_base::Seq;
 use acct_calls::{NoMemory, Outs, Places};
 use acct_rules::Planned;
 use dtyp_sid::parse_text;
@@ -22,7 +23,7 @@ const DROPPED: [&str; 11] = [
     "Opening",
     "Held",
     "Privilege",
-    "Place",
+    "ReferencedDomain",
     "TranslatedSid",
     "TranslatedName",
 ];
@@ -84,7 +85,8 @@ fn ends_text<T: Debug>(
     format!(in alloc; "{status:x} {domains:?} {count} {first:?} {last:?} {mapped}")
 }
 
-/// What a large translation answers, in words: all but the entries between the first and the last one.
+/// What a large translation or a long list of SIDs answers, in words: all but the entries between the first and the
+/// last one. A list has no domains; a page of it has its context in the place of how many are mapped.
 pub fn tell_ends(alloc: Global, planned: &Planned) -> Result<String, Fail> {
     let status = planned.status;
     let text = match &planned.outs {
@@ -98,6 +100,10 @@ pub fn tell_ends(alloc: Global, planned: &Planned) -> Result<String, Fail> {
             entries,
             mapped,
         } => ends_text(alloc, status, domains, entries.as_slice(), *mapped)?,
+        Outs::SidPage { context, sids } => {
+            ends_text(alloc, status, &Seq::new(alloc), sids.as_slice(), *context)?
+        }
+        Outs::SidList(sids) => ends_text(alloc, status, &Seq::new(alloc), sids.as_slice(), 0)?,
         _ => String::new(alloc),
     };
     let mut words = String::new(alloc);

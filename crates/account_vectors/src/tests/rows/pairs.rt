@@ -3,7 +3,7 @@ ghost use Rattle.acct_rows.specs.Sound.{IsSoundRows};
 
 use super::changes::alias_row;
 use crate::tests::first_rows::seeded;
-use crate::tests::words::{column, is_told};
+use crate::tests::words::{column, is_told, repeated};
 use acct_base::Seq;
 use acct_codes::Kind;
 use acct_keeper::{Change, Keeper, Pair, SteadyKeeper};
@@ -43,7 +43,7 @@ const SEED_PAIRS: &str = "\
 /// next format, no letter, a letter that is none, a RID cut short, a third domain, a value cut short, and two with a
 /// byte behind them. An unknown kind, a name that no user may have, bits that are no control; an alias with bits, a
 /// group with a primary group. An account of the policy: every right, a right that is none, a privilege that isn't
-/// known, two that don't ascend.
+/// known, the last one and the first one that are, and one before it, two that don't ascend.
 const SPELLINGS: &str = "\
 |
 66=02|66
@@ -62,6 +62,9 @@ const SPELLINGS: &str = "\
 7301020000000000052000000020020000=d70f0000010200000000|
 7301020000000000052000000020020000=0800000000|7301020000000000052000000020020000
 7301020000000000052000000020020000=01000000011f00000000|7301020000000000052000000020020000
+7301020000000000052000000020020000=01000000011e00000000|
+7301020000000000052000000020020000=01000000010200000000|
+7301020000000000052000000020020000=01000000010100000000|7301020000000000052000000020020000
 7301020000000000052000000020020000=010000000203000000000200000000|7301020000000000052000000020020000";
 
 /// The same. A RID that isn't below the next one, and next RIDs that are none; the name of a smaller RID, by another
@@ -308,6 +311,48 @@ fn rows_are_read_back(rt: HostRuntime) -> Result<(), Fail> {
     drop(rows);
     assert!(rt; same?);
     Ok(())
+}
+
+/// What is put to the seed rows' pairs, with repeat signs: the next RID; a thousand users with names of two units, 5000
+/// 4E00 and so on, each with its row in Domain Users; a hundred members of Users and as many accounts of the policy.
+const MANY: &str =
+    "6400=0060000018010400000000000515000000010000000200000003000000040043004f00520050000000
+<5000-5999:61000000#=011000000001020000020000#4e00000000
+6d000002010000#=07000000
+><5000-5099:6c01000002210105000000000005150000000100000002000000030000000000#=
+730105000000000005150000000100000002000000030000000100#=0100000000
+>";
+
+/// The pairs of a copy of the rows that pairs are read as.
+fn pairs_again(rt: &impl Abort, alloc: Global, pairs: &[Pair]) -> Result<String, Fail> {
+    assert!(rt; keys_differ(pairs));
+    let rows = Rows::from_pairs(alloc, pairs)?;
+    let copied = rows.copy(alloc);
+    drop(rows);
+    let copied = copied?;
+    let text = pairs_of(alloc, &copied);
+    drop(copied);
+    text
+}
+
+/// Many pairs are those of a copy of the rows that they are read as.
+fn many_are_told(rt: &impl Abort, alloc: Global, keeper: &mut SteadyKeeper) -> Result<(), Fail> {
+    let words = repeated(alloc, MANY)?;
+    keep(alloc, keeper, words.as_str())?;
+    let again = pairs_again(rt, alloc, keeper.as_slice())?;
+    let mut kept = String::new(alloc);
+    push_pairs(alloc, &mut kept, keeper.as_slice())?;
+    assert!(rt; keeper.as_slice().len() == 2219);
+    is_told(rt, again.as_str(), kept.as_str(), "many pairs");
+    Ok(())
+}
+
+#[test]
+fn many_rows_are_read_and_copied(rt: HostRuntime) -> Result<(), Fail> {
+    let mut keeper = SteadyKeeper::new(rt.alloc());
+    let told = many_are_told(&rt, rt.alloc(), &mut keeper);
+    drop(keeper);
+    told
 }
 
 /// The changes of a plan that removes an alias row and puts another.

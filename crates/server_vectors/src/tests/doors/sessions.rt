@@ -4,7 +4,7 @@ ghost use Rattle.acct_config.specs.Right.{IsRight};
 
 use super::words::{bytes_of, configured, digits_of_all};
 use crate::tests::left::push_history;
-use crate::tests::lines::{column, number};
+use crate::tests::lines::{column, number, repeated};
 use acct_keeper::SteadyKeeper;
 use acct_links::{MemoryLink, SteadyLink};
 use acct_machine::{Config, Machine, Opened, open_store};
@@ -41,6 +41,28 @@ s30 f5|||BIND CONNECT CLOSE|ACK1 FRONT1|WriteFault|opened 1 0;called 1 57 Ran 8;
 |max_bytes = 27||BIND CONNECT CLOSE|ACK1 FIRST1 BUSY3|Full(28)|opened 1 0;called 1 57 Ran 8;gone 1;
 |max_bytes = 28||BIND CONNECT CLOSE|ACK1 FIRST1 CLOSED|End|opened 1 0;called 1 57 Ran 8;called 1 1 Ran 20;gone 1;
 f4|max_calls = 1||BIND CONNECT CLOSE|ACK1 FIRST1|Full(1)|opened 1 0;called 1 57 Ran 8;gone 1;";
+
+/// The same with repeat signs, and with digits for what comes once alone. 500 openings, each handle closed before the
+/// next one is asked for: a handle's last eight digits are its serial. Then the domain is opened, and 600 names are
+/// looked up, 300 times Guest and 300 times a name that no account has: a request of six fragments, the first with the
+/// handle and half of the names' lengths and pointers, the second with the other half, the others with 150 names each;
+/// and its answer of 4,828 bytes, 4,256 of them in the first fragment: the RIDs, the uses, and that some aren't mapped.
+const LONG_SESSIONS: &str = "\
+|||BIND <1-500:CONNECT 05000003100000002c00000003000000140000000000010000000000000000000000010000000000# >|ACK1 <\
+    1-500:05000203100000003000000002000000180000000000000000000000000000000000010000000000#00000000 CLOSED >|End|\
+    opened 1 0;<1-500:called 1 57 Ran 8;called 1 1 Ran 20;>gone 1;
+|||BIND CONNECT 05000003100000004c0000000300000034000000000007000000000000000000000001000000000000000001000200000\
+    4000000010400000000000515000000010000000200000003000000 05000001100000009c09000004000000244b000000001100000000000\
+    000000000000100000000000000000258020000e80300000000000058020000<131073-131372:0a000a00#> 050000001000000078090000\
+    04000000244b000000001100<131373-131672:0a000a00#> 0500000010000000280e000004000000244b000000001100<1-150:05000000\
+    0000000005000000470075006500730074000000> 0500000010000000280e000004000000244b000000001100<151-300:05000000000000\
+    0005000000470075006500730074000000> 0500000010000000280e000004000000244b000000001100<301-450:05000000000000000500\
+    00006f0074006800650072000000> 0500000210000000280e000004000000244b000000001100<451-600:0500000000000000050000006f\
+    0074006800650072000000>|ACK1 FIRST1 05000203100000003000000003000000180000000000000000000000000000000000010000000\
+    0000000000200000000 0500020110000000b810000004000000dc12000000000000580200000000020058020000<1-300:f5010000><301-\
+    600:00000000>580200000400020058020000<1-300:01000000><301-458:08000000> 050002021000000054020000040000003c0200000\
+    0000000<459-600:08000000>07010000|End|opened 1 0;called 1 57 Ran 8;called 1 7 Ran 52;called 1 17 Ran 19236;gone \
+    1;";
 
 /// How a link is made: how many bytes a read gives and a write takes, for how many there is room, and which call fails.
 #[derive(Clone, Copy)]
@@ -188,6 +210,15 @@ fn tell(rt: &impl Abort, alloc: Global, row: &str) -> Result<(), Fail> {
 fn sessions_over_the_machine(rt: HostRuntime) -> Result<(), Fail> {
     for row in SESSIONS.lines() {
         tell(&rt, rt.alloc(), row)?;
+    }
+    Ok(())
+}
+
+#[test]
+fn long_sessions_over_the_machine(rt: HostRuntime) -> Result<(), Fail> {
+    for row in LONG_SESSIONS.lines() {
+        let row = repeated(rt.alloc(), row)?;
+        tell(&rt, rt.alloc(), row.as_str())?;
     }
     Ok(())
 }

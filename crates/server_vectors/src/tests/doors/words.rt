@@ -51,11 +51,11 @@ BUSY2 0500032310000000200000000200000000000000000000001400011c00000000
 BUSY3 0500032310000000200000000300000000000000000000001400011c00000000
 NAK 05000d031000000018000000010000000400010500000000";
 
-/// The digits of names, one behind the other.
+/// The digits of names, one behind the other. Digits stand for themselves.
 pub fn digits_of_all(alloc: Global, names: &str) -> Result<String, Fail> {
     let mut digits = String::new(alloc);
     for name in names.split_whitespace() {
-        digits.push_str(line_in(LINES, name).unwrap_or(""))?;
+        digits.push_str(line_in(LINES, name).unwrap_or(name))?;
     }
     Ok(digits)
 }

@@ -21,7 +21,7 @@ const ACK: &str = "05000c03 10000000 38000000 01000000 b810b810 01000000 0100000
 ///
 /// The first run; three transfer syntaxes; a request of three fragments, and a first one while another is partial; a
 /// second context, with a cancel of the partial request and an orphaned of another, which change nothing, and a request
-/// that is dropped and comes again; a bind without its element.
+/// that is dropped and comes again; a bind without its element; a bind whose replies come in at most 1,433 bytes.
 const STREAMS: &str = "
     BIND
     05000003 10000000 20000000 02000000 08000000 00003900 00000000 00000002
@@ -70,7 +70,14 @@ const STREAMS: &str = "
     call 7 0 Samr 57 4280 00000002
 ;
     05000b03 10000000 1c000000 01000000 b810b810 00000000 01000000
-    = closed 16 6 05000d03 10000000 18000000 01000000 00000105 00000000";
+    = closed 16 6 05000d03 10000000 18000000 01000000 00000105 00000000
+;
+    05000b03 10000000 48000000 01000000 98059905 00000000 01000000 00000100 78573412 3412cdab ef000123 456789ac
+    01000000 045d888a eb1cc911 9fe80800 2b104860 02000000
+    05000003 10000000 20000000 02000000 08000000 00003900 00000000 00000002
+    = answered 05000c03 10000000 38000000 01000000 99059805 01000000 01000000 01000000 00000000 045d888a eb1cc911
+    9fe80800 2b104860 02000000 ,
+    call 2 0 Samr 57 1433 00000000 00000002";
 
 /// Refused binds, and what is refused behind a bind: another bind, a later fragment without a first, and an auth3 and a
 /// shutdown, as python3-samba 4.17.12 writes them: types that a server doesn't read.
@@ -351,9 +358,9 @@ fn a_connection_of_samba(rt: HostRuntime) -> Result<(), Fail> {
     Ok(())
 }
 
-/// A bind that offers so many contexts for the account database.
-fn bind_of(alloc: Global, head: &str, count: u8) -> Result<Vec<u8>, Fail> {
-    let mut stream = bytes_of(alloc, head)?;
+/// A head that offers so many contexts, with these for the account database behind it.
+fn offering(alloc: Global, head: &str, count: u8) -> Result<Vec<u8>, Fail> {
+    let mut stream = bytes_of(alloc, expanded(alloc, head)?.as_str())?;
     let element = bytes_of(
         alloc,
         "000100 78573412 3412cdab ef000123 456789ac 01000000 045d888a eb1cc911 9fe80800 2b104860 \
@@ -402,8 +409,18 @@ fn sixteen_contexts_and_seventeen(rt: HostRuntime) -> Result<(), Fail> {
             17,
             "closed 0 11;",
         ),
+        (
+            "BIND 05000e03 10000000 dc020000 02000000 b810b810 00000000 10000000",
+            16,
+            "answered;answered;",
+        ),
+        (
+            "BIND 05000e03 10000000 08030000 02000000 b810b810 00000000 11000000",
+            17,
+            "answered;closed 72 11;",
+        ),
     ] {
-        let stream = bind_of(rt.alloc(), head, count)?;
+        let stream = offering(rt.alloc(), head, count)?;
         assert!(rt; is_short_by_bytes(rt.alloc(), &stream, text)?, "{text}");
     }
     Ok(())
@@ -439,6 +456,7 @@ fn sizes_at_their_bounds(rt: HostRuntime) -> Result<(), Fail> {
         (4279, 4280, "b810b710"),
         (4280, 4281, "b810b810"),
         (4281, 65535, "b810b810"),
+        (65535, 0, "9805b810"),
     ] {
         let sizes = sizes_answered(rt.alloc(), xmit, recv)?;
         assert_eq!(rt; sizes.as_str(), text, "{xmit} {recv}");

@@ -29,11 +29,11 @@ const PRIMITIVES: &str = "\
 <0d000d00|u8=13 u32=short4 place=1
 <0d000d00 060006|u8=13 u32=short4 place=1
 <07|u8=7 align=8 place=8 u8=short8 u16=short8 pointer=short8 conformant=short8
-<01000000 03000000|most3=count0
-<00000000 03000000|most2=count4
-<00000000 030000|most2=short4
-<000000|most2=short0
-<00000500|align=2 u16=0 u16=5 broken=count2";
+<01000000 03000000|most3=count0 place=0
+<00000000 03000000|most2=count4 place=0
+<00000000 030000|most2=short4 place=0
+<000000|most2=short0 place=0
+<00000500|align=2 u16=0 u16=5 broken=count2 place=4";
 
 /// A word of a row: its kind, and what it tells.
 fn cut(word: &str) -> (&str, &str) {

@@ -4,7 +4,7 @@ ghost use Rattle.ndr_types.specs.Bounds.{HasShortName, IsShort, IsShortPlace};
 
 use super::wires::{Heard, told};
 use acct_calls::{
-    Name, Names, NoMemory, Place, Places, PrivilegeSet, RidName, RidNames, Rids, Sids,
+    Name, Names, NoMemory, Places, PrivilegeSet, ReferencedDomain, RidName, RidNames, Rids, Sids,
 };
 use dtyp_sid::Sid;
 use ndr_core::{In, NdrError, Out};
@@ -65,7 +65,7 @@ fn have_short_names(accounts: &[RidName]) -> bool
         .all(|account| account.name.units().len() <= 32767)
 }
 
-fn are_short_places(places: &[Place]) -> bool
+fn are_short_places(places: &[ReferencedDomain]) -> bool
     ensures { IsTrue result → All IsShortPlace places.now }
 {
     places.iter().all(|place| place.name.units().len() <= 32767)

@@ -395,9 +395,17 @@ fn most_granted(alloc: Global, d: &Descriptor) -> Result<Option<u32>, Fail> {
     Ok(opening(Kind::Policy, d, &token, 0x0200_0000))
 }
 
-/// Whether a descriptor is written in so many bytes, and grants what all its entries allow together.
+fn copy_is_equal(alloc: Global, d: &Descriptor) -> Result<bool, Fail> {
+    Ok(are_equal(&d.copy(alloc)?, d))
+}
+
+/// Whether a descriptor is written in so many bytes, grants what all its entries allow together, and is copied.
 fn is_long(alloc: Global, d: &Descriptor, length: usize) -> Result<bool, Fail> {
-    Ok(written_length(alloc, d)? == length && most_granted(alloc, d)? == Some(0x0006_03FF))
+    Ok(
+        written_length(alloc, d)? == length
+            && most_granted(alloc, d)? == Some(0x0006_03FF)
+            && copy_is_equal(alloc, d)?,
+    )
 }
 
 fn is_as_long(alloc: Global, count: u32, length: usize) -> Result<bool, Fail> {
@@ -425,12 +433,25 @@ fn is_copied(alloc: Global, token: &Token, count: usize) -> Result<bool, Fail> {
     Ok(token.copy(alloc)?.sids() == token.sids() && token.sids().len() == count)
 }
 
+/// As many SIDs as a listener's token has at most.
+const MANY_SIDS: &str = "\
+    S-1-5-0 S-1-5-1 S-1-5-2 S-1-5-3 S-1-5-4 S-1-5-5 S-1-5-6 S-1-5-7 S-1-5-8 S-1-5-9 S-1-5-10 S-1-5-11 S-1-5-12 \
+    S-1-5-13 S-1-5-14 S-1-5-15 S-1-5-16 S-1-5-17 S-1-5-18 S-1-5-19 S-1-5-20 S-1-5-21 S-1-5-22 S-1-5-23 S-1-5-24 \
+    S-1-5-25 S-1-5-26 S-1-5-27 S-1-5-28 S-1-5-29 S-1-5-30 S-1-5-31 S-1-5-32 S-1-5-33 S-1-5-34 S-1-5-35 S-1-5-36 \
+    S-1-5-37 S-1-5-38 S-1-5-39 S-1-5-40 S-1-5-41 S-1-5-42 S-1-5-43 S-1-5-44 S-1-5-45 S-1-5-46 S-1-5-47 S-1-5-48 \
+    S-1-5-49 S-1-5-50 S-1-5-51 S-1-5-52 S-1-5-53 S-1-5-54 S-1-5-55 S-1-5-56 S-1-5-57 S-1-5-58 S-1-5-59 S-1-5-60 \
+    S-1-5-61 S-1-5-62 S-1-5-63";
+
+/// Whether the token of some SIDs has so many, and is copied.
+fn token_is_copied(alloc: Global, sids: &str, count: usize) -> Result<bool, Fail> {
+    let token = token_of(alloc, sids)?;
+    is_copied(alloc, &token, count)
+}
+
 #[test]
 fn tokens_are_copied(rt: HostRuntime) -> Result<(), Fail> {
-    let token = token_of(rt.alloc(), "WD BU")?;
-    let copied = is_copied(rt.alloc(), &token, 2);
-    drop(token);
-    assert!(rt; copied?);
+    assert!(rt; token_is_copied(rt.alloc(), "WD BU", 2)?);
+    assert!(rt; token_is_copied(rt.alloc(), MANY_SIDS, 64)?);
     Ok(())
 }
 

@@ -184,12 +184,29 @@ fn changed(alloc: Global, document: &str, line: &str) -> Result<String, Fail> {
     replaced(alloc, document, part, text)
 }
 
-/// The rule that a document breaks first, none where it breaks none.
+fn debug_text(alloc: Global, config: &Config) -> Result<String, Fail> {
+    Ok(format!(in alloc; "{config:?}")?)
+}
+
+/// Whether a configuration's copy is the same in all its fields.
+fn is_copied(alloc: Global, config: &Config) -> Result<bool, Fail> {
+    let copy = config.copy(alloc)?;
+    let told = debug_text(alloc, &copy);
+    drop(copy);
+    Ok(told?.as_str() == debug_text(alloc, config)?.as_str())
+}
+
+/// The rule that a document breaks first, none where it breaks none and its configuration can be copied.
 fn broken_in(alloc: Global, bytes: &[u8]) -> Result<Option<u32>, Fail> {
     match read_config(alloc, bytes) {
         Ok(config) => {
+            let copied = is_copied(alloc, &config);
             drop(config);
-            Ok(None)
+            if copied? {
+                Ok(None)
+            } else {
+                Err(Fail::from("another copy"))
+            }
         }
         Err(ConfigError::Rule(broken)) => Ok(Some(broken)),
         Err(ConfigError::Memory) => Err(Fail::from("memory")),

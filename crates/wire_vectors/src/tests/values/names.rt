@@ -81,6 +81,7 @@ fn names_are_folded_by_code_points(rt: HostRuntime) -> Result<(), Fail> {
             &[0xDC00, 0xD801, 0x61, 0xD801],
         ),
         (&[0xD801, 0xD801, 0xDC00], &[0xD801, 0xD801, 0xDC28]),
+        (&[0x41; 256], &[0x61; 256]),
     ] {
         assert!(rt; folds_to(rt.alloc(), units, folded)?);
     }

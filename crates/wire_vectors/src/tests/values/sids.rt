@@ -9,11 +9,11 @@ fn has_text(alloc: Global, sid: &Sid, text: &str) -> Result<bool, Fail> {
     Ok(sid.text(alloc)?.as_str() == text)
 }
 
-/// Whether a SID is written as these bytes, and the last byte of the room for the longest stays as it was.
+/// Whether a SID is written as these bytes, and the last byte of the room stays as it was, but for the longest.
 fn is_written(sid: &Sid, bytes: &[u8]) -> bool {
     let mut out = [0xEE; 68];
     let count = sid.to_bytes(&mut out);
-    out.get(..count) == Some(bytes) && out[67] == 0xEE
+    out.get(..count) == Some(bytes) && (count == 68 || out[67] == 0xEE)
 }
 
 fn is_read(sid: &Sid, bytes: &[u8]) -> bool {
@@ -28,6 +28,16 @@ fn spell_one(alloc: Global, text: &str, bytes: &[u8]) -> Result<bool, Fail> {
     let sid = parse_text(text)?;
     Ok(is_written(&sid, bytes) && is_read(&sid, bytes) && has_text(alloc, &sid, text)?)
 }
+
+/// The longest SID, with its text in as many digits as there can be.
+const LONGEST: &str =
+    "S-1-5-4294967295-4294967295-4294967295-4294967295-4294967295-4294967295-4294967295-4294967295\
+    -4294967295-4294967295-4294967295-4294967295-4294967295-4294967295-4294967295";
+
+const LONGEST_BYTES: &[u8] = b"\x01\x0f\x00\x00\x00\x00\x00\x05\
+    \xff\xff\xff\xff\xff\xff\xff\xff\xff\xff\xff\xff\xff\xff\xff\xff\xff\xff\xff\xff\xff\xff\xff\xff\xff\xff\xff\xff\
+    \xff\xff\xff\xff\xff\xff\xff\xff\xff\xff\xff\xff\xff\xff\xff\xff\xff\xff\xff\xff\xff\xff\xff\xff\xff\xff\xff\xff\
+    \xff\xff\xff\xff";
 
 #[test]
 fn texts_and_bytes_spell_one_sid(rt: HostRuntime) -> Result<(), Fail> {
@@ -61,6 +71,7 @@ fn texts_and_bytes_spell_one_sid(rt: HostRuntime) -> Result<(), Fail> {
             \xff\xff\xff\xff\x00\x00\x00\x00\x01\x00\x00\x00\xf4\x01\x00\x00",
         ),
         ("S-1-5", b"\x01\x00\x00\x00\x00\x00\x00\x05"),
+        (LONGEST, LONGEST_BYTES),
     ] {
         assert!(rt; spell_one(rt.alloc(), text, bytes)?, "{text}");
     }

@@ -1,4 +1,4 @@
--- `connect4` meets its contract: what the search leaves open.
+-- SAMR has an operation 62, and `connect4` brings what it takes: the zero handle and an access of 32 bits.
 use Rattle.std.proofs.Common.{refl}
 use Rattle.acct_layouts.specs.CallShapes.{CanBeSpelled}
 use Rattle.acct_layouts.specs.Table.{samr_layout}

@@ -1,4 +1,4 @@
--- `delete` meets its contract: what the search leaves open.
+-- LSA has an operation 34, and `delete` brings what it takes: a handle of 128 bits and nothing else.
 use Rattle.std.proofs.Common.{refl}
 use Rattle.acct_layouts.specs.CallShapes.{CanBeSpelled}
 use Rattle.acct_layouts.specs.Table.{lsa_layout}

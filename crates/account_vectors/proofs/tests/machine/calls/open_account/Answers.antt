@@ -1,4 +1,4 @@
--- `open_account` meets its contract: what the search leaves open.
+-- LSA has an operation 17, and `open_account` brings what it takes: a handle of 128 bits, an access and a SID.
 use Rattle.std.proofs.Common.{arith, refl}
 use Rattle.acct_layouts.specs.CallShapes.{CanBeSpelled}
 use Rattle.acct_layouts.specs.Table.{lsa_layout}

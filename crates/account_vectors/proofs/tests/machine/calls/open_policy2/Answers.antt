@@ -1,4 +1,4 @@
--- `open_policy2` meets its contract: what the search leaves open.
+-- LSA has an operation 44, and `open_policy2` brings what it takes: the zero handle and an access of 32 bits.
 use Rattle.std.proofs.Common.{refl}
 use Rattle.acct_layouts.specs.CallShapes.{CanBeSpelled}
 use Rattle.acct_layouts.specs.Table.{lsa_layout}

@@ -1,4 +1,4 @@
--- `samr_close` meets its contract: what the search leaves open.
+-- SAMR has an operation 1, and `samr_close` brings what it takes: a handle of 128 bits and nothing else.
 use Rattle.std.proofs.Common.{refl}
 use Rattle.acct_layouts.specs.CallShapes.{CanBeSpelled}
 use Rattle.acct_layouts.specs.Table.{samr_layout}

@@ -1,4 +1,4 @@
--- What the loop of `tell` keeps.
+-- Connections 1 and 2 are still live after the lines that were told so far.
 use Rattle.std.proofs.Common.{◌≡◌, true}
 use Rattle.acct_machine.specs.State.{is_live}
 use Rattle.acct_machine.specs.Machine.{state_of}

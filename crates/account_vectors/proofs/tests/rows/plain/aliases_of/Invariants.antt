@@ -1,4 +1,4 @@
--- What the loop of `aliases_of` keeps.
+-- The RIDs so far, then those that the matching rows left add, are the aliases of all matching rows, each once.
 use Rattle.std.proofs.Common.{◌≡◌, ◌++◌, drop, map}
 use Rattle.std.specs.List.{filter}
 use Rattle.acct_rows.specs.Rows.{has_one, each_once}

@@ -1,4 +1,4 @@
--- What the loop of `find_name` keeps.
+-- No account that was passed has the name in the domain: the accounts left decide which one is found.
 use Rattle.std.proofs.Common.{◌≡◌, drop}
 use Rattle.std.specs.List.{find}
 use Rattle.acct_rows.specs.Rows.{has_name}

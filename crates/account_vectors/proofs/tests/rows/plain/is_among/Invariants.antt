@@ -1,4 +1,4 @@
--- What the loop of `is_among` keeps.
+-- None of the SIDs that were passed is this one: what is to come decides.
 use Rattle.std.proofs.Common.{◌≡◌, drop}
 use Rattle.std.specs.List.{list_any}
 use Rattle.dtyp_sid.specs.Order.{sid_eq}

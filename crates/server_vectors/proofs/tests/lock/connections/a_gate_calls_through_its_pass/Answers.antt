@@ -1,4 +1,4 @@
--- `a_gate_calls_through_its_pass` meets its contract: what the search leaves open.
+-- The gate may call: its pass has opened connection 5, and has no call on it yet.
 use Rattle.server_vectors.proofs.tests.lock.connections.a_gate_calls_through_its_pass.Goals as goal
 
 pub call_through-requires : goal.call_through-requires

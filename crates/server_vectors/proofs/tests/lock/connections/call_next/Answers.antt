@@ -1,4 +1,4 @@
--- `call_next` meets its contract: what the search leaves open.
+-- A turn appends the call numbered `next` or nothing, so the pass's calls on the connection stay below `next + 1`.
 use Rattle.std.proofs.Common.{◌≡◌, ℕ, ◌+◌, ◌<◌, List, [], ◌∷◌, ◌++◌, length, drop, sym, ap, ◌∙◌, subst, ⊎_elim, arith}
 use Rattle.std.proofs.Common.{Ok, Err, Result, append-nil}
 use Rattle.std.specs.Prelude.{MatchResult}

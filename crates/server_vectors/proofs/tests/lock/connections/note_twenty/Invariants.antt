@@ -1,4 +1,4 @@
--- What the loop of `note_twenty` keeps.
+-- The pass is of the lock, and keeps its number and how many passes it made and joined.
 use Rattle.hist_lock.specs.Views.{IsSamePass}
 use Rattle.hist_lock.specs.Passes.{view, IsPassOf}
 use Rattle.server_vectors.proofs.tests.lock.connections.note_twenty.Given as goal

@@ -1,4 +1,4 @@
--- `open_conn` meets its contract: what the search leaves open.
+-- A pass that owned nothing, and opened the connection, owns its opening alone, and no call.
 use Rattle.std.proofs.Common.{◌≡◌, ℕ, ◌<◌, zero, suc, List, [], ◌∷◌, ◌++◌, length, drop, sym, refl, ap, ◌∙◌, subst}
 use Rattle.std.proofs.Math.Seq.{drop-append_seam}
 use mathlib.Core.Option.{some-injective, some-ne-none}

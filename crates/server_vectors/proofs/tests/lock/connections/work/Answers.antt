@@ -1,4 +1,4 @@
--- `work` meets its contract: what the search leaves open.
+-- Before the first call the pass has opened the connection, and has no call on it.
 use Rattle.std.proofs.Common.{refl}
 use Rattle.server_vectors.proofs.tests.lock.connections.work.Goals as goal
 

@@ -1,4 +1,4 @@
--- What the loop of `work` keeps.
+-- The pass, still of the lock, opened the connection, and its calls on it so far have numbers below the next.
 use Rattle.std.proofs.Common.{◌≡◌, ℕ, ◌<◌}
 use Rattle.hist_lock.specs.Histories.{In, Opened}
 use Rattle.hist_lock.specs.Passes.{view, IsPassOf}

@@ -1,4 +1,4 @@
--- What the loop of `push_hundred` keeps.
+-- The pass is of the lock and keeps its number.
 use Rattle.std.proofs.Common.{◌≡◌}
 use Rattle.hist_lock.specs.Passes.{view, IsPassOf}
 use Rattle.server_vectors.proofs.tests.lock.numbers.push_hundred.Given as goal

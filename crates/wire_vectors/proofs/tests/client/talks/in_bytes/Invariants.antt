@@ -1,4 +1,4 @@
--- What the loop of `in_bytes` keeps.
+-- The answer is still awaited, and no more bytes were taken than were passed.
 use Rattle.std.proofs.Common.{◌≡◌, ◌+◌, ◌≤◌, true}
 use Rattle.acct_client.specs.Askers.{bytes_taken}
 use Rattle.wire_vectors.proofs.tests.client.talks.in_bytes.Given as goal

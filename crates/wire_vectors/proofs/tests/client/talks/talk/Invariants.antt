@@ -1,4 +1,4 @@
--- What the loop of `talk` keeps.
+-- No answer is awaited between two requests, and no more bytes were taken than were counted.
 use Rattle.std.proofs.Common.{◌≡◌, ◌≤◌, false}
 use Rattle.acct_client.specs.Askers.{bytes_taken}
 use Rattle.wire_vectors.proofs.tests.client.talks.talk.Given as goal

@@ -1,4 +1,4 @@
--- What the loop of `heard_by_bytes` keeps.
+-- The acts so far, and how the connection stands, are those of the bytes that were passed.
 use Rattle.std.proofs.Common.{take}
 use Rattle.rpc_session.specs.Acts.{IsSoFar}
 use Rattle.wire_vectors.proofs.tests.rpc.streams.heard_by_bytes.Given as goal

@@ -1,4 +1,4 @@
--- `has` meets its contract: what the search leaves open.
+-- None of the entries walked so far is of the connection; at the end of the log that is said of all.
 use Rattle.std.proofs.Common.{◌≡◌, ℕ, zero, suc, List, [], ◌∷◌, get_or, sym, ap, ◌∙◌, subst, arith, rules}
 use mathlib.Core.Option.{some, some-injective, some-ne-none}
 use mathlib.Core.Logic.{dite}

@@ -1,4 +1,4 @@
--- What the loop of `has` keeps.
+-- No entry that was passed is of the connection's lane.
 use Rattle.std.proofs.Common.{ℕ, ◌<◌}
 use Rattle.hist_lock.specs.Lanes.{IsOfLane}
 use Rattle.hist_lock.specs.Histories.{At}
