@@ -20,8 +20,8 @@ use Rattle.rpc_pdu.specs.declared.pdus.Pdu.TheVariants as pdu
 use Rattle.rpc_pdu.specs.Laws.{IsStable, AreReadBack}
 use Rattle.rpc_pdu.specs.Written.{written, IsWholeOutcome}
 use Rattle.rpc_session.specs.Replies.{fault_bytes, first_flag, reply_bytes, response, responses, RepliesBringStubs}
-use Rattle.samr_wire.specs.Samr.{samr}
-use Rattle.lsa_wire.specs.Wires.{lsa}
+use Rattle.samr_wire.specs.Interface.{samr}
+use Rattle.lsa_wire.specs.Interface.{lsa}
 use Rattle.client_steps.specs.declared.outcomes.Outcome.{Outcome as Brought}
 use Rattle.client_steps.specs.declared.outcomes.Outcome.TheVariants.{Goes as Onward, Ends, Refuses, Unfit}
 use Rattle.client_steps.specs.declared.steps.Step.{Step}
@@ -43,7 +43,8 @@ use Rattle.acct_client.specs.Answers.{gathers, responds}
 use Rattle.acct_client.specs.Dialogues.{answered, awaited_of, awaits, begun, joined, next_id, progress, replied}
 use Rattle.acct_client.specs.Dialogues.{reply_in, told, turned, wire_of}
 use Rattle.acct_client.specs.Hearings.{hear, hear_in, heard_next, listening, next_of, stepped}
-use Rattle.acct_client.specs.Requests.{context_of, size_for}
+use Rattle.acct_client.specs.Requests.{context_of}
+use Rattle.rpc_session.specs.Answers.{size_for}
 use Rattle.acct_client.specs.Runs.{run, run_on}
 use Rattle.acct_client.specs.Served.{accepted, bytes_of, bytes_on, lines_of, lines_on, stub_of, AreAnswers, AreOn}
 use Rattle.acct_client.specs.Served.{PrintsReplies}

@@ -3,6 +3,8 @@
 use Rattle.std.specs.Prelude.{ℕ, ◌==◌, Bool, false, ◌&&◌, List, [], ◌∷◌, ◌++◌, length, Option, Some, None}
 use Rattle.std.specs.Prelude.{if◌then◌else◌, nat_lt, bit_and}
 use Rattle.acct_codes.specs.Limits.{most_stub}
+use Rattle.acct_codes.specs.Negotiation.{result_acceptance}
+use Rattle.acct_codes.specs.PduHeaders.{pfc_first_frag, pfc_last_frag}
 use Rattle.rpc_pdu.specs.declared.pdus.Outcome.{Outcome}
 use Rattle.rpc_pdu.specs.declared.pdus.Pdu.{Pdu}
 use Rattle.rpc_pdu.specs.declared.pdus.Pdu.TheVariants as pdu
@@ -15,14 +17,14 @@ use Rattle.acct_client.specs.declared.answers.Turn.TheVariants.{Goes, Gives, Wro
 
 -- two contexts were offered, and both are accepted
 abbrev pub both_accepted : List Outcome → Bool
-both_accepted (first ∷ second ∷ []) = (first.result == 0) && (second.result == 0)
+both_accepted (first ∷ second ∷ []) = (first.result == result_acceptance) && (second.result == result_acceptance)
 both_accepted _ = false
 
--- a reply with one more response, which has these flags: 0x02 marks the last
+-- a reply with one more response, which has these flags: PFC_LAST_FRAG marks the last
 abbrev pub gathers : ℕ → PartialReply → Turn
 gathers flags g =
     if nat_lt most_stub (length g.stub) then Wrong
-    else (if bit_and flags 2 == 0 then Goes (Some g) else Gives (answer.Stub g.place g.stub))
+    else (if bit_and flags pfc_last_frag == 0 then Goes (Some g) else Gives (answer.Stub g.place g.stub))
 
 -- the first response, which begins at this place: none may be gathered
 abbrev pub begins : ℕ → ℕ → List ℕ → Option PartialReply → Turn
@@ -34,9 +36,10 @@ abbrev pub goes_on : ℕ → List ℕ → Option PartialReply → Turn
 goes_on flags stub None = Wrong
 goes_on flags stub (Some g) = gathers flags (record g { stub = g.stub ++ stub })
 
--- flag 0x01 marks the first response
+-- PFC_FIRST_FRAG marks the first response
 abbrev pub responds : ℕ → ℕ → List ℕ → Option PartialReply → Turn
-responds place flags stub g = if bit_and flags 1 == 0 then goes_on flags stub g else begins place flags stub g
+responds place flags stub g =
+    if bit_and flags pfc_first_frag == 0 then goes_on flags stub g else begins place flags stub g
 
 -- What a PDU that begins at this place does. A fault and a bind_nak are answers whatever is awaited; the call id is
 -- compared on responses alone.

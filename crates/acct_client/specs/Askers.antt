@@ -2,6 +2,8 @@
 use Rattle.std.specs.Prelude.{◌≡◌, ◌≢◌, ℕ, ◌+◌, ◌^◌, ◌<◌, Bool, true, false, not, List, ◌++◌, length}
 use Rattle.std.specs.Prelude.{Option, None, Result, Ok, Err}
 use Rattle.client_steps.specs.declared.command.Command.{Command}
+use Rattle.client_steps.specs.declared.words.WordError.{WordError}
+use Rattle.client_steps.specs.declared.words.WordError.TheVariants as unread
 use Rattle.acct_client.specs.declared.dialogue.Progress.{Progress}
 use Rattle.acct_client.specs.declared.dialogue.State.{State}
 use Rattle.acct_client.specs.declared.dialogue.State.TheVariants.{Failed}
@@ -64,6 +66,11 @@ pub record IsLost (old new : Talk) : Type 0 where
 pub record IsFitTalk (t : Talk) : Type 0 where
   pub state : IsFitState t.state
   pub awaiting : t.is_awaiting ≡ true → awaits t.state ≡ true
+
+-- what words that give no command make of the client
+abbrev pub unspelled : WordError → AskError
+unspelled unread.Refused = Usage
+unspelled unread.NoMemory = Memory
 
 -- why there is no client of some words: Usage is answered off the table alone, and Memory anywhere
 abbrev pub IsNoClient : AskError → Option Command → Type 0

@@ -10,8 +10,8 @@ use Rattle.acct_stubs.specs.Calls.{spell}
 use Rattle.acct_stubs.specs.Replies.{reply_at}
 use Rattle.acct_stubs.specs.Wire.{Wire}
 use Rattle.acct_stubs.specs.declared.errors.WireError.{WireError}
-use Rattle.samr_wire.specs.Samr.{samr}
-use Rattle.lsa_wire.specs.Wires.{lsa}
+use Rattle.samr_wire.specs.Interface.{samr}
+use Rattle.lsa_wire.specs.Interface.{lsa}
 use Rattle.acct_client.specs.declared.answers.Awaited.{Awaited}
 use Rattle.acct_client.specs.declared.answers.Awaited.TheVariants as awaited
 use Rattle.acct_client.specs.declared.answers.Answer.{Answer}
@@ -33,7 +33,8 @@ use Rattle.client_steps.specs.declared.steps.Step.TheVariants.{Opening}
 use Rattle.client_steps.specs.Fit.{IsFitCommand, IsFitStep}
 use Rattle.acct_client.specs.Hearings.{on, listening}
 use Rattle.client_steps.specs.Outcomes.{after, refused_line}
-use Rattle.acct_client.specs.Requests.{bind_bytes, context_of, request_bytes, size_for}
+use Rattle.acct_client.specs.Requests.{bind_bytes, context_of, request_bytes}
+use Rattle.rpc_session.specs.Answers.{size_for}
 use Rattle.client_steps.specs.Steps.{call_of}
 
 -- ---- what is sent

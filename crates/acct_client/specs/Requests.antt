@@ -4,6 +4,8 @@ use Rattle.std.specs.Prelude.{◌≡◌, ℕ, zero, suc, ◌+◌, ◌≤◌, Boo
 use Rattle.std.specs.Prelude.{length, take, drop, min, max}
 use Rattle.std.specs.Prelude.{if◌then◌else◌, nat_le}
 use Rattle.acct_codes.specs.Limits.{least_fragment, most_fragment}
+use Rattle.acct_codes.specs.PduHeaders.{pfc_last_frag}
+use Rattle.acct_codes.specs.PduTypes.{ptype_request}
 use Rattle.acct_calls.specs.declared.calls.Face.{Face}
 use Rattle.acct_calls.specs.declared.calls.Face.TheVariants.{Samr, Lsa}
 use Rattle.rpc_pdu.specs.declared.pdus.Element.{Element}
@@ -11,7 +13,7 @@ use Rattle.rpc_pdu.specs.declared.pdus.Pdu.TheVariants.{Bind, Request}
 use Rattle.rpc_pdu.specs.declared.syntaxes.Syntax.{Syntax}
 use Rattle.rpc_pdu.specs.Numbers.{u16_bytes, u32_bytes}
 use Rattle.rpc_pdu.specs.Syntaxes.{samr, lsarpc, ndr}
-use Rattle.rpc_pdu.specs.Written.{header_bytes, written}
+use Rattle.rpc_pdu.specs.Written.{header_bytes, whole_flags, written}
 use Rattle.rpc_session.specs.Replies.{most_of, first_flag}
 
 -- the context of each interface
@@ -33,24 +35,20 @@ bind_bytes = written (Bind 1 most_fragment most_fragment 0 elements)
 -- bits tell it
 unfoldable pub request : ℕ → ℕ → ℕ → ℕ → ℕ → List ℕ → List ℕ
 request id context opnum flags left part =
-    header_bytes 0 flags (24 + length part) id
+    header_bytes ptype_request flags (24 + length part) id
     ++ (u32_bytes (min left 0xFFFFFFFF) ++ u16_bytes context ++ u16_bytes opnum ++ part)
 
 -- In at most so many requests and one: each but the last has as many bytes as fit, the last has the others.
 unfoldable pub request_in : ℕ → ℕ → ℕ → ℕ → ℕ → Bool → List ℕ → List ℕ
 request_in zero id context opnum most first stub =
-    request id context opnum (first_flag first + 2) (length stub) stub
+    request id context opnum (first_flag first + pfc_last_frag) (length stub) stub
 request_in (suc turns) id context opnum most first stub =
-    if nat_le (length stub) most then request id context opnum (first_flag first + 2) (length stub) stub
+    if nat_le (length stub) most then request id context opnum (first_flag first + pfc_last_frag) (length stub) stub
     else request id context opnum (first_flag first) (length stub) (take most stub)
     ++ request_in turns id context opnum most false (drop most stub)
 
 unfoldable pub request_from : ℕ → ℕ → ℕ → ℕ → Bool → List ℕ → List ℕ
 request_from id context opnum most first stub = request_in (length stub) id context opnum most first stub
-
--- the size of fragments for the one that the peer takes at most
-abbrev pub size_for : ℕ → ℕ
-size_for recv = min most_fragment (max least_fragment recv)
 
 -- the requests that bring a call's stub in fragments of at most so many bytes
 abbrev pub request_bytes : ℕ → ℕ → ℕ → ℕ → List ℕ → List ℕ
@@ -59,4 +57,4 @@ request_bytes id context opnum size stub = request_from id context opnum (most_o
 -- a stub that fits a fragment is brought by the one PDU that write_pdu writes
 abbrev pub AreOnePdu : Type 0
 AreOnePdu = (id context opnum size : ℕ) (stub : List ℕ) → size ≤ most_fragment → length stub ≤ most_of size
-    → request_bytes id context opnum size stub ≡ written (Request id 3 context opnum stub)
+    → request_bytes id context opnum size stub ≡ written (Request id whole_flags context opnum stub)

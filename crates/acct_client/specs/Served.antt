@@ -1,6 +1,7 @@
 -- What a server's replies come to: the bytes that bring them, and the lines that are printed of them.
 use Rattle.std.specs.Prelude.{◌≡◌, ℕ, ◌≤◌, List, [], ◌∷◌, ◌++◌, length}
 use Rattle.acct_codes.specs.Limits.{least_fragment, most_stub}
+use Rattle.acct_codes.specs.Negotiation.{result_acceptance}
 use Rattle.acct_calls.specs.declared.calls.Call.{Call}
 use Rattle.acct_calls.specs.declared.replies.Reply.{Reply}
 use Rattle.acct_calls.specs.declared.replies.Reply.TheVariants as reply
@@ -89,7 +90,8 @@ accepted xmit recv group first second = written (BindAck 1 xmit recv group (firs
 -- Over the bytes that a server's replies are brought by, in fragments of any size, the lines are those of the replies.
 abbrev pub PrintsReplies : Type 0
 PrintsReplies = (command : Command) (replies : List Reply) (xmit recv group size : ℕ) (first second : Outcome)
-    → first.result ≡ 0 → second.result ≡ 0 → IsWholeOutcome first → IsWholeOutcome second
+    → first.result ≡ result_acceptance → second.result ≡ result_acceptance
+    → IsWholeOutcome first → IsWholeOutcome second
     → least_fragment ≤ size → AreAnswers replies (Opening command)
     → (spoken command (accepted xmit recv group first second ++ bytes_of size replies 2 (Opening command))).lines
     ≡ lines_of replies (Opening command)

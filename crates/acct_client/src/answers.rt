@@ -1,12 +1,14 @@
 // The answers of a peer, by the PDUs of its stream.
-ghost use Rattle.std.specs.Prelude.{◌≡◌, ◌==◌, ◌++◌, ◌≤◌, not, bit_and, IfOk, length, Some, None};
+ghost use Rattle.std.specs.Prelude.{◌≡◌, ◌++◌, IfOk, Some, None};
 ghost use Rattle.acct_codes.specs.Limits.{most_stub};
 ghost use Rattle.acct_client.specs.Answers.{both_accepted, gathers, begins, goes_on, responds, turned};
 
 use crate::NoMemory;
-use acct_base::Seq;
+use acct_base::{Seq, extended};
 use acct_codes::limit::MOST_STUB;
+use acct_codes::negotiation::RESULT_ACCEPTANCE;
 use rpc_pdu::{Outcome, Pdu};
+use rpc_session::{is_first, is_last};
 
 /// The answer that is awaited.
 #[derive(Clone, Copy, Debug, PartialEq, Eq)]
@@ -54,21 +56,9 @@ fn both_accepted(outcomes: &[Outcome]) -> bool
     ensures { result ≡ both_accepted outcomes.now }
 {
     match outcomes {
-        [first, second] => first.result == 0 && second.result == 0,
+        [first, second] => first.result == RESULT_ACCEPTANCE && second.result == RESULT_ACCEPTANCE,
         _ => false,
     }
-}
-
-fn is_first(flags: u8) -> bool
-    ensures { result ≡ not (bit_and flags 1 == 0) }
-{
-    flags & 1 != 0
-}
-
-fn is_last(flags: u8) -> bool
-    ensures { result ≡ not (bit_and flags 2 == 0) }
-{
-    flags & 2 != 0
 }
 
 fn put(flags: u8, reply: PartialReply) -> Turn
@@ -93,15 +83,6 @@ fn begins(place: u64, flags: u8, stub: Seq<u8>, reply: Option<PartialReply>) -> 
         None => put(flags, PartialReply { place, stub }),
         Some(_) => Turn::Wrong,
     }
-}
-
-/// The bytes of both. The first grow in place.
-pub fn extended(bytes: Seq<u8>, more: &[u8]) -> Result<Seq<u8>, NoMemory>
-    ensures { IfOk result (λ all. all ≡ bytes ++ more.now) }
-{
-    let mut bytes = bytes.into_vec();
-    bytes.extend_from_slice(more)?;
-    Ok(Seq::from_vec(bytes))
 }
 
 fn goes_on(flags: u8, stub: &[u8], reply: Option<PartialReply>) -> Result<Turn, NoMemory>

@@ -13,7 +13,7 @@ use crate::NoMemory;
 use crate::dialogue::{Progress, State, Talk, heard_more, sent, silence};
 use crate::errors::AskError;
 use crate::hearing::{Listening, streams_are_cut_anywhere};
-use client_steps::{Text, WordError, command_of};
+use client_steps::{Text, command_of};
 use rpc_pdu::front_is_stable;
 use std::alloc::Global;
 use std::marker::Model;
@@ -43,18 +43,15 @@ impl Asker {
         ensures ok { IfOk result (λ asker. option_map begun (command_of (map string_bytes words.now)) ≡ Some asker) }
         ensures err { IfErr result (λ e. IsNoClient e (command_of (map string_bytes words.now))) }
     {
-        match command_of(alloc, words) {
-            Err(WordError::Refused) => Err(AskError::Usage),
-            Err(WordError::NoMemory) => Err(AskError::Memory),
-            Ok(command) => Ok(Asker {
-                talk: Talk {
-                    state: State::Binding(command),
-                    is_awaiting: false,
-                    left: silence(alloc),
-                    lines: Text::new(alloc),
-                },
-            }),
-        }
+        let command = command_of(alloc, words)?;
+        Ok(Asker {
+            talk: Talk {
+                state: State::Binding(command),
+                is_awaiting: false,
+                left: silence(alloc),
+                lines: Text::new(alloc),
+            },
+        })
     }
 
     /// The next bytes to send: one bind, and then the requests of the command's calls, each made of the replies before

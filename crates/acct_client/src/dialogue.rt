@@ -4,7 +4,7 @@ ghost use Rattle.std.specs.Prelude.{option_map};
 ghost use Rattle.std.specs.Prelude.{true, false, not, length};
 ghost use Rattle.acct_codes.specs.Limits.{least_fragment, most_fragment};
 ghost use Rattle.acct_layouts.specs.CallShapes.{CanBeSpelled};
-ghost use Rattle.acct_stubs.specs.Calls.{ReadsStub, spell};
+ghost use Rattle.acct_stubs.specs.Calls.{ReadsAllIfRoom, spell};
 ghost use Rattle.acct_stubs.specs.Replies.{reply_at};
 ghost use Rattle.acct_client.specs.Dialogues.{wire_of, call_bytes, sent, awaits, waits, goes_to, failed, refused};
 ghost use Rattle.acct_client.specs.Dialogues.{next_id, turned, replied, reply_in, answered, silence, told, awaited_of};
@@ -168,7 +168,7 @@ fn turned(
 }
 
 fn reply_of(alloc: Global, face: Face, opnum: u16, stub: &[u8]) -> Result<Reply, WireError>
-    ensures { ReadsStub result (reply_at (wire_of face) opnum stub.now) }
+    ensures { ReadsAllIfRoom result (reply_at (wire_of face) opnum stub.now) }
 {
     match face {
         Face::Samr => samr_wire::read_reply(alloc, opnum, stub),

@@ -1,8 +1,10 @@
 // Why a client ends without its last answer.
 ghost use Rattle.acct_client.specs.declared.errors.AskError.TheVariants.{Memory};
+ghost use Rattle.acct_client.specs.Askers.{unspelled};
 ghost use Rattle.std.specs.Prelude.{◌≡◌};
 
 use crate::NoMemory;
+use client_steps::WordError;
 use thiserror::Error;
 
 /// Why a client ends without its last answer.
@@ -31,5 +33,16 @@ impl From<NoMemory> for AskError {
 
     fn from(_: NoMemory) -> Self {
         AskError::Memory
+    }
+}
+
+impl From<WordError> for AskError {
+    ghost from_gives = { λ e error. error ≡ unspelled e };
+
+    fn from(e: WordError) -> Self {
+        match e {
+            WordError::Refused => AskError::Usage,
+            WordError::NoMemory => AskError::Memory,
+        }
     }
 }

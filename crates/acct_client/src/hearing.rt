@@ -3,8 +3,8 @@ ghost use Rattle.std.specs.Prelude.{◌≡◌, ◌+◌, ◌++◌, ◌<◌, ◌�
 ghost use Rattle.acct_client.specs.Hearings.{listening, heard_next, hear, on, IsCutAnywhere};
 
 use crate::NoMemory;
-use crate::answers::{Answer, Awaited, PartialReply, Turn, extended, turned};
-use acct_base::{Seq, rest_of};
+use crate::answers::{Answer, Awaited, PartialReply, Turn, turned};
+use acct_base::{Seq, extended, kept, rest_of};
 use rpc_pdu::{ReadPdu, Side, front_is_stable, read_pdu};
 use std::alloc::{AllocError, Global};
 
@@ -72,18 +72,6 @@ fn heard_next(
             Turn::Wrong => Ok(Next::Wrong(place)),
         },
     }
-}
-
-/// The bytes from a place on. They are copied where some in front are left out, so that no more memory is kept than
-/// they take.
-fn kept(alloc: Global, bytes: Seq<u8>, place: usize) -> Result<Seq<u8>, NoMemory>
-    requires { place ≤ length bytes }
-    ensures { IfOk result (λ rest. rest ≡ drop place bytes) }
-{
-    if place == 0 {
-        return Ok(bytes);
-    }
-    Seq::copy_of(alloc, rest_of(bytes.as_slice(), place))
 }
 
 /// Hears bytes, the first of which has this place in the stream.

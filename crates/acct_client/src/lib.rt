@@ -1,7 +1,7 @@
 //! The client of the account server, without input and output: from the words of a command to the bytes that bring its
 //! calls, and from the bytes of the peer to the lines that are printed.
 //!
-//! It stands on `client_steps` for the commands, on `rpc_pdu` for the PDUs, on `rpc_session` for the sizes of
+//! It stands on `client_steps` for the commands, on `rpc_pdu` for the PDUs, on `rpc_session` for the flags and hints of
 //! fragments, and on both wires for the stubs. The layer above uses that an [`Asker`] sends the bind and then the
 //! requests of its command's calls, and that its lines are those of the answers that the peer's bytes spell, however
 //! they are cut ([`dialogues_are_cut_anywhere`]), with the first place that is no answer; and that they are those of a

@@ -1,15 +1,20 @@
 // The bytes that the client sends.
-ghost use Rattle.std.specs.Prelude.{◌≡◌, ◌++◌, ◌≤◌, ◌<◌, length, take, min, IfOk, OnOk};
+ghost use Rattle.std.specs.Prelude.{◌≡◌, ◌++◌, ◌≤◌, ◌<◌, length, IfOk, OnOk};
 ghost use Rattle.acct_codes.specs.Limits.{least_fragment, most_fragment};
-ghost use Rattle.rpc_session.specs.Replies.{first_flag};
-ghost use Rattle.acct_client.specs.Requests.{context_of, offered, bind_bytes, request, size_for, request_bytes};
+ghost use Rattle.rpc_session.specs.Answers.{size_for};
+ghost use Rattle.acct_client.specs.Requests.{context_of, offered, bind_bytes, request, request_bytes};
 ghost use Rattle.acct_client.specs.Requests.{AreOnePdu};
 
 use crate::NoMemory;
-use acct_base::{Seq, rest_of};
+use acct_base::{Seq, front_of, rest_of};
 use acct_calls::Face;
 use acct_codes::limit::{LEAST_FRAGMENT, MOST_FRAGMENT};
+use acct_codes::pdu_header::{
+    DREP_IEEE, DREP_LITTLE_ENDIAN_ASCII, PFC_LAST_FRAG, RPC_VERS, RPC_VERS_MINOR,
+};
+use acct_codes::pdu_type::PTYPE_REQUEST;
 use rpc_pdu::{Element, Pdu, Syntax, lsarpc, ndr, samr, u16_bytes, u32_bytes, write_pdu};
+use rpc_session::{first_flag, hint_of};
 use std::alloc::Global;
 
 /// The context that the calls of an interface are made on.
@@ -88,12 +93,12 @@ fn push_request(
     let on = u16_bytes(asked.context);
     let operation = u16_bytes(asked.opnum);
     out.extend_from_slice(&[
-        5,
-        0,
-        0,
+        RPC_VERS,
+        RPC_VERS_MINOR,
+        PTYPE_REQUEST,
         flags,
-        0x10,
-        0,
+        DREP_LITTLE_ENDIAN_ASCII,
+        DREP_IEEE,
         0,
         0,
         size[0],
@@ -114,33 +119,6 @@ fn push_request(
         operation[1],
     ])?;
     out.extend_from_slice(part)
-}
-
-/// The number of stub bytes that are left, as far as 32 bits tell it.
-fn hint_of(left: usize) -> u32
-    ensures { result ≡ min left 0xFFFFFFFF }
-{
-    if left < 0xFFFFFFFF {
-        left as u32
-    } else {
-        0xFFFFFFFF
-    }
-}
-
-fn first_flag(first: bool) -> u8
-    ensures value { result ≡ first_flag first }
-    ensures small { result ≤ 1 }
-{
-    if first { 1 } else { 0 }
-}
-
-fn front_of(bytes: &[u8], count: usize) -> &[u8]
-    requires { count ≤ length bytes.now }
-    ensures value { result.now ≡ take count bytes.now }
-    ensures length { length result.now ≡ count }
-{
-    let (front, _) = bytes.split_at(count);
-    front
 }
 
 /// The requests that bring a call's stub, each of at most `size` bytes.
@@ -171,7 +149,13 @@ pub fn request_bytes(
         rest = rest_of(rest, most);
         first = false;
     }
-    push_request(&mut out, asked, first_flag(first) + 2, rest.len(), rest)?;
+    push_request(
+        &mut out,
+        asked,
+        first_flag(first) + PFC_LAST_FRAG,
+        rest.len(),
+        rest,
+    )?;
     Ok(out)
 }
 

@@ -1,13 +1,12 @@
 -- The words of the program.
 use Rattle.std.specs.Prelude.{ℕ, ◌==◌, Bool, false, ◌&&◌, ◌||◌, not, List, [], ◌∷◌, length, codes, Option, Some, None}
-use Rattle.std.specs.Prelude.{option_map, if◌then◌else◌, nat_le, get_or, drop}
+use Rattle.std.specs.Prelude.{option_map, if◌then◌else◌, get_or, drop}
 use Rattle.std.specs.List.{list_any}
 use Rattle.std.specs.Option.{option_or}
 use Rattle.std.specs.Str.{bytes_eq}
-use Rattle.acct_base.specs.Words.{is_within, decimal_from}
+use Rattle.acct_base.specs.Words.{is_within, decimal_of}
 use Rattle.acct_generator.specs.Calls.{most_users}
 use Rattle.acct_config.specs.Address.{is_address}
-use Rattle.acct_server.specs.Events.{begins_with_zero}
 use Rattle.client_steps.specs.declared.command.Command.{Command}
 use Rattle.client_steps.specs.Words.{command_of}
 
@@ -45,8 +44,7 @@ from_1_to_most (Some n) = if is_within 1 most_users n then Some n else None
 
 -- a number of users in at most five decimal digits, without a leading zero
 unfoldable pub users_in : List ℕ → Option ℕ
-users_in word =
-    if nat_le (length word) 5 && not (begins_with_zero word) then from_1_to_most (decimal_from 0 word) else None
+users_in word = from_1_to_most (decimal_of 5 word)
 
 -- `gen N`: the number of users
 abbrev pub gen_form : List (List ℕ) → Option ℕ

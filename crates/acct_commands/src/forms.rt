@@ -5,7 +5,7 @@ ghost use Rattle.std.specs.String.{string_bytes};
 ghost use Rattle.acct_commands.specs.Words.{replay_form, gen_form, serve_form, users_in, is_call, begins_with_dash};
 ghost use Rattle.acct_generator.specs.Calls.{most_users};
 
-use acct_base::decimal;
+use acct_base::decimal_of;
 use acct_config::is_address;
 use acct_generator::MOST_USERS;
 
@@ -30,10 +30,7 @@ fn users_in(word: &[u8]) -> Option<u32>
     ensures value { result ≡ users_in word.now }
     ensures few { IfSome result (λ users. users ≤ most_users) }
 {
-    if 5 < word.len() || word.first() == Some(&b'0') {
-        return None;
-    }
-    let number = decimal(word)?;
+    let number = decimal_of(5, word)?;
     if number < 1 || (MOST_USERS as u64) < number {
         return None;
     }

@@ -14,7 +14,7 @@ use Rattle.acct_machine.specs.Shown.{Past}
 use Rattle.acct_machine.specs.State.{Start, is_live}
 use Rattle.acct_machine.specs.Step.{state_at}
 use Rattle.acct_machine.specs.Machine.{SameCalls}
-use Rattle.acct_machine.specs.Passing.{Passes, OthersChangeNothing, AreOfOthers, conn_of}
+use Rattle.acct_machine.specs.Passing.{KeepsConnection, OthersChangeNothing, AreOfOthers, conn_of}
 use Rattle.acct_requests.specs.Turns.{IfConn, HasNoCall, MachineOpens, shown}
 use Rattle.acct_gates.specs.Lanes.{lane_of}
 use Rattle.acct_gates.specs.declared.kept.Begun.{Begun}
@@ -30,7 +30,7 @@ module _ (others : OthersChangeNothing) (start : Start) (v w : View Begun Entry)
     grows = t.grows;
     mine = λ j m. mine-by v w j same m;
     no_more = λ j m. mine-by w v j (sym same) m;
-    others = λ j m. subst (λ (l : List Entry). Passes start j v.known l) (sym (t.known ∙ is))
+    others = λ j m. subst (λ (l : List Entry). KeepsConnection start j v.known l) (sym (t.known ∙ is))
         (finds-passes others start v j t.before owns m t.finds);
   }
 
@@ -82,7 +82,7 @@ module _ (others : OthersChangeNothing) (start : Start) (v w : View Begun Entry)
           grows = t.grows;
           mine = λ j its. mine-longer v w x j longer its;
           no_more = λ j its. but-one k listener j longer its;
-          others = λ j its. subst (λ (l : List Entry). Passes start j v.known l) (sym (known ∙ is))
+          others = λ j its. subst (λ (l : List Entry). KeepsConnection start j v.known l) (sym (known ∙ is))
               (passes-then start j v.known t.before (t.before ++ e ∷ [])
               (finds-passes others start v j t.before owns its t.finds)
               (passes-one others start j t.before e (λ same. fresh (subst (λ n. IsMine v n) (sym same) its))));

@@ -19,7 +19,7 @@ use Rattle.acct_machine.specs.State.{Start, is_live}
 use Rattle.acct_machine.specs.Shown.{Past}
 use Rattle.acct_machine.specs.Step.{state_at}
 use Rattle.acct_machine.specs.Legal.{Legal}
-use Rattle.acct_machine.specs.Passing.{Passes, OthersChangeNothing, AreOfOthers, conn_of}
+use Rattle.acct_machine.specs.Passing.{KeepsConnection, OthersChangeNothing, AreOfOthers, conn_of}
 use Rattle.acct_requests.specs.Turns.{MachineActs, MachineEnds, Turn as GateTurn}
 use Rattle.acct_gates.specs.Lanes.{lane_of}
 use Rattle.acct_gates.specs.declared.kept.Begun.{Begun}
@@ -61,7 +61,7 @@ others-at k (d ∷ es) (suc p) e others at = others-at k es p e others.1 at
 
 -- one more entry, of another connection
 pub passes-one : OthersChangeNothing → (start : Start) (j : ℕ) (h : List Entry) (e : Entry) → conn_of e ≢ j
-    → Passes start j h (h ++ e ∷ [])
+    → KeepsConnection start j h (h ++ e ∷ [])
 passes-one others start j h e ne = others start j h (e ∷ []) (ne, tt)
 
 -- ---- what a turn finds
@@ -78,10 +78,10 @@ lane-own v (entry.Gone conn) own = own
 
 -- what comes behind what the pass knows is of no connection of the pass
 pub finds-passes : OthersChangeNothing → (start : Start) (v : View Begun Entry) (k : ℕ) (h : List Entry) → OwnsLanes v
-    → IsMine v k → Finds lane_of v h → Passes start k v.known h
+    → IsMine v k → Finds lane_of v h → KeepsConnection start k v.known h
 finds-passes others start v k h owns mine finds =
     let rest : List Entry = finds.known.0 in
-    subst (λ (l : List Entry). Passes start k v.known l) (sym finds.known.1)
+    subst (λ (l : List Entry). KeepsConnection start k v.known l) (sym finds.known.1)
     (others start k v.known rest (of-others k rest (λ p e at same.
     let there : At h (length v.known + p) e = subst (λ (l : List Entry). At l (length v.known + p) e)
     (sym finds.known.1) (at-behind v.known rest p e at) in
@@ -220,7 +220,7 @@ moves-on others start v w k t (nothing is) owns =
       grows = t.grows;
       mine = λ j m. mine-by v w j same m;
       no_more = λ j m. mine-by w v j (sym same) m;
-      others = λ j ne m. subst (λ (l : List Entry). Passes start j v.known l) (sym (t.known ∙ is))
+      others = λ j ne m. subst (λ (l : List Entry). KeepsConnection start j v.known l) (sym (t.known ∙ is))
           (finds-passes others start v j t.before owns m t.finds);
     }
 moves-on others start v w k t (appends e is lane conn) owns =
@@ -230,7 +230,7 @@ moves-on others start v w k t (appends e is lane conn) owns =
       grows = t.grows;
       mine = λ j m. mine-longer v w x j longer m;
       no_more = λ j m. no-more v w x j longer (λ o. within-no (lane_of e) k j lane o) m;
-      others = λ j ne m. subst (λ (l : List Entry). Passes start j v.known l) (sym (t.known ∙ is))
+      others = λ j ne m. subst (λ (l : List Entry). KeepsConnection start j v.known l) (sym (t.known ∙ is))
           (passes-then start j v.known t.before (t.before ++ e ∷ [])
           (finds-passes others start v j t.before owns m t.finds)
           (passes-one others start j t.before e (λ same. ne (sym same ∙ conn))));

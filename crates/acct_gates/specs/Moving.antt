@@ -4,12 +4,12 @@ use Rattle.std.proofs.lemmas.List.{append-nil}
 use Rattle.hist_lock.specs.declared.view.View.{View}
 use Rattle.acct_machine.specs.State.{Start}
 use Rattle.acct_machine.specs.declared.entry.Entry.{Entry}
-use Rattle.acct_machine.specs.Passing.{Passes}
+use Rattle.acct_machine.specs.Passing.{KeepsConnection}
 use Rattle.acct_requests.specs.Turns.{IsFrontOf}
 use Rattle.acct_gates.specs.declared.kept.Begun.{Begun}
 use Rattle.acct_gates.specs.Passing.{MovesOn}
 
-pub passes-none : (start : Start) (k : ℕ) (h : List Entry) → Passes start k h h
+pub passes-none : (start : Start) (k : ℕ) (h : List Entry) → KeepsConnection start k h h
 passes-none start k h = record { calls = refl; replies = refl; live = refl }
 
 pub front-then : (a b c : List Entry) → IsFrontOf a b → IsFrontOf b c → IsFrontOf a c
@@ -19,8 +19,8 @@ front-then a b c one two =
 pub front-same : (h : List Entry) → IsFrontOf h h
 front-same h = ([], sym (append-nil h))
 
-pub passes-then : (start : Start) (k : ℕ) (a b c : List Entry) → Passes start k a b → Passes start k b c
-    → Passes start k a c
+pub passes-then : (start : Start) (k : ℕ) (a b c : List Entry) → KeepsConnection start k a b
+    → KeepsConnection start k b c → KeepsConnection start k a c
 passes-then start k a b c one two = record {
   calls = two.calls ∙ one.calls;
   replies = two.replies ∙ one.replies;

@@ -10,7 +10,7 @@ use Rattle.acct_machine.specs.Step.{state_at}
 use Rattle.acct_machine.specs.declared.entry.Entry.{Entry}
 use Rattle.acct_machine.specs.declared.machine.Opened as answer
 use Rattle.acct_machine.specs.declared.machine.Opened.TheVariants as opens
-use Rattle.acct_machine.specs.Passing.{Passes, conn_of}
+use Rattle.acct_machine.specs.Passing.{KeepsConnection, conn_of}
 use Rattle.acct_requests.specs.Turns.{HasNoCall, IsFrontOf}
 use Rattle.acct_gates.specs.Lanes.{lane_of}
 use Rattle.acct_gates.specs.declared.kept.Begun.{Begun}
@@ -38,7 +38,7 @@ pub record Serves (start : Start) (v : View Begun Entry) (k : ℕ) : Type 0 wher
 -- A history goes on from what the pass knows, and whatever is said of a connection that the pass opened is as it was.
 pub record IsPassing (start : Start) (v : View Begun Entry) (found : List Entry) : Type 0 where
   pub grows : IsFrontOf v.known found
-  pub own : (k : ℕ) → IsMine v k → Passes start k v.known found
+  pub own : (k : ℕ) → IsMine v k → KeepsConnection start k v.known found
 
 -- Turns on one connection took the pass from one state to another: what it knew is known, the same connections are its
 -- own, and of those but this one all is as it was.
@@ -47,7 +47,7 @@ pub record MovesOn (start : Start) (k : ℕ) (v w : View Begun Entry) : Type 0 w
   pub grows : IsFrontOf v.known w.known
   pub mine : (j : ℕ) → IsMine v j → IsMine w j
   pub no_more : (j : ℕ) → IsMine w j → IsMine v j
-  pub others : (j : ℕ) → j ≢ k → IsMine v j → Passes start j v.known w.known
+  pub others : (j : ℕ) → j ≢ k → IsMine v j → KeepsConnection start j v.known w.known
 
 -- The connection is new, live and without a call; all others of the pass are as they were.
 pub record OpensConn (start : Start) (k : ℕ) (v w : View Begun Entry) : Type 0 where
@@ -57,14 +57,14 @@ pub record OpensConn (start : Start) (k : ℕ) (v w : View Begun Entry) : Type 0
   pub grows : IsFrontOf v.known w.known
   pub mine : (j : ℕ) → IsMine v j → IsMine w j
   pub no_more : (j : ℕ) → IsMine w j → (j ≡ k) ⊎ IsMine v j
-  pub others : (j : ℕ) → IsMine v j → Passes start j v.known w.known
+  pub others : (j : ℕ) → IsMine v j → KeepsConnection start j v.known w.known
 
 -- No connection was opened, and all of the pass are as they were.
 pub record OpensNone (start : Start) (v w : View Begun Entry) : Type 0 where
   pub grows : IsFrontOf v.known w.known
   pub mine : (j : ℕ) → IsMine v j → IsMine w j
   pub no_more : (j : ℕ) → IsMine w j → IsMine v j
-  pub others : (j : ℕ) → IsMine v j → Passes start j v.known w.known
+  pub others : (j : ℕ) → IsMine v j → KeepsConnection start j v.known w.known
 
 -- what an opening of a connection leaves a pass with
 abbrev pub OpensOn : Start → answer.Opened → View Begun Entry → View Begun Entry → Type 0

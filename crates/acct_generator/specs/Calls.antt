@@ -15,10 +15,9 @@ use Rattle.acct_codes.specs.Opnums.{samr_get_members_in_alias, lsar_open_policy2
 use Rattle.acct_codes.specs.Rids.{security_nt_authority, first_created_rid}
 use Rattle.acct_codes.specs.Rights.{maximum_allowed}
 use Rattle.acct_codes.specs.UserControl.{user_normal_account}
-use Rattle.acct_layouts.specs.Refusals.{zero_handle}
 use Rattle.dtyp_sid.specs.Made.{with_last}
 use Rattle.dtyp_sid.specs.Value.{SidValue}
-use Rattle.client_steps.specs.Steps.{samr_call, lsa_call}
+use Rattle.acct_calls.specs.Calls.{lsa_call, samr_call, zero_handle}
 
 -- the most users that are generated
 abbrev pub most_users : ℕ

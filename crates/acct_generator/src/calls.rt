@@ -1,13 +1,14 @@
 // The calls of the generator.
 ghost use Rattle.std.specs.Prelude.{◌≡◌, ◌++◌, ◌≤◌, length, IfOk, OnOk};
 ghost use Rattle.acct_layouts.specs.Bounds.{IsText};
-ghost use Rattle.client_steps.specs.Steps.{samr_call, lsa_call};
 ghost use Rattle.acct_generator.specs.Calls.{most_users};
 ghost use Rattle.acct_generator.specs.Calls.{handle_of, domain_sid, user_sid, user_name, control, closing};
 ghost use Rattle.acct_generator.specs.Calls.{asked_names};
 ghost use Rattle.acct_generator.specs.Calls.{opening_calls, user_calls, closing_calls, policy_calls};
 
-use acct_calls::{Args, Call, Face, Handle, Info, Name, Names, NoMemory};
+use acct_calls::{
+    Args, Call, Handle, Info, Name, Names, NoMemory, ZERO_HANDLE, lsa_call, samr_call,
+};
 use acct_codes::info_class::USER_CONTROL_INFORMATION;
 use acct_codes::lookup_level::LSAP_LOOKUP_WKSTA;
 use acct_codes::lsa_opnum::{LSAR_CLOSE, LSAR_LOOKUP_NAMES, LSAR_OPEN_POLICY2};
@@ -25,37 +26,12 @@ use std::alloc::Global;
 /// The most users that are generated.
 pub const MOST_USERS: u32 = 10_000;
 
-/// The zero handle, of a call that takes none.
-const NO_HANDLE: Handle = Handle { number: 0 };
-
 /// The handle that is given out with a serial on connection 1.
 fn handle_of(serial: u32) -> Handle
     ensures { result ≡ handle_of serial }
 {
     Handle {
         number: (1 << 64) + serial as u128,
-    }
-}
-
-fn samr_call(opnum: u16, handle: Handle, args: Args) -> Call
-    ensures { result ≡ samr_call opnum handle args }
-{
-    Call {
-        face: Face::Samr,
-        opnum,
-        handle,
-        args,
-    }
-}
-
-fn lsa_call(opnum: u16, handle: Handle, args: Args) -> Call
-    ensures { result ≡ lsa_call opnum handle args }
-{
-    Call {
-        face: Face::Lsa,
-        opnum,
-        handle,
-        args,
     }
 }
 
@@ -113,7 +89,7 @@ pub fn opening_calls(alloc: Global) -> Result<Vec<Call>, NoMemory>
     ensures few { IfOk result (λ calls. length calls.items ≡ 3) }
 {
     let mut calls = Vec::with_capacity(alloc, 3)?;
-    calls.push(samr_call(SAMR_CONNECT2, NO_HANDLE, Args::Access(MAXIMUM_ALLOWED)))?;
+    calls.push(samr_call(SAMR_CONNECT2, ZERO_HANDLE, Args::Access(MAXIMUM_ALLOWED)))?;
     let domain = Args::AccessSid {
         access: MAXIMUM_ALLOWED,
         sid: domain_sid(),
@@ -217,7 +193,7 @@ fn push_policy_calls(alloc: Global, calls: &mut Vec<Call>, users: u32) -> Result
         rooted: false,
         access: MAXIMUM_ALLOWED,
     };
-    calls.push(lsa_call(LSAR_OPEN_POLICY2, NO_HANDLE, opening))?;
+    calls.push(lsa_call(LSAR_OPEN_POLICY2, ZERO_HANDLE, opening))?;
     let mut names = Names::new(alloc);
     names.push(ascii_name(alloc, "u7919")?)?;
     let translation = Args::LookNames {

@@ -9,8 +9,9 @@ ghost use Rattle.acct_links.specs.Memory.{CallsInMemory, fresh, told_by_steady};
 
 use crate::callers::{Caller, TakeError};
 use crate::links::Link;
-use crate::memory_links::{SteadyLink, one_more};
+use crate::memory_links::SteadyLink;
 use acct_base::Seq;
+use acct_streams::one_more;
 use std::alloc::{AllocError, Global};
 use std::collections::VecDeque;
 use std::marker::Model;

@@ -8,7 +8,7 @@ ghost use Rattle.acct_links.specs.MemoryDoors.{Lends, NextInMemory, opened};
 
 use crate::doors::{Door, Next};
 use crate::links::Link;
-use crate::memory_links::one_more;
+use acct_streams::one_more;
 use std::alloc::{AllocError, Global};
 use std::collections::VecDeque;
 use std::marker::Model;

@@ -1,34 +1,14 @@
 // Links in memory.
 ghost use Rattle.std.specs.Prelude.{◌≡◌, ◌<◌, ◌≤◌, length, take, [], false, IfOk, is_err};
 ghost use Rattle.std.specs.Io.{ReadsAtMost, WritesAtMost};
-ghost use Rattle.acct_streams.specs.Memory.{one_more};
 ghost use Rattle.acct_links.specs.Links.{Reads, Writes};
 ghost use Rattle.acct_links.specs.Memory.{told_by_steady, told_by, ReadsInMemory, WritesInMemory};
 
 use crate::links::Link;
 use acct_base::rest_of;
-use acct_streams::Failed;
+use acct_streams::{Failed, copy_front, one_more};
 use std::alloc::{AllocError, Global};
 use std::marker::Model;
-
-pub(crate) fn one_more(count: u64) -> u64
-    ensures { result ≡ one_more count }
-{
-    count.saturating_add(1)
-}
-
-// Copies as many bytes as fit, at most so many, and answers how many these are.
-fn copy_front(from: &[u8], most: usize, into: &mut [u8]) -> usize
-    requires { 0 < most }
-    ensures within { result ≤ length from.now }
-    ensures fits { result ≤ length into.old }
-    ensures copied { take result into.new ≡ take result from.now }
-    ensures all { result ≡ 0 → 0 < length into.new → from.now ≡ [] }
-{
-    let count = into.len().min(most).min(from.len());
-    into[..count].copy_from_slice(&from[..count]);
-    count
-}
 
 /// A link that gives the bytes it was made with, and whose calls never fail: its counts of faults are 0. It keeps
 /// nothing of what is written, and tells nothing of it.

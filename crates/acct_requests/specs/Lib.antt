@@ -1,7 +1,7 @@
 pub mod Requests
 pub mod Transcript
 pub mod Transcribed
-pub mod Peers
+pub mod Connections
 pub mod Turns
 pub mod Turning
 pub mod Answering

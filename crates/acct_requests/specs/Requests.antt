@@ -8,8 +8,8 @@ use Rattle.acct_stubs.specs.Calls.{call_at}
 use Rattle.acct_stubs.specs.Wire.{Wire}
 use Rattle.acct_stubs.specs.declared.errors.WireError.{WireError}
 use Rattle.acct_stubs.specs.declared.errors.WireError.TheVariants.{NotServed, BadStub, Memory}
-use Rattle.lsa_wire.specs.Wires.{lsa}
-use Rattle.samr_wire.specs.Samr.{samr}
+use Rattle.lsa_wire.specs.Interface.{lsa}
+use Rattle.samr_wire.specs.Interface.{samr}
 
 -- how an interface spells its calls and replies
 abbrev pub wire_of : Face → Wire

@@ -2,7 +2,7 @@
 ghost use Rattle.std.specs.Prelude.{◌≡◌, false, Some, OnOk, OnErr, IfOk};
 ghost use Rattle.rpc_session.specs.Hearings.{HasRoom, on, is_going};
 ghost use Rattle.acct_requests.specs.declared.connections.Peer.TheVariants as peer;
-ghost use Rattle.acct_requests.specs.Peers.{nothing_heard, is_served};
+ghost use Rattle.acct_requests.specs.Connections.{nothing_heard, is_served};
 
 use rpc_session::{Act, Bytes2Acts};
 use std::alloc::{AllocError, Global};

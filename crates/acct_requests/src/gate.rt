@@ -5,7 +5,7 @@ ghost use Rattle.acct_machine.specs.declared.entry.Entry.{Entry};
 ghost use Rattle.acct_machine.specs.declared.machine.Opened.{Opened};
 ghost use Rattle.acct_machine.specs.Calls.{IsCall};
 ghost use Rattle.acct_machine.specs.Machine.{Shaped};
-ghost use Rattle.acct_machine.specs.Passing.{Passes};
+ghost use Rattle.acct_machine.specs.Passing.{KeepsConnection};
 ghost use Rattle.acct_requests.specs.Turns.{Turn, MachineOpens, MachineActs, MachineEnds, HasNoCall, IfConn, IsFrontOf};
 
 use acct_machine::{Acted, Call, Opened};
@@ -67,7 +67,7 @@ pub trait Gate {
 
     /// Whatever is said of a connection that it serves is in a history that a turn finds as it is in what is known.
     ghost passes: { (g : Self) (k : ℕ) (found : List Entry) → serves g k → finds g found
-        → Passes (start g) k (known g) found };
+        → KeepsConnection (start g) k (known g) found };
 
     ghost stays: { (g : Self) (k : ℕ) → moves g k g };
 

@@ -5,7 +5,7 @@ ghost use Rattle.acct_codes.specs.Limits.{least_fragment, most_fragment, most_st
 ghost use Rattle.acct_layouts.specs.ReplyShapes.{HasShape};
 ghost use Rattle.acct_machine.specs.Calls.{IsCall};
 ghost use Rattle.acct_stubs.specs.declared.errors.WireError.{WireError};
-ghost use Rattle.acct_stubs.specs.Calls.{ReadsStub};
+ghost use Rattle.acct_stubs.specs.Calls.{ReadsAllIfRoom};
 ghost use Rattle.acct_stubs.specs.Replies.{spell_reply};
 ghost use Rattle.acct_requests.specs.Requests.{wire_of, call_on, undecoded_status};
 ghost use Rattle.acct_requests.specs.Transcript.{answer_bytes, undecoded_bytes};
@@ -39,7 +39,7 @@ pub enum Answer {
 
 /// The call of a request on an interface, or why it is none. `Memory` comes only where memory is wanted.
 pub fn read_request(alloc: Global, face: Face, opnum: u16, stub: &[u8]) -> Result<Call, WireError>
-    ensures value { ReadsStub result (call_on face opnum stub.now) }
+    ensures value { ReadsAllIfRoom result (call_on face opnum stub.now) }
     ensures call { IfOk result IsCall }
     ensures face { IfOk result (λ call. call.face ≡ face) }
     ensures opnum { IfOk result (λ call. call.opnum ≡ opnum) }
@@ -54,7 +54,7 @@ pub fn read_request(alloc: Global, face: Face, opnum: u16, stub: &[u8]) -> Resul
 /// The status of the fault that answers a request that is no decoded call. An error says that memory was wanted.
 pub fn undecoded_status(error: WireError) -> Result<u32, AllocError>
     ensures status { IfOk result (λ status. status ≡ undecoded_status error) }
-    ensures told { OnOk result ((r : Result Call WireError) → ReadsStub (Err error) r → r ≡ Err error) }
+    ensures told { OnOk result ((r : Result Call WireError) → ReadsAllIfRoom (Err error) r → r ≡ Err error) }
 {
     match error {
         WireError::NotServed(_) => Ok(NCA_S_OP_RNG_ERROR),
@@ -134,7 +134,7 @@ fn make_call<G: Gate>(
 // The fault that answers a request that is no decoded call.
 fn undecoded_bytes(alloc: Global, asked: Asked, error: WireError) -> Result<Vec<u8>, AllocError>
     ensures bytes { IfOk result (λ bytes. bytes.items ≡ undecoded_bytes asked error) }
-    ensures told { OnOk result ((r : Result Call WireError) → ReadsStub (Err error) r → r ≡ Err error) }
+    ensures told { OnOk result ((r : Result Call WireError) → ReadsAllIfRoom (Err error) r → r ≡ Err error) }
 {
     let status = undecoded_status(error)?;
     fault_bytes(asked.id, asked.context, status).to_vec(alloc)

@@ -32,7 +32,7 @@ use Rattle.acct_requests.specs.declared.requests.Answer.TheVariants as answer
 use Rattle.acct_requests.specs.Transcript.{answer_bytes, undecoded_bytes, busy_bytes}
 use Rattle.acct_requests.specs.Answering.{Enters, AnswersCall, AnswersRequest, BeginsRequest}
 use Rattle.acct_server.specs.Replayed.{Standing, Move, Doing, Verdicts, Printed, Out, IsClosed, IsGone, on_listener}
-use Rattle.acct_requests.specs.Peers.{nothing_heard}
+use Rattle.acct_requests.specs.Connections.{nothing_heard}
 use Rattle.acct_server.specs.Replayed.{on_open, listener_from, gone, number_of, peer_of, with_peer}
 use Rattle.acct_server.specs.Replayed.{line_bytes, on_end, on_event, quiet, on_heard, on_data, on_act, on_acts}
 use Rattle.acct_server.specs.Replayed.{on_request, on_call, prints_only, both, both_by, peer_behind, verdict_in}

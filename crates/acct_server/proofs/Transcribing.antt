@@ -36,7 +36,7 @@ use Rattle.acct_requests.specs.Transcript.{with_call}
 use Rattle.acct_server.specs.Events.{event_of, lines_of}
 use Rattle.acct_server.specs.Replayed.{Effect, Move, Doing, Standing, Trace, Verdicts, Printed, Out, IsClosed, IsGone}
 use Rattle.acct_server.specs.Replayed.{on_line, on_event, on_listener, listener_from, on_data, on_heard, on_acts}
-use Rattle.acct_requests.specs.Peers.{nothing_heard}
+use Rattle.acct_requests.specs.Connections.{nothing_heard}
 use Rattle.acct_server.specs.Replayed.{on_act, on_request, on_end, quiet, moved, both_by}
 use Rattle.acct_server.specs.Replayed.{peer_behind, gone, peer_of, with_peer, number_of, served_from, follow}
 use Rattle.acct_server.specs.Replayed.{unless_full, ends, ending, trace_from, at_start, verdict_in, replayed}

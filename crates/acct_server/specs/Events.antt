@@ -1,12 +1,15 @@
 -- The lines of an event file, and what each of them says.
-use Rattle.std.specs.Prelude.{ℕ, ◌^◌, ◌≤◌, ◌==◌, Bool, false, ◌&&◌, not, List, [], ◌∷◌, length, codes}
-use Rattle.std.specs.Prelude.{Option, Some, None, Result, Ok, Err, if◌then◌else◌, nat_lt, nat_le}
+use Rattle.std.specs.Prelude.{ℕ, ◌≤◌, ◌==◌, Bool, false, ◌&&◌, List, [], ◌∷◌, length, codes}
+use Rattle.std.specs.Prelude.{Option, Some, None, Result, Ok, Err, if◌then◌else◌}
 use Rattle.std.specs.Str.{bytes_eq}
-use Rattle.acct_base.specs.Words.{parted, decimal_from}
+use Rattle.acct_base.specs.Words.{is_within, parted, decimal_of}
 use Rattle.hex.specs.Hex.{decode_of}
 use Rattle.hex.specs.declared.FromHexError.{FromHexError}
+use Rattle.hex.specs.declared.FromHexError.TheVariants.{OutOfMemory}
 use Rattle.acct_server.specs.declared.events.Event.{Event}
 use Rattle.acct_server.specs.declared.events.Event.TheVariants.{Nothing, Open, Data, End}
+use Rattle.acct_server.specs.declared.events.LineError.{LineError}
+use Rattle.acct_server.specs.declared.events.LineError.TheVariants.{Refused, NoMemory}
 
 abbrev pub begins_with_feed : List ℕ → Bool
 begins_with_feed [] = false
@@ -23,23 +26,22 @@ lines_of (b ∷ bytes) =
     if b == 10 then [] ∷ lines_of bytes
     else (if (b == 13) && begins_with_feed bytes then lines_of bytes else first_line b (lines_of bytes))
 
-abbrev pub below_2^32 : Option ℕ → Option ℕ
-below_2^32 None = None
-below_2^32 (Some n) = if nat_lt n (2 ^ 32) then Some n else None
+abbrev pub from_1_below_2^32 : Option ℕ → Option ℕ
+from_1_below_2^32 None = None
+from_1_below_2^32 (Some n) = if is_within 1 0xFFFFFFFF n then Some n else None
 
-abbrev pub begins_with_zero : List ℕ → Bool
-begins_with_zero [] = false
-begins_with_zero (b ∷ bytes) = b == 48
-
--- a number below 2 ^ 32 in one to ten decimal digits, without a leading zero
+-- a number from 1 to 2 ^ 32 - 1 in decimal digits, without a leading zero
 unfoldable pub number_of : List ℕ → Option ℕ
-number_of word =
-    if nat_le 1 (length word) && nat_le (length word) 10 && not (begins_with_zero word) then below_2^32
-    (decimal_from 0 word) else None
+number_of word = from_1_below_2^32 (decimal_of 10 word)
 
 abbrev pub opens : Option ℕ → List ℕ → Option Event
 opens None listener = None
 opens (Some conn) listener = Some (Open conn listener)
+
+-- what digits that spell no bytes make of their line
+abbrev pub undecoded : FromHexError → LineError
+undecoded OutOfMemory = NoMemory
+undecoded _ = Refused
 
 abbrev pub brings : Option ℕ → Result (List ℕ) FromHexError → Option Event
 brings None decoded = None

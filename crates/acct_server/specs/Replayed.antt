@@ -26,7 +26,7 @@ use Rattle.acct_requests.specs.declared.connections.Peer.TheVariants.{Open, Ende
 use Rattle.acct_server.specs.declared.status.Status.{Status}
 use Rattle.acct_server.specs.declared.status.Status.TheVariants.{Done, EventLine, HistoryFull}
 use Rattle.acct_server.specs.Events.{event_of, lines_of}
-use Rattle.acct_requests.specs.Peers.{nothing_heard, is_served}
+use Rattle.acct_requests.specs.Connections.{nothing_heard, is_served}
 use Rattle.acct_requests.specs.Requests.{call_on}
 use Rattle.acct_requests.specs.declared.requests.Asked.{Asked}
 use Rattle.acct_requests.specs.Transcript.{answer_bytes, undecoded_bytes, busy_bytes, asked_by}

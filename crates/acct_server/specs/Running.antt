@@ -11,7 +11,7 @@ use Rattle.rpc_session.specs.declared.hearing.Hearing.{Hearing}
 use Rattle.rpc_session.specs.declared.sessions.Act.{Act}
 use Rattle.rpc_session.specs.Hearings.{on}
 use Rattle.rpc_session.specs.Acts.{acts, is_refusal, IsSoFar}
-use Rattle.acct_requests.specs.Peers.{is_served}
+use Rattle.acct_requests.specs.Connections.{is_served}
 use Rattle.acct_server.specs.Replayed.{Standing, Move, Doing, Verdicts, peer_of, with_peer, verdict_in}
 use Rattle.acct_server.specs.Replayed.{line_bytes, ending}
 

@@ -2,21 +2,11 @@
 ghost use Rattle.std.specs.Prelude.{◌≡◌, ◌≤◌, [], IfOk, IfErr};
 ghost use Rattle.acct_config.specs.Right.{IsRight};
 ghost use Rattle.acct_server.specs.Begun.{IsBegun};
-ghost use Rattle.acct_server.specs.Leaves.{StoreCause, StoreKept, unopened_status};
+ghost use Rattle.acct_server.specs.Leaves.{StoreCause, StoreKept};
 
 use crate::Status;
-use acct_machine::{Config, Keeper, Machine, OpenError, open_store};
+use acct_machine::{Config, Keeper, Machine, open_store};
 use std::alloc::Global;
-
-fn unopened(e: OpenError) -> Status
-    ensures { result ≡ unopened_status e }
-{
-    match e {
-        OpenError::StoreFault => Status::StoreFault,
-        OpenError::StoredPair(key) => Status::StoredPair(key),
-        OpenError::Memory => Status::NoMemory,
-    }
-}
 
 /// Why no machine was made, with the keeper.
 #[derive(Drop)]
@@ -44,7 +34,7 @@ pub(crate) fn begin<K: Keeper + Drop>(
         Ok(rows) => rows,
         Err(e) => {
             return Err(NotBegun {
-                status: unopened(e),
+                status: Status::from(e),
                 keeper,
             });
         }

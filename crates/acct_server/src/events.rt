@@ -5,10 +5,10 @@ ghost use Rattle.std.specs.List.{position_or_len};
 ghost use Rattle.acct_server.specs.declared.events.LineError.TheVariants.{NoMemory, Refused};
 ghost use Rattle.acct_base.specs.Words.{parted};
 ghost use Rattle.acct_server.specs.Events.{number_of, brings, of_two, of_command};
-ghost use Rattle.acct_server.specs.Events.{event_of, DataFits};
+ghost use Rattle.acct_server.specs.Events.{event_of, undecoded, DataFits};
 ghost use Rattle.hex.specs.Hex.{decode_of};
 
-use acct_base::{Seq, decimal, is_same, parted};
+use acct_base::{Seq, decimal_of, is_same, parted};
 use hex::FromHexError;
 use std::alloc::{AllocError, Global};
 use thiserror::Error;
@@ -44,20 +44,27 @@ impl From<AllocError> for LineError {
     }
 }
 
-// The number below 2^32 that digits without a leading zero spell.
+impl From<FromHexError> for LineError {
+    ghost from_gives = { λ e error. error ≡ undecoded e };
+
+    fn from(e: FromHexError) -> Self {
+        match e {
+            FromHexError::OutOfMemory => LineError::NoMemory,
+            _ => LineError::Refused,
+        }
+    }
+}
+
+// The number from 1 to 2^32 - 1 that digits without a leading zero spell.
 #[tactic(auto, unfolding(crate::specs::Events::number_of))]
 fn number_of(word: &[u8]) -> Option<u32>
     ensures { result ≡ number_of word.now }
 {
-    if word.is_empty() || 10 < word.len() || word[0] == b'0' {
+    let number = decimal_of(10, word)?;
+    if number < 1 || 0xFFFFFFFF < number {
         return None;
     }
-    let number = decimal(word)?;
-    if number < 0x1_0000_0000 {
-        Some(number as u32)
-    } else {
-        None
-    }
+    Some(number as u32)
 }
 
 // What a data line brings.
@@ -66,14 +73,11 @@ fn data_of(alloc: Global, conn: u32, digits: &[u8]) -> Result<Event, LineError>
     ensures short { IfOk result (DataFits (length digits.now)) }
     ensures refused { result ≡ Err Refused → brings (Some conn) (decode_of digits.now) ≡ None }
 {
-    match hex::decode(alloc, digits) {
-        Ok(bytes) => Ok(Event::Data {
-            conn,
-            bytes: Seq::from_vec(bytes),
-        }),
-        Err(FromHexError::OutOfMemory) => Err(LineError::NoMemory),
-        Err(_) => Err(LineError::Refused),
-    }
+    let bytes = hex::decode(alloc, digits)?;
+    Ok(Event::Data {
+        conn,
+        bytes: Seq::from_vec(bytes),
+    })
 }
 
 // An opening or data, behind the command.

@@ -2,7 +2,7 @@
 ghost use Rattle.std.specs.Prelude.{◌≡◌, ◌++◌, ◌∷◌, [], codes, IfOk, OnOk};
 ghost use Rattle.std.specs.String.{string_bytes};
 ghost use Rattle.std.specs.Fmt.{decimal};
-ghost use Rattle.acct_server.specs.Replayed.{out_line, closed_line, gone_line, full_line};
+ghost use Rattle.acct_server.specs.Replayed.{Out, line_bytes, closed_line, gone_line, full_line};
 
 use std::alloc::{AllocError, Global};
 
@@ -14,19 +14,23 @@ fn push_number(line: &mut Vec<u8>, alloc: Global, number: u64) -> Result<(), All
     Ok(())
 }
 
-/// The line that brings bytes sent on a connection.
+/// Adds the line that brings bytes sent on a connection behind the lines that are there.
 #[tactic(auto, unfolding(crate::specs::Replayed::out_line))]
-pub fn out_line(alloc: Global, conn: u32, bytes: &[u8]) -> Result<Vec<u8>, AllocError>
-    ensures { IfOk result (λ line. line.items ≡ out_line conn bytes.now) }
+pub fn push_out(
+    lines: &mut Vec<u8>,
+    alloc: Global,
+    conn: u32,
+    bytes: &[u8],
+) -> Result<(), AllocError>
+    ensures { OnOk result (lines.new.items ≡ lines.old.items ++ line_bytes (Out conn bytes.now)) }
 {
     let digits = hex::encode(alloc, bytes)?;
-    let mut line = Vec::new(alloc);
-    line.extend_from_slice(b"out ")?;
-    push_number(&mut line, alloc, conn as u64)?;
-    line.push(b' ')?;
-    line.extend_from_slice(digits.as_bytes())?;
-    line.push(b'\n')?;
-    Ok(line)
+    lines.extend_from_slice(b"out ")?;
+    push_number(lines, alloc, conn as u64)?;
+    lines.push(b' ')?;
+    lines.extend_from_slice(digits.as_bytes())?;
+    lines.push(b'\n')?;
+    Ok(())
 }
 
 /// The line that says that the server closed a connection, with the place in its stream and the cause of the PDU that

@@ -5,8 +5,8 @@ ghost use Rattle.acct_streams.specs.Causes.{Rose};
 ghost use Rattle.acct_streams.specs.Whole.{most_bytes};
 ghost use Rattle.acct_machine.specs.Step.{state_at};
 ghost use Rattle.acct_machine.specs.Storing.{HoldsRows, AreUpTo};
-ghost use Rattle.acct_server.specs.Configured.{IsConfigured, refused_status};
-ghost use Rattle.acct_server.specs.Leaves.{Leaves, ConfigCause, unread_status, Breaks, Stops, Finishes, FinishBreaks};
+ghost use Rattle.acct_server.specs.Configured.{IsConfigured};
+ghost use Rattle.acct_server.specs.Leaves.{Leaves, ConfigCause, Breaks, Stops, Finishes, FinishBreaks};
 ghost use Rattle.acct_server.specs.Leaves.{IsRunThrough, IsOfRun};
 ghost use Rattle.acct_server.specs.Replaying.{IsReplay, RunsLines};
 
@@ -14,11 +14,9 @@ use crate::beginning::begin;
 use crate::events::LineError;
 use crate::lines::next_line;
 use crate::running::Run;
-use crate::{Sink, Source, Status, WholeError, read_whole, write_all};
+use crate::{Sink, Source, Status, read_whole, write_all};
 use acct_base::Seq;
-use acct_machine::{
-    Config, ConfigError, Entry, Keeper, Rows, access_is_denied_exactly, read_config,
-};
+use acct_machine::{Config, Entry, Keeper, Rows, access_is_denied_exactly, read_config};
 use rpc_session::streams_are_cut_anywhere;
 use std::alloc::Global;
 
@@ -33,25 +31,6 @@ pub struct Replayed<K: Drop> {
     pub keeper: K,
 }
 
-fn unread(e: WholeError) -> Status
-    ensures { result ≡ unread_status e }
-{
-    match e {
-        WholeError::Fault => Status::ReadFault,
-        WholeError::TooLong => Status::InputTooLong,
-        WholeError::Memory => Status::NoMemory,
-    }
-}
-
-fn refused(error: ConfigError) -> Status
-    ensures { result ≡ refused_status error }
-{
-    match error {
-        ConfigError::Rule(number) => Status::Config(number),
-        ConfigError::Memory => Status::NoMemory,
-    }
-}
-
 /// The configuration that a source's document spells.
 pub fn read_configuration<S: Source>(alloc: Global, source: &mut S) -> Result<Config, Status>
     ensures configured { IfOk result (IsConfigured (S.left source.old)) }
@@ -59,13 +38,8 @@ pub fn read_configuration<S: Source>(alloc: Global, source: &mut S) -> Result<Co
     ensures cause { IfErr result (ConfigCause (S.left source.old) (S.faults source.old) (S.faults source.new)) }
     ensures later { S.faults source.old ≤ S.faults source.new }
 {
-    match read_whole(alloc, source) {
-        Err(e) => Err(unread(e)),
-        Ok(document) => match read_config(alloc, &document) {
-            Err(error) => Err(refused(error)),
-            Ok(config) => Ok(config),
-        },
-    }
+    let document = read_whole(alloc, source)?;
+    Ok(read_config(alloc, &document)?)
 }
 
 // Ends the connections that are still open, writes their lines, and answers the status.
@@ -213,7 +187,7 @@ pub fn replay<S: Source, T: Sink, K: Keeper + Drop>(
         Ok(bytes) => bytes,
         Err(e) => {
             drop(configuration);
-            return not_run(alloc, unread(e), keeper);
+            return not_run(alloc, Status::from(e), keeper);
         }
     };
     let begun = begin(alloc, &configuration, keeper);

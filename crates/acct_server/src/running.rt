@@ -17,7 +17,7 @@ ghost use Rattle.acct_requests.specs.declared.connections.Peer.TheVariants as pe
 ghost use Rattle.acct_requests.specs.Requests.{call_on};
 ghost use Rattle.acct_server.specs.Events.{DataFits};
 ghost use Rattle.acct_requests.specs.Transcript.{busy_bytes};
-ghost use Rattle.acct_requests.specs.Peers.{nothing_heard, is_served};
+ghost use Rattle.acct_requests.specs.Connections.{nothing_heard, is_served};
 ghost use Rattle.acct_server.specs.Replayed.{Out, IsClosed, IsGone, FoundFull, peer_of, with_peer};
 ghost use Rattle.acct_server.specs.Replayed.{number_of, served_from, ending, line_bytes, listener_from, on_open};
 ghost use Rattle.acct_server.specs.Replayed.{on_request, on_act, on_acts, on_data, on_end, on_event, on_line};
@@ -26,7 +26,7 @@ ghost use Rattle.acct_server.specs.Running.{peers_behind};
 ghost use Rattle.acct_server.specs.Running.{Closes};
 
 use crate::events::{Event, LineError, event_of};
-use crate::printing::{closed_line, full_line, gone_line, out_line};
+use crate::printing::{closed_line, full_line, gone_line, push_out};
 use acct_base::is_same;
 use acct_codes::fault::NCA_S_SERVER_TOO_BUSY;
 use acct_machine::{Entry, Keeper, Listener, Machine, Opened, Rows};
@@ -49,14 +49,6 @@ fn listener_place(listeners: &[Listener], name: &[u8]) -> Option<u32>
         }
     }
     None
-}
-
-// Adds the line that brings bytes sent on a connection.
-fn push_out(lines: &mut Vec<u8>, alloc: Global, conn: u32, bytes: &[u8]) -> Result<(), AllocError>
-    ensures { OnOk result (lines.new.items ≡ lines.old.items ++ line_bytes (Out conn bytes.now)) }
-{
-    lines.extend_from_slice(&out_line(alloc, conn, bytes)?)?;
-    Ok(())
 }
 
 // Adds the lines of a refusal.

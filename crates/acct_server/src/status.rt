@@ -1,5 +1,11 @@
 // How a command ends.
+ghost use Rattle.std.specs.Prelude.{◌≡◌};
+ghost use Rattle.acct_server.specs.Configured.{refused_status};
+ghost use Rattle.acct_server.specs.Leaves.{unread_status, unopened_status};
+
+use crate::WholeError;
 use acct_base::Seq;
+use acct_machine::{ConfigError, OpenError};
 
 /// How a command ends, with the number or the key that its cause carries.
 #[derive(Debug, Drop)]
@@ -34,4 +40,39 @@ pub enum Status {
     InputTooLong,
     /// The peer refused, with the status that it answered, 0 of a bind_nak.
     Refused(u32),
+}
+
+impl From<WholeError> for Status {
+    ghost from_gives = { λ e status. status ≡ unread_status e };
+
+    fn from(e: WholeError) -> Self {
+        match e {
+            WholeError::Fault => Status::ReadFault,
+            WholeError::TooLong => Status::InputTooLong,
+            WholeError::Memory => Status::NoMemory,
+        }
+    }
+}
+
+impl From<ConfigError> for Status {
+    ghost from_gives = { λ e status. status ≡ refused_status e };
+
+    fn from(e: ConfigError) -> Self {
+        match e {
+            ConfigError::Rule(number) => Status::Config(number),
+            ConfigError::Memory => Status::NoMemory,
+        }
+    }
+}
+
+impl From<OpenError> for Status {
+    ghost from_gives = { λ e status. status ≡ unopened_status e };
+
+    fn from(e: OpenError) -> Self {
+        match e {
+            OpenError::StoreFault => Status::StoreFault,
+            OpenError::StoredPair(key) => Status::StoredPair(key),
+            OpenError::Memory => Status::NoMemory,
+        }
+    }
 }

@@ -10,7 +10,7 @@ use Rattle.acct_machine.specs.Step.{acted, state_at}
 use Rattle.acct_machine.specs.declared.entry.Entry.{Entry}
 use Rattle.acct_machine.specs.declared.entry.Entry.TheVariants.{Called}
 use Rattle.acct_machine.specs.Legal.{replies, calls_of}
-use Rattle.acct_machine.specs.Passing.{Passes}
+use Rattle.acct_machine.specs.Passing.{KeepsConnection}
 use Rattle.acct_stubs.specs.declared.errors.WireError.{WireError}
 use Rattle.rpc_session.specs.declared.sessions.Act.TheVariants as act
 use Rattle.acct_requests.specs.declared.requests.Asked.{Asked}
@@ -29,7 +29,7 @@ same-conn : (k : ℕ) → (k == k) ≡ true
 same-conn k = grind (arith, nat_tests)
 
 module _ (start : Start) (k : ℕ) where
-  pub answers-passed : (known left : List Entry) → IsFrontOf known left → Passes start k known left
+  pub answers-passed : (known left : List Entry) → IsFrontOf known left → KeepsConnection start k known left
       → Answers start k [] known left []
   answers-passed known left front passes = record {
     grows = front;
@@ -40,7 +40,7 @@ module _ (start : Start) (k : ℕ) where
     bytes_are = refl;
   }
 
-  passes-here : (h : List Entry) → Passes start k h h
+  passes-here : (h : List Entry) → KeepsConnection start k h h
   passes-here h = record { calls = refl; replies = refl; live = refl }
 
   pub answers-none : (h : List Entry) → Answers start k [] h h []
@@ -49,7 +49,7 @@ module _ (start : Start) (k : ℕ) where
   -- ---- a request
 
   pub answers-entered : (finds : List Entry → Type 0) (known left : List Entry) (asked : Asked) (stub : List ℕ)
-      (call : Call) → ((found : List Entry) → finds found → IsFrontOf known found × Passes start k known found)
+      (call : Call) → ((found : List Entry) → finds found → IsFrontOf known found × KeepsConnection start k known found)
       → call_on asked.face asked.opnum stub ≡ Ok call → (enters : Enters start k finds left call (length stub))
       → Answers start k (request_of asked stub ∷ []) known left
       (answer_bytes asked call.face call.opnum (acted (state_at start enters.found) k call enters.verdict).1)
@@ -89,7 +89,7 @@ module _ (start : Start) (k : ℕ) where
       }
 
   module _ (finds : List Entry → Type 0) (known left : List Entry) (asked : Asked) (stub : List ℕ)
-      (passes : (found : List Entry) → finds found → IsFrontOf known found × Passes start k known found) where
+      (passes : (found : List Entry) → finds found → IsFrontOf known found × KeepsConnection start k known found) where
     answered-by : (r : Result Call WireError) (given : Answer) → call_on asked.face asked.opnum stub ≡ r
         → AnswersRequest start k finds known left asked (length stub) r given
         → IsAnswered start k asked stub known left given

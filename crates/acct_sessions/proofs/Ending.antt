@@ -12,7 +12,7 @@ use Rattle.acct_machine.specs.State.{Start}
 use Rattle.acct_machine.specs.declared.entry.Entry.{Entry}
 use Rattle.acct_machine.specs.declared.entry.Entry.TheVariants.{Gone}
 use Rattle.acct_machine.specs.Legal.{replies}
-use Rattle.acct_machine.specs.Passing.{Passes}
+use Rattle.acct_machine.specs.Passing.{KeepsConnection}
 use Rattle.acct_machine.specs.Shown.{Past}
 use Rattle.rpc_session.specs.declared.sessions.Act.{Act}
 use Rattle.rpc_session.specs.declared.hearing.Hearing.{Hearing}
@@ -112,7 +112,7 @@ closing-at (a ∷ b ∷ xs) x lt is =
 -- ---- the connection's end, and what was said before it
 
 pub is-ended : (start : Start) (k : ℕ) (finds : List Entry → Type 0) (known left : List Entry)
-    → ((found : List Entry) → finds found → Passes start k known found)
+    → ((found : List Entry) → finds found → KeepsConnection start k known found)
     → ((found : List Entry) → finds found → IsFrontOf known found) → Turn finds (MachineEnds start k) left
     → Ended start k known left
 is-ended start k finds known left passes fronts turn =

@@ -10,7 +10,7 @@ use Rattle.hist_lock.proofs.Places.{in_merged, merged_has}
 use Rattle.hist_lock.specs.declared.view.View.{View}
 use Rattle.acct_machine.specs.State.{Start}
 use Rattle.acct_machine.specs.Legal.{Legal}
-use Rattle.acct_machine.specs.Passing.{Passes, OthersChangeNothing, OpenedOnce, AreOfOthers, conn_of}
+use Rattle.acct_machine.specs.Passing.{KeepsConnection, OthersChangeNothing, OpenedOnce, AreOfOthers, conn_of}
 use Rattle.acct_machine.specs.declared.entry.Entry.{Entry}
 use Rattle.acct_machine.specs.declared.entry.Entry.TheVariants as entry
 use Rattle.acct_links.specs.Links.{Told}
@@ -239,7 +239,7 @@ module _ {L : Type 0} (told : L → Told) (start : Start) (most : ℕ) where
 
   -- behind a front behind which the pass that owns all owns no entry of a connection, there is none
   passes-front : OthersChangeNothing → (v : View Begun Entry) (k : ℕ) (front h : List Entry) → OwnsNoneBehind v k front
-      → IsFrontOf v.known h → ((p : ℕ) (e : Entry) → At h p e → In v.own p e) → Passes start k front h
+      → IsFrontOf v.known h → ((p : ℕ) (e : Entry) → At h p e → In v.own p e) → KeepsConnection start k front h
   passes-front others v k front h none known mine =
       let starts : IsFrontOf front h = front-then front v.known h none.begins known in
       let rest : List Entry = starts.0 in
@@ -248,7 +248,7 @@ module _ {L : Type 0} (told : L → Told) (start : Start) (most : ℕ) where
       (at-behind front rest p e at) in
       let less = none.no_more (length front + p) e (mine (length front + p) e there) same in
       absurd (omega arith) in
-      subst (λ (l : List Entry). Passes start k front l) (sym starts.1)
+      subst (λ (l : List Entry). KeepsConnection start k front l) (sym starts.1)
       (others start k front rest (of-others k rest quiet))
 
   is-service : OthersChangeNothing → (v : View Begun Entry) (h : List Entry) (s : Service L) → IsFrontOf v.known h

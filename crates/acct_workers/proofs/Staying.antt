@@ -5,7 +5,7 @@ use Rattle.acct_calls.specs.declared.calls.Call.{Call}
 use Rattle.acct_calls.specs.declared.replies.Reply.{Reply}
 use Rattle.acct_machine.specs.State.{Start}
 use Rattle.acct_machine.specs.Legal.{replies}
-use Rattle.acct_machine.specs.Passing.{Passes}
+use Rattle.acct_machine.specs.Passing.{KeepsConnection}
 use Rattle.acct_machine.specs.declared.entry.Entry.{Entry}
 use Rattle.acct_machine.specs.declared.entry.Entry.TheVariants.{Gone}
 use Rattle.rpc_session.specs.declared.sessions.Act.{Act}
@@ -22,7 +22,7 @@ use Rattle.acct_gates.specs.Moving.{front-then}
 use Rattle.acct_workers.specs.Services.{HasGone, ServesConn, TakesNone}
 
 module _ (start : Start) (k : ℕ) (known after : List Entry) (grows : IsFrontOf known after)
-    (passes : Passes start k known after) (came sent : List ℕ) where
+    (passes : KeepsConnection start k known after) (came sent : List ℕ) where
   transcript-still : (xs : List Act) → transcript xs (replies start k known) ≡ transcript xs (replies start k after)
   transcript-still xs = ap (λ (l : List Reply). transcript xs l) (sym passes.replies)
 
@@ -97,7 +97,7 @@ module _ (start : Start) (k : ℕ) (known after : List Entry) (grows : IsFrontOf
       (turned-still n is.0, full-still (Rose old.write_faults new.write_faults) is.1)
 
 pub conversation-stays : (start : Start) (k most : ℕ) (answer : SessionEnd) (old new : Told)
-    (begun known after : List Entry) → IsFrontOf known after → Passes start k known after
+    (begun known after : List Entry) → IsFrontOf known after → KeepsConnection start k known after
     → IsConversation start k most answer old new begun known → IsConversation start k most answer old new begun after
 conversation-stays start k most answer old new begun known after grows passes is = record {
   grows = front-then begun known after is.grows grows;
@@ -120,7 +120,7 @@ gone-stays k before after grows is = record {
 }
 
 pub serves-stays : (start : Start) (most k listener : ℕ) (answer : SessionEnd) (given back : Told)
-    (before after : List Entry) → IsFrontOf before after → Passes start k before after
+    (before after : List Entry) → IsFrontOf before after → KeepsConnection start k before after
     → ServesConn start most k listener answer given back before
     → ServesConn start most k listener answer given back after
 serves-stays start most k listener answer given back before after grows passes is = record {

@@ -7,7 +7,7 @@ use Rattle.hist_lock.specs.Histories.{At, In}
 use Rattle.hist_lock.specs.declared.view.View.{View}
 use Rattle.acct_machine.specs.State.{Start}
 use Rattle.acct_machine.specs.Legal.{Legal}
-use Rattle.acct_machine.specs.Passing.{Passes}
+use Rattle.acct_machine.specs.Passing.{KeepsConnection}
 use Rattle.acct_machine.specs.declared.entry.Entry.{Entry}
 use Rattle.acct_links.specs.Links.{Told, IsNew}
 use Rattle.acct_requests.specs.Turns.{IsFrontOf}
@@ -25,7 +25,7 @@ use Rattle.acct_workers.proofs.Staying.{serves-stays, none-stays}
 module _ {L : Type 0} where
   -- what stands of a link stays where nothing that is said of its connection changes
   pub service-stays : (told : L → Told) (start : Start) (most : ℕ) (before after : List Entry) (s : Service L)
-      → IsFrontOf before after → ((k : ℕ) → IsOfConn k s → Passes start k before after)
+      → IsFrontOf before after → ((k : ℕ) → IsOfConn k s → KeepsConnection start k before after)
       → IsService told start most before s → IsService told start most after s
   service-stays told start most before after (Serves s) grows passes is =
       serves-stays start most s.conn s.listener s.end (told s.given) (told s.back) before after grows
@@ -46,7 +46,7 @@ module _ {L : Type 0} where
   module _ (told : L → Told) (start : Start) (most : ℕ) (v w : View Begun Entry) (ss : List (Service L))
       (s : Service L) (working : IsWorking told start most v ss) where
     one-more : Legal start w.known → OwnsLanes w → ((k : ℕ) → IsMine v k → IsMine w k) → IsMineOn w s
-        → IsFrontOf v.known w.known → ((k : ℕ) → IsMine v k → Passes start k v.known w.known)
+        → IsFrontOf v.known w.known → ((k : ℕ) → IsMine v k → KeepsConnection start k v.known w.known)
         → IsService told start most w.known s → ((k : ℕ) → IsMine w k → IsOfConn k s ⊎ IsMine v k)
         → ((k : ℕ) → IsOfConn k s → IsMine v k → ⊥) → IsWorking told start most w (ss ++ s ∷ [])
     one-more legal owns mine here grows passes is no_more fresh = record {

@@ -32,7 +32,7 @@ use Rattle.acct_client.specs.Answers.{turned as turn_of}
 use Rattle.acct_client.specs.Dialogues.{answered, awaits, goes_to, is_failed, next_id, replied, reply_in, silence}
 use Rattle.acct_client.specs.Dialogues.{turned}
 use Rattle.acct_client.specs.Hearings.{heard_next, next_of, stepped}
-use Rattle.acct_client.specs.Requests.{size_for}
+use Rattle.rpc_session.specs.Answers.{size_for}
 use Rattle.acct_client.specs.Runs.{more}
 
 -- ---- a PDU in front

@@ -1,10 +1,10 @@
 -- The calls that each command makes in order (MS-SAMR 3.1.5, MS-LSAD 3.1.4, MS-LSAT 3.1.4), with what the replies
 -- before them brought.
 use Rattle.std.specs.Prelude.{ℕ, ◌+◌, false, List, [], ◌∷◌, map, Some}
+use Rattle.acct_calls.specs.Calls.{lsa_call, samr_call, zero_handle}
 use Rattle.acct_calls.specs.declared.calls.Args.{Args}
 use Rattle.acct_calls.specs.declared.calls.Args.TheVariants as args
 use Rattle.acct_calls.specs.declared.calls.Call.{Call}
-use Rattle.acct_calls.specs.declared.calls.Face.TheVariants.{Samr, Lsa}
 use Rattle.acct_calls.specs.declared.handle.Handle.{Handle}
 use Rattle.acct_codes.specs.GroupAttributes.{new_group_attributes}
 use Rattle.acct_codes.specs.LookupLevels.{lsap_lookup_wksta}
@@ -18,7 +18,6 @@ use Rattle.acct_codes.specs.Rights.{sam_server_enumerate_domains, sam_server_loo
 use Rattle.acct_codes.specs.Rights.{domain_create_user, domain_lookup, group_list_members, group_add_member}
 use Rattle.acct_codes.specs.Rights.{policy_create_account, policy_lookup_names, delete, maximum_allowed}
 use Rattle.acct_codes.specs.UserControl.{user_normal_account}
-use Rattle.acct_layouts.specs.Refusals.{zero_handle}
 use Rattle.dtyp_sid.specs.Value.{SidValue}
 use Rattle.client_steps.specs.declared.command.Command.{Command}
 use Rattle.client_steps.specs.declared.command.Command.TheVariants.{Domains, InDomain, AtPolicy}
@@ -37,12 +36,6 @@ use Rattle.client_steps.specs.declared.steps.Step.TheVariants as step
 -- the length of a page that is asked for
 abbrev pub preferred : ℕ
 preferred = 4096
-
-abbrev pub samr_call : ℕ → Handle → Args → Call
-samr_call opnum handle a = record { face = Samr; opnum = opnum; handle = handle; args = a }
-
-abbrev pub lsa_call : ℕ → Handle → Args → Call
-lsa_call opnum handle a = record { face = Lsa; opnum = opnum; handle = handle; args = a }
 
 -- the access to the domain that a task needs
 abbrev pub domain_access : Task → ℕ

@@ -1,6 +1,6 @@
 // The calls of a command, one after the other.
 ghost use Rattle.std.specs.Prelude.{◌≡◌, ◌∷◌, ◌++◌, [], map, IfOk, OnOk};
-ghost use Rattle.client_steps.specs.Steps.{samr_call, lsa_call, domain_access, policy_access, group_access};
+ghost use Rattle.client_steps.specs.Steps.{domain_access, policy_access, group_access};
 ghost use Rattle.client_steps.specs.Steps.{asked_names, sid_of_word, page};
 ghost use Rattle.acct_calls.specs.declared.handle.Handle.{Handle};
 ghost use Rattle.client_steps.specs.Steps.{opening_call, query_call, call_of};
@@ -9,7 +9,7 @@ ghost use Rattle.client_steps.specs.Fit.{FitStepsAreSpelled};
 use crate::NoMemory;
 use crate::command::{Command, NamedTask, Query, SidWord, Task};
 use acct_base::Seq;
-use acct_calls::{Args, Call, Face, Handle, Name, Names};
+use acct_calls::{Args, Call, Face, Handle, Name, Names, ZERO_HANDLE, lsa_call, samr_call};
 use acct_codes::domain_rights::{DOMAIN_CREATE_USER, DOMAIN_LIST_ACCOUNTS, DOMAIN_LOOKUP};
 use acct_codes::group_attribute::NEW_GROUP_ATTRIBUTES;
 use acct_codes::group_rights::{GROUP_ADD_MEMBER, GROUP_LIST_MEMBERS};
@@ -102,31 +102,6 @@ pub enum Step {
     },
 }
 
-/// The zero handle, of a call that takes none.
-const NO_HANDLE: Handle = Handle { number: 0 };
-
-fn samr_call(opnum: u16, handle: Handle, args: Args) -> Call
-    ensures { result ≡ samr_call opnum handle args }
-{
-    Call {
-        face: Face::Samr,
-        opnum,
-        handle,
-        args,
-    }
-}
-
-fn lsa_call(opnum: u16, handle: Handle, args: Args) -> Call
-    ensures { result ≡ lsa_call opnum handle args }
-{
-    Call {
-        face: Face::Lsa,
-        opnum,
-        handle,
-        args,
-    }
-}
-
 fn domain_access(task: &Task) -> u32
     ensures { result ≡ domain_access task.now }
 {
@@ -161,17 +136,17 @@ fn opening_call(command: &Command) -> Call
     match command {
         Command::Domains => samr_call(
             SAMR_CONNECT2,
-            NO_HANDLE,
+            ZERO_HANDLE,
             Args::Access(SAM_SERVER_ENUMERATE_DOMAINS),
         ),
         Command::InDomain { .. } => samr_call(
             SAMR_CONNECT2,
-            NO_HANDLE,
+            ZERO_HANDLE,
             Args::Access(SAM_SERVER_LOOKUP_DOMAIN),
         ),
         Command::AtPolicy(query) => lsa_call(
             LSAR_OPEN_POLICY2,
-            NO_HANDLE,
+            ZERO_HANDLE,
             Args::Policy {
                 rooted: false,
                 access: policy_access(query),

@@ -7,6 +7,7 @@ ghost use Rattle.client_steps.specs.Texts.{name_text, glyph};
 
 use crate::NoMemory;
 use acct_calls::{FirstPoint, first_point};
+use dtyp_sid::push_hexadecimal;
 use std::alloc::Global;
 use std::marker::Model;
 
@@ -83,25 +84,8 @@ impl Text {
     pub fn push_hexadecimal(&mut self, count: usize, number: u32) -> Result<(), NoMemory>
         ensures { OnOk result (self.new ≡ self.old ++ hexadecimal count number) }
     {
-        push_digits(&mut self.text, count, number)
+        push_hexadecimal(&mut self.text, count, u64::from(number))
     }
-}
-
-#[tactic(auto, unfolding(dtyp_sid::specs::Text::hexadecimal))]
-fn push_digits(text: &mut String, count: usize, number: u32) -> Result<(), NoMemory>
-    ensures { OnOk result (string_bytes text.new ≡ string_bytes text.old ++ hexadecimal count number) }
-{
-    if count > 0 {
-        push_digits(text, count - 1, number / 16)?;
-        let digit = (number % 16) as u8;
-        let glyph = if digit < 10 {
-            b'0' + digit
-        } else {
-            b'a' + (digit - 10)
-        };
-        text.push(char::from(glyph))?;
-    }
-    Ok(())
 }
 
 /// The character of a code point, and `?` for a surrogate.

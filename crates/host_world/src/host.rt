@@ -1,7 +1,11 @@
 // The real world: files, the standard streams, and no word on what they hold.
-ghost use Rattle.std.specs.Prelude.{◌≡◌, Some, None, false, [], unwrap_or, option_copied, MatchOption};
+ghost use Rattle.std.specs.Prelude.{◌≡◌, ◌≤◌, Some, None, Err, true, false, [], codes, unwrap_or, option_copied};
+ghost use Rattle.std.specs.Prelude.{MatchOption, IfOk, IfErr, IsOk, OnErr};
 ghost use Rattle.std.specs.Option.{option_or};
-ghost use Rattle.host_world.specs.Host.{trouble_of, first_trouble, unread_after};
+ghost use Rattle.std.specs.Str.{bytes_eq};
+ghost use Rattle.acct_streams.specs.Causes.{Rose};
+ghost use Rattle.acct_links.specs.declared.callers.TakeError.TheVariants as take_error;
+ghost use Rattle.host_world.specs.Host.{held_by, trouble_of, first_trouble, unread_after};
 ghost use Rattle.host_world.specs.declared.stranger.Stranger.TheVariants.{Other};
 
 use crate::host_entrance::{SpokenEntrance, first_trouble};
@@ -214,7 +218,14 @@ impl<'a> World for HostWorld<'a> {
     fn take_source(
         &mut self,
         name: &str,
-    ) -> Result<HostSource<<HostRuntime as Input>::Reader>, TakeError> {
+    ) -> Result<HostSource<<HostRuntime as Input>::Reader>, TakeError>
+        ensures kept { self.new
+            ≡ record self.old { source_faults = self.new.source_faults; unread = self.new.unread } }
+        ensures input { bytes_eq name.now (codes "-") ≡ true → IsOk result }
+        ensures failed { IfErr result (λ e. e ≡ take_error.Failed) }
+        ensures cause { OnErr result (Rose self.old.source_faults self.new.source_faults) }
+        ensures later { self.old.source_faults ≤ self.new.source_faults }
+    {
         let opened = if name == "-" {
             Opened::Standard(self.rt.reader())
         } else {
@@ -240,7 +251,10 @@ impl<'a> World for HostWorld<'a> {
         drop(part);
     }
 
-    fn take_sink(&mut self) -> Result<HostSink<Printer<'a, HostRuntime>>, TakeError> {
+    fn take_sink(&mut self) -> Result<HostSink<Printer<'a, HostRuntime>>, TakeError>
+        ensures kept { self.new ≡ self.old }
+        ensures given { IsOk result }
+    {
         Ok(HostSink::new(io::writer(self.rt)))
     }
 
@@ -248,7 +262,13 @@ impl<'a> World for HostWorld<'a> {
         drop(part);
     }
 
-    fn take_keeper(&mut self, name: &str) -> Result<HostKeeper, TakeError> {
+    fn take_keeper(&mut self, name: &str) -> Result<HostKeeper, TakeError>
+        ensures kept { self.new ≡ record self.old { keeper_faults = self.new.keeper_faults } }
+        ensures given { name.now ≡ [] → IsOk result }
+        ensures empty { IfOk result (λ keeper. name.now ≡ [] → held_by keeper ≡ Some []) }
+        ensures cause { result ≡ Err take_error.Failed → Rose self.old.keeper_faults self.new.keeper_faults }
+        ensures later { self.old.keeper_faults ≤ self.new.keeper_faults }
+    {
         if name.is_empty() {
             return Ok(HostKeeper::Memory(SteadyKeeper::new(self.alloc)));
         }
@@ -266,7 +286,10 @@ impl<'a> World for HostWorld<'a> {
         drop(part);
     }
 
-    fn take_entrance(&mut self) -> Result<SpokenEntrance<'a, HostRuntime>, TakeError> {
+    fn take_entrance(&mut self) -> Result<SpokenEntrance<'a, HostRuntime>, TakeError>
+        ensures kept { self.new ≡ self.old }
+        ensures given { IsOk result }
+    {
         Ok(SpokenEntrance::new(self.rt, self.alloc))
     }
 
@@ -286,7 +309,10 @@ impl<'a> World for HostWorld<'a> {
         drop(doors);
     }
 
-    fn take_caller(&mut self) -> Result<HostCaller<'a, HostRuntime>, TakeError> {
+    fn take_caller(&mut self) -> Result<HostCaller<'a, HostRuntime>, TakeError>
+        ensures kept { self.new ≡ self.old }
+        ensures given { IsOk result }
+    {
         Ok(HostCaller::new(self.rt))
     }
 
@@ -311,7 +337,10 @@ impl<'a> World for HostWorld<'a> {
         }
     }
 
-    fn keep_period(&mut self, period: Period) -> Result<(), AllocError> {
+    fn keep_period(&mut self, period: Period) -> Result<(), AllocError>
+        ensures kept { self.new ≡ self.old }
+        ensures given { IsOk result }
+    {
         drop(period);
         Ok(())
     }

@@ -1,4 +1,4 @@
--- `asked` meets its contract: what the search leaves open.
+-- What `asked` sends keeps what was taken; with nothing to send, the talk is the dialogue of the whole stream.
 use Rattle.acct_client.proofs.Asking.{kept_asked, some_sent}
 use Rattle.acct_client.proofs.asker.asked.Goals as goal
 

@@ -1,4 +1,4 @@
--- `replies_are_printed` meets its contract: what the search leaves open.
+-- Lines printed over the bytes of replies are those of the replies, since what is written is read back the same.
 use Rattle.acct_client.proofs.Serving.{prints_replies_is}
 use Rattle.acct_client.proofs.dialogue.replies_are_printed.Goals as goal
 

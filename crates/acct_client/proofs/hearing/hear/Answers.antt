@@ -1,4 +1,4 @@
--- `hear` meets its contract: what the search leaves open.
+-- Each turn of `hear` is one step of the model over the bytes that are left, stays within them and overflows nothing.
 use Rattle.std.proofs.Common.{◌≡◌, ◌∙◌, sym, ap, arith, drop, length, List, ℕ, ◌+◌}
 use Rattle.acct_client.specs.declared.hearing.Next.TheVariants as next
 use Rattle.acct_client.specs.declared.hearing.Heard.TheVariants.{Waits, Answered}

@@ -1,4 +1,4 @@
--- What the loop of `hear` keeps.
+-- Hearing the bytes left, with the reply gathered so far, gives what hearing all the bytes gives.
 use Rattle.std.proofs.Common.{◌≡◌, ◌+◌, ◌-◌, ◌≤◌, length, drop}
 use Rattle.acct_client.specs.Hearings.{hear}
 use Rattle.acct_client.proofs.hearing.hear.Given as goal

@@ -1,4 +1,4 @@
--- `streams_are_cut_anywhere` meets its contract: what the search leaves open.
+-- Pieces may be heard one after the other, since what is decided of a stream stays however it goes on.
 use Rattle.acct_client.proofs.Cutting.{cut_anywhere_is}
 use Rattle.acct_client.proofs.hearing.streams_are_cut_anywhere.Goals as goal
 

@@ -1,4 +1,4 @@
--- `request_bytes` meets its contract: what the search leaves open.
+-- The requests pushed so far and those of the rest of the stub are all of them; the last one brings what is left.
 use Rattle.std.proofs.Common.{◌≡◌, ◌∙◌, arith, ◌++◌, ◌*◌, ◌/◌, ◌-◌, ◌+◌, true, length, take}
 use Rattle.rpc_session.specs.Replies.{first_flag}
 use Rattle.acct_client.specs.Requests.{context_of, request, request_from}

@@ -1,4 +1,4 @@
--- What the loop of `request_bytes` keeps.
+-- The requests written so far, followed by those of the rest of the stub, are those of the whole stub.
 use Rattle.std.proofs.Common.{◌≡◌, ◌++◌, true, length}
 use Rattle.acct_client.specs.Requests.{context_of, request_from}
 use Rattle.acct_client.proofs.requests.request_bytes.Given as goal

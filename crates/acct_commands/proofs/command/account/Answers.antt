@@ -1,4 +1,4 @@
--- `account` meets its contract: what the search leaves open.
+-- Where the words are no replay, no `gen` and no `serve`, what `account` does is the call that their form spells.
 use Rattle.std.proofs.Common.{◌≡◌, List, ℕ, None, map, sym}
 use Rattle.std.specs.String.{string_bytes}
 use Rattle.acct_commands.specs.Words.{gen_form, serve_form}

@@ -1,4 +1,4 @@
--- `run_call` meets its contract: what the search leaves open.
+-- Where `run_call` is refused a part, it returns what it took, and else it has made the call; its status isn't usage.
 use Rattle.std.proofs.Common.{◌∷◌, [], inl, inr, None}
 use Rattle.acct_world.specs.declared.part.Part.TheVariants.{Sink}
 use Rattle.acct_commands.proofs.Callings.{has-called}

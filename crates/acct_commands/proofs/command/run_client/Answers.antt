@@ -1,4 +1,4 @@
--- `run_client` meets its contract: what the search leaves open.
+-- Words that an asker is made of spell one command, so `run_client` makes that call, and its answer isn't usage.
 use Rattle.std.proofs.Common.{◌≡◌, ◌<◌, ◌∙◌, length, sym, ap, map, drop, get_or, List, ℕ, [], Option, Some, None, arith}
 use Rattle.std.proofs.lemmas.List.{drop-map, get_or-map}
 use Rattle.std.specs.String.{string_bytes}

@@ -1,4 +1,4 @@
--- `run_generator` meets its contract: what the search leaves open.
+-- `run_generator` is refused the sink, or generates, has the period kept and returns the sink; no status is usage.
 use Rattle.std.proofs.Common.{[], inl, inr}
 use Rattle.acct_commands.specs.Commanded.{period_between}
 use Rattle.acct_commands.proofs.Generations.{has-generated}

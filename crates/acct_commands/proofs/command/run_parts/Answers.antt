@@ -1,4 +1,4 @@
--- `run_parts` meets its contract: what the search leaves open.
+-- `run_parts` has the period kept, and then gives back the keeper, the sink and both sources as the replay left them.
 use Rattle.acct_commands.proofs.Worlds.{returned}
 use Rattle.acct_commands.proofs.command.run_parts.Goals as goal
 

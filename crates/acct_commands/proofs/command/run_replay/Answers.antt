@@ -1,4 +1,4 @@
--- `run_replay` meets its contract: what the search leaves open.
+-- Where `run_replay` is refused a part, it returns what it took, and else it runs over all; its status isn't usage.
 use Rattle.std.proofs.Common.{◌∷◌, [], inl, inr}
 use Rattle.acct_world.specs.declared.part.Part.TheVariants.{Source, Sink, Keeper}
 use Rattle.acct_commands.specs.Commanded.{standard_input, no_name}

@@ -1,4 +1,4 @@
--- `has_dash` meets its contract: what the search leaves open.
+-- What `has_dash` tests of the words one by one is the test of their bytes over the whole list.
 use Rattle.std.proofs.Common.{◌≡◌, ◌∙◌, Bool, List, [], ◌∷◌, ◌||◌, map, sym, ap, refl, rules, tests}
 use Rattle.std.specs.List.{list_any}
 use Rattle.std.specs.String.{string_bytes}

@@ -1,4 +1,4 @@
--- `keep` meets its contract: what the search leaves open.
+-- Where there is a period the world is asked to keep it, and `keep` answers the status that follows from this.
 use Rattle.std.proofs.Common.{Option, sym, subst}
 use Rattle.acct_world.specs.declared.period.Period.{Period}
 use Rattle.acct_commands.specs.Commanded.{KeepsAny}

@@ -1,4 +1,4 @@
--- `run_serve` meets its contract: what the search leaves open.
+-- Where `run_serve` is refused a part, it returns what it took, and else it has served; its status isn't usage.
 use Rattle.std.proofs.Common.{◌∷◌, [], inl, inr}
 use Rattle.acct_world.specs.declared.part.Part.TheVariants.{Keeper, Entrance}
 use Rattle.acct_commands.proofs.Servings.{has-served}

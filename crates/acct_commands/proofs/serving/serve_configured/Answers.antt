@@ -1,4 +1,4 @@
--- `serve_configured` meets its contract: what the search leaves open.
+-- With open doors the rounds are those that were served; where opening them fails, no round is and no period is kept.
 use Rattle.std.proofs.Common.{[], ◌∷◌, ◌++◌, inl, inr, refl, sym}
 use Rattle.std.proofs.lemmas.List.{append-nil}
 use Rattle.acct_commands.proofs.serving.serve_configured.Goals as goal

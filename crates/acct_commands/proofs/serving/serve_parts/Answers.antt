@@ -1,4 +1,4 @@
--- `serve_parts` meets its contract: what the search leaves open.
+-- `serve_parts` begins without doors, and gives back the entrance, the keeper and the source as the run left them.
 use Rattle.std.proofs.Common.{[], subst}
 use Rattle.acct_commands.specs.Rounds.{RunsParts}
 use Rattle.acct_commands.proofs.Servings.{gave-back}

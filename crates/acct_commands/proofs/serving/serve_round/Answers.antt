@@ -1,4 +1,4 @@
--- `serve_round` meets its contract: what the search leaves open.
+-- What `serve_round` served is one round: as many doors as before, of listeners there are, and the end isn't usage.
 use Rattle.std.proofs.Common.{arith, refl, sym, subst, length, ◌<◌}
 use Rattle.acct_server.specs.Serving.{Telling}
 use Rattle.acct_commands.specs.Commanded.{period_between}

@@ -1,4 +1,4 @@
--- `serve_rounds` meets its contract: what the search leaves open.
+-- Each round so far but the last was full and the next went on from it; the last isn't full, or no more are allowed.
 use Rattle.std.proofs.Common.{◌≡◌, ◌-◌, ◌<◌, ◌∷◌, [], ◌++◌, true, sym, ap, ◌∙◌, subst, arith}
 use Rattle.std.proofs.lemmas.Bool.{false≢true}
 use Rattle.acct_server.specs.Serving.{Telling}

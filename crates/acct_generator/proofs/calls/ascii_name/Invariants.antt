@@ -1,4 +1,4 @@
--- What the loop of `ascii_name` keeps.
+-- The units so far are the first so many bytes of the text, a unit for each.
 use Rattle.std.proofs.Common.{◌≡◌, take}
 use Rattle.acct_generator.proofs.calls.ascii_name.Given as goal
 

@@ -1,4 +1,4 @@
--- `user_name` meets its contract: what the search leaves open.
+-- A `u` and a number below 65537, of at most five digits, are short enough for a name of ASCII characters.
 use Rattle.std.proofs.Common.{rules}
 use Rattle.std.proofs.lemmas.Fmt.{length-decimal-le}
 use Rattle.acct_generator.proofs.calls.user_name.Goals as goal

@@ -1,4 +1,4 @@
--- `generated` meets its contract: what the search leaves open.
+-- The lines so far are those of the opening and of the users so far; with those of the closing they are all events.
 use Rattle.std.proofs.Common.{◌≡◌, ◌+◌, List, All, length, sym, ap, ◌∙◌, subst, arith}
 use Rattle.acct_calls.specs.declared.calls.Call.{Call}
 use Rattle.acct_layouts.specs.CallShapes.{CanBeSpelled}

@@ -1,4 +1,4 @@
--- What the loop of `generated` keeps.
+-- The lines so far are the beginning and those of the calls so far, and the next call id follows on theirs.
 use Rattle.std.proofs.Common.{◌≡◌, ◌+◌, ◌*◌, ◌≤◌, ◌++◌, length}
 use Rattle.acct_generator.specs.Generated.{beginning, call_lines}
 use Rattle.acct_generator.proofs.Lines.{so_far}

@@ -1,4 +1,4 @@
--- `push_calls` meets its contract: what the search leaves open.
+-- The lines so far are those of the calls so far, and each call has an id of one more than the call before it.
 use Rattle.std.proofs.Common.{◌+◌, ◌++◌, ℕ, sym, ap, ◌∙◌, arith}
 use Rattle.std.proofs.lemmas.List.{append-nil}
 use Rattle.acct_calls.specs.declared.calls.Call.{Call}

@@ -1,4 +1,4 @@
--- What the loop of `push_calls` keeps.
+-- The lines of the first so many calls were added, and the next call id is that many above the first.
 use Rattle.std.proofs.Common.{◌≡◌, ◌+◌, ◌++◌, take}
 use Rattle.acct_generator.specs.Generated.{call_lines}
 use Rattle.acct_generator.proofs.events.push_calls.Given as goal

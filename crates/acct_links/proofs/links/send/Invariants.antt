@@ -1,4 +1,4 @@
--- What the loop of `send` keeps.
+-- The bytes in front of the cursor were written to the link, and nothing was read from it.
 use Rattle.std.proofs.Common.{◌≤◌, ◌-◌, length, take}
 use Rattle.acct_links.specs.Links.{Sends}
 use Rattle.acct_links.proofs.links.send.Given as goal

@@ -1,4 +1,4 @@
--- `make_doors` meets its contract: what the search leaves open.
+-- The doors so far and those dealt of the plans that are left are all of them, and every plan holds new links alone.
 use Rattle.std.proofs.Common.{[], ◌∷◌, ◌++◌, All, ap, ◌∙◌, arith}
 use Rattle.std.proofs.lemmas.List.Elements.{All-drop, All-nil}
 use Rattle.acct_links.specs.Links.{IsNew}

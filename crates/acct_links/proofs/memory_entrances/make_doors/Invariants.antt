@@ -1,4 +1,4 @@
--- What the loop of `make_doors` keeps.
+-- The doors so far, then those dealt from the plans left, are those dealt from all; the links of those left are new.
 use Rattle.std.proofs.Common.{◌≡◌, ◌-◌, ◌++◌, All}
 use Rattle.acct_links.specs.Links.{IsNew}
 use Rattle.acct_links.specs.MemoryDoors.{dealt, door_of, plain}

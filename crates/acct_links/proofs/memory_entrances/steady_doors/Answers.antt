@@ -1,4 +1,4 @@
--- `steady_doors` meets its contract: what the search leaves open.
+-- The doors so far and those dealt of the links that are left are all of them, and all of these links are new.
 use Rattle.std.proofs.Common.{[], ◌∷◌, ◌++◌, All, ap, ◌∙◌, arith}
 use Rattle.std.proofs.lemmas.List.Elements.{All-drop, All-nil}
 use Rattle.acct_links.specs.Links.{IsNew}

@@ -1,4 +1,4 @@
--- What the loop of `steady_doors` keeps.
+-- The doors so far, then those dealt from the links left, are those dealt from all; the links left are new.
 use Rattle.std.proofs.Common.{◌≡◌, ◌-◌, ◌++◌, [], All}
 use Rattle.acct_links.specs.Links.{IsNew}
 use Rattle.acct_links.specs.MemoryDoors.{dealt, opened}

@@ -1,4 +1,4 @@
--- `make_call` meets its contract: what the search leaves open.
+-- The bytes that `make_call` answers are those of the reply that the machine gave in its turn.
 use Rattle.acct_requests.proofs.Requesting.{call-answered}
 use Rattle.acct_requests.proofs.requests.make_call.Goals as goal
 

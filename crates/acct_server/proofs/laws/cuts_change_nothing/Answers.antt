@@ -1,4 +1,4 @@
--- The law of `cuts_change_nothing`, by the lemmas that are cited.
+-- On a connection that found no full history, cuts change neither calls nor, where replies agree, what is sent.
 use Rattle.acct_server.proofs.Transcribing.{cuts-change-nothing}
 use Rattle.acct_server.proofs.laws.cuts_change_nothing.Goals as goal
 

@@ -1,4 +1,4 @@
--- `next_line` meets its contract: what the search leaves open.
+-- Whether the first line ends in CR LF, in LF or at the last byte, it and the lines of the rest are all the lines.
 use Rattle.std.proofs.Common.{◌≢◌, ◌-◌, ◌<◌, get_or, arith}
 use Rattle.acct_server.proofs.FirstLine.{lines-feed_at, lines-return_at, lines-all_at}
 use Rattle.acct_server.proofs.lines.next_line.Goals as goal

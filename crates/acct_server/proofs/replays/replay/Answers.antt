@@ -1,4 +1,4 @@
--- `replay` meets its contract: what the search leaves open.
+-- What `replay` leaves without a configuration, without events, without an opened store, and with its lines run.
 use Rattle.std.proofs.Common.{refl, ◌≤◌, ◌∙◌, sym, subst, List, ℕ}
 use Rattle.acct_streams.specs.Whole.{IsWhole}
 use Rattle.acct_server.specs.declared.status.Status.{Status}
@@ -55,7 +55,7 @@ returns-in-Err-read_whole g c =
     ends.ensures.keeper
     (breaks_none (s.left a.config.now) c.in-Ok.configuration c.in-Ok.ensures.configured)
     (subst (λ (x : Status). EventsCause (s.left a.events.now) (s.faults a.events.now) (s.faults events) x)
-    (sym (ends.ensures.status ∙ c.unread.ensures))
+    (sym (ends.ensures.status ∙ c.from.ensures))
     (events-whole (s.left a.events.now) (s.faults a.events.now) (s.faults events) c.in-Err-read_whole.e
     c.in-Err-read_whole.ensures.cause))
     c.in-Ok.ensures.later c.in-Err-read_whole.ensures.later

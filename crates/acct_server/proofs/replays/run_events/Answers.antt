@@ -1,4 +1,4 @@
--- `run_events` meets its contract: what the search leaves open.
+-- The history that `run_events` leaves is legal and denies exactly, and the keeper holds the rows it comes to.
 use Rattle.std.proofs.Common.{◌≡◌, List, Some, ◌∙◌, sym, ap, subst}
 use Rattle.acct_machine.specs.declared.entry.Entry.{Entry}
 use Rattle.acct_machine.specs.State.{Start}

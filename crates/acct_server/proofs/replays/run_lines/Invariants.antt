@@ -1,4 +1,4 @@
--- What the loop of `run_lines` keeps.
+-- The lines passed were run and what they print was written; running those left ends the replay of all lines.
 use Rattle.std.proofs.Common.{◌≡◌, ◌≤◌, ◌+◌, ℕ, length}
 use Rattle.acct_server.specs.Running.{AllHeard}
 use Rattle.acct_server.proofs.Going.{Going}

@@ -1,4 +1,4 @@
--- What the loop of `gone_lines` keeps.
+-- The lines so far, followed by those of the served connections left, are those of all that are served.
 use Rattle.std.proofs.Common.{◌≡◌, ◌+◌, ◌++◌, drop, map}
 use Rattle.std.specs.List.{flat_map}
 use Rattle.acct_server.specs.Replayed.{line_bytes, IsGone, served_from}

@@ -1,4 +1,4 @@
--- What the loop of `listener_place` keeps.
+-- No listener that was passed has the name: those left decide its place.
 use Rattle.std.proofs.Common.{◌≡◌, drop}
 use Rattle.acct_server.specs.Replayed.{listener_from}
 use Rattle.acct_server.proofs.running.listener_place.Given as goal

@@ -1,4 +1,4 @@
--- What serving left, from its machine: what the search leaves open.
+-- Access is denied in what serving left exactly as in any legal history, since its machine's history is one.
 use Rattle.std.proofs.Common.{List, subst}
 use Rattle.acct_machine.specs.declared.entry.Entry.{Entry}
 use Rattle.acct_machine.specs.Legal.{Legal}

@@ -1,4 +1,4 @@
--- Serving meets its contract: what the search leaves open.
+-- What the workers served on the machine that was begun is what `serve` leaves: ends, history, rows and store.
 use Rattle.std.proofs.Common.{◌≡◌, List, Some, inr, sym, ap, ◌∙◌, subst}
 use Rattle.acct_machine.specs.declared.entry.Entry.{Entry}
 use Rattle.acct_machine.specs.State.{Start}

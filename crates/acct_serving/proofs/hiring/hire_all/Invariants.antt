@@ -1,4 +1,4 @@
--- What the loop of `hire_all` keeps.
+-- The doors taken so far, the last one first, each have a worker that hasn't begun; the others are as they were.
 use Rattle.std.proofs.Common.{◌≡◌, ◌+◌, ◌<◌, ◌≤◌, ℕ, vec_len}
 use Rattle.std.specs.Prelude.{slice_index_or, vec_capacity}
 use Rattle.hist_lock.specs.Passes.{view}

@@ -1,4 +1,4 @@
--- What the loop of `join_all` keeps.
+-- The workers of the first so many doors were joined, and their doors put back; those left have served theirs.
 use Rattle.std.proofs.Common.{◌≡◌, ◌+◌, ◌<◌, ◌≤◌, ℕ, vec_len}
 use Rattle.std.specs.Prelude.{slice_index_or, vec_capacity}
 use Rattle.hist_lock.specs.Passes.{view, IsPassOf}

@@ -1,4 +1,4 @@
--- All doors are served: what the search leaves open.
+-- Where no lock is made no door is served; else what the workers left is what stands once the lock is closed.
 use Rattle.std.proofs.Common.{◌≡◌, ap, sym, ◌∙◌, subst}
 use Rattle.acct_serving.specs.Hiring.{WorksDoors}
 use Rattle.acct_gates.specs.Passing.{start_under}

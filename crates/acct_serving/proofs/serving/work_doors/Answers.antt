@@ -1,4 +1,4 @@
--- Workers are hired, work and are joined: what the search leaves open.
+-- Hired workers have their doors' listeners, each has worked as it was hired, and all are joined in the doors' order.
 use Rattle.std.proofs.Common.{◌≡◌, ◌+◌, ◌<◌, ◌++◌, length, take, drop, sym, ap, ◌∙◌, subst, get_or}
 use Rattle.std.proofs.Math.Seq.{take-append_seam}
 use Rattle.acct_gates.specs.Passing.{start_under}

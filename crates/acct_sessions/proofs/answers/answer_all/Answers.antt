@@ -1,4 +1,4 @@
--- `answer_all` meets its contract: what the search leaves open.
+-- The acts so far are answered whole, and where one stops, it is the first that isn't.
 use Rattle.std.proofs.Common.{List, [], ◌∷◌, take, refl, sym, ◌∙◌, subst}
 use Rattle.acct_machine.specs.State.{Start}
 use Rattle.rpc_session.specs.declared.sessions.Act.{Act}

@@ -1,4 +1,4 @@
--- `answer_request` meets its contract: what the search leaves open.
+-- A request is answered, or it stops at a failed write, at a full history or at want of memory.
 use Rattle.std.proofs.Common.{ℕ, List, [], ◌∷◌, sym, subst}
 use Rattle.acct_links.specs.Links.{Sends, SendsFront}
 use Rattle.acct_sessions.specs.Talking.{Stops, request_of}

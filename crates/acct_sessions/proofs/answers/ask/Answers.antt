@@ -1,4 +1,4 @@
--- `ask` meets its contract: what the search leaves open.
+-- What the gate finds adds nothing to this connection's calls and replies, so its answer is this connection's.
 use Rattle.acct_sessions.proofs.Results.{if-ok, on-err}
 use Rattle.acct_sessions.proofs.Answering.{request-is-answered, request-is-wanting}
 use Rattle.acct_sessions.proofs.answers.ask.Goals as goal

@@ -1,4 +1,4 @@
--- `turn_away` meets its contract: what the search leaves open.
+-- `turn_away` sends the whole fault that the server is too busy, or a front of it where the write fails.
 use Rattle.std.proofs.Common.{ℕ, List, subst}
 use Rattle.acct_links.specs.Links.{Sends, SendsFront}
 use Rattle.acct_requests.specs.Transcript.{busy_bytes}

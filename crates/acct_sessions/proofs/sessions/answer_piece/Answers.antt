@@ -1,4 +1,4 @@
--- `answer_piece` meets its contract: what the search leaves open.
+-- Where answering the acts of a piece stops, the session ends for that reason.
 use Rattle.std.proofs.Common.{sym, subst}
 use Rattle.acct_sessions.specs.SoFar.{PieceEnds}
 use Rattle.acct_sessions.specs.declared.ends.SessionEnd.{SessionEnd}

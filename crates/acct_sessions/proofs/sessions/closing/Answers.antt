@@ -1,4 +1,4 @@
--- `closing` meets its contract: what the search leaves open.
+-- The refusal that acts end in is that of the last of them.
 use Rattle.std.proofs.Common.{arith, ◌∙◌}
 use Rattle.acct_sessions.proofs.Ending.{closing-at}
 use Rattle.acct_sessions.proofs.sessions.closing.Goals as goal

@@ -1,4 +1,4 @@
--- `converse` meets its contract: what the search leaves open.
+-- What came so far is heard and answered, until a step ends it or `max_read` bytes have come.
 use Rattle.std.proofs.Common.{◌≤◌, ◌+◌, [], ◌++◌, length, drop, length-append, length-drop, refl, sym, ◌∙◌, subst}
 use Rattle.std.proofs.Common.{arith, take}
 use Rattle.std.proofs.lemmas.List.{length-take}

@@ -1,4 +1,4 @@
--- `end_conn` meets its contract: what the search leaves open.
+-- The connection's end is the last entry, and the calls and replies that it had are as they were.
 use Rattle.acct_sessions.proofs.Ending.{is-ended}
 use Rattle.acct_sessions.proofs.sessions.end_conn.Goals as goal
 

@@ -1,4 +1,4 @@
--- `session` meets its contract: what the search leaves open.
+-- The conversation stands as it was once the connection's end is entered, the last entry of a legal history.
 use Rattle.std.proofs.Common.{subst}
 use Rattle.acct_machine.specs.State.{Start}
 use Rattle.acct_sessions.specs.Sessions.{Ended}

@@ -1,4 +1,4 @@
--- `step` meets its contract: what the search leaves open.
+-- A step goes on by the piece that came, or ends by a failed read, by the stream's end or by the acts of the piece.
 use Rattle.std.proofs.Common.{◌<◌, ◌≤◌, ◌++◌, length, take, Ok, sym, subst, arith, length-append}
 use Rattle.std.proofs.lemmas.List.{length-take}
 use Rattle.acct_links.specs.Links.{Reads}

@@ -1,4 +1,4 @@
--- `take_piece` meets its contract: what the search leaves open.
+-- Where memory is wanted to hear a piece, none of its acts was entered and nothing was sent.
 use Rattle.rpc_session.specs.Hearings.{on}
 use Rattle.acct_sessions.proofs.Talks.{stops-wanting, wanting-none}
 use Rattle.acct_sessions.proofs.sessions.take_piece.Goals as goal

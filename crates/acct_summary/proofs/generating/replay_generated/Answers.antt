@@ -1,4 +1,4 @@
--- `replay_generated` meets its contract: what the search leaves open.
+-- A replay of the generated events is one over their sources in memory and a keeper that holds no pair.
 use Rattle.std.proofs.Common.{refl}
 use Rattle.acct_summary.proofs.Summarizing.{left-by-replay}
 use Rattle.acct_summary.proofs.generating.replay_generated.Goals as goal

@@ -1,4 +1,4 @@
--- `tell` meets its contract: what the search leaves open.
+-- A replay that was run to its end has rows, and what is told of it is the summary of its history and of these.
 use Rattle.std.proofs.Common.{ap}
 use Rattle.acct_server.specs.Replaying.{lists_in}
 use Rattle.acct_summary.proofs.generating.tell.Goals as goal

@@ -1,4 +1,4 @@
--- `without_sources` meets its contract: what the search leaves open.
+-- A replay with no opening, history or rows and a new keeper is what want of memory for its sources leaves.
 use Rattle.std.proofs.Common.{ℕ, refl}
 use Rattle.acct_summary.proofs.Summarizing.{without-sources}
 use Rattle.acct_summary.proofs.generating.without_sources.Goals as goal

@@ -1,4 +1,4 @@
--- `alias_name` meets its contract: what the search leaves open.
+-- The UTF-16 units of the text `site` are the codes of its letters.
 use Rattle.std.proofs.Common.{◌≡◌, refl, codes}
 use Rattle.std.specs.Str.{chars}
 use Rattle.acct_calls.specs.CodePoints.{units_of}

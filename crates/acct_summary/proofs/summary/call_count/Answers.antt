@@ -1,4 +1,4 @@
--- `call_count` meets its contract: what the search leaves open.
+-- The filter passes just the calls of the history, so counting what it yields counts the calls.
 use Rattle.std.proofs.Common.{rules, tests}
 use Rattle.std.proofs.lemmas.Iterator.{YieldsList-from_slice}
 use Rattle.std.proofs.lemmas.Iterator.Consumers.{YieldsList-at, YieldsList-from_filter, count_from_yields_List}

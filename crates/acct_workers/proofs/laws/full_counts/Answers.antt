@@ -1,4 +1,4 @@
--- The laws of `full_counts`, by the lemmas that are cited.
+-- The count told of a full history is that of all its connections or calls, or of bytes of stubs past the limit.
 use Rattle.acct_workers.proofs.Fullness.{full-of-conns, full-of-calls}
 use Rattle.acct_workers.proofs.laws.full_counts.Goals as goal
 

@@ -1,4 +1,4 @@
--- The laws of `links_are_joined`, by the lemmas that are cited.
+-- What stands of the links of workers stands of them all where passes are joined, and so in the one history.
 use Rattle.std.proofs.Common.{[]}
 use Rattle.acct_workers.proofs.Joining.{was-working, joined-more, all-served}
 use Rattle.acct_workers.proofs.Worked.{idle-works}

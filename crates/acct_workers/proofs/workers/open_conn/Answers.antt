@@ -1,4 +1,4 @@
--- How a pass opens a connection: what the search leaves open.
+-- A pass opens a connection of its own at a listener, or finds the history full and stays as it was.
 use Rattle.acct_gates.specs.Passing.{start_under, IsPassing}
 use Rattle.acct_workers.proofs.Opens.{opens-at}
 use Rattle.acct_workers.proofs.workers.open_conn.Goals as goal

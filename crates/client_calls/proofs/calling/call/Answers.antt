@@ -1,4 +1,4 @@
--- `call` meets its contract: what the search leaves open.
+-- Where the caller gives a link, it is a new one, and the talk over it is the command's from its beginning.
 use Rattle.std.proofs.Common.{IfSome, Option, Some, None}
 use Rattle.acct_links.specs.Links.{IsNew}
 use Rattle.acct_streams.specs.declared.outside.Failed.{Failed}

@@ -1,4 +1,4 @@
--- `advance` meets its contract: what the search leaves open.
+-- Asking after a whole answer, and listening for one that isn't, each leave fewer steps to make.
 use Rattle.std.proofs.Common.{◌<◌, Bool, IfOk, subst, sym}
 use Rattle.client_calls.specs.Parts.{Stands, steps_left}
 use Rattle.client_calls.proofs.conversing.advance.Goals as goal

@@ -1,4 +1,4 @@
--- `ask` meets its contract: what the search leaves open.
+-- The next request goes behind those sent so far and fewer steps are left, or the talk ends as its dialogue does.
 use Rattle.std.proofs.Common.{◌<◌, ◌++◌, ℕ, List, true, arith, subst, sym}
 use Rattle.client_calls.specs.Parts.{SentSoFar, Stands, steps_left}
 use Rattle.client_calls.proofs.Ending.{Asked, ask-less, asked-dialogue, asked-stands, asked-talks, talks-done}

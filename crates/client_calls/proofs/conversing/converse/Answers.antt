@@ -1,4 +1,4 @@
--- `converse` meets its contract: what the search leaves open.
+-- The talk begins with nothing read and no answer awaited, and each step leaves fewer steps to make.
 use Rattle.std.proofs.Common.{◌+◌, ◌≤◌, ap, arith, subst, sym}
 use Rattle.acct_client.specs.Askers.{bytes_taken}
 use Rattle.acct_client.specs.declared.dialogue.Talk.{Talk}

@@ -1,4 +1,4 @@
--- What the loop of `converse` keeps.
+-- The dialogue and its link stand as the command wants it after what was read; an answer is whole or awaited.
 use Rattle.std.proofs.Common.{◌≡◌, ◌+◌, ◌≤◌, not}
 use Rattle.acct_client.specs.Askers.{bytes_taken}
 use Rattle.client_steps.specs.declared.command.Command.{Command}

@@ -1,4 +1,4 @@
--- `hear` meets its contract: what the search leaves open.
+-- A piece heard behind those before is one stream with them: the dialogue goes on, waits or ends as over the whole.
 use Rattle.client_calls.proofs.Ending.{heard-all, heard-ends, heard-moves, heard-on, whole-is}
 use Rattle.client_calls.proofs.conversing.hear.Goals as goal
 

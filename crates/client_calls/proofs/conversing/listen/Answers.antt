@@ -1,4 +1,4 @@
--- `listen` meets its contract: what the search leaves open.
+-- A piece read and heard goes on the dialogue and leaves fewer steps to make; else the talk ends over all that came.
 use Rattle.std.proofs.Common.{◌≡◌, Bool, arith, length, length-take, refl, subst, sym, take}
 use Rattle.client_calls.specs.Parts.{Stands}
 use Rattle.client_calls.proofs.Ending.{heard-stands, heard-talks, listen-less, talks-unheard}

@@ -1,4 +1,4 @@
--- `request` meets its contract: what the search leaves open.
+-- After a failed write only a front of the requests was sent, and a later request adds nothing to it.
 use Rattle.client_calls.proofs.Sending.{sent-cut-by, sent-front-by}
 use Rattle.client_calls.proofs.conversing.request.Goals as goal
 

@@ -1,4 +1,4 @@
--- `after_domain` meets its contract: what the search leaves open.
+-- Outs of another kind than one SID are unfit after the step that asks for a domain.
 use Rattle.client_steps.proofs.Unfitting.{no_sid}
 use Rattle.client_steps.proofs.outcomes.after_domain.Goals as goal
 

@@ -1,4 +1,4 @@
--- `after_look_up` meets its contract: what the search leaves open.
+-- Outs of another kind than RIDs with their uses are unfit after a look-up of names.
 use Rattle.client_steps.proofs.Unfitting.{no_uses}
 use Rattle.client_steps.proofs.outcomes.after_look_up.Goals as goal
 

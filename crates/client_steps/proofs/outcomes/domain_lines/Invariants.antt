@@ -1,4 +1,4 @@
--- What the loop of `domain_lines` keeps.
+-- The lines so far are those of the first so many domains.
 use Rattle.std.proofs.Common.{◌≡◌, take, flat_map}
 use Rattle.client_steps.specs.Outcomes.{domain_line}
 use Rattle.client_steps.proofs.outcomes.domain_lines.Given as goal

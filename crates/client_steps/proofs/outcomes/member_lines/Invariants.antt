@@ -1,4 +1,4 @@
--- What the loop of `member_lines` keeps.
+-- The lines so far are those of the first so many members.
 use Rattle.std.proofs.Common.{◌≡◌, take, flat_map}
 use Rattle.client_steps.specs.Outcomes.{member_line}
 use Rattle.client_steps.proofs.outcomes.member_lines.Given as goal

@@ -1,4 +1,4 @@
--- `name_lines` meets its contract: what the search leaves open.
+-- The lines so far, and those of the names and entries ahead, are the lines of all names.
 use Rattle.std.proofs.Common.{◌++◌, ◌+◌, ◌∙◌, sym, ap, append_assoc, drop, get_or, slice_get}
 use Rattle.client_steps.specs.Outcomes.{entry_or_unmapped, name_line, name_lines}
 use Rattle.client_steps.proofs.Listed.{name_step}

@@ -1,4 +1,4 @@
--- What the loop of `name_lines` keeps.
+-- The lines so far, followed by those of the names and entries left, are those of all the names.
 use Rattle.std.proofs.Common.{◌≡◌, ◌++◌, drop}
 use Rattle.client_steps.specs.Outcomes.{name_lines}
 use Rattle.client_steps.proofs.outcomes.name_lines.Given as goal

@@ -1,4 +1,4 @@
--- What the loop of `right_lines` keeps.
+-- The lines so far are those of the first so many rights.
 use Rattle.std.proofs.Common.{◌≡◌, take, flat_map}
 use Rattle.client_steps.specs.Outcomes.{right_line}
 use Rattle.client_steps.proofs.outcomes.right_lines.Given as goal

@@ -1,4 +1,4 @@
--- `sid_lines` meets its contract: what the search leaves open.
+-- The lines so far, and those of the SIDs and entries ahead, are the lines of all SIDs.
 use Rattle.std.proofs.Common.{◌≡◌, ◌++◌, ◌+◌, ◌∙◌, sym, ap, append_assoc, drop, get_or, slice_get}
 use Rattle.std.specs.Option.{option_copied}
 use Rattle.client_steps.specs.Outcomes.{sid_line, sid_lines}

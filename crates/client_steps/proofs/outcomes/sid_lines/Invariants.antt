@@ -1,4 +1,4 @@
--- What the loop of `sid_lines` keeps.
+-- The lines so far, followed by those of the SIDs and entries left, are those of all the SIDs.
 use Rattle.std.proofs.Common.{◌≡◌, ◌++◌, drop}
 use Rattle.client_steps.specs.Outcomes.{sid_lines}
 use Rattle.client_steps.proofs.outcomes.sid_lines.Given as goal

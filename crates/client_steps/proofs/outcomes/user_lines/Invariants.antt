@@ -1,4 +1,4 @@
--- What the loop of `user_lines` keeps.
+-- The lines so far are those of the first so many users.
 use Rattle.std.proofs.Common.{◌≡◌, take, flat_map}
 use Rattle.client_steps.specs.Outcomes.{user_line}
 use Rattle.client_steps.proofs.outcomes.user_lines.Given as goal

@@ -1,4 +1,4 @@
--- `fit_steps_are_spelled` meets its contract: what the search leaves open.
+-- The calls of steps that fit can be written.
 use Rattle.client_steps.proofs.Spelled.{fit_steps_are_spelled_is}
 use Rattle.client_steps.proofs.steps.fit_steps_are_spelled.Goals as goal
 

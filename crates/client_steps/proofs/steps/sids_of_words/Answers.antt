@@ -1,4 +1,4 @@
--- `sids_of_words` keeps its invariant: what the search takes long for.
+-- The SIDs read so far are those of the words that were passed.
 use Rattle.std.proofs.Common.{◌++◌, ◌∷◌, [], ◌∙◌, sym, ap, map, take}
 use Rattle.std.proofs.lemmas.List.{map_more}
 use Rattle.client_steps.specs.Steps.{sid_of_word}

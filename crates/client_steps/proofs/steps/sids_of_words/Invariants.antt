@@ -1,4 +1,4 @@
--- What the loop of `sids_of_words` keeps.
+-- The SIDs so far are those of the first so many words.
 use Rattle.std.proofs.Common.{◌≡◌, map, take}
 use Rattle.client_steps.specs.Steps.{sid_of_word}
 use Rattle.client_steps.proofs.steps.sids_of_words.Given as goal

@@ -1,4 +1,4 @@
--- `push_units` meets its contract: what the search leaves open.
+-- The text so far and the text of the units left are that of all units; where no point is left it is whole.
 use Rattle.std.proofs.Common.{◌++◌, sym, ap, ◌∙◌, append_assoc, string_bytes, encode_utf8}
 use Rattle.std.proofs.lemmas.List.{append-nil}
 use Rattle.client_steps.specs.Texts.{glyph, name_text}

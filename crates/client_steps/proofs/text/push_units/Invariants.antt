@@ -1,4 +1,4 @@
--- What the loop of `push_units` keeps.
+-- The text so far, followed by that of the units left, is what was there and the text of all the units.
 use Rattle.std.proofs.Common.{◌≡◌, ◌++◌, length, string_bytes}
 use Rattle.client_steps.specs.Texts.{name_text}
 use Rattle.client_steps.proofs.text.push_units.Given as goal

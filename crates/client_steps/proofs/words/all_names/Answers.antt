@@ -1,4 +1,4 @@
--- `all_names` keeps its invariant: what the search takes long for.
+-- The names made so far, with those of the words left, are the names of all the words.
 use Rattle.std.proofs.Common.{◌≡◌, ◌+◌, ◌++◌, ◌∷◌, [], ◌∙◌, sym, ap, subst, map, take, string_bytes, length, All}
 use Rattle.std.proofs.lemmas.List.{map_more, map-append, length-append}
 use Rattle.std.proofs.lemmas.List.Elements.{All-push}

@@ -1,4 +1,4 @@
--- What the loop of `all_names` keeps.
+-- The names so far are those that the first so many words spell, in units of 16 bits.
 use Rattle.std.proofs.Common.{◌≡◌, map, take, string_bytes, length, All}
 use Rattle.acct_calls.specs.CodePoints.{AreUnits}
 use Rattle.client_steps.specs.Words.{name_in}

@@ -1,4 +1,4 @@
--- `all_sids` keeps its invariant: what the search takes long for.
+-- The SIDs so far, with those of the words left, are those of all the words, and each can be written.
 use Rattle.std.proofs.Common.{◌≡◌, ◌+◌, ◌++◌, ◌∷◌, [], Some, ◌∙◌, sym, ap, subst, map, drop, string_bytes, length, All}
 use Rattle.std.proofs.lemmas.List.{at_drop_more, map-append, length-append}
 use Rattle.std.proofs.lemmas.List.Elements.{All-push}

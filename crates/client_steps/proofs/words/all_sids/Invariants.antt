@@ -1,4 +1,4 @@
--- What the loop of `all_sids` keeps.
+-- Each word that was passed spells a SID, and these are the SIDs so far: the words left decide whether all do.
 use Rattle.std.proofs.Common.{◌≡◌, map, drop, string_bytes, length, All}
 use Rattle.dtyp_sid.specs.Value.{IsSid}
 use Rattle.client_steps.specs.Steps.{sid_of_word}

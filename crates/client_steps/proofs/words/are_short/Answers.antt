@@ -1,4 +1,4 @@
--- `are_short` meets its contract: what the search leaves open.
+-- `all` over the names answers whether each of them is short.
 use Rattle.std.proofs.Common.{rules, tests}
 use Rattle.std.proofs.lemmas.Iterator.{YieldsList-from_slice}
 use Rattle.std.proofs.lemmas.Iterator.Search.{all_from_yields_List}

@@ -1,4 +1,4 @@
--- `verb` meets its contract: each first word computes to its form.
+-- With each first word that is a command's, the form is that of this command over the words behind it.
 use Rattle.client_steps.specs.Words.{verb_form}
 use Rattle.client_steps.proofs.words.verb.Goals as goal
 

@@ -1,4 +1,4 @@
--- `share` meets its contract: each door that it adds is one of the listener's.
+-- Each turn adds one door of the listener's, open, with all its links left and no fault.
 use Rattle.std.proofs.Common.{ℕ, ◌+◌, ap, ◌∙◌}
 use Rattle.std.proofs.lemmas.List.{length_push}
 use Rattle.std.proofs.lemmas.List.Elements.{All-push}

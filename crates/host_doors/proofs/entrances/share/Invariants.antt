@@ -1,4 +1,4 @@
--- What the loop of `share` keeps.
+-- There is a door for each turn so far, each of this listener and with all its links still to give.
 use Rattle.std.proofs.Common.{◌≡◌, All, length}
 use Rattle.host_doors.specs.Doors.{IsDoor}
 use Rattle.host_doors.proofs.entrances.share.Given as goal

@@ -1,4 +1,4 @@
--- The listeners are asked for one after another: what the search leaves open.
+-- The doors got so far, with those of the listeners left, are those of all, up to the first asking that fails.
 use Rattle.std.proofs.Common.{◌≡◌, ◌≤◌, ◌<◌, ◌∷◌, ◌++◌, [], length, map, replicate, sym, ◌∙◌, ap, subst, arith, get_or}
 use Rattle.listener_doors.specs.Askings.{asking_of, asked_besides}
 use Rattle.listener_doors.proofs.Placing.{opens-more, workers-within}

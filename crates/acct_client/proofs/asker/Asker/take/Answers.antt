@@ -1,4 +1,4 @@
--- `Asker::take` meets its contract: what the search leaves open.
+-- After an error other than want of memory, `Asker::take` is left with the dialogue of all of the stream so far.
 use Rattle.std.proofs.Common.{◌∙◌}
 use Rattle.acct_client.proofs.Asking.{last_of}
 use Rattle.acct_client.proofs.asker.Asker.take.Goals as goal

@@ -1,4 +1,4 @@
--- The job of a call does what the machine does: what the search leaves open.
+-- The job of a call does to the history what the machine's call does, and its reply is one for that call.
 use Rattle.acct_gates.proofs.Doing.{acting-does}
 use Rattle.acct_gates.proofs.kept.CallingJobLocked.run.Goals as goal
 

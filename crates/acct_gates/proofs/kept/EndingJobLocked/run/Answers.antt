@@ -1,4 +1,4 @@
--- The job of an end does what the machine does: what the search leaves open.
+-- The job of an end does to the history what the machine does at the end of that connection.
 use Rattle.acct_gates.proofs.Doing.{ending-does}
 use Rattle.acct_gates.proofs.kept.EndingJobLocked.run.Goals as goal
 

@@ -1,4 +1,4 @@
--- The job of an opening does what the machine does, and appends one entry or none: what the search leaves open.
+-- The job of an opening does to the history what the machine does, and appends the entry of the opening or none.
 use Rattle.acct_gates.proofs.Entering.{opening-appends}
 use Rattle.acct_gates.proofs.Doing.{opening-does}
 use Rattle.acct_gates.proofs.kept.OpeningJobLocked.run.Goals as goal

@@ -1,4 +1,4 @@
--- A call over a lock and a pass: what the search leaves open.
+-- The turn of a call finds its connection live as the pass knows it, changes no other, and leaves it served.
 use Rattle.std.proofs.Common.{refl}
 use Rattle.acct_requests.specs.Turns.{MachineActs}
 use Rattle.acct_gates.proofs.Passing.{finds-live, turn-on, acts-appended, owns-on, moves-on, still-serves}

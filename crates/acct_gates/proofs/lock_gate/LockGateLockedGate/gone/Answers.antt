@@ -1,4 +1,4 @@
--- The end of a connection over a lock and a pass: what the search leaves open.
+-- The turn of an end finds its connection live as the pass knows it, and changes no other one of the pass.
 use Rattle.std.proofs.Common.{refl}
 use Rattle.acct_requests.specs.Turns.{MachineEnds}
 use Rattle.acct_gates.proofs.Passing.{finds-live, turn-on, ends-appended, owns-on, moves-on}

@@ -1,4 +1,4 @@
--- An opening over a lock and a pass: what the search leaves open.
+-- A connection that a turn opens is served by the pass and has no call yet, and the pass may open more.
 use Rattle.std.proofs.Common.{refl}
 use Rattle.hist_lock.specs.Passes.{IsPassOf}
 use Rattle.acct_requests.specs.Turns.{MachineOpens}

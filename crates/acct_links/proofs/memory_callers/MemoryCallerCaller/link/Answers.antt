@@ -1,4 +1,4 @@
--- `link` meets its contract: what the search leaves open.
+-- A caller in memory holds new links alone: the one that `link` gives is new, and so are those that are left.
 use Rattle.std.proofs.Common.{List, All, subst}
 use Rattle.std.proofs.lemmas.List.Elements.{All-head, All-tail}
 use Rattle.acct_links.specs.Links.{IsNew}

@@ -1,4 +1,4 @@
--- `doors` meets its contract: what the search leaves open.
+-- An entrance in memory gives the doors dealt of its plans: one for each worker, of the listener, open and unused.
 use Rattle.std.proofs.Common.{◌≡◌, ◌∙◌, All, [], Some, false, length, refl, subst, ap}
 use Rattle.acct_links.specs.declared.asking.Asking.{Asking}
 use Rattle.acct_links.specs.Doors.{asked_after}

@@ -1,4 +1,4 @@
--- `MachineGate::open_conn` meets its contract: what the search leaves open.
+-- A connection that was just opened is in no entry before, so it has made no call.
 use Rattle.acct_requests.proofs.Opening.{silent-opened}
 use Rattle.acct_requests.proofs.machine_gate.MachineGate.open_conn.Goals as goal
 

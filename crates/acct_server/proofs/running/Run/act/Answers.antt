@@ -1,4 +1,4 @@
--- `Run::act` meets its contract: what the search leaves open.
+-- An answer or a refusal adds its entries and lines; after want of memory it has added no entry.
 use Rattle.std.proofs.Common.{◌≡◌, List, ℕ, None, ap, sym, ◌∙◌, refl, subst}
 use Rattle.rpc_session.specs.declared.sessions.Act.{Act}
 use Rattle.rpc_session.specs.declared.sessions.Act.TheVariants as act

@@ -1,4 +1,4 @@
--- `Run::act_all` meets its contract: what the search leaves open.
+-- One act after the other does what they all do, up to one that finds the history full or wants memory.
 use Rattle.std.proofs.Common.{◌≡◌, ℕ, true, false, List, [], ◌∷◌, ◌++◌, Option, Some, None, length, take, refl, sym, ap}
 use Rattle.std.proofs.Common.{subst, ◌∙◌, append_assoc, arith}
 use Rattle.std.proofs.lemmas.List.{take_all}
@@ -7,7 +7,7 @@ use Rattle.acct_machine.specs.State.{is_live}
 use Rattle.acct_machine.specs.Machine.{state_of}
 use Rattle.rpc_session.specs.declared.sessions.Act.{Act}
 use Rattle.acct_requests.specs.declared.connections.Peer.{Peer}
-use Rattle.acct_requests.specs.Peers.{is_served}
+use Rattle.acct_requests.specs.Connections.{is_served}
 use Rattle.acct_server.specs.Replayed.{on_act, on_acts, peer_of}
 use Rattle.acct_server.specs.Running.{Acts, Began, peers_behind}
 use Rattle.acct_server.proofs.Bytes.{on-err}

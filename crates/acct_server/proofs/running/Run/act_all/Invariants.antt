@@ -1,4 +1,4 @@
--- What the loop of `Run::act_all` keeps.
+-- The acts passed were done: their entries stand, their lines were added, and none found the history full.
 use Rattle.std.proofs.Common.{◌≡◌, ◌<◌, true, None, length, take, []}
 use Rattle.acct_machine.specs.State.{is_live}
 use Rattle.acct_machine.specs.Machine.{state_of}

@@ -1,4 +1,4 @@
--- `Run::data` meets its contract: what the search leaves open.
+-- `Run::data` does the acts that its bytes complete, and no stream that was heard grew by more than these bytes.
 use Rattle.std.proofs.Common.{◌+◌, length, List, sym, subst}
 use Rattle.rpc_session.specs.declared.sessions.Act.{Act}
 use Rattle.acct_requests.specs.declared.connections.Peer.{Peer}

@@ -1,4 +1,4 @@
--- `Run::end` meets its contract: what the search leaves open.
+-- `Run::end` leaves its peer ended, and enters and prints that it is gone where it was still served.
 use Rattle.std.proofs.Common.{◌≡◌, ◌-◌, ◌++◌, ◌∷◌, Bool, if◌then◌else◌, List, ℕ, [], map, Option, Some, slice_set, sym}
 use Rattle.std.proofs.Common.{ap, ◌∙◌, subst}
 use Rattle.std.specs.List.{flat_map}

@@ -1,4 +1,4 @@
--- `Run::end_all` meets its contract: what the search leaves open.
+-- In each turn the entries so far, with the ends of the peers ahead that are served, are the whole history.
 use Rattle.std.proofs.Common.{◌≡◌, ◌++◌, map, length, ap, ◌∙◌, arith}
 use Rattle.acct_machine.specs.declared.entry.Entry.TheVariants.{Gone}
 use Rattle.acct_server.specs.Replayed.{served_from}

@@ -1,4 +1,4 @@
--- What the loop of `Run::end_all` keeps.
+-- The history so far, then the ends of the served connections left, is what was there and the ends of all of them.
 use Rattle.std.proofs.Common.{◌≡◌, ◌+◌, ◌++◌, drop, map, length}
 use Rattle.acct_machine.specs.declared.entry.Entry.TheVariants.{Gone}
 use Rattle.acct_server.specs.Replayed.{served_from}

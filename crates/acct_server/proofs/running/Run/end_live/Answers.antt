@@ -1,4 +1,4 @@
--- `Run::end_live` meets its contract: what the search leaves open.
+-- Once the machine and the peer have a connection's end, each peer that is served is still live in the machine.
 use Rattle.std.proofs.Common.{List, sym, subst}
 use Rattle.std.specs.Prelude.{IsSome}
 use Rattle.acct_machine.specs.Step.{state_at}

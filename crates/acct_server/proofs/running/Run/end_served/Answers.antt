@@ -1,8 +1,8 @@
--- `Run::end_served` meets its contract: what the search leaves open.
+-- A connection that is served is live in the machine and stands among the peers, so `end_live` may end it.
 use Rattle.std.proofs.Common.{◌≡◌, true, sym, subst}
 use Rattle.acct_machine.specs.State.{is_live}
 use Rattle.acct_machine.specs.Machine.{state_of}
-use Rattle.acct_requests.specs.Peers.{is_served}
+use Rattle.acct_requests.specs.Connections.{is_served}
 use Rattle.acct_server.specs.Replayed.{peer_of}
 use Rattle.acct_server.specs.Running.{Running}
 use Rattle.acct_server.proofs.Placing.{served-some}

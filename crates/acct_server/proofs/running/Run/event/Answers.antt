@@ -1,4 +1,4 @@
--- `Run::event` meets its contract: what the search leaves open.
+-- An event does or is refused as its `open` or `end` is; of data no more is heard than the event brings.
 use Rattle.std.proofs.Common.{◌≡◌, ◌+◌, ◌≤◌, Err, List, ℕ, length, sym, ap, subst, ◌∙◌, arith}
 use Rattle.acct_server.specs.declared.events.Event.{Event}
 use Rattle.acct_server.specs.declared.events.Event.TheVariants.{Open, Data, End}

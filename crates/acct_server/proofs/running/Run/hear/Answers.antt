@@ -1,4 +1,4 @@
--- `Run::hear` meets its contract: what the search leaves open.
+-- The acts of a piece fit, a refusal is the last of them, and no stream that was heard grew by more than the piece.
 use Rattle.std.proofs.Common.{◌≡◌, ◌^◌, ◌+◌, ◌-◌, List, Option, Some, All, length, slice_get, slice_set, sym, ap}
 use Rattle.std.proofs.Common.{◌∙◌, subst}
 use Rattle.rpc_session.specs.declared.sessions.Act.{Act}
@@ -6,7 +6,7 @@ use Rattle.rpc_session.specs.Hearings.{on, is_going}
 use Rattle.rpc_session.specs.Acts.{IsFit}
 use Rattle.acct_requests.specs.declared.connections.Peer.{Peer}
 use Rattle.acct_requests.specs.declared.connections.Peer.TheVariants as peer
-use Rattle.acct_requests.specs.Peers.{is_served}
+use Rattle.acct_requests.specs.Connections.{is_served}
 use Rattle.acct_server.specs.Replayed.{peer_of}
 use Rattle.acct_server.specs.Running.{Running, HasHeard, AllHeard, IsClosing}
 use Rattle.acct_server.proofs.Placing.{peer-here}

@@ -1,11 +1,11 @@
--- `Run::open` meets its contract: what the search leaves open.
+-- `Run::open` adds the next connection with nothing heard; where the history is full the run stays as it was.
 use Rattle.std.proofs.Common.{◌≡◌, ◌+◌, [], ◌∷◌, ◌++◌, List, Some, None, length, ap, ◌∙◌, sym, arith, subst}
 use Rattle.std.proofs.lemmas.Bool.Decides.{nat_tests}
 use Rattle.std.proofs.lemmas.Grind.{common_steps}
 use Rattle.acct_machine.specs.declared.machine.Opened.TheVariants as opens
 use Rattle.acct_requests.specs.declared.connections.Peer.{Peer}
 use Rattle.acct_requests.specs.declared.connections.Peer.TheVariants.{Open}
-use Rattle.acct_requests.specs.Peers.{nothing_heard}
+use Rattle.acct_requests.specs.Connections.{nothing_heard}
 use Rattle.acct_server.specs.Replayed.{on_open, listener_from}
 use Rattle.acct_server.specs.Running.{Running, standing, Does, AllHeard}
 use Rattle.acct_server.proofs.Configuring.{few_listeners}

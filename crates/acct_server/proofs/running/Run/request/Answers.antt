@@ -1,4 +1,4 @@
--- `Run::request` meets its contract: what the search leaves open.
+-- A request is answered, or its connection ends where the history is full; want of memory leaves its first entries.
 use Rattle.std.proofs.Common.{List, ℕ, ◌++◌, Some, None, length, sym, ap, ◌∙◌, subst}
 use Rattle.acct_machine.specs.declared.entry.Entry.{Entry}
 use Rattle.acct_machine.specs.Shown.{Past}

@@ -1,4 +1,4 @@
--- The next link of a door, or why none is taken: what the search leaves open.
+-- The next link of a door is taken as it is given, or it is told why none is, and the pass stays as it was.
 use Rattle.std.proofs.Common.{refl}
 use Rattle.acct_gates.specs.Passing.{start_under}
 use Rattle.acct_workers.proofs.Runs.{link-served, door-closed, door-failed, is-closed}

@@ -1,4 +1,4 @@
--- A connection that is served on a link: what the search leaves open.
+-- The session of a served connection moves the pass on, its link is given back, and its end is noted or memory ran out.
 use Rattle.std.proofs.Common.{inl, inr, refl}
 use Rattle.acct_workers.proofs.workers.Worker+R+Locked+K+D.serve_conn.Goals as goal
 

@@ -1,4 +1,4 @@
--- A link that is served or given back unread: what the search leaves open.
+-- A link is served on a connection that the pass opens, or given back unread where the history takes none.
 use Rattle.std.proofs.Common.{refl, subst}
 use Rattle.acct_gates.specs.Passing.{start_under}
 use Rattle.acct_workers.specs.Opening.{OpensWith}

@@ -1,4 +1,4 @@
--- A worker serves link after link: what the search leaves open.
+-- The links served so far and the one that follows are those of the door in order, until none is taken.
 use Rattle.std.proofs.Common.{◌<◌, None, length, refl, sym, ap, ◌∙◌, subst, rules}
 use Rattle.hist_lock.specs.Passes.{IsPassOf}
 use Rattle.acct_gates.specs.Passing.{start_under}

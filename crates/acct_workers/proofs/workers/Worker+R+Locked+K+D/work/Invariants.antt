@@ -1,4 +1,4 @@
--- What the loop of `work` keeps.
+-- The links that the door gave were served on the worker's pass, their ends noted, and none found the history full.
 use Rattle.std.proofs.Common.{◌≡◌, None}
 use Rattle.hist_lock.specs.Passes.{view, IsPassOf}
 use Rattle.acct_gates.specs.Passing.{start_under, OwnsLanes}

@@ -1,4 +1,4 @@
--- `MemoryWorldWorld::take_entrance` meets its contract: what the search leaves open.
+-- The entrance is handed out, or stays and the count of failures rises; but for what was asked all else stays.
 use Rattle.acct_world.specs.Memory.{WorldInMemory}
 use Rattle.acct_world.proofs.Holding.{entrance-taken, seen-entrance}
 use Rattle.acct_world.proofs.memory.MemoryWorldWorld.take_entrance.Goals as goal

@@ -1,4 +1,4 @@
--- `MemoryWorldWorld::take_keeper` meets its contract: what the search leaves open.
+-- The keeper is handed out under the empty name alone, or it stays and the count of failures rises.
 use Rattle.std.proofs.Common.{◌≡◌, ◌∙◌, ◌++◌, ◌∷◌, [], List, ℕ, sym, ap}
 use Rattle.std.specs.Str.{bytes_eq}
 use Rattle.acct_world.specs.declared.part.Part.TheVariants as part

@@ -1,4 +1,4 @@
--- `MemoryWorldWorld::take_source` meets its contract: what the search leaves open.
+-- Under `-` the events can be had, under its own name the configuration, and under any other name nothing.
 use Rattle.std.proofs.Common.{◌≡◌, ◌∙◌, ◌++◌, ◌∷◌, [], List, ℕ, sym, ap, true, false, codes}
 use Rattle.std.specs.Str.{bytes_eq}
 use Rattle.acct_world.specs.declared.part.Part.TheVariants as part

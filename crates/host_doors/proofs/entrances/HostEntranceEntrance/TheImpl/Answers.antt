@@ -1,4 +1,4 @@
--- The entrance of the system is an `Entrance`: what the search leaves open.
+-- The entrance of the system opens doors at listeners and takes them back as an `Entrance` must.
 use Rattle.std.proofs.Common.{◌≡◌, false}
 use Rattle.host_doors.specs.Doors.{IsDoor}
 use Rattle.host_doors.proofs.Giving.{each-weaker, untold}

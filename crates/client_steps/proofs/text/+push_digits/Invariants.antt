@@ -1,5 +1,0 @@
--- The measure of `push_digits`.
-use Rattle.client_steps.proofs.text.+push_digits.Given as goal
-
-abbrev pub decreases-push_digits : goal.decreases-push_digits
-decreases-push_digits l = l.count
