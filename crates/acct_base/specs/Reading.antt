@@ -1,7 +1,7 @@
 -- Reading fields one after the other: a reader gives a value and the bytes after it, or nothing where the bytes spell
 -- none.
 use Rattle.std.specs.Prelude.{◌≡◌, ℕ, zero, suc, ◌==◌, Bool, List, [], ◌∷◌, length, take, drop}
-use Rattle.std.specs.Prelude.{Option, Some, None, Result, Ok, Err, if◌then◌else◌, nat_lt}
+use Rattle.std.specs.Prelude.{Option, Some, None, Result, Ok, Err, IfErr, if◌then◌else◌, nat_lt}
 use Rattle.acct_base.specs.declared.fields.Unread.{Unread}
 use Rattle.acct_base.specs.declared.fields.Unread.TheVariants.{Memory, Misspelled}
 
@@ -33,6 +33,10 @@ many one (suc n) bytes = do
 abbrev pub ReadsNothing : {Y : Type 0} → Unread → Option Y → Type 0
 ReadsNothing Memory read = Unit {0}
 ReadsNothing Misspelled read = read ≡ None
+
+-- Where nothing was read, the bytes spell nothing: what takes no memory wants none.
+abbrev pub NeverMemory : {Y : Type 0} → Result Y Unread → Type 0
+NeverMemory result = IfErr result (λ e. e ≡ Misspelled)
 
 -- What code reads, as it is seen, is the value that stands in front, and the bytes after it are left.
 abbrev pub ReadsBy : {X A : Type 0} → (X → A) → Result X Unread → List ℕ → Option (A × List ℕ) → Type 0

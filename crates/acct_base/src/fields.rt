@@ -1,7 +1,7 @@
 // Reading fields one after the other.
 ghost use Rattle.std.specs.Prelude.{◌≡◌, ◌≤◌, length, drop, IfOk};
 ghost use Rattle.acct_base.specs.declared.fields.Unread.TheVariants.{Memory};
-ghost use Rattle.acct_base.specs.Reading.{front_at, is_end, ReadsBy};
+ghost use Rattle.acct_base.specs.Reading.{front_at, is_end, ReadsBy, NeverMemory};
 
 use crate::bytes::rest_of;
 use std::alloc::AllocError;
@@ -64,6 +64,7 @@ impl<'a> Fields<'a> {
     pub fn take(&mut self, count: usize) -> Result<&'a [u8], Unread>
         ensures value { ReadsBy (λ front. front.now) result self.new (front_at count self.old) }
         ensures length { IfOk result (λ front. length front.now ≡ count) }
+        ensures frugal { NeverMemory result }
     {
         if self.bytes.len() < count {
             return Err(Unread::Misspelled);

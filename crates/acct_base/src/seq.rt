@@ -1,5 +1,5 @@
 // A list that the heap holds.
-ghost use Rattle.std.specs.Prelude.{◌≡◌, ◌≤◌, [], ◌∷◌, ◌++◌, length, drop, IfOk, OnOk, OnErr};
+ghost use Rattle.std.specs.Prelude.{◌≡◌, ◌≤◌, [], ◌∷◌, ◌++◌, length, drop, IfOk, IsOk, OnOk, OnErr};
 
 use crate::bytes::rest_of;
 use std::alloc::{AllocError, Global};
@@ -69,19 +69,24 @@ impl<T: Drop> Seq<T> {
 }
 
 impl Seq<u8> {
-    /// A list of the same bytes.
+    /// A list of the same bytes. That of no byte takes no memory.
     pub fn copy_of(alloc: Global, bytes: &[u8]) -> Result<Self, AllocError>
-        ensures { IfOk result (λ copy. copy ≡ bytes.now) }
+        ensures copy { IfOk result (λ copy. copy ≡ bytes.now) }
+        ensures frugal { bytes.now ≡ [] → IsOk result }
     {
+        if bytes.is_empty() {
+            return Ok(Seq::new(alloc));
+        }
         Ok(Seq {
             values: bytes.to_vec(alloc)?,
         })
     }
 }
 
-/// The bytes of both. The first grow in place.
+/// The bytes of both. The first grow in place, and no byte more takes no memory.
 pub fn extended(bytes: Seq<u8>, more: &[u8]) -> Result<Seq<u8>, AllocError>
-    ensures { IfOk result (λ all. all ≡ bytes ++ more.now) }
+    ensures all { IfOk result (λ all. all ≡ bytes ++ more.now) }
+    ensures frugal { more.now ≡ [] → IsOk result }
 {
     let mut bytes = bytes.into_vec();
     bytes.extend_from_slice(more)?;
@@ -89,10 +94,12 @@ pub fn extended(bytes: Seq<u8>, more: &[u8]) -> Result<Seq<u8>, AllocError>
 }
 
 /// The bytes from a place on. They are copied where some in front are left out, so that no more memory is kept than
-/// they take.
+/// they take; where none are, or all, no memory is taken.
 pub fn kept(alloc: Global, bytes: Seq<u8>, place: usize) -> Result<Seq<u8>, AllocError>
     requires { place ≤ length bytes }
-    ensures { IfOk result (λ rest. rest ≡ drop place bytes) }
+    ensures rest { IfOk result (λ rest. rest ≡ drop place bytes) }
+    ensures frugal { place ≡ 0 → IsOk result }
+    ensures ended { place ≡ length bytes → IsOk result }
 {
     if place == 0 {
         return Ok(bytes);

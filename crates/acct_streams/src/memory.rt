@@ -21,6 +21,7 @@ pub fn one_more(count: u64) -> u64
 /// Copies bytes from the front: as many as fit, at most `most`, which is above 0. It answers how many these are.
 pub fn copy_front(from: &[u8], most: usize, into: &mut [u8]) -> usize
     requires { 0 < most }
+    ensures count { result ≡ min (min (length into.old) most) (length from.now) }
     ensures within { result ≤ length from.now }
     ensures fits { result ≤ length into.old }
     ensures copied { take result into.new ≡ take result from.now }

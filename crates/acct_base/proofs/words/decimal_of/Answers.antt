@@ -1,4 +1,4 @@
--- `decimal_of` meets its contract: what the search leaves open.
+-- As many digits as there are give a number below the power of ten for as many as may be.
 use Rattle.std.proofs.Common.{◌<◌, ◌≤◌, ◌^◌, ℕ, length, IfSome, Option, Some, None, arith}
 use Rattle.std.proofs.Math.Nat.{pow-le-pow_right}
 use Rattle.acct_base.proofs.words.decimal_of.Goals as goal
