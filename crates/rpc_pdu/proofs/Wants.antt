@@ -1,71 +1,26 @@
--- Reading runs out of memory only where a whole PDU of a type that takes memory is read, or its body has no reading.
-use Rattle.std.proofs.Common.{◌≡◌, ℕ, ◌≤◌, Bool, true, false, nat_lt, List, length, take, drop, get_or, Option, Some}
-use Rattle.std.proofs.Common.{None, refl}
-use Rattle.std.proofs.lemmas.Bool.{le-ltb}
-use Rattle.rpc_pdu.specs.declared.pdus.Side.{Side}
-use Rattle.rpc_pdu.specs.declared.pdus.Pdu.{Pdu}
-use Rattle.rpc_pdu.specs.declared.pdus.Pdu.TheVariants as pdus
-use Rattle.rpc_pdu.specs.declared.pdus.Element.{Element}
-use Rattle.rpc_pdu.specs.Numbers.{u16_at, u32_at}
-use Rattle.rpc_pdu.specs.Lists.{element_at}
-use Rattle.rpc_pdu.specs.declared.headers.Kind.{Kind}
-use Rattle.rpc_pdu.specs.declared.headers.Kind.TheVariants.{Request, Response, Fault, Bind, BindAck, BindNak, Alter}
-use Rattle.rpc_pdu.specs.declared.headers.Kind.TheVariants.{AlterResp, Cancel, Orphaned}
-use Rattle.rpc_pdu.specs.declared.headers.Header.TheVariants.{Long}
-use Rattle.acct_base.specs.Reading.{◌>>=◌, many}
-use Rattle.rpc_pdu.specs.Headers.{header_of}
-use Rattle.rpc_pdu.specs.Bodies.{body_of, bind_of, alter_of, bind_ack_of, alter_resp_of, outcomes_in, takes_memory}
-use Rattle.rpc_pdu.specs.Front.{front_of_body, front}
-use Rattle.rpc_pdu.specs.ReadPdu.{TakesMemory, MayWant}
+-- Where reading runs out of memory, something was there to take it: bytes behind a place, or a part that is counted.
+use Rattle.std.proofs.Common.{◌≡◌, ℕ, ◌<◌, Bool, true, false, nat_lt, List, [], length, drop, Result, Ok, Err}
+use Rattle.std.proofs.Common.{inl, inr, ◌∙◌, arith}
+use Rattle.std.proofs.lemmas.Bool.{cases_lt, lt-ltb}
+use Rattle.std.proofs.lemmas.List.{drop_all}
+use Rattle.acct_base.specs.declared.fields.Unread.{Unread}
+use Rattle.acct_base.specs.declared.fields.Unread.TheVariants.{Memory, Misspelled}
+use Rattle.rpc_pdu.specs.Bodies.{WantsOnlyIf}
 
--- a PDU that takes memory, or none
-abbrev Wants : Option Pdu → Type 0
-Wants None = Unit {0}
-Wants (Some pdu) = TakesMemory pdu
+pub wants : {A : Type 0} {takes : Bool} (r : Result A Unread) → takes ≡ true → WantsOnlyIf takes r
+wants (Ok x) is = tt
+wants (Err Misspelled) is = tt
+wants (Err Memory) is = is
 
-after : {A : Type 0} (o : Option A) (pdu : A → Pdu) → ((x : A) → TakesMemory (pdu x))
-    → Wants (o >>= (λ x. Some (pdu x)))
-after None pdu h = tt
-after (Some x) pdu h = h x
+-- a part is being read, so some are counted
+pub counted : {A : Type 0} (r : Result A Unread) (done count : ℕ) → done < count → WantsOnlyIf (nat_lt 0 count) r
+counted r done count lt = wants r (lt-ltb 0 count (omega (arith, lt)))
 
-abbrev elements_of : List ℕ → Option (List Element × List ℕ)
-elements_of bytes = many element_at (get_or bytes 24 0) (drop 28 bytes)
-
-wants_body : (kind : Kind) (bytes : List ℕ) → takes_memory kind ≡ true → Wants (body_of kind bytes)
-unfolding body_of bind_of alter_of bind_ack_of alter_resp_of
-wants_body Request bytes is = tt
-wants_body Response bytes is = tt
-wants_body Bind bytes is =
-    after (elements_of bytes)
-    (λ elements. pdus.Bind (u32_at bytes 12) (u16_at bytes 16) (u16_at bytes 18) (u32_at bytes 20) elements.0)
-    (λ x. tt {0})
-wants_body BindAck bytes is =
-    after (outcomes_in bytes)
-    (λ outcomes. pdus.BindAck (u32_at bytes 12) (u16_at bytes 16) (u16_at bytes 18) (u32_at bytes 20) outcomes)
-    (λ x. tt {0})
-wants_body Alter bytes is =
-    after (elements_of bytes)
-    (λ elements. pdus.Alter (u32_at bytes 12) (u16_at bytes 16) (u16_at bytes 18) (u32_at bytes 20) elements.0)
-    (λ x. tt {0})
-wants_body AlterResp bytes is =
-    after (outcomes_in bytes)
-    (λ outcomes. pdus.AlterResp (u32_at bytes 12) (u16_at bytes 16) (u16_at bytes 18) (u32_at bytes 20) outcomes)
-    (λ x. tt {0})
-wants_body Fault bytes is = absurd cc
-wants_body BindNak bytes is = absurd cc
-wants_body Cancel bytes is = absurd cc
-wants_body Orphaned bytes is = absurd cc
-
-of_body : (head : List ℕ) (size : ℕ) (o : Option Pdu) → Wants o → MayWant (front_of_body head size o)
-of_body head size None h = refl
-of_body head size (Some pdu) h = h
-
-pub wants_front : (side : Side) (bytes : List ℕ) (kind : Kind) (size : ℕ) → 16 ≤ length bytes
-    → header_of side (take 16 bytes) ≡ Long kind size → size ≤ length bytes
-    → takes_memory kind ≡ true → MayWant (front side bytes)
-unfolding front
-wants_front side bytes kind size sixteen header there takes =
-    let long : nat_lt (length bytes) 16 ≡ false = le-ltb _ _ sixteen in
-    let whole : nat_lt (length bytes) size ≡ false = le-ltb _ _ there in
-    rw (long, header, whole)
-    (of_body (take 16 bytes) size (body_of kind (take size bytes)) (wants_body kind (take size bytes) takes))
+-- bytes behind a place couldn't be copied, so there are some
+pub behind : (place : ℕ) (bytes rest : List ℕ) → rest ≡ drop place bytes → (rest ≡ [] → false ≡ true)
+    → nat_lt place (length bytes) ≡ true
+behind place bytes rest is some =
+    elim (cases_lt place (length bytes)) [
+      | inl lt ↦ lt-ltb place (length bytes) lt
+      | inr le ↦ absurd (let no = some (is ∙ drop_all place bytes le) in cc)
+    ]

@@ -75,21 +75,26 @@ body_of kind.AlterResp bytes = alter_resp_of bytes
 body_of kind.Cancel bytes = Some (Cancel (u32_at bytes 12))
 body_of kind.Orphaned bytes = Some (Orphaned (u32_at bytes 12))
 
--- the types whose PDUs take memory to read, for their stub, their elements or their outcomes
-abbrev pub takes_memory : Kind → Bool
-takes_memory kind.Request = true
-takes_memory kind.Response = true
-takes_memory kind.Bind = true
-takes_memory kind.BindAck = true
-takes_memory kind.Alter = true
-takes_memory kind.AlterResp = true
-takes_memory kind.Fault = false
-takes_memory kind.BindNak = false
-takes_memory kind.Cancel = false
-takes_memory kind.Orphaned = false
+-- how many outcomes there are: none where the PDU ends before their number
+abbrev pub outcome_count : List ℕ → ℕ
+outcome_count bytes =
+    if nat_lt (length bytes) (outcomes_place bytes + 4) then 0 else slice_index bytes (outcomes_place bytes)
 
--- memory runs out only for a type that takes some
-abbrev pub OnlyWhereTaken : {A : Type 0} → Kind → Result A Unread → Type 0
-OnlyWhereTaken _ (Ok x) = Unit {0}
-OnlyWhereTaken _ (Err Misspelled) = Unit {0}
-OnlyWhereTaken known (Err Memory) = takes_memory known ≡ true
+-- whether reading a whole PDU takes memory: it has a stub, an element or an outcome
+abbrev pub takes_memory : Kind → List ℕ → Bool
+takes_memory kind.Request bytes = nat_lt (stub_place (slice_index bytes 3)) (length bytes)
+takes_memory kind.Response bytes = nat_lt 24 (length bytes)
+takes_memory kind.Bind bytes = nat_lt 0 (slice_index bytes 24)
+takes_memory kind.Alter bytes = nat_lt 0 (slice_index bytes 24)
+takes_memory kind.BindAck bytes = nat_lt 0 (outcome_count bytes)
+takes_memory kind.AlterResp bytes = nat_lt 0 (outcome_count bytes)
+takes_memory kind.Fault bytes = false
+takes_memory kind.BindNak bytes = false
+takes_memory kind.Cancel bytes = false
+takes_memory kind.Orphaned bytes = false
+
+-- memory runs out only where some is taken
+abbrev pub WantsOnlyIf : {A : Type 0} → Bool → Result A Unread → Type 0
+WantsOnlyIf _ (Ok x) = Unit {0}
+WantsOnlyIf _ (Err Misspelled) = Unit {0}
+WantsOnlyIf takes (Err Memory) = takes ≡ true

@@ -1,33 +1,26 @@
 -- What read_pdu answers.
-use Rattle.std.specs.Prelude.{◌≡◌, ℕ, ◌-◌, ◌≤◌, List, length}
-use Rattle.acct_codes.specs.Causes.{cause_body}
+use Rattle.std.specs.Prelude.{◌≡◌, ℕ, ◌-◌, ◌≤◌, true, List, length, take}
 use Rattle.rpc_pdu.specs.declared.pdus.Side.{Side}
 use Rattle.rpc_pdu.specs.declared.pdus.Pdu.{Pdu}
 use Rattle.rpc_pdu.specs.declared.pdus.Pdu.TheVariants.{Bind, Alter, Request, Cancel, Orphaned, BindAck, AlterResp}
 use Rattle.rpc_pdu.specs.declared.pdus.Pdu.TheVariants.{BindNak, Response, Fault}
 use Rattle.rpc_pdu.specs.declared.fronts.ReadPdu.{ReadPdu}
 use Rattle.rpc_pdu.specs.declared.fronts.ReadPdu.TheVariants as read
-use Rattle.rpc_pdu.specs.Front.{Front, Whole, Rest, Refused, front}
+use Rattle.rpc_pdu.specs.declared.headers.Kind.{Kind}
+use Rattle.rpc_pdu.specs.declared.headers.Header.TheVariants.{Long}
+use Rattle.rpc_pdu.specs.Headers.{header_of}
+use Rattle.rpc_pdu.specs.Bodies.{takes_memory}
+use Rattle.rpc_pdu.specs.Front.{Whole, Rest, Refused, front}
 use Rattle.rpc_pdu.specs.Written.{type_of, call_id, size_of, HasFewParts, HasWholeIds}
 
--- the PDUs whose reading takes memory, for their stub, their elements or their outcomes
-abbrev pub TakesMemory : Pdu → Type 0
-TakesMemory (Bind id xmit recv group elements) = Unit {0}
-TakesMemory (Alter id xmit recv group elements) = Unit {0}
-TakesMemory (Request id flags context opnum stub) = Unit {0}
-TakesMemory (BindAck id xmit recv group outcomes) = Unit {0}
-TakesMemory (AlterResp id xmit recv group outcomes) = Unit {0}
-TakesMemory (Response id flags context hint stub) = Unit {0}
-TakesMemory (Cancel id) = ⊥
-TakesMemory (Orphaned id) = ⊥
-TakesMemory (BindNak id reason) = ⊥
-TakesMemory (Fault id context status) = ⊥
-
--- where reading may run out of memory: the PDU is whole, and its body is being read
-abbrev pub MayWant : Front → Type 0
-MayWant (Whole pdu size) = TakesMemory pdu
-MayWant Rest = ⊥
-MayWant (Refused place cause ptype id) = cause ≡ cause_body
+-- Where reading may run out of memory: the header is good, the PDU is whole, and it has a stub, an element or an
+-- outcome.
+pub record MayWant (side : Side) (bytes : List ℕ) : Type 0 where
+  pub kind : Kind
+  pub size : ℕ
+  pub header : header_of side (take 16 bytes) ≡ Long kind size
+  pub there : size ≤ length bytes
+  pub taken : takes_memory kind (take size bytes) ≡ true
 
 -- what is read is the front, with the type byte and the call id of a whole PDU, unless memory ran out
 abbrev pub IsRead : ReadPdu → Side → List ℕ → Type 0
@@ -36,7 +29,7 @@ IsRead (read.Got pdu ptype id used) side bytes = (front side bytes ≡ Whole pdu
 IsRead read.More side bytes = front side bytes ≡ Rest
 IsRead (read.Refused place cause ptype id) side bytes = (front side bytes ≡ Refused place cause ptype id)
     × (place ≤ length bytes)
-IsRead read.NoMemory side bytes = MayWant (front side bytes)
+IsRead read.NoMemory side bytes = MayWant side bytes
 
 -- the number of stub bytes of a request or a response
 abbrev pub stub_length : Pdu → ℕ

@@ -1,8 +1,9 @@
 // The lists in a binding PDU and its answer: context elements, transfer syntaxes, outcomes.
-ghost use Rattle.std.specs.Prelude.{◌≡◌, length};
-ghost use Rattle.acct_base.specs.Reading.{many, Reads};
+ghost use Rattle.std.specs.Prelude.{◌≡◌, length, nat_lt};
+ghost use Rattle.acct_base.specs.Reading.{many, Reads, NeverMemory};
 ghost use Rattle.rpc_pdu.specs.Lists.{syntax_at, element_at, outcome_at};
 ghost use Rattle.rpc_pdu.specs.Syntaxes.{syntax_of};
+ghost use Rattle.rpc_pdu.specs.Bodies.{WantsOnlyIf};
 
 use crate::numbers::{u16_at, u32_at};
 use crate::pdus::{Element, Outcome};
@@ -13,7 +14,8 @@ use uuid::Uuid;
 
 #[tactic(auto, unfolding(crate::specs::Lists::syntax_at))]
 fn read_syntax(fields: &mut Fields<'_>) -> Result<Syntax, Unread>
-    ensures { Reads result fields.new (syntax_at fields.old) }
+    ensures value { Reads result fields.new (syntax_at fields.old) }
+    ensures frugal { NeverMemory result }
 {
     let front = fields.take(20)?;
     Ok(syntax_of(front))
@@ -50,7 +52,8 @@ pub fn read_elements(
     fields: &mut Fields<'_>,
     count: u8,
 ) -> Result<Seq<Element>, Unread>
-    ensures { Reads result fields.new (many element_at count fields.old) }
+    ensures value { Reads result fields.new (many element_at count fields.old) }
+    ensures wants { WantsOnlyIf (nat_lt 0 count) result }
 {
     let mut elements = Seq::new(alloc);
     for _ in 0..count {
@@ -62,7 +65,8 @@ pub fn read_elements(
 
 #[tactic(auto, unfolding(crate::specs::Lists::outcome_at))]
 fn read_outcome(fields: &mut Fields<'_>) -> Result<Outcome, Unread>
-    ensures { Reads result fields.new (outcome_at fields.old) }
+    ensures value { Reads result fields.new (outcome_at fields.old) }
+    ensures frugal { NeverMemory result }
 {
     let head = fields.take(4)?;
     let syntax = read_syntax(fields)?;
@@ -79,7 +83,8 @@ pub fn read_outcomes(
     fields: &mut Fields<'_>,
     count: u8,
 ) -> Result<Seq<Outcome>, Unread>
-    ensures { Reads result fields.new (many outcome_at count fields.old) }
+    ensures value { Reads result fields.new (many outcome_at count fields.old) }
+    ensures wants { WantsOnlyIf (nat_lt 0 count) result }
 {
     let mut outcomes = Seq::new(alloc);
     for _ in 0..count {

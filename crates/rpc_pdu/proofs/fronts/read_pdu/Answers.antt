@@ -1,12 +1,12 @@
 -- A bad header is refused, a whole PDU has its type, id and bounds, and only a body that takes memory may want it.
-use Rattle.std.proofs.Common.{◌≡◌, ◌≤◌, List, ℕ, length, get_or, take, Err, subst, sym, ap, ◌∙◌, arith, rules, w8}
+use Rattle.std.proofs.Common.{◌≡◌, ◌≤◌, true, List, ℕ, length, get_or, take, Err, subst, sym, ap, ◌∙◌, arith, rules, w8}
 use Rattle.std.proofs.Math.Facts.{Fits-lt-pow}
 use Rattle.std.proofs.lemmas.List.{get_or-take, length-take-le}
 use Rattle.rpc_pdu.specs.declared.headers.Header.TheVariants.{Long}
 use Rattle.rpc_pdu.specs.Headers.{least_length, header_of}
 use Rattle.acct_base.specs.declared.fields.Unread.{Unread}
 use Rattle.rpc_pdu.specs.declared.pdus.Pdu.{Pdu}
-use Rattle.rpc_pdu.specs.Bodies.{body_of, OnlyWhereTaken}
+use Rattle.rpc_pdu.specs.Bodies.{body_of, takes_memory, WantsOnlyIf}
 use Rattle.rpc_pdu.specs.Numbers.{u32_at}
 use Rattle.rpc_pdu.specs.Written.{type_of, call_id}
 use Rattle.rpc_pdu.specs.Front.{Whole, front}
@@ -15,7 +15,6 @@ use Rattle.rpc_pdu.proofs.Whole.{has_front, head_at, call_at}
 use Rattle.rpc_pdu.proofs.Stubs.{stub_within}
 use Rattle.rpc_pdu.proofs.Exact.{exact_to, named}
 use Rattle.rpc_pdu.proofs.Bounds.{AreBytes, bytes-take, few, whole, room}
-use Rattle.rpc_pdu.proofs.Wants.{wants_front}
 use Rattle.rpc_pdu.proofs.fronts.read_pdu.Goals as goal
 
 pub body_of-requires-clause-header : goal.body_of-requires-clause-header
@@ -111,7 +110,13 @@ pub returns-in-Err-Memory-clause-front : goal.returns-in-Err-Memory-clause-front
 returns-in-Err-Memory-clause-front c =
     let header : header_of c.args.side (take 16 c.args.bytes.now) ≡ Long c.in-Long.kind c.in-Long.size =
     ap (λ (x : List ℕ). header_of c.args.side x) (sym c.split_at.ensures.front) ∙ sym c.in-Long.ensures in
-    wants_front c.args.side c.args.bytes.now c.in-Long.kind c.in-Long.size c.if-bytes-lt16.false header
-    c.if-bytes-used.false
-    (subst (λ (e : Unread). OnlyWhereTaken {A = Pdu} c.in-Long.kind
-    (Err e)) c.in-Err-Memory.field-0-is c.in-Err-Memory.ensures.wants)
+    let takes : takes_memory c.in-Long.kind c.split_at-in-Long.result.0.now ≡ true =
+    subst (λ (e : Unread). WantsOnlyIf {A = Pdu} (takes_memory c.in-Long.kind c.split_at-in-Long.result.0.now) (Err e))
+    c.in-Err-Memory.field-0-is c.in-Err-Memory.ensures.wants in
+    record {
+      kind = c.in-Long.kind;
+      size = c.in-Long.size;
+      header = header;
+      there = c.if-bytes-used.false;
+      taken = ap (λ (x : List ℕ). takes_memory c.in-Long.kind x) (sym c.split_at-in-Long.ensures.front) ∙ takes;
+    }

@@ -2,25 +2,29 @@
 use Rattle.std.proofs.lemmas.Result.{err_from_is_err_and}
 use Rattle.rpc_pdu.specs.Lists.{outcome_at}
 use Rattle.acct_base.proofs.Many.{starts, goes_on, ends, is_done}
+use Rattle.rpc_pdu.proofs.Wants.{counted}
 use Rattle.rpc_pdu.proofs.lists.read_outcomes.Goals as goal
 
 pub loop-init : goal.loop-init
 loop-init c = rw c.new-outcomes.ensures (starts outcome_at c.args.count c.args.fields.now)
 
-pub returns-in_err-outcome : goal.returns-in_err-outcome
-returns-in_err-outcome c =
+pub returns-in_err-outcome-clause-value : goal.returns-in_err-outcome-clause-value
+returns-in_err-outcome-clause-value c =
     let p = err_from_is_err_and c.from_residual.result c.from_residual.ensures.1 in
     rw (p.1, p.2)
     (ends outcome_at c.in_err-outcome.field-0.0 c.loop.outcomes c.args.count c.loop.counter c.args.fields.now
-    c.loop.fields c.loop-test.true c.in_err-outcome.ensures c.loop.invariant)
+    c.loop.fields c.loop-test.true c.in_err-outcome.ensures.value c.loop.invariant)
 
 pub loop-preserved : goal.loop-preserved
 loop-preserved c =
     rw c.in_ok-push.ensures.ok
     (goes_on outcome_at c.loop.outcomes c.args.count c.loop.counter c.args.fields.now c.loop.fields
-    c.in_ok-outcome.outcome c.read_outcome.new.fields c.loop-test.true c.in_ok-outcome.ensures c.loop.invariant)
+    c.in_ok-outcome.outcome c.read_outcome.new.fields c.loop-test.true c.in_ok-outcome.ensures.value c.loop.invariant)
 
-pub returns : goal.returns
-returns c =
+pub returns-in_err-outcome-clause-wants : goal.returns-in_err-outcome-clause-wants
+returns-in_err-outcome-clause-wants c = counted c.from_residual.result c.loop.counter c.args.count c.loop-test.true
+
+pub returns-clause-value : goal.returns-clause-value
+returns-clause-value c =
     is_done outcome_at c.loop.outcomes c.args.count c.loop.counter c.args.fields.now c.loop.fields
     c.loop-test.false c.loop.invariant
