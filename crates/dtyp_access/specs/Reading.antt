@@ -116,21 +116,30 @@ unfoldable pub has_list : List ℕ → Bool
 has_list bytes = shares (u16_at 2 bytes) se_dacl_present
     && (not (u32_at 16 bytes == 0) && not (is_outside (u32_at 16 bytes) bytes))
 
--- memory runs out only where there is a list, whose entries take it
-abbrev pub OnlyWithList : {X : Type 0} → Result X DescError → List ℕ → Type 0
-OnlyWithList (Ok x) bytes = Unit {0}
-OnlyWithList (Err Memory) bytes = has_list bytes ≡ true
-OnlyWithList (Err refusal) bytes = Unit {0}
+-- whether the list at a place has an entry: its header is whole, and its count isn't 0
+unfoldable pub has_entry : ℕ → List ℕ → Bool
+has_entry place bytes = not (nat_lt (length bytes) (place + 8)) && nat_lt 0 (u16_at (place + 4) bytes)
+
+-- memory runs out only where some is taken
+abbrev pub WantsOnlyIf : {X : Type 0} → Bool → Result X DescError → Type 0
+WantsOnlyIf _ (Ok x) = Unit {0}
+WantsOnlyIf takes (Err Memory) = takes ≡ true
+WantsOnlyIf _ (Err refusal) = Unit {0}
+
+-- where there is a list with an entry, which takes memory
+abbrev pub OnlyWithEntry : {X : Type 0} → Result X DescError → List ℕ → Type 0
+OnlyWithEntry result bytes =
+    WantsOnlyIf (has_list bytes) result × WantsOnlyIf (has_entry (u32_at 16 bytes) bytes) result
 
 abbrev pub is_read : {X : Type 0} → Result X DescError → Bool
 is_read (Ok x) = true
 is_read (Err refusal) = false
 
--- memory runs out only where the list is reached: the owner and the group are read, and there is a list
+-- memory runs out only where an entry is reached: the owner and the group are read, and there is a list with an entry
 abbrev pub OnlyAtList : Result Descriptor DescError → List ℕ → Type 0
 OnlyAtList (Ok d) bytes = Unit {0}
 OnlyAtList (Err Memory) bytes = (is_read (sid_of_field 4 bytes) ≡ true) × (is_read (group_of bytes) ≡ true)
-    × (has_list bytes ≡ true)
+    × (has_list bytes ≡ true) × (has_entry (u32_at 16 bytes) bytes ≡ true)
 OnlyAtList (Err refusal) bytes = Unit {0}
 
 -- reading a SID takes no memory

@@ -1,11 +1,11 @@
 // Reading a descriptor from its bytes.
-ghost use Rattle.std.specs.Prelude.{◌≡◌, ◌+◌, ◌≤◌, length, IfOk, IfErr, Ok, Err};
+ghost use Rattle.std.specs.Prelude.{◌≡◌, ◌+◌, ◌≤◌, length, nat_lt, IfOk, IfErr, Ok, Err};
 ghost use Rattle.dtyp_sid.specs.Bytes.{sid_of_bytes};
 ghost use Rattle.dtyp_access.specs.Granted.{shares};
 ghost use Rattle.dtyp_access.specs.Spelled.{SpellDescriptor};
-ghost use Rattle.dtyp_access.specs.Reading.{ReadsAllIfRoom, OnlyAtList, OnlyWithList, NeverMemory};
+ghost use Rattle.dtyp_access.specs.Reading.{ReadsAllIfRoom, OnlyAtList, OnlyWithEntry, WantsOnlyIf, NeverMemory};
 ghost use Rattle.dtyp_access.specs.Reading.{descriptor_of_bytes, sid_of_field, group_of, list_of, acl_at, aces_at};
-ghost use Rattle.dtyp_access.specs.Reading.{ace_at, next_ace, kind_of, or_no_sid, u16_at, u32_at};
+ghost use Rattle.dtyp_access.specs.Reading.{ace_at, next_ace, kind_of, or_no_sid, has_entry, u16_at, u32_at};
 
 use crate::laws::read_bytes_spell;
 use crate::{Ace, AceKind, Acl, DescError, Descriptor};
@@ -89,7 +89,7 @@ fn group_of(bytes: &[u8]) -> Result<Option<Sid>, DescError>
 fn list_of(alloc: Global, bytes: &[u8]) -> Result<Option<Acl>, DescError>
     requires { 20 ≤ length bytes.now }
     ensures answer { ReadsAllIfRoom result (list_of bytes.now) }
-    ensures wants { OnlyWithList result bytes.now }
+    ensures wants { OnlyWithEntry result bytes.now }
 {
     let offset = u32_at(bytes, 16) as usize;
     if !is_set(u16_at(bytes, 2), SE_DACL_PRESENT) || offset == 0 {
@@ -102,10 +102,11 @@ fn list_of(alloc: Global, bytes: &[u8]) -> Result<Option<Acl>, DescError>
 }
 
 /// The list at a place.
-#[tactic(auto, unfolding(crate::specs::Reading::acl_at))]
+#[tactic(auto, unfolding(crate::specs::Reading::acl_at, crate::specs::Reading::has_entry))]
 fn acl_at(alloc: Global, bytes: &[u8], place: usize) -> Result<Acl, DescError>
     requires { place ≤ length bytes.now }
-    ensures { ReadsAllIfRoom result (acl_at place bytes.now) }
+    ensures answer { ReadsAllIfRoom result (acl_at place bytes.now) }
+    ensures wants { WantsOnlyIf (has_entry place bytes.now) result }
 {
     if bytes.len() < place + 8 {
         return Err(DescError::Short(place));
@@ -130,7 +131,8 @@ fn aces_at(
 ) -> Result<Acl, DescError>
     requires first { first ≤ length bytes.now }
     requires end { end ≤ length bytes.now }
-    ensures { ReadsAllIfRoom result (aces_at count first end bytes.now) }
+    ensures answer { ReadsAllIfRoom result (aces_at count first end bytes.now) }
+    ensures wants { WantsOnlyIf (nat_lt 0 count) result }
 {
     let mut aces = Vec::new(alloc);
     let mut place = first;

@@ -7,15 +7,15 @@ use Rattle.dtyp_access.specs.Reading.{aces_at}
 use Rattle.dtyp_access.proofs.AcesRead.{answer_err, read_err, read_ok, read_all, behind}
 use Rattle.dtyp_access.proofs.read.aces_at.Goals as goal
 
-pub returns : goal.returns
-returns c =
+pub returns-clause-answer : goal.returns-clause-answer
+returns-clause-answer c =
     let none : c.args.count - c.loop-done._done ≡ 0 = omega arith in
     read_all _ c.loop-done.aces.items
     (c.args.count - c.loop-done._done) c.loop-done.place c.args.end c.args.bytes.now none c.loop-done.invariant.1
     ∙ ap (λ (aces : List Ace). let o : Result (List Ace) DescError = Ok aces in o) (sym c.from_vec.ensures)
 
-pub returns-in_err-ace : goal.returns-in_err-ace
-returns-in_err-ace c =
+pub returns-in_err-ace-clause-answer : goal.returns-in_err-ace-clause-answer
+returns-in_err-ace-clause-answer c =
     let more : c.args.count - c.loop-done._done ≡ suc (c.args.count - (c.loop-done._done + 1)) =
     omega (arith, c.loop-done-test.true) in
     let why = err_from_is_err_and c.from_residual.result c.from_residual.ensures.1 in
