@@ -1,5 +1,5 @@
 // Reading the fields of stored rows.
-ghost use Rattle.acct_base.specs.Reading.{many, Reads};
+ghost use Rattle.acct_base.specs.Reading.{many, Reads, NeverMemory};
 ghost use Rattle.acct_rows.specs.Stored.{byte_at, unit_at, number_at, rid_at, text_at, sid_at, held_at};
 
 use crate::row::{Held, Privileges};
@@ -12,7 +12,8 @@ use std::alloc::Global;
 /// A byte.
 #[tactic(auto, unfolding(crate::specs::Stored::byte_at))]
 pub fn read_byte(fields: &mut Fields<'_>) -> Result<u8, Unread>
-    ensures { Reads result fields.new (byte_at fields.old) }
+    ensures value { Reads result fields.new (byte_at fields.old) }
+    ensures frugal { NeverMemory result }
 {
     let front = fields.take(1)?;
     Ok(front[0])
@@ -21,7 +22,8 @@ pub fn read_byte(fields: &mut Fields<'_>) -> Result<u8, Unread>
 /// A number of 16 bits, its lowest byte first.
 #[tactic(auto, unfolding(crate::specs::Stored::unit_at))]
 fn read_unit(fields: &mut Fields<'_>) -> Result<u16, Unread>
-    ensures { Reads result fields.new (unit_at fields.old) }
+    ensures value { Reads result fields.new (unit_at fields.old) }
+    ensures frugal { NeverMemory result }
 {
     let front = fields.take(2)?;
     Ok(front_u16(front))
@@ -30,7 +32,8 @@ fn read_unit(fields: &mut Fields<'_>) -> Result<u16, Unread>
 /// A number of 32 bits, its lowest byte first.
 #[tactic(auto, unfolding(crate::specs::Stored::number_at))]
 pub fn read_number(fields: &mut Fields<'_>) -> Result<u32, Unread>
-    ensures { Reads result fields.new (number_at fields.old) }
+    ensures value { Reads result fields.new (number_at fields.old) }
+    ensures frugal { NeverMemory result }
 {
     let front = fields.take(4)?;
     Ok(front_u32(front))
@@ -39,7 +42,8 @@ pub fn read_number(fields: &mut Fields<'_>) -> Result<u32, Unread>
 /// A RID in a key, its highest byte first.
 #[tactic(auto, unfolding(crate::specs::Stored::rid_at))]
 pub fn read_rid(fields: &mut Fields<'_>) -> Result<u32, Unread>
-    ensures { Reads result fields.new (rid_at fields.old) }
+    ensures value { Reads result fields.new (rid_at fields.old) }
+    ensures frugal { NeverMemory result }
 {
     let front = fields.take(4)?;
     Ok(u32::from_be_bytes([front[0], front[1], front[2], front[3]]))
@@ -69,7 +73,8 @@ pub fn read_text(alloc: Global, fields: &mut Fields<'_>) -> Result<Name, Unread>
 /// A SID, which tells its own length.
 #[tactic(auto, unfolding(crate::specs::Stored::sid_at))]
 pub fn read_sid(fields: &mut Fields<'_>) -> Result<Sid, Unread>
-    ensures { Reads result fields.new (sid_at fields.old) }
+    ensures value { Reads result fields.new (sid_at fields.old) }
+    ensures frugal { NeverMemory result }
 {
     written_bytes_have_lengths();
     match Sid::from_bytes(fields.rest()) {
@@ -83,7 +88,8 @@ pub fn read_sid(fields: &mut Fields<'_>) -> Result<Sid, Unread>
 
 #[tactic(auto, unfolding(crate::specs::Stored::held_at))]
 fn read_held(fields: &mut Fields<'_>) -> Result<Held, Unread>
-    ensures { Reads result fields.new (held_at fields.old) }
+    ensures value { Reads result fields.new (held_at fields.old) }
+    ensures frugal { NeverMemory result }
 {
     let low = read_byte(fields)?;
     let attributes = read_number(fields)?;

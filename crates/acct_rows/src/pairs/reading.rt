@@ -2,7 +2,7 @@
 ghost use Rattle.std.specs.Prelude.{◌≡◌, List};
 ghost use Rattle.acct_rows.specs.Spelled.{ascend};
 ghost use Rattle.acct_rows.specs.Sound.{are_above};
-ghost use Rattle.acct_base.specs.Reading.{Reads, ReadsWhole, is_end};
+ghost use Rattle.acct_base.specs.Reading.{Reads, ReadsWhole, NeverMemory, is_end};
 ghost use Rattle.acct_rows.specs.Stored.{only_if, domain_number_at, whole_sid, kind_of_byte};
 ghost use Rattle.acct_rows.specs.Stored.{lettered, row_key};
 ghost use Rattle.acct_rows.specs.Stored.{domain_key_of, account_key_of, member_key_of, alias_key_of, lsa_key_of};
@@ -28,7 +28,8 @@ pub fn read_row(alloc: Global, pair: &Pair) -> Result<Row, Unread>
 
 #[tactic(auto, unfolding(crate::specs::Stored::row_key))]
 fn row_key(key: &[u8]) -> Result<RowKey, Unread>
-    ensures { ReadsWhole result (row_key key.now) }
+    ensures value { ReadsWhole result (row_key key.now) }
+    ensures frugal { NeverMemory result }
 {
     let mut fields = Fields::new(key);
     let letter = read_byte(&mut fields)?;
@@ -37,7 +38,8 @@ fn row_key(key: &[u8]) -> Result<RowKey, Unread>
 
 #[tactic(auto, unfolding(crate::specs::Stored::lettered))]
 fn lettered(letter: u8, fields: Fields<'_>) -> Result<RowKey, Unread>
-    ensures { ReadsWhole result (lettered letter fields.entry) }
+    ensures value { ReadsWhole result (lettered letter fields.entry) }
+    ensures frugal { NeverMemory result }
 {
     match letter {
         b'a' => account_key(fields),
@@ -51,7 +53,8 @@ fn lettered(letter: u8, fields: Fields<'_>) -> Result<RowKey, Unread>
 
 #[tactic(auto, unfolding(crate::specs::Stored::domain_number_at))]
 fn domain_number(fields: &mut Fields<'_>) -> Result<u8, Unread>
-    ensures { Reads result fields.new (domain_number_at fields.old) }
+    ensures value { Reads result fields.new (domain_number_at fields.old) }
+    ensures frugal { NeverMemory result }
 {
     let number = read_byte(fields)?;
     if number > 1 {
@@ -62,7 +65,8 @@ fn domain_number(fields: &mut Fields<'_>) -> Result<u8, Unread>
 
 // The value, where no byte is left behind it.
 fn whole<T: Drop>(value: T, fields: &Fields<'_>) -> Result<T, Unread>
-    ensures { ReadsWhole result (only_if (is_end fields.now) value) }
+    ensures value { ReadsWhole result (only_if (is_end fields.now) value) }
+    ensures frugal { NeverMemory result }
 {
     if fields.is_end() {
         Ok(value)
@@ -73,7 +77,8 @@ fn whole<T: Drop>(value: T, fields: &Fields<'_>) -> Result<T, Unread>
 
 #[tactic(auto, unfolding(crate::specs::Stored::whole_sid))]
 fn whole_sid(mut fields: Fields<'_>) -> Result<Sid, Unread>
-    ensures { ReadsWhole result (whole_sid fields.entry) }
+    ensures value { ReadsWhole result (whole_sid fields.entry) }
+    ensures frugal { NeverMemory result }
 {
     let sid = read_sid(&mut fields)?;
     whole(sid, &fields)
@@ -81,7 +86,8 @@ fn whole_sid(mut fields: Fields<'_>) -> Result<Sid, Unread>
 
 #[tactic(auto, unfolding(crate::specs::Stored::domain_key_of))]
 fn domain_key(mut fields: Fields<'_>) -> Result<RowKey, Unread>
-    ensures { ReadsWhole result (domain_key_of fields.entry) }
+    ensures value { ReadsWhole result (domain_key_of fields.entry) }
+    ensures frugal { NeverMemory result }
 {
     let number = domain_number(&mut fields)?;
     whole(RowKey::Domain(number), &fields)
@@ -89,7 +95,8 @@ fn domain_key(mut fields: Fields<'_>) -> Result<RowKey, Unread>
 
 #[tactic(auto, unfolding(crate::specs::Stored::account_key_of))]
 fn account_key(mut fields: Fields<'_>) -> Result<RowKey, Unread>
-    ensures { ReadsWhole result (account_key_of fields.entry) }
+    ensures value { ReadsWhole result (account_key_of fields.entry) }
+    ensures frugal { NeverMemory result }
 {
     let domain = domain_number(&mut fields)?;
     let rid = read_rid(&mut fields)?;
@@ -98,7 +105,8 @@ fn account_key(mut fields: Fields<'_>) -> Result<RowKey, Unread>
 
 #[tactic(auto, unfolding(crate::specs::Stored::member_key_of))]
 fn member_key(mut fields: Fields<'_>) -> Result<RowKey, Unread>
-    ensures { ReadsWhole result (member_key_of fields.entry) }
+    ensures value { ReadsWhole result (member_key_of fields.entry) }
+    ensures frugal { NeverMemory result }
 {
     let group = read_rid(&mut fields)?;
     let user = read_rid(&mut fields)?;
@@ -107,7 +115,8 @@ fn member_key(mut fields: Fields<'_>) -> Result<RowKey, Unread>
 
 #[tactic(auto, unfolding(crate::specs::Stored::alias_key_of))]
 fn alias_key(mut fields: Fields<'_>) -> Result<RowKey, Unread>
-    ensures { ReadsWhole result (alias_key_of fields.entry) }
+    ensures value { ReadsWhole result (alias_key_of fields.entry) }
+    ensures frugal { NeverMemory result }
 {
     let domain = domain_number(&mut fields)?;
     let alias = read_rid(&mut fields)?;
@@ -121,7 +130,8 @@ fn alias_key(mut fields: Fields<'_>) -> Result<RowKey, Unread>
 
 #[tactic(auto, unfolding(crate::specs::Stored::lsa_key_of))]
 fn lsa_key(fields: Fields<'_>) -> Result<RowKey, Unread>
-    ensures { ReadsWhole result (lsa_key_of fields.entry) }
+    ensures value { ReadsWhole result (lsa_key_of fields.entry) }
+    ensures frugal { NeverMemory result }
 {
     let sid = whole_sid(fields)?;
     Ok(RowKey::Lsa(sid))
@@ -183,7 +193,8 @@ fn read_named_domain(
 }
 
 fn kind_of_byte(byte: u8) -> Result<Kind, Unread>
-    ensures { ReadsWhole result (kind_of_byte byte) }
+    ensures value { ReadsWhole result (kind_of_byte byte) }
+    ensures frugal { NeverMemory result }
 {
     match byte {
         1 => Ok(Kind::User),
@@ -235,7 +246,8 @@ fn read_named_account(
 
 #[tactic(auto, unfolding(crate::specs::Stored::member_of))]
 fn read_member(group: u32, user: u32, mut fields: Fields<'_>) -> Result<Row, Unread>
-    ensures { ReadsWhole result (member_of group user fields.entry) }
+    ensures value { ReadsWhole result (member_of group user fields.entry) }
+    ensures frugal { NeverMemory result }
 {
     let attributes = read_number(&mut fields)?;
     let row = MemberRow {
@@ -248,7 +260,8 @@ fn read_member(group: u32, user: u32, mut fields: Fields<'_>) -> Result<Row, Unr
 
 #[tactic(auto, unfolding(crate::specs::Stored::alias_of))]
 fn read_alias(domain: u8, alias: u32, member: Sid, fields: Fields<'_>) -> Result<Row, Unread>
-    ensures { ReadsWhole result (alias_of domain alias member fields.entry) }
+    ensures value { ReadsWhole result (alias_of domain alias member fields.entry) }
+    ensures frugal { NeverMemory result }
 {
     let row = AliasRow {
         domain,

@@ -12,13 +12,13 @@ returns-in_err-held c =
     let p = err_from_is_err_and c.from_residual.result c.from_residual.ensures.1 in
     rw (p.1, p.2)
     (ends held_at c.in_err-held.field-0.0 c.loop.privileges c.args.count c.loop.counter c.args.fields.now
-    c.loop.fields c.loop-test.true c.in_err-held.ensures c.loop.invariant)
+    c.loop.fields c.loop-test.true c.in_err-held.ensures.value c.loop.invariant)
 
 pub loop-preserved : goal.loop-preserved
 loop-preserved c =
     rw c.in_ok-push.ensures.ok
     (goes_on held_at c.loop.privileges c.args.count c.loop.counter c.args.fields.now c.loop.fields
-    c.in_ok-held.held c.read_held.new.fields c.loop-test.true c.in_ok-held.ensures c.loop.invariant)
+    c.in_ok-held.held c.read_held.new.fields c.loop-test.true c.in_ok-held.ensures.value c.loop.invariant)
 
 pub returns : goal.returns
 returns c =

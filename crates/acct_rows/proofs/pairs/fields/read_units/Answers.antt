@@ -12,13 +12,13 @@ returns-in_err-unit c =
     let p = err_from_is_err_and c.from_residual.result c.from_residual.ensures.1 in
     rw (p.1, p.2)
     (ends unit_at c.in_err-unit.field-0.0 c.loop.units c.args.count c.loop.counter c.args.fields.now
-    c.loop.fields c.loop-test.true c.in_err-unit.ensures c.loop.invariant)
+    c.loop.fields c.loop-test.true c.in_err-unit.ensures.value c.loop.invariant)
 
 pub loop-preserved : goal.loop-preserved
 loop-preserved c =
     rw c.in_ok-push.ensures.ok
     (goes_on unit_at c.loop.units c.args.count c.loop.counter c.args.fields.now c.loop.fields
-    c.in_ok-unit.unit c.read_unit.new.fields c.loop-test.true c.in_ok-unit.ensures c.loop.invariant)
+    c.in_ok-unit.unit c.read_unit.new.fields c.loop-test.true c.in_ok-unit.ensures.value c.loop.invariant)
 
 pub returns : goal.returns
 returns c =
