@@ -1,9 +1,9 @@
 -- The PDUs that the client sends: one bind of both interfaces, and calls, whose stubs are cut into requests as those of
 -- replies are into responses (C706, sections 12.6.3 and 12.6.4).
 use Rattle.std.specs.Prelude.{◌≡◌, ℕ, zero, suc, ◌+◌, ◌≤◌, Bool, true, false, List, [], ◌∷◌, ◌++◌}
-use Rattle.std.specs.Prelude.{length, take, drop, min, max}
+use Rattle.std.specs.Prelude.{length, take, drop, min}
 use Rattle.std.specs.Prelude.{if◌then◌else◌, nat_le}
-use Rattle.acct_codes.specs.Limits.{least_fragment, most_fragment}
+use Rattle.acct_codes.specs.Limits.{most_fragment}
 use Rattle.acct_codes.specs.PduHeaders.{pfc_last_frag}
 use Rattle.acct_codes.specs.PduTypes.{ptype_request}
 use Rattle.acct_calls.specs.declared.calls.Face.{Face}

@@ -18,7 +18,7 @@ use crate::NoMemory;
 use crate::answers::{Answer, Awaited};
 use crate::errors::AskError;
 use crate::hearing::{Heard, Listening, hear_piece, streams_are_cut_anywhere};
-use crate::requests::{bind_bytes, request_bytes, size_for};
+use crate::requests::{bind_bytes, request_bytes};
 use acct_base::Seq;
 use acct_calls::{Call, Face, Reply};
 use acct_stubs::WireError;
@@ -26,7 +26,7 @@ use client_steps::{
     Command, Outcome, Step, Text, after, call_of, fit_steps_are_spelled, operation_of, refused_line,
 };
 use rpc_pdu::{front_is_stable, written_is_read_back};
-use rpc_session::replies_bring_stubs;
+use rpc_session::{replies_bring_stubs, size_for};
 use std::alloc::{AllocError, Global};
 
 /// How a dialogue stands.

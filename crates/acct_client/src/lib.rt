@@ -20,7 +20,7 @@ pub use asker::Asker;
 pub use dialogue::{State, Talk, dialogues_are_cut_anywhere, replies_are_printed};
 pub use errors::AskError;
 pub use hearing::{Heard, Listening, hear_piece, streams_are_cut_anywhere};
-pub use requests::{bind_bytes, context_of, request_bytes, short_stubs_are_one_pdu, size_for};
+pub use requests::{bind_bytes, context_of, request_bytes, short_stubs_are_one_pdu};
 
 /// Want of memory, which is the one fault that may come anywhere.
 pub type NoMemory = std::alloc::AllocError;

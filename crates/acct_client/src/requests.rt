@@ -1,14 +1,13 @@
 // The bytes that the client sends.
 ghost use Rattle.std.specs.Prelude.{◌≡◌, ◌++◌, ◌≤◌, ◌<◌, length, IfOk, OnOk};
 ghost use Rattle.acct_codes.specs.Limits.{least_fragment, most_fragment};
-ghost use Rattle.rpc_session.specs.Answers.{size_for};
 ghost use Rattle.acct_client.specs.Requests.{context_of, offered, bind_bytes, request, request_bytes};
 ghost use Rattle.acct_client.specs.Requests.{AreOnePdu};
 
 use crate::NoMemory;
 use acct_base::{Seq, front_of, rest_of};
 use acct_calls::Face;
-use acct_codes::limit::{LEAST_FRAGMENT, MOST_FRAGMENT};
+use acct_codes::limit::MOST_FRAGMENT;
 use acct_codes::pdu_header::{
     DREP_IEEE, DREP_LITTLE_ENDIAN_ASCII, PFC_LAST_FRAG, RPC_VERS, RPC_VERS_MINOR,
 };
@@ -54,15 +53,6 @@ pub fn bind_bytes(alloc: Global) -> Result<Vec<u8>, NoMemory>
         elements,
     };
     write_pdu(alloc, &bind)
-}
-
-/// The size of fragments for the one that the peer takes at most, in bytes.
-pub fn size_for(recv: u16) -> u16
-    ensures value { result ≡ size_for recv }
-    ensures low { least_fragment ≤ result }
-    ensures high { result ≤ most_fragment }
-{
-    recv.max(LEAST_FRAGMENT).min(MOST_FRAGMENT)
 }
 
 /// What every request of a call has.

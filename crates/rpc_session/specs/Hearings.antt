@@ -87,3 +87,9 @@ abbrev pub HasRoom : Hearing → List ℕ → Type 0
 HasRoom (Going conn place session rest) piece = place + (length rest + length piece) < 2 ^ 64
 HasRoom Ended piece = Unit {0}
 HasRoom Lost piece = Unit {0}
+
+-- no whole PDU and no refusal stands in front of the bytes that are left, and memory never ran out
+abbrev pub IsStill : Hearing → Type 0
+IsStill (Going conn place session rest) = front Server rest ≡ Rest
+IsStill Ended = Unit {0}
+IsStill Lost = ⊥

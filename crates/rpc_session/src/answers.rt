@@ -1,5 +1,6 @@
 // What is answered on a connection without a call.
 ghost use Rattle.std.specs.Prelude.{◌≡◌, ◌≤◌, length, IfOk};
+ghost use Rattle.acct_codes.specs.Limits.{least_fragment, most_fragment};
 ghost use Rattle.rpc_pdu.specs.Written.{HasFewParts, size_of, written};
 ghost use Rattle.rpc_session.specs.Answers.{size_for, sizes_for, bind_answer, alter_answer, refusal_bytes, closing};
 
@@ -15,8 +16,11 @@ use acct_codes::pdu_type::PTYPE_BIND;
 use rpc_pdu::{Element, NoMemory, Pdu, write_pdu};
 use std::alloc::{AllocError, Global};
 
-fn size_for(asked: u16) -> u16
-    ensures { result ≡ size_for asked }
+/// The size of fragments, in bytes, for the one that the other side takes at most.
+pub fn size_for(asked: u16) -> u16
+    ensures value { result ≡ size_for asked }
+    ensures low { least_fragment ≤ result }
+    ensures high { result ≤ most_fragment }
 {
     asked.max(LEAST_FRAGMENT).min(MOST_FRAGMENT)
 }

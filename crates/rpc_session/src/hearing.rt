@@ -4,7 +4,10 @@ ghost use Rattle.std.specs.Prelude.{IsOk};
 ghost use Rattle.rpc_session.specs.declared.hearing.Hearing.TheVariants.{Going, Ended, Lost};
 ghost use Rattle.rpc_session.specs.declared.hearing.Next.TheVariants.{Ends};
 ghost use Rattle.rpc_session.specs.Answers.{closing};
-ghost use Rattle.rpc_session.specs.Hearings.{Heard, heard_next, joined, listed, hear, is_going, on, Begins, HasRoom};
+ghost use Rattle.rpc_session.specs.Hearings.{Heard, heard_next, joined, listed, hear, is_going, on, Begins};
+ghost use Rattle.rpc_session.specs.Hearings.{HasRoom, IsStill};
+ghost use Rattle.rpc_pdu.specs.declared.pdus.Side.TheVariants.{Server};
+ghost use Rattle.rpc_pdu.specs.Front.{Rest, front};
 ghost use Rattle.rpc_session.specs.Acts.{acts, IsSoFar};
 
 use crate::answers::closing;
@@ -65,7 +68,8 @@ fn heard_next(
     bytes: &[u8],
 ) -> Result<Next, NoMemory>
     requires { place + length bytes.now < 2 ^ 64 }
-    ensures { IfOk result (λ next. next ≡ heard_next conn place session bytes.now) }
+    ensures next { IfOk result (λ next. next ≡ heard_next conn place session bytes.now) }
+    ensures frugal { front Server bytes.now ≡ Rest → IsOk result }
 {
     let found = read_pdu(alloc, Side::Server, bytes);
     match found {
@@ -133,6 +137,7 @@ fn hear(
     ensures ok { IfOk result (λ leaves. record { acts = acts.new.items; leaves = leaves }
         ≡ joined acts.old.items (hear conn place session bytes)) }
     ensures err { OnErr result (Begins acts.old.items acts.new.items (hear conn place session bytes).acts) }
+    ensures frugal { front Server bytes ≡ Rest → IsOk result }
 {
     front_is_stable();
     let mut at = 0;
@@ -234,9 +239,13 @@ impl Bytes2Acts {
         ensures err { OnErr result ((self.new ≡ Lost)
             × Begins acts.old.items acts.new.items (on self.old piece.now).acts) }
         ensures lost { self.old ≡ Lost → IsErr result }
+        // A piece of no byte takes no memory.
+        ensures frugal { (conn : ℕ) → (stream : List ℕ) → IsSoFar conn stream self.old acts.old.items
+            → piece.now ≡ [] → IsOk result }
         // After a refusal a piece is taken, and nothing is added.
         ensures ended { self.old ≡ Ended → IsOk result × (self.new ≡ Ended) × (acts.new.items ≡ acts.old.items) }
     {
+        front_is_stable();
         streams_are_cut_anywhere();
         fed(alloc, &mut self.hearing, piece, acts)
     }
@@ -261,6 +270,7 @@ fn fed(
     ensures err { OnErr result ((hearing.new ≡ Lost)
         × Begins acts.old.items acts.new.items (on hearing.old piece.now).acts) }
     ensures lost { hearing.old ≡ Lost → IsErr result }
+    ensures frugal { IsStill hearing.old → piece.now ≡ [] → IsOk result }
     ensures ended { hearing.old ≡ Ended → IsOk result × (hearing.new ≡ Ended) × (acts.new.items ≡ acts.old.items) }
 {
     let found = mem::replace(hearing, Hearing::Lost);

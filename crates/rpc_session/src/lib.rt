@@ -15,6 +15,7 @@ mod replies;
 mod sessions;
 
 pub use acct_calls::Face;
+pub use answers::size_for;
 pub use contexts::Context;
 pub use hearing::{Bytes2Acts, Hearing};
 pub use laws::{

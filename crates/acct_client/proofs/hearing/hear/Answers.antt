@@ -15,7 +15,7 @@ returns-in-Waits c =
     let read : c.rest_of.result.now ≡ rest = c.rest_of.ensures.value ∙ ap (drop c.loop-bytes.at) c.as_slice.ensures in
     let e : heard_next c.args.awaited here c.loop-bytes.reply rest ≡ next.Waits c.in-Waits.waiting =
     sym (c.in_ok-waiting.ensures ∙ ap (heard_next c.args.awaited here c.loop-bytes.reply) read) ∙ c.in-Waits.is in
-    ap (λ (x : List ℕ). Waits (listening here c.in-Waits.waiting x)) c.in_ok-kept-in-Waits.ensures
+    ap (λ (x : List ℕ). Waits (listening here c.in-Waits.waiting x)) c.in_ok-kept-in-Waits.ensures.rest
     ∙ sym (on_waits c.front_is_stable.ensures c.args.awaited here c.loop-bytes.reply c.in-Waits.waiting rest e)
     ∙ c.loop-bytes.invariant.hearing
 
@@ -86,7 +86,7 @@ returns-in-Gives c =
     let e : heard_next c.args.awaited here c.loop-bytes.reply rest ≡ next.Gives c.in-Gives.answer c.in-Gives.size =
     sym (c.in_ok-waiting.ensures ∙ ap (heard_next c.args.awaited here c.loop-bytes.reply) read) ∙ c.in-Gives.is in
     ap (λ (x : List ℕ). Answered c.in-Gives.answer (listening (here + c.in-Gives.size) None x))
-    (c.in_ok-kept-in-Gives.ensures ∙ sym (dropped c.in-Gives.size c.loop-bytes.at c.loop-bytes.bytes))
+    (c.in_ok-kept-in-Gives.ensures.rest ∙ sym (dropped c.in-Gives.size c.loop-bytes.at c.loop-bytes.bytes))
     ∙ sym (on_gives c.front_is_stable.ensures c.args.awaited here c.loop-bytes.reply rest c.in-Gives.answer
     c.in-Gives.size e)
     ∙ c.loop-bytes.invariant.hearing

@@ -6,6 +6,7 @@ use Rattle.rpc_session.specs.declared.hearing.Hearing.TheVariants.{Going, Ended}
 use Rattle.rpc_session.specs.Hearings.{Begins, heard_next, hear}
 use Rattle.rpc_session.proofs.Cutting.{whole_next}
 use Rattle.rpc_session.proofs.Steps.{IsHearing, waiting, ended, goes, stopped, on_err, moved}
+use Rattle.rpc_session.proofs.Still.{first_isnt_end, first_isnt_whole}
 use Rattle.rpc_session.proofs.hearing.hear.Goals as goal
 
 pub overflow_add-here : goal.overflow_add-here
@@ -63,11 +64,11 @@ returns-in-Ok-clause-ok c =
     let rest = drop c.loop-bytes.at c.loop-bytes.bytes in
     let read : c.rest_of.result.now ≡ rest = c.rest_of.ensures.value ∙ ap (drop c.loop-bytes.at) c.as_slice.ensures in
     let e : heard_next c.args.conn here c.loop-bytes.session rest ≡ next.Waits c.in-Waits.waiting =
-    sym (c.in_ok-waiting.ensures ∙ ap (heard_next c.args.conn here c.loop-bytes.session) read) ∙ c.in-Waits.is in
+    sym (c.in_ok-waiting.ensures.next ∙ ap (heard_next c.args.conn here c.loop-bytes.session) read) ∙ c.in-Waits.is in
     ap (λ (x : List ℕ). record {
       acts = c.loop-bytes.acts.items;
       leaves = Going c.args.conn here c.in-Waits.waiting x;
-    }) c.in-Ok.ensures
+    }) c.in-Ok.ensures.rest
     ∙ waiting c.front_is_stable.ensures c.args.acts.now.items c.loop-bytes.acts.items c.args.conn here
     c.loop-bytes.session c.in-Waits.waiting rest all c.loop-bytes.invariant.hearing e
 
@@ -78,10 +79,32 @@ returns-in-Ends-clause-ok c =
     let rest = drop c.loop-bytes.at c.loop-bytes.bytes in
     let read : c.rest_of.result.now ≡ rest = c.rest_of.ensures.value ∙ ap (drop c.loop-bytes.at) c.as_slice.ensures in
     let e : heard_next c.args.conn here c.loop-bytes.session rest ≡ next.Ends c.in-Ends.act =
-    sym (c.in_ok-waiting.ensures ∙ ap (heard_next c.args.conn here c.loop-bytes.session) read) ∙ c.in-Ends.is in
+    sym (c.in_ok-waiting.ensures.next ∙ ap (heard_next c.args.conn here c.loop-bytes.session) read) ∙ c.in-Ends.is in
     ap (λ (x : List Act). record { acts = x; leaves = Ended }) c.in_ok-push-in-Ends.ensures.items
     ∙ ended c.front_is_stable.ensures c.args.acts.now.items c.loop-bytes.acts.items c.args.conn here
     c.loop-bytes.session rest all c.in-Ends.act c.loop-bytes.invariant.hearing e
+
+pub returns-in_err-push-in-Ends-clause-frugal : goal.returns-in_err-push-in-Ends-clause-frugal
+returns-in_err-push-in-Ends-clause-frugal c =
+    let here = c.args.place + c.loop-bytes.at in
+    let rest = drop c.loop-bytes.at c.loop-bytes.bytes in
+    let read : c.rest_of.result.now ≡ rest = c.rest_of.ensures.value ∙ ap (drop c.loop-bytes.at) c.as_slice.ensures in
+    let e : heard_next c.args.conn here c.loop-bytes.session rest ≡ next.Ends c.in-Ends.act =
+    sym (c.in_ok-waiting.ensures.next ∙ ap (heard_next c.args.conn here c.loop-bytes.session) read) ∙ c.in-Ends.is in
+    λ missing. absurd (first_isnt_end c.args.conn here c.loop-bytes.session c.args.bytes c.loop-bytes.bytes
+    c.loop-bytes.at c.in-Ends.act c.loop-bytes.invariant.same (c.loop-bytes.invariant.still missing) missing e)
+
+pub returns-in-Err-add-clause-frugal : goal.returns-in-Err-add-clause-frugal
+returns-in-Err-add-clause-frugal c =
+    let here = c.args.place + c.loop-bytes.at in
+    let rest = drop c.loop-bytes.at c.loop-bytes.bytes in
+    let read : c.rest_of.result.now ≡ rest = c.rest_of.ensures.value ∙ ap (drop c.loop-bytes.at) c.as_slice.ensures in
+    let e : heard_next c.args.conn here c.loop-bytes.session rest
+    ≡ next.Goes c.in-Goes.act c.in-Goes.after c.in-Goes.size =
+    sym (c.in_ok-waiting.ensures.next ∙ ap (heard_next c.args.conn here c.loop-bytes.session) read) ∙ c.in-Goes.is in
+    λ missing. absurd (first_isnt_whole c.args.conn here c.loop-bytes.session c.args.bytes c.loop-bytes.bytes
+    c.loop-bytes.at c.in-Goes.act c.in-Goes.after c.in-Goes.size c.loop-bytes.invariant.same
+    (c.loop-bytes.invariant.still missing) missing e)
 
 pub overflow_add-at : goal.overflow_add-at
 overflow_add-at c =
@@ -90,7 +113,7 @@ overflow_add-at c =
     let read : c.rest_of.result.now ≡ rest = c.rest_of.ensures.value ∙ ap (drop c.loop-bytes.at) c.as_slice.ensures in
     let e : heard_next c.args.conn here c.loop-bytes.session rest
     ≡ next.Goes c.in-Goes.act c.in-Goes.after c.in-Goes.size =
-    sym (c.in_ok-waiting.ensures ∙ ap (heard_next c.args.conn here c.loop-bytes.session) read) ∙ c.in-Goes.is in
+    sym (c.in_ok-waiting.ensures.next ∙ ap (heard_next c.args.conn here c.loop-bytes.session) read) ∙ c.in-Goes.is in
     let whole = whole_next c.front_is_stable.ensures c.args.conn here c.loop-bytes.session rest c.in-Goes.act
     c.in-Goes.after c.in-Goes.size e in
     let there = whole.there in
@@ -108,7 +131,7 @@ loop-bytes-smaller c =
     let read : c.rest_of.result.now ≡ rest = c.rest_of.ensures.value ∙ ap (drop c.loop-bytes.at) c.as_slice.ensures in
     let e : heard_next c.args.conn here c.loop-bytes.session rest
     ≡ next.Goes c.in-Goes.act c.in-Goes.after c.in-Goes.size =
-    sym (c.in_ok-waiting.ensures ∙ ap (heard_next c.args.conn here c.loop-bytes.session) read) ∙ c.in-Goes.is in
+    sym (c.in_ok-waiting.ensures.next ∙ ap (heard_next c.args.conn here c.loop-bytes.session) read) ∙ c.in-Goes.is in
     let whole = whole_next c.front_is_stable.ensures c.args.conn here c.loop-bytes.session rest c.in-Goes.act
     c.in-Goes.after c.in-Goes.size e in
     let low = whole.low in
@@ -126,7 +149,7 @@ loop-bytes-preserved c =
     let read : c.rest_of.result.now ≡ rest = c.rest_of.ensures.value ∙ ap (drop c.loop-bytes.at) c.as_slice.ensures in
     let e : heard_next c.args.conn here c.loop-bytes.session rest
     ≡ next.Goes c.in-Goes.act c.in-Goes.after c.in-Goes.size =
-    sym (c.in_ok-waiting.ensures ∙ ap (heard_next c.args.conn here c.loop-bytes.session) read) ∙ c.in-Goes.is in
+    sym (c.in_ok-waiting.ensures.next ∙ ap (heard_next c.args.conn here c.loop-bytes.session) read) ∙ c.in-Goes.is in
     let whole = whole_next c.front_is_stable.ensures c.args.conn here c.loop-bytes.session rest c.in-Goes.act
     c.in-Goes.after c.in-Goes.size e in
     let there = whole.there in
@@ -142,4 +165,7 @@ loop-bytes-preserved c =
       same = c.loop-bytes.invariant.same;
       hearing = moved c.args.acts.now.items c.add.new.acts.items c.args.conn c.args.place c.loop-bytes.at c.in-Goes.size
           c.in-Goes.after c.loop-bytes.bytes all told;
+      still = λ missing. absurd (first_isnt_whole c.args.conn here c.loop-bytes.session c.args.bytes c.loop-bytes.bytes
+          c.loop-bytes.at c.in-Goes.act c.in-Goes.after c.in-Goes.size c.loop-bytes.invariant.same
+          (c.loop-bytes.invariant.still missing) missing e);
     }

@@ -1,9 +1,11 @@
--- A piece fed behind a stream gives the acts of the stream and the piece as one.
-use Rattle.std.proofs.Common.{◌∙◌, ap}
+-- A piece fed behind a stream gives the acts of the stream and the piece as one; behind a stream nothing waits to be
+-- heard, so that a piece of no byte takes no memory.
+use Rattle.std.proofs.Common.{◌∙◌, ap, sym, subst}
 use Rattle.std.proofs.lemmas.Result.{on_ok_weaker}
 use Rattle.rpc_session.specs.declared.hearing.Hearing.{Hearing}
-use Rattle.rpc_session.specs.Hearings.{joined, on}
+use Rattle.rpc_session.specs.Hearings.{joined, on, IsStill}
 use Rattle.rpc_session.proofs.Steps.{heard_more}
+use Rattle.rpc_session.proofs.Still.{still}
 use Rattle.rpc_session.proofs.hearing.Bytes2Acts.feed.Goals as goal
 
 pub returns-clause-stream : goal.returns-clause-stream
@@ -15,3 +17,9 @@ returns-clause-stream c = λ conn stream so_far.
     (λ told. heard_more c.streams_are_cut_anywhere.ensures conn stream piece c.args.self.now c.fed.new.hearing before
     c.fed.new.acts.items so_far (told ∙ seen))
     c.fed.ensures.ok
+
+pub returns-clause-frugal : goal.returns-clause-frugal
+returns-clause-frugal c = λ conn stream so_far none.
+    c.fed.ensures.frugal
+    (subst (λ (h : Hearing). IsStill h) (sym c.self.view_is)
+    (still c.front_is_stable.ensures conn stream c.args.self.now c.args.acts.now.items so_far)) none
