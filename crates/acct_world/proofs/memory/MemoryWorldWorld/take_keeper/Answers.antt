@@ -31,7 +31,7 @@ returns-clause-takes g c =
       takes = s.takes;
       failing = s.failing.items;
     } in
-    let named : c.in_ok-copy_of.field-0 ≡ n = c.in_ok-copy_of.ensures ∙ c.as_bytes.ensures.value in
+    let named : c.in_ok-copy_of.field-0 ≡ n = c.in_ok-copy_of.ensures.copy ∙ c.as_bytes.ensures.value in
     let known : is_empty_name n ≡ c.is_same-is_known.result =
     ap (λ (bs : List ℕ). bytes_eq bs []) (sym c.as_bytes-2.ensures.value) ∙ sym c.is_same-is_known.ensures in
     seen-keeper g.K.Keeper.held w c.args.self.now _ n c.hand.result c.self.view_is

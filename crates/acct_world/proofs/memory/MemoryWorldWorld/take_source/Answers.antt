@@ -31,7 +31,7 @@ returns-then-is_same-clause-takes g c =
       takes = s.takes;
       failing = s.failing.items;
     } in
-    let named : c.in_ok-copy_of.field-0 ≡ n = c.in_ok-copy_of.ensures ∙ c.as_bytes.ensures.value in
+    let named : c.in_ok-copy_of.field-0 ≡ n = c.in_ok-copy_of.ensures.copy ∙ c.as_bytes.ensures.value in
     let here : bytes_eq n (codes "-") ≡ true =
     ap (λ (bs : List ℕ). bytes_eq bs (codes "-")) (sym c.as_bytes-2.ensures.value) ∙ sym c.is_same.ensures
     ∙ c.if-is_same.true in
@@ -66,7 +66,7 @@ returns-clause-takes g c =
       takes = s.takes;
       failing = s.failing.items;
     } in
-    let named : c.in_ok-copy_of.field-0 ≡ n = c.in_ok-copy_of.ensures ∙ c.as_bytes.ensures.value in
+    let named : c.in_ok-copy_of.field-0 ≡ n = c.in_ok-copy_of.ensures.copy ∙ c.as_bytes.ensures.value in
     let other : bytes_eq n (codes "-") ≡ false =
     ap (λ (bs : List ℕ). bytes_eq bs (codes "-")) (sym c.as_bytes-2.ensures.value) ∙ sym c.is_same.ensures
     ∙ c.if-is_same.false in
