@@ -66,6 +66,12 @@ fn answers_may_be_cut_anywhere(rt: HostRuntime) -> Result<(), Fail> {
     Ok(())
 }
 
+#[test]
+fn answers_may_have_a_megabyte(rt: HostRuntime) -> Result<(), Fail> {
+    table_is_right(&rt, rt.alloc(), fragments::LONG, Cut::At(usize::MAX))?;
+    table_is_right(&rt, rt.alloc(), fragments::LONG, Cut::At(0x8_0000))
+}
+
 /// The text that pieces between bars make, of which `N*REST` is REST so many times.
 fn joined(alloc: Global, pieces: &str) -> Result<String, Fail> {
     let mut text = String::new(alloc);

@@ -208,7 +208,7 @@ fn answered(
     ensures count { result ≡ Ok None → bytes_taken asker.new ≤ taken.new }
 {
     assert!(rt; *taken < 0x1000_0000, "long answers");
-    assert!(rt; answer.len() < 0x10_0000, "a long answer");
+    assert!(rt; answer.len() < 0x100_0000, "a long answer");
     *taken += answer.len();
     turn(rt, alloc, asker, answer, cut)
 }
