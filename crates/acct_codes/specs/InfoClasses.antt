@@ -19,6 +19,16 @@ domain_name_information = 5
 abbrev pub domain_lockout_information : ℕ
 domain_lockout_information = 12
 
+-- ---- of what is displayed of a domain (DOMAIN_DISPLAY_INFORMATION, MS-SAMR 2.2.8.12)
+
+-- its users
+abbrev pub domain_display_user : ℕ
+domain_display_user = 1
+
+-- its groups
+abbrev pub domain_display_group : ℕ
+domain_display_group = 3
+
 -- ---- of a group (GROUP_INFORMATION_CLASS, MS-SAMR 2.2.4.6)
 
 -- name, attributes, number of members and comment

@@ -14,6 +14,7 @@ pub mod PduTypes
 pub mod Privileges
 pub mod Rids
 pub mod Rights
+pub mod SecurityInformation
 pub mod Statuses
 pub mod SystemAccess
 pub mod UserControl

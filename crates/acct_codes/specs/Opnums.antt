@@ -106,6 +106,9 @@ samr_set_information_user = 37
 abbrev pub samr_get_groups_for_user : ℕ
 samr_get_groups_for_user = 39
 
+abbrev pub samr_query_display_information : ℕ
+samr_query_display_information = 40
+
 abbrev pub samr_query_information_domain2 : ℕ
 samr_query_information_domain2 = 46
 
@@ -197,3 +200,12 @@ lsar_open_policy2 = 44
 
 abbrev pub lsar_query_information_policy2 : ℕ
 lsar_query_information_policy2 = 46
+
+abbrev pub lsar_lookup_sids2 : ℕ
+lsar_lookup_sids2 = 57
+
+abbrev pub lsar_lookup_names2 : ℕ
+lsar_lookup_names2 = 58
+
+abbrev pub lsar_lookup_names3 : ℕ
+lsar_lookup_names3 = 68

@@ -13,6 +13,7 @@ ghost use Rattle.acct_codes.specs.InfoClasses.{user_internal1_information, user_
 ghost use Rattle.acct_codes.specs.InfoClasses.{user_internal4_information, user_internal5_information};
 ghost use Rattle.acct_codes.specs.InfoClasses.{user_internal4_new_information, user_internal5_new_information};
 ghost use Rattle.acct_codes.specs.InfoClasses.{policy_primary_domain_information, policy_account_domain_information};
+ghost use Rattle.acct_codes.specs.InfoClasses.{domain_display_user, domain_display_group};
 
 /// Of a domain: rules on passwords.
 pub const DOMAIN_PASSWORD_INFORMATION: u16 = 1;
@@ -22,6 +23,10 @@ pub const DOMAIN_OEM_INFORMATION: u16 = 4;
 pub const DOMAIN_NAME_INFORMATION: u16 = 5;
 /// Of a domain: rules on wrong passwords.
 pub const DOMAIN_LOCKOUT_INFORMATION: u16 = 12;
+/// Of what is displayed of a domain: its users.
+pub const DOMAIN_DISPLAY_USER: u16 = 1;
+/// Of what is displayed of a domain: its groups.
+pub const DOMAIN_DISPLAY_GROUP: u16 = 3;
 /// Of a group: name, attributes, number of members and comment.
 pub const GROUP_GENERAL_INFORMATION: u16 = 1;
 /// Of a group: the name.
@@ -73,6 +78,8 @@ pub fn classes_are_the_standards()
     ensures domain_oem { DOMAIN_OEM_INFORMATION ≡ domain_oem_information }
     ensures domain_name { DOMAIN_NAME_INFORMATION ≡ domain_name_information }
     ensures domain_lockout { DOMAIN_LOCKOUT_INFORMATION ≡ domain_lockout_information }
+    ensures display_user { DOMAIN_DISPLAY_USER ≡ domain_display_user }
+    ensures display_group { DOMAIN_DISPLAY_GROUP ≡ domain_display_group }
     ensures group_general { GROUP_GENERAL_INFORMATION ≡ group_general_information }
     ensures group_name { GROUP_NAME_INFORMATION ≡ group_name_information }
     ensures group_attribute { GROUP_ATTRIBUTE_INFORMATION ≡ group_attribute_information }

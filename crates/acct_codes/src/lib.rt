@@ -1,7 +1,7 @@
 //! The numbers of the account server: access rights of each kind of object, statuses, faults, a user's control bits,
-//! those of a descriptor, its parts, a group's attributes, system access, privileges, well-known RIDs, levels of
-//! look-ups, operation numbers, information classes, the types and headers of PDUs, what is answered to a bind, the
-//! causes of a refused PDU and the limits of connections and rows.
+//! those of a descriptor, its parts and the bits that name them, a group's attributes, system access, privileges,
+//! well-known RIDs, levels of look-ups, operation numbers, information classes, the types and headers of PDUs, what is
+//! answered to a bind, the causes of a refused PDU and the limits of connections and rows.
 //!
 //! It stands on nothing of ours. In specs/ each number stands once, in the table of its subject, by its name in the
 //! standards; every other definition cites it there. Each constant of the code has the standard's spelling and stands
@@ -31,6 +31,7 @@ pub mod policy_rights;
 pub mod privilege;
 pub mod rid;
 pub mod samr_opnum;
+pub mod security_information;
 pub mod server_rights;
 pub mod sid_use;
 pub mod standard_rights;

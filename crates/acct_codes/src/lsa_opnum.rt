@@ -9,7 +9,8 @@ ghost use Rattle.acct_codes.specs.Opnums.{lsar_lookup_privilege_value, lsar_look
 ghost use Rattle.acct_codes.specs.Opnums.{lsar_delete_object, lsar_enumerate_accounts_with_user_right};
 ghost use Rattle.acct_codes.specs.Opnums.{lsar_enumerate_account_rights, lsar_add_account_rights};
 ghost use Rattle.acct_codes.specs.Opnums.{lsar_remove_account_rights, lsar_open_policy2};
-ghost use Rattle.acct_codes.specs.Opnums.{lsar_query_information_policy2};
+ghost use Rattle.acct_codes.specs.Opnums.{lsar_query_information_policy2, lsar_lookup_sids2, lsar_lookup_names2};
+ghost use Rattle.acct_codes.specs.Opnums.{lsar_lookup_names3};
 
 /// LsarClose.
 pub const LSAR_CLOSE: u16 = 0;
@@ -55,6 +56,12 @@ pub const LSAR_REMOVE_ACCOUNT_RIGHTS: u16 = 38;
 pub const LSAR_OPEN_POLICY2: u16 = 44;
 /// LsarQueryInformationPolicy2.
 pub const LSAR_QUERY_INFORMATION_POLICY2: u16 = 46;
+/// LsarLookupSids2.
+pub const LSAR_LOOKUP_SIDS2: u16 = 57;
+/// LsarLookupNames2.
+pub const LSAR_LOOKUP_NAMES2: u16 = 58;
+/// LsarLookupNames3.
+pub const LSAR_LOOKUP_NAMES3: u16 = 68;
 
 /// Each operation number of the policy is the one of the standards (MS-LSAD 3.1.4, MS-LSAT 3.1.4).
 pub fn lsa_opnums_are_the_standards()
@@ -80,4 +87,7 @@ pub fn lsa_opnums_are_the_standards()
     ensures remove_account_rights { LSAR_REMOVE_ACCOUNT_RIGHTS ≡ lsar_remove_account_rights }
     ensures open_policy2 { LSAR_OPEN_POLICY2 ≡ lsar_open_policy2 }
     ensures query_information_policy2 { LSAR_QUERY_INFORMATION_POLICY2 ≡ lsar_query_information_policy2 }
+    ensures lookup_sids2 { LSAR_LOOKUP_SIDS2 ≡ lsar_lookup_sids2 }
+    ensures lookup_names2 { LSAR_LOOKUP_NAMES2 ≡ lsar_lookup_names2 }
+    ensures lookup_names3 { LSAR_LOOKUP_NAMES3 ≡ lsar_lookup_names3 }
 {}

@@ -17,6 +17,7 @@ ghost use Rattle.acct_codes.specs.Opnums.{samr_query_information_user, samr_set_
 ghost use Rattle.acct_codes.specs.Opnums.{samr_get_groups_for_user, samr_query_information_domain2};
 ghost use Rattle.acct_codes.specs.Opnums.{samr_query_information_user2, samr_create_user2_in_domain, samr_connect2};
 ghost use Rattle.acct_codes.specs.Opnums.{samr_set_information_user2, samr_connect4, samr_connect5, samr_rid_to_sid};
+ghost use Rattle.acct_codes.specs.Opnums.{samr_query_display_information};
 
 /// SamrCloseHandle.
 pub const SAMR_CLOSE_HANDLE: u16 = 1;
@@ -86,6 +87,8 @@ pub const SAMR_QUERY_INFORMATION_USER: u16 = 36;
 pub const SAMR_SET_INFORMATION_USER: u16 = 37;
 /// SamrGetGroupsForUser.
 pub const SAMR_GET_GROUPS_FOR_USER: u16 = 39;
+/// SamrQueryDisplayInformation.
+pub const SAMR_QUERY_DISPLAY_INFORMATION: u16 = 40;
 /// SamrQueryInformationDomain2.
 pub const SAMR_QUERY_INFORMATION_DOMAIN2: u16 = 46;
 /// SamrQueryInformationUser2.
@@ -139,6 +142,7 @@ pub fn samr_opnums_are_the_standards()
     ensures query_information_user { SAMR_QUERY_INFORMATION_USER ≡ samr_query_information_user }
     ensures set_information_user { SAMR_SET_INFORMATION_USER ≡ samr_set_information_user }
     ensures get_groups_for_user { SAMR_GET_GROUPS_FOR_USER ≡ samr_get_groups_for_user }
+    ensures query_display_information { SAMR_QUERY_DISPLAY_INFORMATION ≡ samr_query_display_information }
     ensures query_information_domain2 { SAMR_QUERY_INFORMATION_DOMAIN2 ≡ samr_query_information_domain2 }
     ensures query_information_user2 { SAMR_QUERY_INFORMATION_USER2 ≡ samr_query_information_user2 }
     ensures create_user2_in_domain { SAMR_CREATE_USER2_IN_DOMAIN ≡ samr_create_user2_in_domain }

@@ -1,7 +1,7 @@
--- A descriptor that is read is spelled by the bytes
+-- Parts, or a descriptor, that are read are spelled by the bytes
 use Rattle.std.proofs.Common.{◌≡◌, ℕ, zero, suc, ◌+◌, ◌-◌, ◌<◌, inl, inr, List, [], ◌∷◌, length, take, drop, refl, sym}
 use Rattle.std.proofs.Common.{ap, arith, subst, Bool, true, false, Option, Some, None, Result, Ok, Err, All}
-use Rattle.std.specs.Prelude.{nat_lt, not, ◌==◌, ◌||◌, if◌then◌else◌, slice_index}
+use Rattle.std.specs.Prelude.{nat_lt, not, ◌==◌, ◌||◌, if◌then◌else◌, slice_index, IfOk}
 use Rattle.std.proofs.lemmas.Bool.Decides.{nat_tests}
 use Rattle.std.proofs.lemmas.List.Elements.{All-take, All-drop}
 use Rattle.dtyp_sid.specs.Value.{SidValue}
@@ -12,14 +12,17 @@ use Rattle.dtyp_access.specs.declared.ace.Ace.{Ace}
 use Rattle.dtyp_access.specs.declared.ace.AceKind.{AceKind}
 use Rattle.dtyp_access.specs.declared.ace.AceKind.TheVariants.{Allow, Deny}
 use Rattle.dtyp_access.specs.declared.descriptor.Descriptor.{Descriptor}
+use Rattle.dtyp_access.specs.declared.parts.Parts.{Parts}
 use Rattle.dtyp_access.specs.declared.errors.DescError.{DescError}
 use Rattle.dtyp_access.specs.declared.errors.DescError.TheVariants.{Short, Revision, Offset, AceType}
 use Rattle.dtyp_access.specs.Granted.{shares}
-use Rattle.dtyp_access.specs.Reading.{then_read, u16_at, u32_at, or_no_sid, is_outside, sid_of_field, group_of, kind_of}
-use Rattle.dtyp_access.specs.Reading.{next_ace, ace_at, aces_at, acl_at, list_of, descriptor_of_bytes}
+use Rattle.dtyp_access.specs.Parts.{parts_of}
+use Rattle.dtyp_access.specs.Reading.{then_read, u16_at, u32_at, or_no_sid, is_outside, sid_of_field, sid_if_any}
+use Rattle.dtyp_access.specs.Reading.{owner_of, group_of, kind_of, next_ace, ace_at, aces_at, acl_at, list_of}
+use Rattle.dtyp_access.specs.Reading.{parts_if, parts_of_bytes, with_owner, descriptor_of_bytes, ReadsAllIfRoom}
 use Rattle.dtyp_access.specs.Written.{type_of}
-use Rattle.dtyp_access.specs.Spelled.{IsInside, SpellSid, PointsToSid, SpellAce, SpellAces, SpellAcl, SpellGroup}
-use Rattle.dtyp_access.specs.Spelled.{SpellList, SpellDescriptor}
+use Rattle.dtyp_access.specs.Spelled.{IsInside, SpellSid, PointsToSid, SpellAce, SpellAces, SpellAcl, SpellList}
+use Rattle.dtyp_access.specs.Spelled.{SpellSidOrNone, SpellParts, SpellDescriptor, ReadPartsSpell, ReadBytesSpell}
 
 -- a reading that is not refused passed its test
 not_refused : {X : Type 0} (test : Bool) (refusal : DescError) (rest : Result X DescError) (x : X) →
@@ -46,7 +49,7 @@ not_false true is = refl
 not_false false is = sym is
 
 -- bytes, each of eight bits
-abbrev AreBytes : List ℕ → Type 0
+abbrev pub AreBytes : List ℕ → Type 0
 AreBytes bytes = All (λ byte. byte < 256) bytes
 
 inside : (offset : ℕ) (bytes : List ℕ) → is_outside offset bytes ≡ false → IsInside offset bytes
@@ -78,23 +81,35 @@ field_spelled law field bytes sid all read =
           sid_spelled law offset (drop offset bytes) sid (All-drop (λ byte. byte < 256) offset bytes all) passed.1;
     }
 
-group_spelled : SidsAreWritten → (bytes : List ℕ) (group : Option SidValue) → AreBytes bytes → group_of bytes ≡ Ok group
-    → SpellGroup bytes group
-unfolding group_of
-group_spelled law bytes group all = by_test (u32_at 8 bytes == 0) group refl
+sid_or_none_spelled : SidsAreWritten → (field : ℕ) (bytes : List ℕ) (sid : Option SidValue) → AreBytes bytes →
+    sid_if_any field bytes ≡ Ok sid → SpellSidOrNone field bytes sid
+unfolding sid_if_any
+sid_or_none_spelled law field bytes sid all = by_test (u32_at field bytes == 0) sid refl
   where
-    by_test : (absent : Bool) (group : Option SidValue) → (u32_at 8 bytes == 0) ≡ absent →
-        (if absent then Ok None else then_read (sid_of_field 8 bytes) (λ group. Ok (Some group))) ≡ Ok group →
-        SpellGroup bytes group
+    by_test : (absent : Bool) (sid : Option SidValue) → (u32_at field bytes == 0) ≡ absent →
+        (if absent then Ok None else then_read (sid_of_field field bytes) (λ sid. Ok (Some sid))) ≡ Ok sid →
+        SpellSidOrNone field bytes sid
     by_test true None test read = grind (arith, nat_tests)
-    by_test true (Some group) test read = cc
-    by_test false None test read = let found = then_ok (sid_of_field 8 bytes) (λ group. Ok (Some group)) None read in
+    by_test true (Some sid) test read = cc
+    by_test false None test read = let found = then_ok (sid_of_field field bytes) (λ sid. Ok (Some sid)) None read in
         let none = found.2 in cc
-    by_test false (Some group) test read =
-        let found = then_ok (sid_of_field 8 bytes) (λ group. Ok (Some group)) (Some group) read in
+    by_test false (Some sid) test read =
+        let found = then_ok (sid_of_field field bytes) (λ sid. Ok (Some sid)) (Some sid) read in
         let is = found.1 in
         let same = found.2 in
-        field_spelled law 8 bytes group all cc
+        field_spelled law field bytes sid all cc
+
+owner_spelled : SidsAreWritten → (needed : Bool) (bytes : List ℕ) (owner : Option SidValue) → AreBytes bytes →
+    owner_of needed bytes ≡ Ok owner → SpellSidOrNone 4 bytes owner
+owner_spelled law false bytes owner all read = sid_or_none_spelled law 4 bytes owner all read
+owner_spelled law true bytes None all read =
+    let found = then_ok (sid_of_field 4 bytes) (λ sid. Ok (Some sid)) None read in
+    let none = found.2 in cc
+owner_spelled law true bytes (Some owner) all read =
+    let found = then_ok (sid_of_field 4 bytes) (λ sid. Ok (Some sid)) (Some owner) read in
+    let is = found.1 in
+    let same = found.2 in
+    field_spelled law 4 bytes owner all cc
 
 kind_spelled : (place type : ℕ) (kind : AceKind) → kind_of place type ≡ Ok kind → type ≡ type_of kind
 kind_spelled place type kind = by_tests (type == 0) (type == 1) kind refl refl
@@ -209,25 +224,53 @@ list_spelled law bytes acl all = by_tests (shares (u16_at 2 bytes) se_dacl_prese
           spelled = acl_spelled law (u32_at 16 bytes) bytes there.0 all there.1;
         })
 
+pub parts_are_spelled : SidsAreWritten → (needed : Bool) (bytes : List ℕ) (p : Parts) → AreBytes bytes →
+    parts_if needed bytes ≡ Ok p → SpellParts bytes p
+unfolding parts_if
+parts_are_spelled law needed bytes p all read =
+    let whole = not_refused (nat_lt (length bytes) 20) (Short 0) _ p read in
+    let revised = not_refused (not (slice_index bytes 0 == 1)) (Revision 0) _ p whole.1 in
+    let relative = not_refused (not (shares (u16_at 2 bytes) se_self_relative)) (Offset 2) _ p revised.1 in
+    let by_owner = then_ok (owner_of needed bytes) _ p relative.1 in
+    let by_group = then_ok (group_of bytes) _ p by_owner.2 in
+    let by_acl = then_ok (list_of bytes) _ p by_group.2 in
+    let made : Parts = record { owner = by_owner.0; group = by_group.0; acl = by_acl.0 } in
+    let same : made ≡ p = (let is = by_acl.2 in cc) in
+    let a = whole.0 in
+    let r = not_false (slice_index bytes 0 == 1) revised.0 in
+    subst (λ (p : Parts). SpellParts bytes p) same (record {
+      header = grind (arith, nat_tests);
+      revision = grind (arith, nat_tests);
+      self_relative = not_false (shares (u16_at 2 bytes) se_self_relative) relative.0;
+      owner = owner_spelled law needed bytes by_owner.0 all by_owner.1;
+      group = sid_or_none_spelled law 8 bytes by_group.0 all by_group.1;
+      acl = list_spelled law bytes by_acl.0 all by_acl.1;
+    })
+
+-- the parts of a descriptor that is made of parts are those
+made_of : (owner group : Option SidValue) (acl : Option (List Ace)) (d : Descriptor) → with_owner owner group acl ≡ Ok d →
+    (let p : Parts = record { owner = owner; group = group; acl = acl } in p) ≡ parts_of d
+made_of None group acl d is = cc
+made_of (Some owner) group acl d is =
+    let made : Descriptor = record { owner = owner; group = group; acl = acl } in
+    let same : made ≡ d = cc in
+    ap parts_of same
+
 pub read_is_spelled : SidsAreWritten → (bytes : List ℕ) (d : Descriptor) → AreBytes bytes → descriptor_of_bytes bytes
     ≡ Ok d → SpellDescriptor bytes d
 unfolding descriptor_of_bytes
 read_is_spelled law bytes d all read =
-    let whole = not_refused (nat_lt (length bytes) 20) (Short 0) _ d read in
-    let revised = not_refused (not (slice_index bytes 0 == 1)) (Revision 0) _ d whole.1 in
-    let relative = not_refused (not (shares (u16_at 2 bytes) se_self_relative)) (Offset 2) _ d revised.1 in
-    let by_owner = then_ok (sid_of_field 4 bytes) _ d relative.1 in
-    let by_group = then_ok (group_of bytes) _ d by_owner.2 in
-    let by_acl = then_ok (list_of bytes) _ d by_group.2 in
-    let made : Descriptor = record { owner = by_owner.0; group = by_group.0; acl = by_acl.0 } in
-    let same : made ≡ d = (let is = by_acl.2 in cc) in
-    let a = whole.0 in
-    let r = not_false (slice_index bytes 0 == 1) revised.0 in
-    subst (λ (d : Descriptor). SpellDescriptor bytes d) same (record {
-      header = grind (arith, nat_tests);
-      revision = grind (arith, nat_tests);
-      self_relative = not_false (shares (u16_at 2 bytes) se_self_relative) relative.0;
-      owner = field_spelled law 4 bytes by_owner.0 all by_owner.1;
-      group = group_spelled law bytes by_group.0 all by_group.1;
-      acl = list_spelled law bytes by_acl.0 all by_acl.1;
-    })
+    let found = then_ok (parts_if true bytes) _ d read in
+    subst (λ (p : Parts). SpellParts bytes p) (made_of found.0.owner found.0.group found.0.acl d found.2)
+    (parts_are_spelled law true bytes found.0 all found.1)
+
+-- what is read is spelled
+pub parts_if_read : (bytes : List ℕ) (r : Result Parts DescError) → ReadPartsSpell → AreBytes bytes →
+    ReadsAllIfRoom r (parts_of_bytes bytes) → IfOk r (λ p. SpellParts bytes p)
+parts_if_read bytes (Ok p) law all is = (law bytes p all).0 is
+parts_if_read bytes (Err why) law all is = tt
+
+pub descriptor_if_read : (bytes : List ℕ) (r : Result Descriptor DescError) → ReadBytesSpell → AreBytes bytes →
+    ReadsAllIfRoom r (descriptor_of_bytes bytes) → IfOk r (λ d. SpellDescriptor bytes d)
+descriptor_if_read bytes (Ok d) law all is = (law bytes d all).0 is
+descriptor_if_read bytes (Err why) law all is = tt

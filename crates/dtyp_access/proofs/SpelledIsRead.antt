@@ -1,7 +1,7 @@
--- What spells a descriptor is read as that descriptor
+-- What spells parts, or a descriptor, is read as those
 use Rattle.std.proofs.Common.{◌≡◌, ℕ, ◌+◌, ◌-◌, ◌≤◌, ⊎_elim, List, [], ◌∷◌, length, take, drop, refl, ap, ◌∙◌, arith}
 use Rattle.std.proofs.Common.{Bool, true, false, Option, Some, None, Result, Ok, Err}
-use Rattle.std.specs.Prelude.{nat_lt, not, ◌==◌, ◌||◌, if◌then◌else◌, slice_index}
+use Rattle.std.specs.Prelude.{nat_lt, not, ◌==◌, ◌||◌, if◌then◌else◌, slice_index, is_some}
 use Rattle.std.proofs.lemmas.Bool.Decides.{nat_tests}
 use Rattle.dtyp_sid.specs.Value.{SidValue}
 use Rattle.dtyp_sid.specs.Bytes.{sid_of_bytes, WrittenBytesAreRead as SidsAreRead}
@@ -10,14 +10,17 @@ use Rattle.dtyp_access.specs.declared.ace.Ace.{Ace}
 use Rattle.dtyp_access.specs.declared.ace.AceKind.{AceKind}
 use Rattle.dtyp_access.specs.declared.ace.AceKind.TheVariants.{Allow, Deny}
 use Rattle.dtyp_access.specs.declared.descriptor.Descriptor.{Descriptor}
+use Rattle.dtyp_access.specs.declared.parts.Parts.{Parts}
 use Rattle.dtyp_access.specs.declared.errors.DescError.{DescError}
 use Rattle.dtyp_access.specs.declared.errors.DescError.TheVariants.{Offset}
 use Rattle.dtyp_access.specs.Granted.{shares}
-use Rattle.dtyp_access.specs.Reading.{then_read, u16_at, u32_at, or_no_sid, is_outside, sid_of_field, group_of, kind_of}
-use Rattle.dtyp_access.specs.Reading.{next_ace, ace_at, aces_at, acl_at, list_of, descriptor_of_bytes}
+use Rattle.dtyp_access.specs.Parts.{parts_of}
+use Rattle.dtyp_access.specs.Reading.{then_read, u16_at, u32_at, or_no_sid, is_outside, sid_of_field, sid_if_any}
+use Rattle.dtyp_access.specs.Reading.{owner_of, kind_of, next_ace, ace_at, aces_at, acl_at, list_of, parts_if}
+use Rattle.dtyp_access.specs.Reading.{descriptor_of_bytes}
 use Rattle.dtyp_access.specs.Written.{type_of}
-use Rattle.dtyp_access.specs.Spelled.{IsInside, SpellSid, PointsToSid, SpellAce, SpellAces, SpellAcl, SpellGroup}
-use Rattle.dtyp_access.specs.Spelled.{SpellList, SpellDescriptor}
+use Rattle.dtyp_access.specs.Spelled.{IsInside, SpellSid, PointsToSid, SpellAce, SpellAces, SpellAcl, SpellList}
+use Rattle.dtyp_access.specs.Spelled.{SpellSidOrNone, SpellParts, SpellDescriptor}
 
 inside_passes : (offset : ℕ) (bytes : List ℕ) → IsInside offset bytes → is_outside offset bytes ≡ false
 inside_passes offset bytes is =
@@ -37,17 +40,27 @@ field_read law field bytes sid is =
     let inside = inside_passes (u32_at field bytes) bytes is.inside in
     rw inside (sid_read law (u32_at field bytes) (drop (u32_at field bytes) bytes) sid is.spelled)
 
-group_read : SidsAreRead → (bytes : List ℕ) (group : Option SidValue) → SpellGroup bytes group → group_of bytes
-    ≡ Ok group
-unfolding group_of
-group_read law bytes None is =
-    let none : (u32_at 8 bytes == 0) ≡ true = grind (arith, nat_tests) in
+sid_or_none_read : SidsAreRead → (field : ℕ) (bytes : List ℕ) (sid : Option SidValue) → SpellSidOrNone field bytes sid →
+    sid_if_any field bytes ≡ Ok sid
+unfolding sid_if_any
+sid_or_none_read law field bytes None is =
+    let none : (u32_at field bytes == 0) ≡ true = grind (arith, nat_tests) in
     rw none refl
-group_read law bytes (Some group) is =
-    let behind : 20 ≤ u32_at 8 bytes = is.inside.behind_header in
-    let some : (u32_at 8 bytes == 0) ≡ false = grind (arith, nat_tests) in
-    let read = field_read law 8 bytes group is in
+sid_or_none_read law field bytes (Some sid) is =
+    let behind : 20 ≤ u32_at field bytes = is.inside.behind_header in
+    let some : (u32_at field bytes == 0) ≡ false = grind (arith, nat_tests) in
+    let read = field_read law field bytes sid is in
     rw (some, read) refl
+
+-- there is an owner where one is needed
+abbrev pub HasOwnerIf : Bool → Option SidValue → Type 0
+HasOwnerIf needed owner = needed ≡ true → is_some owner ≡ true
+
+owner_read : SidsAreRead → (needed : Bool) (bytes : List ℕ) (owner : Option SidValue) → HasOwnerIf needed owner →
+    SpellSidOrNone 4 bytes owner → owner_of needed bytes ≡ Ok owner
+owner_read law false bytes owner has is = sid_or_none_read law 4 bytes owner is
+owner_read law true bytes None has is = let none = has refl in cc
+owner_read law true bytes (Some owner) has is = let read = field_read law 4 bytes owner is in rw read refl
 
 kind_read : (place : ℕ) (kind : AceKind) → kind_of place (type_of kind) ≡ Ok kind
 kind_read place Allow = refl
@@ -111,14 +124,21 @@ list_read law bytes (Some aces) is =
     let read = acl_read law (u32_at 16 bytes) bytes aces is.spelled in
     rw (present, some, inside, read) refl
 
+pub parts_are_read : SidsAreRead → (needed : Bool) (bytes : List ℕ) (p : Parts) → HasOwnerIf needed p.owner →
+    SpellParts bytes p → parts_if needed bytes ≡ Ok p
+unfolding parts_if
+parts_are_read law needed bytes p has is =
+    let header : nat_lt (length bytes) 20 ≡ false = grind (arith, nat_tests) in
+    let revision : (slice_index bytes 0 == 1) ≡ true = grind (arith, nat_tests) in
+    let self_relative = is.self_relative in
+    let owner = owner_read law needed bytes p.owner has is.owner in
+    let group = sid_or_none_read law 8 bytes p.group is.group in
+    let acl = list_read law bytes p.acl is.acl in
+    rw (header, revision, self_relative, owner, group, acl) refl
+
 pub spelled_is_read : SidsAreRead → (bytes : List ℕ) (d : Descriptor) → SpellDescriptor bytes d →
     descriptor_of_bytes bytes ≡ Ok d
 unfolding descriptor_of_bytes
 spelled_is_read law bytes d is =
-    let header : nat_lt (length bytes) 20 ≡ false = grind (arith, nat_tests) in
-    let revision : (slice_index bytes 0 == 1) ≡ true = grind (arith, nat_tests) in
-    let self_relative = is.self_relative in
-    let owner = field_read law 4 bytes d.owner is.owner in
-    let group = group_read law bytes d.group is.group in
-    let acl = list_read law bytes d.acl is.acl in
-    rw (header, revision, self_relative, owner, group, acl) refl
+    let read = parts_are_read law true bytes (parts_of d) (λ _. refl) is in
+    rw read refl

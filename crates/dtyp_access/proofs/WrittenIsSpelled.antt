@@ -1,7 +1,7 @@
--- The written bytes of a descriptor spell it, whatever bytes follow
+-- The written bytes of parts spell them, whatever bytes follow
 use Rattle.std.proofs.Common.{◌≡◌, ℕ, ◌+◌, ◌-◌, ◌*◌, ◌^◌, ◌<◌, ◌≤◌, inl, List, [], ◌∷◌, ◌++◌, length, take, drop}
-use Rattle.std.proofs.Common.{get_or, refl, sym, ap, ◌∙◌, arith, subst, append_assoc, true, Option, Some, None, All}
-use Rattle.std.specs.Prelude.{slice_index}
+use Rattle.std.proofs.Common.{get_or, refl, sym, ap, ◌∙◌, arith, subst, append_assoc, Bool, true, false, Option, Some, None, All}
+use Rattle.std.specs.Prelude.{slice_index, is_some}
 use Rattle.std.specs.Int.{w16, w32, to_le_bytes, from_le_bytes}
 use Rattle.std.proofs.lemmas.Nat.{from_le_bytes-to_le_bytes_2, from_le_bytes-to_le_bytes_4}
 use Rattle.std.proofs.lemmas.List.{length-append, append-nil, drop-drop, length-drop, get_or-drop}
@@ -10,14 +10,14 @@ use Rattle.dtyp_sid.specs.Value.{SidValue, IsSid}
 use Rattle.dtyp_sid.specs.Bytes.{bytes_of, WrittenBytesHaveLengths as SidsHaveLengths}
 use Rattle.acct_codes.specs.DescriptorControl.{se_dacl_present, se_self_relative}
 use Rattle.dtyp_access.specs.declared.ace.Ace.{Ace}
-use Rattle.dtyp_access.specs.declared.descriptor.Descriptor.{Descriptor}
+use Rattle.dtyp_access.specs.declared.parts.Parts.{Parts}
 use Rattle.dtyp_access.specs.Granted.{shares}
 use Rattle.dtyp_access.specs.Reading.{u16_at, u32_at, next_ace}
-use Rattle.dtyp_access.specs.Written.{type_of, ace_bytes, aces_bytes, acl_bytes, group_bytes, list_bytes, control_of}
-use Rattle.dtyp_access.specs.Written.{offset_of, header_bytes, descriptor_bytes}
-use Rattle.dtyp_access.specs.Spelled.{PointsToSid, SpellAce, SpellAces, SpellAcl, SpellGroup, SpellList}
-use Rattle.dtyp_access.specs.Spelled.{SpellDescriptor}
-use Rattle.dtyp_access.specs.Limits.{IsAce, IsGroup, IsList, IsDescriptor}
+use Rattle.dtyp_access.specs.Written.{type_of, ace_bytes, aces_bytes, acl_bytes, sid_bytes, list_bytes, control_of}
+use Rattle.dtyp_access.specs.Written.{offset_if, header_bytes, parts_bytes}
+use Rattle.dtyp_access.specs.Spelled.{PointsToSid, SpellAce, SpellAces, SpellAcl, SpellSidOrNone, SpellList}
+use Rattle.dtyp_access.specs.Spelled.{SpellParts}
+use Rattle.dtyp_access.specs.Limits.{IsAce, IsSidOrNone, IsList, AreParts}
 use Rattle.std.proofs.lemmas.List.Elements.{All-head, All-tail}
 
 -- what stands at a place
@@ -146,15 +146,15 @@ sid_short lengths sid is =
     let few = is.count_fits in
     omega arith
 
-group_short : SidsHaveLengths → (group : Option SidValue) → IsGroup group → length (group_bytes group) ≤ 68
-unfolding group_bytes
-group_short lengths None is = omega arith
-group_short lengths (Some group) is = sid_short lengths group is
+sid_or_none_short : SidsHaveLengths → (sid : Option SidValue) → IsSidOrNone sid → length (sid_bytes sid) ≤ 68
+unfolding sid_bytes
+sid_or_none_short lengths None is = omega arith
+sid_or_none_short lengths (Some sid) is = sid_short lengths sid is
 
 -- the fields of the header
-header_length : (d : Descriptor) → length (header_bytes d) ≡ 20
+header_length : (p : Parts) → length (header_bytes p) ≡ 20
 unfolding header_bytes
-header_length d = refl
+header_length p = refl
 
 -- a SID where its bytes stand
 sid_stands : (field place : ℕ) (bytes rest : List ℕ) (sid : SidValue) → IsSid sid → 20 ≤ place → place ≤ length bytes →
@@ -164,16 +164,16 @@ sid_stands field place bytes rest sid is behind within points stands = record {
   spelled = record { is_sid = is; begin = (rest, ap (λ n. drop n bytes) points ∙ stands) };
 }
 
-group_stands : (place : ℕ) (bytes rest : List ℕ) (group : Option SidValue) → IsGroup group → 20 ≤ place →
-    place ≤ length bytes → u32_at 8 bytes ≡ offset_of group place → StandAt place bytes (group_bytes group) rest →
-    SpellGroup bytes group
-unfolding group_bytes
-group_stands place bytes rest None is behind within points stands = points
-group_stands place bytes rest (Some group) is behind within points stands =
-    sid_stands 8 place bytes rest group is behind within points stands
+sid_or_none_stands : (field place : ℕ) (bytes rest : List ℕ) (sid : Option SidValue) → IsSidOrNone sid → 20 ≤ place →
+    place ≤ length bytes → u32_at field bytes ≡ offset_if (is_some sid) place →
+    StandAt place bytes (sid_bytes sid) rest → SpellSidOrNone field bytes sid
+unfolding sid_bytes
+sid_or_none_stands field place bytes rest None is behind within points stands = points
+sid_or_none_stands field place bytes rest (Some sid) is behind within points stands =
+    sid_stands field place bytes rest sid is behind within points stands
 
 list_stands : SidsHaveLengths → (place : ℕ) (bytes rest : List ℕ) (acl : Option (List Ace)) → IsList acl → 20 ≤ place →
-    place ≤ length bytes → u16_at 2 bytes ≡ control_of acl → u32_at 16 bytes ≡ offset_of acl place
+    place ≤ length bytes → u16_at 2 bytes ≡ control_of acl → u32_at 16 bytes ≡ offset_if (is_some acl) place
     → StandAt place bytes (list_bytes acl) rest → SpellList bytes acl
 unfolding list_bytes shares
 list_stands lengths place bytes rest None is behind within control points stands =
@@ -185,9 +185,9 @@ list_stands lengths place bytes rest (Some aces) is behind within control points
       (acl_stands lengths place bytes rest aces is.0 is.1 stands);
 }
 
-offset_fits : {X : Type 0} (part : Option X) (place : ℕ) → place < 2 ^ 32 → offset_of part place < 2 ^ 32
-offset_fits None place fits = omega arith
-offset_fits (Some part) place fits = fits
+offset_fits : (there : Bool) (place : ℕ) → place < 2 ^ 32 → offset_if there place < 2 ^ 32
+offset_fits false place fits = omega arith
+offset_fits true place fits = fits
 
 control_fits : (acl : Option (List Ace)) → control_of acl < 2 ^ 16
 control_fits None = omega arith
@@ -198,61 +198,66 @@ unfolding shares
 control_relative None = refl
 control_relative (Some aces) = refl
 
--- the fields of a written header
-record AreFields (d : Descriptor) (bytes : List ℕ) : Type 0 where
-  revision : slice_index bytes 0 ≡ 1
-  control : u16_at 2 bytes ≡ control_of d.acl
-  owner : u32_at 4 bytes ≡ 20
-  group : u32_at 8 bytes ≡ offset_of d.group (20 + length (bytes_of d.owner))
-  acl : u32_at 16 bytes ≡ offset_of d.acl (20 + length (bytes_of d.owner) + length (group_bytes d.group))
+-- where the parts behind the owner begin
+abbrev behind_owner : Parts → ℕ
+behind_owner p = 20 + length (sid_bytes p.owner)
 
-fields_stand : SidsHaveLengths → (d : Descriptor) (rest : List ℕ) → IsDescriptor d →
-    AreFields d (header_bytes d ++ rest)
+abbrev behind_group : Parts → ℕ
+behind_group p = behind_owner p + length (sid_bytes p.group)
+
+-- the fields of a written header
+record AreFields (p : Parts) (bytes : List ℕ) : Type 0 where
+  revision : slice_index bytes 0 ≡ 1
+  control : u16_at 2 bytes ≡ control_of p.acl
+  owner : u32_at 4 bytes ≡ offset_if (is_some p.owner) 20
+  group : u32_at 8 bytes ≡ offset_if (is_some p.group) (behind_owner p)
+  acl : u32_at 16 bytes ≡ offset_if (is_some p.acl) (behind_group p)
+
+fields_stand : SidsHaveLengths → (p : Parts) (rest : List ℕ) → AreParts p → AreFields p (header_bytes p ++ rest)
 unfolding header_bytes
-fields_stand lengths d rest is =
-    let owner = sid_short lengths d.owner is.owner in
-    let group = group_short lengths d.group is.group in
-    let group_fits : offset_of d.group (20 + length (bytes_of d.owner)) < 2 ^ 32 =
-    offset_fits d.group (20 + length (bytes_of d.owner)) (omega arith) in
-    let acl_fits : offset_of d.acl (20 + length (bytes_of d.owner) + length (group_bytes d.group)) < 2 ^ 32 =
-    offset_fits d.acl (20 + length (bytes_of d.owner) + length (group_bytes d.group)) (omega arith) in
+fields_stand lengths p rest are =
+    let owner = sid_or_none_short lengths p.owner are.owner in
+    let group = sid_or_none_short lengths p.group are.group in
+    let bytes = header_bytes p ++ rest in
+    let there = is_some p.owner in
+    let group_there = is_some p.group in
+    let acl_there = is_some p.acl in
     record {
       revision = refl;
-      control = u16_stands 2 (control_of d.acl) (header_bytes d ++ rest) _ (control_fits d.acl) refl;
-      owner = u32_stands 4 20 (header_bytes d ++ rest) _ (omega arith) refl;
-      group = u32_stands 8 (offset_of d.group (20 + length (bytes_of d.owner)))
-          (header_bytes d ++ rest) _ group_fits refl;
-      acl = u32_stands 16 (offset_of d.acl (20 + length (bytes_of d.owner) + length (group_bytes d.group)))
-          (header_bytes d ++ rest) rest acl_fits refl;
+      control = u16_stands 2 (control_of p.acl) bytes _ (control_fits p.acl) refl;
+      owner = u32_stands 4 (offset_if there 20) bytes _ (offset_fits there 20 (omega arith)) refl;
+      group = u32_stands 8 (offset_if group_there (behind_owner p)) bytes _
+          (offset_fits group_there (behind_owner p) (omega arith)) refl;
+      acl = u32_stands 16 (offset_if acl_there (behind_group p)) bytes rest
+          (offset_fits acl_there (behind_group p) (omega arith)) refl;
     }
 
-pub written_is_spelled : SidsHaveLengths → (d : Descriptor) (rest : List ℕ) → IsDescriptor d →
-    SpellDescriptor (descriptor_bytes d ++ rest) d
-unfolding descriptor_bytes
-written_is_spelled lengths d rest is =
-    let owner = bytes_of d.owner in
-    let group = group_bytes d.group in
-    let list = list_bytes d.acl in
-    let bytes = header_bytes d ++ (owner ++ (group ++ (list ++ rest))) in
-    let same : bytes ≡ (header_bytes d ++ owner ++ group ++ list) ++ rest = simp append_assoc in
-    let fields = fields_stand lengths d (owner ++ (group ++ (list ++ rest))) is in
-    let twenty = header_length d in
+pub written_is_spelled : SidsHaveLengths → (p : Parts) (rest : List ℕ) → AreParts p → SpellParts (parts_bytes p ++ rest) p
+unfolding parts_bytes
+written_is_spelled lengths p rest are =
+    let owner = sid_bytes p.owner in
+    let group = sid_bytes p.group in
+    let list = list_bytes p.acl in
+    let bytes = header_bytes p ++ (owner ++ (group ++ (list ++ rest))) in
+    let same : bytes ≡ (header_bytes p ++ owner ++ group ++ list) ++ rest = simp append_assoc in
+    let fields = fields_stand lengths p (owner ++ (group ++ (list ++ rest))) are in
+    let twenty = header_length p in
     let long : length bytes ≡ 20 + length owner + length group + length list + length rest =
     omega (arith, length-append {A = ℕ}) in
     let at_owner : StandAt 20 bytes owner (group ++ (list ++ rest)) = ap (λ n. drop n bytes) (sym twenty)
-    ∙ drop-append_seam (header_bytes d) (owner ++ (group ++ (list ++ rest))) in
-    let at_group : StandAt (20 + length owner) bytes group (list ++ rest) =
+    ∙ drop-append_seam (header_bytes p) (owner ++ (group ++ (list ++ rest))) in
+    let at_group : StandAt (behind_owner p) bytes group (list ++ rest) =
     behind_part 20 bytes owner (group ++ (list ++ rest)) at_owner in
-    let at_list : StandAt (20 + length owner + length group) bytes list rest =
-    behind_part (20 + length owner) bytes group (list ++ rest) at_group in
-    subst (λ (bytes : List ℕ). SpellDescriptor bytes d) same (record {
+    let at_list : StandAt (behind_group p) bytes list rest =
+    behind_part (behind_owner p) bytes group (list ++ rest) at_group in
+    subst (λ (bytes : List ℕ). SpellParts bytes p) same (record {
       header = omega arith;
       revision = fields.revision;
-      self_relative = ap (λ bits. shares bits se_self_relative) fields.control ∙ control_relative d.acl;
-      owner = sid_stands 4 20 bytes (group ++ (list ++ rest)) d.owner is.owner (omega arith)
+      self_relative = ap (λ bits. shares bits se_self_relative) fields.control ∙ control_relative p.acl;
+      owner = sid_or_none_stands 4 20 bytes (group ++ (list ++ rest)) p.owner are.owner (omega arith)
           (omega arith) fields.owner at_owner;
-      group = group_stands (20 + length owner) bytes (list ++ rest) d.group is.group (omega arith)
+      group = sid_or_none_stands 8 (behind_owner p) bytes (list ++ rest) p.group are.group (omega arith)
           (omega arith) fields.group at_group;
-      acl = list_stands lengths (20 + length owner + length group) bytes rest d.acl is.acl (omega arith)
+      acl = list_stands lengths (behind_group p) bytes rest p.acl are.acl (omega arith)
           (omega arith) fields.control fields.acl at_list;
     })

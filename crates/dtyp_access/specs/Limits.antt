@@ -7,6 +7,8 @@ use Rattle.std.specs.declared.option.Option.TheVariants.{Some, None}
 use Rattle.dtyp_sid.specs.Value.{SidValue, IsSid}
 use Rattle.dtyp_access.specs.declared.ace.Ace.{Ace}
 use Rattle.dtyp_access.specs.declared.descriptor.Descriptor.{Descriptor}
+use Rattle.dtyp_access.specs.declared.parts.Parts.{Parts}
+use Rattle.dtyp_access.specs.Parts.{parts_of}
 
 -- an entry
 pub record IsAce (ace : Ace) : Type 0 where
@@ -15,20 +17,24 @@ pub record IsAce (ace : Ace) : Type 0 where
   pub is_sid : IsSid ace.sid
 
 -- the parts that may be absent
-abbrev pub IsGroup : Option SidValue → Type 0
-IsGroup None = Unit {0}
-IsGroup (Some group) = IsSid group
+abbrev pub IsSidOrNone : Option SidValue → Type 0
+IsSidOrNone None = Unit {0}
+IsSidOrNone (Some sid) = IsSid sid
 
 abbrev pub IsList : Option (List Ace) → Type 0
 IsList None = Unit {0}
 IsList (Some aces) = All IsAce aces × (length aces ≤ 800)
 
--- a descriptor
-pub record IsDescriptor (d : Descriptor) : Type 0 where
-  pub owner : IsSid d.owner
-  pub group : IsGroup d.group
-  pub acl : IsList d.acl
+-- the parts of a descriptor
+pub record AreParts (parts : Parts) : Type 0 where
+  pub owner : IsSidOrNone parts.owner
+  pub group : IsSidOrNone parts.group
+  pub acl : IsList parts.acl
 
--- the list has at most 800 entries
-abbrev pub HasFewAces : Descriptor → Type 0
-HasFewAces d = (aces : List Ace) → d.acl ≡ Some aces → length aces ≤ 800
+-- a descriptor
+abbrev pub IsDescriptor : Descriptor → Type 0
+IsDescriptor d = AreParts (parts_of d)
+
+-- a list has at most 800 entries, where there is one
+abbrev pub HasFewAces : Option (List Ace) → Type 0
+HasFewAces acl = (aces : List Ace) → acl ≡ Some aces → length aces ≤ 800

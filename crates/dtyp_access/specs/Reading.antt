@@ -1,4 +1,4 @@
--- The descriptor that bytes spell, or the first reason that they spell none (MS-DTYP 2.4.4 to 2.4.6)
+-- The descriptor that bytes spell, or its parts, or the first reason that they spell none (MS-DTYP 2.4.4 to 2.4.6)
 use Rattle.std.specs.Prelude.{◌≡◌, ℕ, zero, suc, ◌+◌, ◌-◌, Bool, true, false, not, ◌&&◌, ◌||◌, List, [], ◌∷◌, length}
 use Rattle.std.specs.Prelude.{take, drop, slice_index, nat_lt, ◌==◌, if◌then◌else◌}
 use Rattle.std.specs.Int.{w16, w32, from_le_bytes}
@@ -16,6 +16,7 @@ use Rattle.dtyp_access.specs.declared.ace.Ace.{Ace}
 use Rattle.dtyp_access.specs.declared.ace.AceKind.{AceKind}
 use Rattle.dtyp_access.specs.declared.ace.AceKind.TheVariants.{Allow, Deny}
 use Rattle.dtyp_access.specs.declared.descriptor.Descriptor.{Descriptor}
+use Rattle.dtyp_access.specs.declared.parts.Parts.{Parts}
 use Rattle.dtyp_access.specs.declared.errors.DescError.{DescError}
 use Rattle.dtyp_access.specs.declared.errors.DescError.TheVariants.{Short, Revision, Offset, AceType, Sid as NoSid}
 use Rattle.dtyp_access.specs.declared.errors.DescError.TheVariants.{Memory}
@@ -48,9 +49,19 @@ sid_of_field field bytes =
     if is_outside (u32_at field bytes) bytes then Err (Offset field)
     else or_no_sid (u32_at field bytes) (sid_of_bytes (drop (u32_at field bytes) bytes))
 
--- the group, which is absent where its offset is 0
-unfoldable pub group_of : List ℕ → Result (Option SidValue) DescError
-group_of bytes = if u32_at 8 bytes == 0 then Ok None else then_read (sid_of_field 8 bytes) (λ group. Ok (Some group))
+-- the same, where the SID is absent if the offset is 0
+unfoldable pub sid_if_any : ℕ → List ℕ → Result (Option SidValue) DescError
+sid_if_any field bytes =
+    if u32_at field bytes == 0 then Ok None else then_read (sid_of_field field bytes) (λ sid. Ok (Some sid))
+
+-- the owner, which may be absent where none is needed
+abbrev pub owner_of : Bool → List ℕ → Result (Option SidValue) DescError
+owner_of true bytes = then_read (sid_of_field 4 bytes) (λ owner. Ok (Some owner))
+owner_of false bytes = sid_if_any 4 bytes
+
+-- the group, which may be absent
+abbrev pub group_of : List ℕ → Result (Option SidValue) DescError
+group_of bytes = sid_if_any 8 bytes
 
 -- the kind of entries that a type byte tells
 abbrev pub kind_of : ℕ → ℕ → Result AceKind DescError
@@ -94,16 +105,29 @@ list_of bytes =
     else (if is_outside (u32_at 16 bytes) bytes then Err (Offset 16)
     else then_read (acl_at (u32_at 16 bytes) bytes) (λ aces. Ok (Some aces)))
 
--- the descriptor, or the first refusal
-unfoldable pub descriptor_of_bytes : List ℕ → Result Descriptor DescError
-descriptor_of_bytes bytes =
+-- the parts, or the first refusal, where an owner is needed or none is
+unfoldable pub parts_if : Bool → List ℕ → Result Parts DescError
+parts_if needs_owner bytes =
     if nat_lt (length bytes) 20 then Err (Short 0)
     else (if not (slice_index bytes 0 == security_descriptor_revision) then Err (Revision 0)
     else (if not (shares (u16_at 2 bytes) se_self_relative) then Err (Offset 2)
-    else then_read (sid_of_field 4 bytes) (λ owner.
+    else then_read (owner_of needs_owner bytes) (λ owner.
     then_read (group_of bytes) (λ group.
     then_read (list_of bytes) (λ acl.
     Ok (record { owner = owner; group = group; acl = acl }))))))
+
+-- the parts, of which each may be absent
+abbrev pub parts_of_bytes : List ℕ → Result Parts DescError
+parts_of_bytes bytes = parts_if false bytes
+
+-- the descriptor of an owner, which is refused where there is none, and of the other parts
+abbrev pub with_owner : Option SidValue → Option SidValue → Option (List Ace) → Result Descriptor DescError
+with_owner None group acl = Err (Offset 4)
+with_owner (Some owner) group acl = Ok (record { owner = owner; group = group; acl = acl })
+
+-- the descriptor: the parts, where an owner is needed
+unfoldable pub descriptor_of_bytes : List ℕ → Result Descriptor DescError
+descriptor_of_bytes bytes = then_read (parts_if true bytes) (λ parts. with_owner parts.owner parts.group parts.acl)
 
 -- an answer is the one that is wanted, or memory was
 abbrev pub ReadsAllIfRoom : {X : Type 0} → Result X DescError → Result X DescError → Type 0
@@ -136,11 +160,11 @@ is_read (Ok x) = true
 is_read (Err refusal) = false
 
 -- memory runs out only where an entry is reached: the owner and the group are read, and there is a list with an entry
-abbrev pub OnlyAtList : Result Descriptor DescError → List ℕ → Type 0
-OnlyAtList (Ok d) bytes = Unit {0}
-OnlyAtList (Err Memory) bytes = (is_read (sid_of_field 4 bytes) ≡ true) × (is_read (group_of bytes) ≡ true)
-    × (has_list bytes ≡ true) × (has_entry (u32_at 16 bytes) bytes ≡ true)
-OnlyAtList (Err refusal) bytes = Unit {0}
+abbrev pub OnlyAtList : {X : Type 0} → Bool → Result X DescError → List ℕ → Type 0
+OnlyAtList needs_owner (Ok read) bytes = Unit {0}
+OnlyAtList needs_owner (Err Memory) bytes = (is_read (owner_of needs_owner bytes) ≡ true)
+    × (is_read (group_of bytes) ≡ true) × (has_list bytes ≡ true) × (has_entry (u32_at 16 bytes) bytes ≡ true)
+OnlyAtList needs_owner (Err refusal) bytes = Unit {0}
 
 -- reading a SID takes no memory
 abbrev pub NeverMemory : {X : Type 0} → Result X DescError → Type 0

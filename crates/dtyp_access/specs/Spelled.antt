@@ -1,4 +1,4 @@
--- The bytes that spell a descriptor, part by part (MS-DTYP 2.4.4 to 2.4.6)
+-- The bytes that spell a descriptor, or its parts, part by part (MS-DTYP 2.4.4 to 2.4.6)
 use Rattle.std.specs.Prelude.{◌≡◌, ℕ, ◌+◌, ◌-◌, ◌<◌, ◌≤◌, ◌⊎◌, ◌↔◌, true, false, List, [], ◌∷◌, ◌++◌, length, take}
 use Rattle.std.specs.Prelude.{drop, slice_index, All}
 use Rattle.std.specs.declared.option.Option.{Option}
@@ -10,10 +10,12 @@ use Rattle.dtyp_sid.specs.Value.{SidValue, IsSid}
 use Rattle.dtyp_sid.specs.Bytes.{BeginWithSid}
 use Rattle.dtyp_access.specs.declared.ace.Ace.{Ace}
 use Rattle.dtyp_access.specs.declared.descriptor.Descriptor.{Descriptor}
+use Rattle.dtyp_access.specs.declared.parts.Parts.{Parts}
 use Rattle.dtyp_access.specs.Granted.{shares}
-use Rattle.dtyp_access.specs.Limits.{IsDescriptor}
-use Rattle.dtyp_access.specs.Reading.{u16_at, u32_at, next_ace, descriptor_of_bytes}
-use Rattle.dtyp_access.specs.Written.{type_of, descriptor_bytes}
+use Rattle.dtyp_access.specs.Parts.{parts_of}
+use Rattle.dtyp_access.specs.Limits.{AreParts, IsDescriptor}
+use Rattle.dtyp_access.specs.Reading.{u16_at, u32_at, next_ace, parts_of_bytes, descriptor_of_bytes}
+use Rattle.dtyp_access.specs.Written.{type_of, parts_bytes, descriptor_bytes}
 
 -- an offset that is neither in the header nor past the end
 pub record IsInside (offset : ℕ) (bytes : List ℕ) : Type 0 where
@@ -53,10 +55,10 @@ pub record SpellAcl (place : ℕ) (bytes : List ℕ) (aces : List Ace) : Type 0 
   pub count : u16_at (place + 4) bytes ≡ length aces
   pub entries : SpellAces (place + 8) (place + u16_at (place + 2) bytes) bytes aces
 
--- the group, which is absent where its offset is 0
-abbrev pub SpellGroup : List ℕ → Option SidValue → Type 0
-SpellGroup bytes None = u32_at 8 bytes ≡ 0
-SpellGroup bytes (Some group) = PointsToSid 8 bytes group
+-- an owner or a group, which is absent where the offset in its field is 0
+abbrev pub SpellSidOrNone : ℕ → List ℕ → Option SidValue → Type 0
+SpellSidOrNone field bytes None = u32_at field bytes ≡ 0
+SpellSidOrNone field bytes (Some sid) = PointsToSid field bytes sid
 
 -- the list, which is absent where its control bit isn't set or its offset is 0
 pub record PointsToAcl (bytes : List ℕ) (aces : List Ace) : Type 0 where
@@ -68,25 +70,38 @@ abbrev pub SpellList : List ℕ → Option (List Ace) → Type 0
 SpellList bytes None = (shares (u16_at 2 bytes) se_dacl_present ≡ false) ⊎ (u32_at 16 bytes ≡ 0)
 SpellList bytes (Some aces) = PointsToAcl bytes aces
 
--- the bytes spell the descriptor
-pub record SpellDescriptor (bytes : List ℕ) (d : Descriptor) : Type 0 where
+-- the bytes spell the parts
+pub record SpellParts (bytes : List ℕ) (p : Parts) : Type 0 where
   pub header : 20 ≤ length bytes
   pub revision : slice_index bytes 0 ≡ security_descriptor_revision
   pub self_relative : shares (u16_at 2 bytes) se_self_relative ≡ true
-  pub owner : PointsToSid 4 bytes d.owner
-  pub group : SpellGroup bytes d.group
-  pub acl : SpellList bytes d.acl
+  pub owner : SpellSidOrNone 4 bytes p.owner
+  pub group : SpellSidOrNone 8 bytes p.group
+  pub acl : SpellList bytes p.acl
 
--- a descriptor is read exactly from the bytes that spell it
+-- the bytes spell the descriptor
+abbrev pub SpellDescriptor : List ℕ → Descriptor → Type 0
+SpellDescriptor bytes d = SpellParts bytes (parts_of d)
+
+-- parts are read exactly from the bytes that spell them
+abbrev pub ReadPartsSpell : Type 0
+ReadPartsSpell = (bytes : List ℕ) (p : Parts) → All (λ byte. byte < 256) bytes → (parts_of_bytes bytes ≡ Ok p)
+    ↔ SpellParts bytes p
+
+-- and so is a descriptor
 abbrev pub ReadBytesSpell : Type 0
 ReadBytesSpell = (bytes : List ℕ) (d : Descriptor) → All (λ byte. byte < 256) bytes → (descriptor_of_bytes bytes ≡ Ok d)
     ↔ SpellDescriptor bytes d
 
--- the written bytes spell the descriptor, whatever bytes follow
+-- the written bytes spell the parts, whatever bytes follow
 abbrev pub WrittenBytesSpell : Type 0
-WrittenBytesSpell = (d : Descriptor) (rest : List ℕ) → IsDescriptor d → SpellDescriptor (descriptor_bytes d ++ rest) d
+WrittenBytesSpell = (p : Parts) (rest : List ℕ) → AreParts p → SpellParts (parts_bytes p ++ rest) p
 
--- what is written is read as the same descriptor, whatever bytes follow
+-- what is written is read as the same parts, whatever bytes follow
+abbrev pub WrittenPartsAreRead : Type 0
+WrittenPartsAreRead = (p : Parts) (rest : List ℕ) → AreParts p → parts_of_bytes (parts_bytes p ++ rest) ≡ Ok p
+
+-- and so is a descriptor
 abbrev pub WrittenBytesAreRead : Type 0
 WrittenBytesAreRead = (d : Descriptor) (rest : List ℕ) → IsDescriptor d →
     descriptor_of_bytes (descriptor_bytes d ++ rest) ≡ Ok d

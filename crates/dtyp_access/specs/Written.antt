@@ -1,5 +1,5 @@
--- The written bytes of a descriptor: the self-relative form of MS-DTYP 2.4.6, with its parts in order and without gaps
-use Rattle.std.specs.Prelude.{ℕ, ◌+◌, List, [], ◌∷◌, ◌++◌, length}
+-- The written bytes of a descriptor, or of its parts: the self-relative form of MS-DTYP 2.4.6, with its parts in order and without gaps
+use Rattle.std.specs.Prelude.{ℕ, ◌+◌, Bool, List, [], ◌∷◌, ◌++◌, length, is_some, if◌then◌else◌}
 use Rattle.std.specs.Int.{w16, w32, to_le_bytes}
 use Rattle.std.specs.List.{flat_map}
 use Rattle.std.specs.declared.option.Option.{Option}
@@ -13,6 +13,8 @@ use Rattle.dtyp_access.specs.declared.ace.Ace.{Ace}
 use Rattle.dtyp_access.specs.declared.ace.AceKind.{AceKind}
 use Rattle.dtyp_access.specs.declared.ace.AceKind.TheVariants.{Allow, Deny}
 use Rattle.dtyp_access.specs.declared.descriptor.Descriptor.{Descriptor}
+use Rattle.dtyp_access.specs.declared.parts.Parts.{Parts}
+use Rattle.dtyp_access.specs.Parts.{parts_of}
 
 -- the type byte of an entry
 abbrev pub type_of : AceKind → ℕ
@@ -35,9 +37,9 @@ acl_bytes aces =
     ++ (0 ∷ 0 ∷ []) ++ aces_bytes aces
 
 -- the parts that may be absent
-unfoldable pub group_bytes : Option SidValue → List ℕ
-group_bytes None = []
-group_bytes (Some group) = bytes_of group
+unfoldable pub sid_bytes : Option SidValue → List ℕ
+sid_bytes None = []
+sid_bytes (Some sid) = bytes_of sid
 
 unfoldable pub list_bytes : Option (List Ace) → List ℕ
 list_bytes None = []
@@ -49,20 +51,23 @@ control_of None = se_self_relative
 control_of (Some aces) = se_self_relative + se_dacl_present
 
 -- where a part begins, and 0 where it is absent
-abbrev pub offset_of : {X : Type 0} → Option X → ℕ → ℕ
-offset_of None place = 0
-offset_of (Some part) place = place
+abbrev pub offset_if : Bool → ℕ → ℕ
+offset_if there place = if there then place else 0
 
 -- the header: the revision, the control bits, and the offsets of owner, group, auditing list and list
-unfoldable pub header_bytes : Descriptor → List ℕ
-header_bytes d =
+unfoldable pub header_bytes : Parts → List ℕ
+header_bytes p =
     (security_descriptor_revision ∷ 0 ∷ [])
-    ++ to_le_bytes w16 (control_of d.acl)
-    ++ to_le_bytes w32 20
-    ++ to_le_bytes w32 (offset_of d.group (20 + length (bytes_of d.owner)))
+    ++ to_le_bytes w16 (control_of p.acl)
+    ++ to_le_bytes w32 (offset_if (is_some p.owner) 20)
+    ++ to_le_bytes w32 (offset_if (is_some p.group) (20 + length (sid_bytes p.owner)))
     ++ to_le_bytes w32 0
-    ++ to_le_bytes w32 (offset_of d.acl (20 + length (bytes_of d.owner) + length (group_bytes d.group)))
+    ++ to_le_bytes w32 (offset_if (is_some p.acl) (20 + length (sid_bytes p.owner) + length (sid_bytes p.group)))
+
+-- the written bytes of parts
+unfoldable pub parts_bytes : Parts → List ℕ
+parts_bytes p = header_bytes p ++ sid_bytes p.owner ++ sid_bytes p.group ++ list_bytes p.acl
 
 -- the written bytes of a descriptor
-unfoldable pub descriptor_bytes : Descriptor → List ℕ
-descriptor_bytes d = header_bytes d ++ bytes_of d.owner ++ group_bytes d.group ++ list_bytes d.acl
+abbrev pub descriptor_bytes : Descriptor → List ℕ
+descriptor_bytes d = parts_bytes (parts_of d)

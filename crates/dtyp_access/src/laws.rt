@@ -1,6 +1,7 @@
 //! Laws of the access check and of descriptors, each the contract of a function that does nothing.
 ghost use Rattle.dtyp_access.specs.Laws.{MoreSidsGetNoLess, GrantsAreValid, MaximumGrantsAll, NothingIsGranted};
-ghost use Rattle.dtyp_access.specs.Spelled.{ReadBytesSpell, WrittenBytesSpell, WrittenBytesAreRead};
+ghost use Rattle.dtyp_access.specs.Spelled.{ReadPartsSpell, ReadBytesSpell, WrittenBytesSpell, WrittenPartsAreRead};
+ghost use Rattle.dtyp_access.specs.Spelled.{WrittenBytesAreRead};
 
 /// A token with more SIDs is granted no less where no entry denies.
 pub fn more_sids_get_no_less()
@@ -22,6 +23,14 @@ pub fn nothing_is_granted()
     ensures { NothingIsGranted }
 {}
 
+/// Parts are read exactly from the bytes that spell them.
+pub fn read_parts_spell()
+    ensures { ReadPartsSpell }
+{
+    dtyp_sid::laws::written_bytes_are_read();
+    dtyp_sid::laws::read_bytes_are_written();
+}
+
 /// A descriptor is read exactly from the bytes that spell it.
 pub fn read_bytes_spell()
     ensures { ReadBytesSpell }
@@ -30,11 +39,19 @@ pub fn read_bytes_spell()
     dtyp_sid::laws::read_bytes_are_written();
 }
 
-/// The written bytes spell the descriptor, whatever bytes follow.
+/// The written bytes spell the parts, those of a descriptor among them, whatever bytes follow.
 pub fn written_bytes_spell()
     ensures { WrittenBytesSpell }
 {
     dtyp_sid::laws::written_bytes_have_lengths();
+}
+
+/// What is written is read as the same parts, whatever bytes follow.
+pub fn written_parts_are_read()
+    ensures { WrittenPartsAreRead }
+{
+    written_bytes_spell();
+    dtyp_sid::laws::written_bytes_are_read();
 }
 
 /// What is written is read as the same descriptor, whatever bytes follow.

@@ -1,33 +1,44 @@
 // The limits of a descriptor's parts, which the types keep.
-ghost use Rattle.std.specs.Prelude.{◌≡◌, ◌≤◌, List, Some, length, All};
-ghost use Rattle.dtyp_access.specs.declared.ace.Ace.{Ace};
-ghost use Rattle.dtyp_access.specs.Limits.{IsAce, IsGroup, IsList, IsDescriptor, HasFewAces};
+ghost use Rattle.std.specs.Prelude.{All};
+ghost use Rattle.dtyp_access.specs.Limits.{IsAce, IsSidOrNone, IsList, AreParts, IsDescriptor, HasFewAces};
 
-use crate::{Ace, Acl, Descriptor};
+use crate::{Ace, Acl, Descriptor, Parts};
 use dtyp_sid::Sid;
 
 impl Descriptor {
     /// A law: each descriptor whose list has at most 800 entries keeps the limits of its parts.
     pub fn keeps_limits(&self)
-        requires { HasFewAces self.now }
+        requires { HasFewAces self.now.acl }
         ensures { IsDescriptor self.now }
     {
         self.owner.keeps_limits();
-        group_limits(&self.group);
+        sid_limits(&self.group);
         list_limits(&self.acl);
     }
 }
 
-fn group_limits(group: &Option<Sid>)
-    ensures { IsGroup group.now }
+impl Parts {
+    /// A law: parts whose list has at most 800 entries keep their limits.
+    pub fn keep_limits(&self)
+        requires { HasFewAces self.now.acl }
+        ensures { AreParts self.now }
+    {
+        sid_limits(&self.owner);
+        sid_limits(&self.group);
+        list_limits(&self.acl);
+    }
+}
+
+fn sid_limits(sid: &Option<Sid>)
+    ensures { IsSidOrNone sid.now }
 {
-    if let Some(sid) = group {
+    if let Some(sid) = sid {
         sid.keeps_limits();
     }
 }
 
 fn list_limits(acl: &Option<Acl>)
-    requires { (aces : List Ace) → acl.now ≡ Some aces → length aces ≤ 800 }
+    requires { HasFewAces acl.now }
     ensures { IsList acl.now }
 {
     if let Some(acl) = acl {

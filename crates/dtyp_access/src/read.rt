@@ -1,14 +1,15 @@
 // Reading a descriptor from its bytes.
-ghost use Rattle.std.specs.Prelude.{◌≡◌, ◌+◌, ◌≤◌, length, nat_lt, IfOk, IfErr, Ok, Err};
+ghost use Rattle.std.specs.Prelude.{◌≡◌, ◌+◌, ◌≤◌, length, nat_lt, true, false, IfOk, IfErr, Ok, Err};
 ghost use Rattle.dtyp_sid.specs.Bytes.{sid_of_bytes};
 ghost use Rattle.dtyp_access.specs.Granted.{shares};
-ghost use Rattle.dtyp_access.specs.Spelled.{SpellDescriptor};
+ghost use Rattle.dtyp_access.specs.Spelled.{SpellParts, SpellDescriptor};
 ghost use Rattle.dtyp_access.specs.Reading.{ReadsAllIfRoom, OnlyAtList, OnlyWithEntry, WantsOnlyIf, NeverMemory};
-ghost use Rattle.dtyp_access.specs.Reading.{descriptor_of_bytes, sid_of_field, group_of, list_of, acl_at, aces_at};
+ghost use Rattle.dtyp_access.specs.Reading.{descriptor_of_bytes, parts_of_bytes, parts_if, owner_of, sid_if_any};
+ghost use Rattle.dtyp_access.specs.Reading.{sid_of_field, list_of, acl_at, aces_at};
 ghost use Rattle.dtyp_access.specs.Reading.{ace_at, next_ace, kind_of, or_no_sid, has_entry, u16_at, u32_at};
 
-use crate::laws::read_bytes_spell;
-use crate::{Ace, AceKind, Acl, DescError, Descriptor};
+use crate::laws::{read_bytes_spell, read_parts_spell};
+use crate::{Ace, AceKind, Acl, DescError, Descriptor, Parts};
 use acct_base::{front_u16, front_u32, rest_of};
 use acct_codes::descriptor_control::{SE_DACL_PRESENT, SE_SELF_RELATIVE};
 use acct_codes::descriptor_part::{
@@ -19,13 +20,45 @@ use std::alloc::Global;
 
 /// The descriptor that bytes spell in its self-relative form (MS-DTYP 2.4.6), or the first reason that they spell none.
 /// The auditing list isn't looked at.
-#[tactic(auto, unfolding(crate::specs::Reading::descriptor_of_bytes))]
 pub fn read_descriptor(alloc: Global, bytes: &[u8]) -> Result<Descriptor, DescError>
     ensures answer { ReadsAllIfRoom result (descriptor_of_bytes bytes.now) }
     ensures spelled { IfOk result (λ d. SpellDescriptor bytes.now d) }
-    ensures wants { OnlyAtList result bytes.now }
+    ensures wants { OnlyAtList true result bytes.now }
 {
     read_bytes_spell();
+    owned_parts(alloc, bytes)
+}
+
+/// The parts that bytes spell, an owner among them.
+#[tactic(auto, unfolding(crate::specs::Reading::descriptor_of_bytes))]
+fn owned_parts(alloc: Global, bytes: &[u8]) -> Result<Descriptor, DescError>
+    ensures answer { ReadsAllIfRoom result (descriptor_of_bytes bytes.now) }
+    ensures wants { OnlyAtList true result bytes.now }
+{
+    let Parts { owner, group, acl } = parts_if(alloc, bytes, true)?;
+    match owner {
+        Some(owner) => Ok(Descriptor { owner, group, acl }),
+        None => Err(DescError::Offset(4)),
+    }
+}
+
+/// The parts that bytes spell in the self-relative form of a descriptor, which may have no owner, or the first reason
+/// that they spell none. The auditing list isn't looked at.
+pub fn read_parts(alloc: Global, bytes: &[u8]) -> Result<Parts, DescError>
+    ensures answer { ReadsAllIfRoom result (parts_of_bytes bytes.now) }
+    ensures spelled { IfOk result (λ parts. SpellParts bytes.now parts) }
+    ensures wants { OnlyAtList false result bytes.now }
+{
+    read_parts_spell();
+    parts_if(alloc, bytes, false)
+}
+
+/// The parts that bytes spell, where an owner is needed or none is.
+#[tactic(auto, unfolding(crate::specs::Reading::parts_if))]
+fn parts_if(alloc: Global, bytes: &[u8], needs_owner: bool) -> Result<Parts, DescError>
+    ensures answer { ReadsAllIfRoom result (parts_if needs_owner bytes.now) }
+    ensures wants { OnlyAtList needs_owner result bytes.now }
+{
     if bytes.len() < 20 {
         return Err(DescError::Short(0));
     }
@@ -35,10 +68,10 @@ pub fn read_descriptor(alloc: Global, bytes: &[u8]) -> Result<Descriptor, DescEr
     if !is_set(u16_at(bytes, 2), SE_SELF_RELATIVE) {
         return Err(DescError::Offset(2));
     }
-    let owner = sid_of_field(bytes, 4)?;
-    let group = group_of(bytes)?;
+    let owner = owner_of(bytes, needs_owner)?;
+    let group = sid_if_any(bytes, 8)?;
     let acl = list_of(alloc, bytes)?;
-    Ok(Descriptor { owner, group, acl })
+    Ok(Parts { owner, group, acl })
 }
 
 /// Whether the control bits have one.
@@ -71,17 +104,30 @@ fn sid_at_front(bytes: &[u8], place: usize) -> Result<Sid, DescError>
     Sid::from_bytes(bytes).map_err(|_| DescError::Sid(place))
 }
 
-/// The group, which is absent where its offset is 0.
-#[tactic(auto, unfolding(crate::specs::Reading::group_of))]
-fn group_of(bytes: &[u8]) -> Result<Option<Sid>, DescError>
-    requires { 20 ≤ length bytes.now }
-    ensures value { result ≡ group_of bytes.now }
+/// The same, where the SID is absent if the offset is 0.
+#[tactic(auto, unfolding(crate::specs::Reading::sid_if_any))]
+fn sid_if_any(bytes: &[u8], field: usize) -> Result<Option<Sid>, DescError>
+    requires { field + 4 ≤ length bytes.now }
+    ensures value { result ≡ sid_if_any field bytes.now }
     ensures wants { NeverMemory result }
 {
-    if u32_at(bytes, 8) == 0 {
+    if u32_at(bytes, field) == 0 {
         return Ok(None);
     }
-    Ok(Some(sid_of_field(bytes, 8)?))
+    Ok(Some(sid_of_field(bytes, field)?))
+}
+
+/// The owner, which may be absent where none is needed.
+fn owner_of(bytes: &[u8], needed: bool) -> Result<Option<Sid>, DescError>
+    requires { 20 ≤ length bytes.now }
+    ensures value { result ≡ owner_of needed bytes.now }
+    ensures wants { NeverMemory result }
+{
+    if needed {
+        Ok(Some(sid_of_field(bytes, 4)?))
+    } else {
+        sid_if_any(bytes, 4)
+    }
 }
 
 /// The list, which is absent where the control bits or its offset say so.

@@ -1,14 +1,13 @@
 // Writing the bytes of a descriptor.
-ghost use Rattle.std.specs.Prelude.{◌≡◌, ◌++◌, ◌+◌, ◌≤◌, ◌<◌, ◌^◌, length, IfOk, OnOk, Ok, IsTrue, ◌↔◌, List, Some};
+ghost use Rattle.std.specs.Prelude.{◌≡◌, ◌++◌, ◌+◌, ◌≤◌, length, IfOk, OnOk, Ok, IsTrue, ◌↔◌};
 ghost use Rattle.dtyp_sid.specs.Bytes.{bytes_of};
-ghost use Rattle.dtyp_access.specs.declared.ace.Ace.{Ace};
 ghost use Rattle.dtyp_access.specs.Limits.{HasFewAces};
-ghost use Rattle.dtyp_access.specs.Reading.{descriptor_of_bytes};
-ghost use Rattle.dtyp_access.specs.Written.{descriptor_bytes, header_bytes, group_bytes, list_bytes, acl_bytes};
-ghost use Rattle.dtyp_access.specs.Written.{ace_bytes, aces_bytes, type_of, control_of, offset_of};
+ghost use Rattle.dtyp_access.specs.Reading.{parts_of_bytes, descriptor_of_bytes};
+ghost use Rattle.dtyp_access.specs.Written.{descriptor_bytes, parts_bytes, header_bytes, sid_bytes, list_bytes};
+ghost use Rattle.dtyp_access.specs.Written.{acl_bytes, ace_bytes, aces_bytes, type_of, control_of, offset_if};
 
-use crate::laws::written_bytes_are_read;
-use crate::{Ace, AceKind, Acl, Descriptor};
+use crate::laws::{written_bytes_are_read, written_parts_are_read};
+use crate::{Ace, AceKind, Acl, Descriptor, Parts};
 use acct_base::{push_u16, push_u32};
 use acct_codes::descriptor_control::{SE_DACL_PRESENT, SE_SELF_RELATIVE};
 use acct_codes::descriptor_part::{
@@ -20,66 +19,82 @@ use std::alloc::{AllocError, Global};
 
 /// The bytes of a descriptor in its self-relative form (MS-DTYP 2.4.6): the header, the owner, the group and the list,
 /// without gaps. They are read back as the same descriptor. The list may have at most 800 entries.
-#[tactic(auto, unfolding(crate::specs::Written::descriptor_bytes))]
 pub fn write_descriptor(alloc: Global, d: &Descriptor) -> Result<Vec<u8>, AllocError>
-    requires { HasFewAces d.now }
+    requires { HasFewAces d.now.acl }
     ensures written { IfOk result (λ bytes. bytes.items ≡ descriptor_bytes d.now) }
     ensures read_back { IfOk result (λ bytes. descriptor_of_bytes bytes.items ≡ Ok d.now) }
 {
     d.keeps_limits();
     written_bytes_are_read();
-    let mut out = Vec::new(alloc);
-    push_header(&mut out, d)?;
-    push_sid(&mut out, &d.owner)?;
-    push_group(&mut out, &d.group)?;
-    push_list(&mut out, &d.acl)?;
-    Ok(out)
+    bytes_of_parts(alloc, &Some(d.owner), &d.group, &d.acl)
 }
 
-/// Whether a descriptor's list has at most 800 entries, so that its size fits its field.
-pub fn has_few_aces(d: &Descriptor) -> bool
-    ensures { IsTrue result ↔ HasFewAces d.now }
+/// The bytes of parts in the same form, in whose header the offset of each part that is absent is 0. They are read back
+/// as the same parts. The list may have at most 800 entries.
+pub fn write_parts(alloc: Global, parts: &Parts) -> Result<Vec<u8>, AllocError>
+    requires { HasFewAces parts.now.acl }
+    ensures written { IfOk result (λ bytes. bytes.items ≡ parts_bytes parts.now) }
+    ensures read_back { IfOk result (λ bytes. parts_of_bytes bytes.items ≡ Ok parts.now) }
 {
-    match &d.acl {
+    parts.keep_limits();
+    written_parts_are_read();
+    bytes_of_parts(alloc, &parts.owner, &parts.group, &parts.acl)
+}
+
+/// Whether a list, where there is one, has at most 800 entries, so that its size fits its field.
+pub fn has_few_aces(acl: &Option<Acl>) -> bool
+    ensures { IsTrue result ↔ HasFewAces acl.now }
+{
+    match acl {
         Some(acl) => acl.aces().len() <= 800,
         None => true,
     }
 }
 
-/// Adds the header: the revision, the control bits, and the offsets of owner, group, auditing list and list.
-fn push_header(out: &mut Vec<u8>, d: &Descriptor) -> Result<(), AllocError>
-    ensures { OnOk result (out.new.items ≡ out.old.items ++ header_bytes d.now) }
+#[tactic(auto, unfolding(crate::specs::Written::parts_bytes))]
+fn bytes_of_parts(
+    alloc: Global,
+    owner: &Option<Sid>,
+    group: &Option<Sid>,
+    acl: &Option<Acl>,
+) -> Result<Vec<u8>, AllocError>
+    requires { HasFewAces acl.now }
+    ensures { IfOk result (λ bytes. bytes.items ≡ parts_bytes (record { owner = owner.now; group = group.now; acl = acl.now })) }
 {
-    let control = control_of(&d.acl);
-    let group = group_offset(d);
-    let acl = acl_offset(d);
+    let mut out = Vec::new(alloc);
+    push_header(&mut out, owner, group, acl)?;
+    push_if_any(&mut out, owner)?;
+    push_if_any(&mut out, group)?;
+    push_list(&mut out, acl)?;
+    Ok(out)
+}
+
+/// Adds the header: the revision, the control bits, and the offsets of owner, group, auditing list and list.
+fn push_header(
+    out: &mut Vec<u8>,
+    owner: &Option<Sid>,
+    group: &Option<Sid>,
+    acl: &Option<Acl>,
+) -> Result<(), AllocError>
+    ensures { OnOk result (out.new.items ≡ out.old.items
+        ++ header_bytes (record { owner = owner.now; group = group.now; acl = acl.now })) }
+{
+    let behind_owner = 20 + size_if_any(owner);
+    let behind_group = behind_owner + size_if_any(group);
     push(out, &[SECURITY_DESCRIPTOR_REVISION, 0])?;
-    push_u16(out, control)?;
-    push_u32(out, 20)?;
-    push_u32(out, group)?;
+    push_u16(out, control_of(acl))?;
+    push_u32(out, offset_if(owner.is_some(), 20))?;
+    push_u32(out, offset_if(group.is_some(), behind_owner))?;
     push_u32(out, 0)?;
-    push_u32(out, acl)?;
+    push_u32(out, offset_if(acl.is_some(), behind_group))?;
     Ok(())
 }
 
-/// Where the group begins, 0 where there is none.
-fn group_offset(d: &Descriptor) -> u32
-    ensures { result ≡ offset_of d.now.group (20 + length (bytes_of d.now.owner)) }
+/// Where a part begins, 0 where it is absent.
+fn offset_if(there: bool, place: u32) -> u32
+    ensures { result ≡ offset_if there place }
 {
-    match &d.group {
-        Some(_) => 20 + sid_size(&d.owner),
-        None => 0,
-    }
-}
-
-/// Where the list begins, 0 where there is none.
-fn acl_offset(d: &Descriptor) -> u32
-    ensures { result ≡ offset_of d.now.acl (20 + length (bytes_of d.now.owner) + length (group_bytes d.now.group)) }
-{
-    match &d.acl {
-        Some(_) => 20 + sid_size(&d.owner) + group_size(&d.group),
-        None => 0,
-    }
+    if there { place } else { 0 }
 }
 
 /// The control bits: self-relative, and that there is a list.
@@ -92,11 +107,11 @@ fn control_of(acl: &Option<Acl>) -> u16
     }
 }
 
-#[tactic(auto, unfolding(crate::specs::Written::group_bytes))]
-fn push_group(out: &mut Vec<u8>, group: &Option<Sid>) -> Result<(), AllocError>
-    ensures { OnOk result (out.new.items ≡ out.old.items ++ group_bytes group.now) }
+#[tactic(auto, unfolding(crate::specs::Written::sid_bytes))]
+fn push_if_any(out: &mut Vec<u8>, sid: &Option<Sid>) -> Result<(), AllocError>
+    ensures { OnOk result (out.new.items ≡ out.old.items ++ sid_bytes sid.now) }
 {
-    if let Some(sid) = group {
+    if let Some(sid) = sid {
         push_sid(out, sid)?;
     }
     Ok(())
@@ -104,7 +119,7 @@ fn push_group(out: &mut Vec<u8>, group: &Option<Sid>) -> Result<(), AllocError>
 
 #[tactic(auto, unfolding(crate::specs::Written::list_bytes))]
 fn push_list(out: &mut Vec<u8>, acl: &Option<Acl>) -> Result<(), AllocError>
-    requires { (aces : List Ace) → acl.now ≡ Some aces → length aces ≤ 800 }
+    requires { HasFewAces acl.now }
     ensures { OnOk result (out.new.items ≡ out.old.items ++ list_bytes acl.now) }
 {
     if let Some(acl) = acl {
@@ -176,13 +191,13 @@ fn ace_size(ace: &Ace) -> u16
     8 + sid_size(&ace.sid) as u16
 }
 
-/// The size of a group, 0 where there is none.
-#[tactic(auto, unfolding(crate::specs::Written::group_bytes))]
-fn group_size(group: &Option<Sid>) -> u32
-    ensures size { result ≡ length (group_bytes group.now) }
+/// The number of bytes of an owner or a group, 0 where there is none.
+#[tactic(auto, unfolding(crate::specs::Written::sid_bytes))]
+fn size_if_any(sid: &Option<Sid>) -> u32
+    ensures size { result ≡ length (sid_bytes sid.now) }
     ensures small { result ≤ 68 }
 {
-    match group {
+    match sid {
         Some(sid) => sid_size(sid),
         None => 0,
     }

@@ -1,4 +1,4 @@
--- The written bytes of a descriptor spell it, whatever bytes follow: from the lengths of written SIDs.
+-- The written bytes of parts spell them, whatever bytes follow: from the lengths of written SIDs.
 use Rattle.dtyp_access.proofs.WrittenIsSpelled.{written_is_spelled}
 use Rattle.dtyp_access.proofs.laws.written_bytes_spell.Goals as goal
 
