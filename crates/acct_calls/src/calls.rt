@@ -52,6 +52,14 @@ pub enum Args {
         filter: u32,
         preferred: u32,
     },
+    /// Accounts to be displayed, by a class: how many of them are passed over, how many are asked for at most, and the
+    /// length that is preferred.
+    Display {
+        class: u16,
+        index: u32,
+        count: u32,
+        preferred: u32,
+    },
     /// The class of what is asked for.
     Class(u16),
     /// What is set, by its class.

@@ -1,6 +1,6 @@
 //! The names of accounts: lists of UTF-16 units, their simple case folding, equality and validity. And calls and
 //! replies as plain data, with the values that they are made of: handles, what an information class shows, and lists
-//! of SIDs, numbers, privileges, accounts, members, domains and translated entries.
+//! of SIDs, numbers, privileges, accounts, members, domains, translated entries and accounts as they are displayed.
 //!
 //! It stands on the kinds of objects of `acct_codes`, the list type of `acct_base`, the SIDs of `dtyp_sid`, and the
 //! case folding of `unicode`, of whose table `ucd_case` and `ucd_table` have the lemmas that the proofs cite. The
@@ -28,8 +28,9 @@ pub use code_points::{FirstPoint, first_point};
 pub use handle::{Handle, ZERO_HANDLE};
 pub use info::Info;
 pub use lists::{
-    NamedList, Places, Privilege, PrivilegeSet, ReferencedDomain, RidBits, RidBitsList, RidName,
-    RidNames, Rids, Sids, Translated, TranslatedName, TranslatedSid,
+    DisplayRow, DisplayRows, NamedList, Places, Privilege, PrivilegeSet, ReferencedDomain, RidBits,
+    RidBitsList, RidName, RidNames, Rids, SidRef, SidRefs, Sids, Translated, TranslatedName,
+    TranslatedSid,
 };
 pub use name::Name;
 pub use names::Names;

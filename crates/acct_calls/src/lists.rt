@@ -73,3 +73,31 @@ pub struct TranslatedName {
 
 /// A list of translated SIDs.
 pub type NamedList = Seq<TranslatedName>;
+
+/// A translated name with its SID: what it is used for, its SID, or none where it isn't mapped, and the place of its
+/// domain in the list that it comes with, or -1 (LSAPR_TRANSLATED_SID_EX2, MS-LSAT 2.2.25).
+#[derive(Debug, Drop, PartialEq, Eq)]
+pub struct SidRef {
+    pub usage: u16,
+    pub sid: Option<Sid>,
+    pub index: i32,
+}
+
+/// A list of translated names with their SIDs.
+pub type SidRefs = Seq<SidRef>;
+
+/// An account as it is displayed: its place among those of its kind, its relative identifier, its control bits or its
+/// attributes, its name, its comment, and its full name, which is empty for a group (SAMPR_DOMAIN_DISPLAY_USER,
+/// MS-SAMR 2.2.8.2; SAMPR_DOMAIN_DISPLAY_GROUP, MS-SAMR 2.2.8.4).
+#[derive(Debug, Drop, PartialEq, Eq)]
+pub struct DisplayRow {
+    pub index: u32,
+    pub rid: u32,
+    pub bits: u32,
+    pub name: Name,
+    pub comment: Name,
+    pub full_name: Name,
+}
+
+/// A list of accounts as they are displayed.
+pub type DisplayRows = Seq<DisplayRow>;

@@ -1,7 +1,7 @@
 // Replies of the two interfaces, and what they bring.
 use crate::{
-    Handle, Info, Name, NamedList, Names, Places, PrivilegeSet, RidBitsList, RidNames, Rids, Sids,
-    Translated,
+    DisplayRows, Handle, Info, Name, NamedList, Names, Places, PrivilegeSet, RidBitsList, RidNames,
+    Rids, SidRefs, Sids, Translated,
 };
 use dtyp_sid::Sid;
 
@@ -75,5 +75,19 @@ pub enum Outs {
         domains: Places,
         entries: NamedList,
         mapped: u32,
+    },
+    /// Translated names with their SIDs, and how many of them are mapped.
+    SidRefs {
+        domains: Places,
+        entries: SidRefs,
+        mapped: u32,
+    },
+    /// Accounts as they are displayed, by the class that was asked for: how many bytes there are from where it was
+    /// asked on, and how many are given.
+    Display {
+        class: u16,
+        total: u32,
+        returned: u32,
+        entries: DisplayRows,
     },
 }

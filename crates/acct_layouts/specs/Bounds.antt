@@ -1,6 +1,6 @@
 -- Which values the fields of calls and replies have: numbers by their width, texts and lists by the counts that stand
 -- before them.
-use Rattle.std.specs.Prelude.{ℕ, ◌^◌, ◌<◌, ◌≤◌, All, List, length, Option, Some, None, FitsSigned}
+use Rattle.std.specs.Prelude.{◌≡◌, ℕ, ◌^◌, ◌<◌, ◌≤◌, All, List, [], length, Option, Some, None, FitsSigned}
 use Rattle.std.specs.Int.{w32}
 use Rattle.acct_codes.specs.Limits.{most_privileges}
 use Rattle.dtyp_sid.specs.Value.{IsSid}
@@ -11,6 +11,8 @@ use Rattle.acct_calls.specs.declared.lists.ReferencedDomain.{ReferencedDomain}
 use Rattle.acct_calls.specs.declared.lists.RidBits.{RidBits}
 use Rattle.acct_calls.specs.declared.lists.TranslatedSid.{TranslatedSid}
 use Rattle.acct_calls.specs.declared.lists.TranslatedName.{TranslatedName}
+use Rattle.acct_calls.specs.declared.lists.SidRef.{SidRef}
+use Rattle.acct_calls.specs.declared.lists.DisplayRow.{DisplayRow}
 
 -- A UUID has 128 bits.
 abbrev pub IsHandle : Handle → Type 0
@@ -53,3 +55,15 @@ IsTranslatedSid entry = (entry.usage < 2 ^ 16) × (entry.rid < 2 ^ 32) × FitsSi
 
 abbrev pub IsTranslatedName : TranslatedName → Type 0
 IsTranslatedName entry = (entry.usage < 2 ^ 16) × IsText entry.name × FitsSigned w32 entry.index
+
+abbrev pub IsSidRef : SidRef → Type 0
+IsSidRef entry = (entry.usage < 2 ^ 16) × IfThere IsSid entry.sid × FitsSigned w32 entry.index
+
+-- an account as it is displayed: three numbers and three texts
+abbrev pub IsDisplayedUser : DisplayRow → Type 0
+IsDisplayedUser row =
+    IsLong row.index × IsLong row.rid × IsLong row.bits × IsText row.name × IsText row.comment × IsText row.full_name
+
+-- a group has no full name
+abbrev pub IsDisplayedGroup : DisplayRow → Type 0
+IsDisplayedGroup row = IsDisplayedUser row × (row.full_name ≡ [])

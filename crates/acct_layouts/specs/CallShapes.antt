@@ -59,6 +59,8 @@ AreSearchArgs search.FilteredPage (args.Page context filter preferred) =
 AreSearchArgs search.Sids (args.SidList sids) = (length sids ≤ most_member_sids) × All IsSid sids
 AreSearchArgs search.Names (args.NameList names) = (length names ≤ most_searched) × All IsText names
 AreSearchArgs search.Rids (args.RidList rids) = (length rids ≤ most_searched) × All IsLong rids
+AreSearchArgs search.Display (args.Display class index count preferred) =
+    (class < 2 ^ 16) × IsLong index × IsLong count × IsLong preferred
 AreSearchArgs _ _ = ⊥
 
 -- A group and an alias begin with no control bits, a user with those of a normal account or with those that the call
@@ -84,12 +86,22 @@ ArePolicyArgs policy.AddRights (args.Rights s false names) = IsSid s × (length 
 ArePolicyArgs policy.RemoveRights (args.Rights s all names) = IsSid s × (length names ≤ most_rights) × All IsText names
 ArePolicyArgs _ _ = ⊥
 
-abbrev pub AreTranslationArgs : Translation → Args → Type 0
-AreTranslationArgs translation.Names (args.LookNames level names) =
+abbrev pub AreNamesAsked : Args → Type 0
+AreNamesAsked (args.LookNames level names) =
     (level < 2 ^ 16) × (length names ≤ most_translated_names) × All IsText names
-AreTranslationArgs translation.Sids (args.LookSids level sids) =
-    (level < 2 ^ 16) × (length sids ≤ most_translated_sids) × All IsSid sids
-AreTranslationArgs _ _ = ⊥
+AreNamesAsked _ = ⊥
+
+abbrev pub AreSidsAsked : Args → Type 0
+AreSidsAsked (args.LookSids level sids) = (level < 2 ^ 16) × (length sids ≤ most_translated_sids) × All IsSid sids
+AreSidsAsked _ = ⊥
+
+-- The later forms bring what the first ones do.
+abbrev pub AreTranslationArgs : Translation → Args → Type 0
+AreTranslationArgs translation.Names a = AreNamesAsked a
+AreTranslationArgs translation.Sids a = AreSidsAsked a
+AreTranslationArgs translation.Names2 a = AreNamesAsked a
+AreTranslationArgs translation.Sids2 a = AreSidsAsked a
+AreTranslationArgs translation.Names3 a = AreNamesAsked a
 
 -- A class has 16 bits, and none that carries a password is served.
 abbrev pub IsClass : Subject → ℕ → Type 0

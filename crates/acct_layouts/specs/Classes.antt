@@ -11,9 +11,11 @@ use Rattle.acct_codes.specs.InfoClasses.{user_admin_comment_information, user_co
 use Rattle.acct_codes.specs.InfoClasses.{user_internal1_information, user_all_information, user_internal4_information}
 use Rattle.acct_codes.specs.InfoClasses.{user_internal5_information, user_internal4_new_information}
 use Rattle.acct_codes.specs.InfoClasses.{user_internal5_new_information, policy_primary_domain_information}
-use Rattle.acct_codes.specs.InfoClasses.{policy_account_domain_information}
+use Rattle.acct_codes.specs.InfoClasses.{policy_account_domain_information, domain_display_user, domain_display_group}
 use Rattle.acct_layouts.specs.declared.classes.Arm.{Arm}
 use Rattle.acct_layouts.specs.declared.classes.Arm.TheVariants as arm
+use Rattle.acct_layouts.specs.declared.classes.DisplayArm.{DisplayArm}
+use Rattle.acct_layouts.specs.declared.classes.DisplayArm.TheVariants as display
 use Rattle.acct_layouts.specs.declared.classes.Subject.{Subject}
 use Rattle.acct_layouts.specs.declared.classes.Subject.TheVariants as subject
 
@@ -47,6 +49,12 @@ shown_arm subject.User class =
 shown_arm subject.Policy class =
     if (class == policy_primary_domain_information) || (class == policy_account_domain_information)
     then Some arm.Place else None
+
+-- What is displayed of a domain: its users or its groups (DOMAIN_DISPLAY_INFORMATION, MS-SAMR 2.2.8.12).
+abbrev pub display_arm : ℕ → Option DisplayArm
+display_arm class =
+    if class == domain_display_user then Some display.User
+    else (if class == domain_display_group then Some display.Group else None)
 
 -- The classes that carry a password, or what is kept of one, which no operation serves.
 abbrev pub is_password_class : Subject → ℕ → Bool

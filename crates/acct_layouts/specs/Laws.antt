@@ -1,10 +1,10 @@
 -- The law of refusals.
-use Rattle.std.specs.Prelude.{◌≡◌, ℕ, true, Some}
+use Rattle.std.specs.Prelude.{◌≡◌, ℕ, Some}
 use Rattle.acct_calls.specs.declared.calls.Call.{Call}
 use Rattle.acct_calls.specs.declared.replies.Reply.TheVariants.{Done}
 use Rattle.acct_layouts.specs.Bounds.{IsLong}
 use Rattle.acct_layouts.specs.CallShapes.{CanBeSpelled}
-use Rattle.acct_layouts.specs.Refusals.{is_refusal, refused_outs}
+use Rattle.acct_layouts.specs.Refusals.{refused_outs}
 use Rattle.acct_layouts.specs.ReplyShapes.{HasShape}
 use Rattle.acct_layouts.specs.Table.{layout_of}
 use Rattle.acct_layouts.specs.declared.table.Layout.{Layout}

@@ -8,7 +8,6 @@ use Rattle.acct_calls.specs.declared.handle.Handle.{Handle}
 use Rattle.acct_calls.specs.declared.replies.Outs.{Outs}
 use Rattle.acct_calls.specs.declared.replies.Outs.TheVariants as outs
 use Rattle.acct_codes.specs.Statuses.{status_none_mapped}
-use Rattle.acct_layouts.specs.declared.classes.Subject.{Subject}
 use Rattle.acct_layouts.specs.declared.fields.Translation.{Translation}
 use Rattle.acct_layouts.specs.declared.fields.Translation.TheVariants as translation
 use Rattle.acct_layouts.specs.declared.outputs.Listed.{Listed}
@@ -29,6 +28,11 @@ abbrev pub context_of : Args → ℕ
 context_of (args.Page context filter preferred) = context
 context_of _ = 0
 
+-- the class of what a call asks to be displayed
+abbrev pub display_class_of : Args → ℕ
+display_class_of (args.Display class index count preferred) = class
+display_class_of _ = 0
+
 -- A handle that is sent in and out comes back as it was given.
 abbrev pub refused_plain : ScalarOutputs → Handle → Outs
 refused_plain scalar.Nothing h = outs.Nothing
@@ -39,7 +43,7 @@ refused_plain scalar.Created h = outs.Created zero_handle 0 0
 refused_plain scalar.Granted h = outs.Created zero_handle 0 0
 refused_plain scalar.Sid h = outs.OneSid None
 
--- The context of an enumeration comes back as it was given.
+-- The context of an enumeration and the class of what is displayed come back as they were given.
 abbrev pub refused_lists : Listed → Args → Outs
 refused_lists listed.Page a = outs.Page (context_of a) None
 refused_lists listed.Rids a = outs.RidList []
@@ -48,6 +52,7 @@ refused_lists listed.NameUses a = outs.NameUses [] []
 refused_lists listed.Groups a = outs.Pairs None
 refused_lists listed.Members a = outs.Pairs None
 refused_lists listed.Sids a = outs.SidList []
+refused_lists listed.Display a = outs.Display (display_class_of a) 0 0 []
 
 abbrev pub refused_policy : PolicyOutputs → Args → Outs
 refused_policy policy.PrivilegePage a = outs.PrivilegePage (context_of a) []
@@ -61,6 +66,9 @@ refused_policy policy.Rights a = outs.NameList []
 abbrev pub refused_translation : Translation → Outs
 refused_translation translation.Names = outs.Sids [] [] 0
 refused_translation translation.Sids = outs.Names [] [] 0
+refused_translation translation.Names2 = outs.Sids [] [] 0
+refused_translation translation.Sids2 = outs.Names [] [] 0
+refused_translation translation.Names3 = outs.SidRefs [] [] 0
 
 -- the outputs of a refusal of a call that brought these arguments and this handle
 abbrev pub refused_outs : Outputs → Args → Handle → Outs

@@ -1,20 +1,24 @@
 -- The shape of a reply: which outputs its operation has (MS-SAMR 3.1.5, MS-LSAD 3.1.4, MS-LSAT 3.1.4), and which values
 -- these may have.
-use Rattle.std.specs.Prelude.{◌≡◌, ℕ, true, List, [], Option, Some, None}
+use Rattle.std.specs.Prelude.{◌≡◌, ℕ, ◌^◌, ◌<◌, true, List, [], Option, Some, None}
 use Rattle.dtyp_sid.specs.Value.{IsSid}
 use Rattle.acct_calls.specs.declared.calls.Face.{Face}
 use Rattle.acct_calls.specs.declared.info.Info.{Info}
+use Rattle.acct_calls.specs.declared.lists.DisplayRow.{DisplayRow}
 use Rattle.acct_calls.specs.declared.lists.ReferencedDomain.{ReferencedDomain}
 use Rattle.acct_calls.specs.declared.replies.Outs.{Outs}
 use Rattle.acct_calls.specs.declared.replies.Outs.TheVariants as outs
 use Rattle.acct_calls.specs.declared.replies.Reply.{Reply}
 use Rattle.acct_calls.specs.declared.replies.Reply.TheVariants as reply
 use Rattle.acct_layouts.specs.Bounds.{IsAccount, IsDomain, IsHandle, IsLong, IsMember, IsPrivilegeSet, IsText}
-use Rattle.acct_layouts.specs.Bounds.{IsTranslatedName, IsTranslatedSid, IfThere, IsListed}
-use Rattle.acct_layouts.specs.Classes.{shown_arm}
+use Rattle.acct_layouts.specs.Bounds.{IsTranslatedName, IsTranslatedSid, IsSidRef, IsDisplayedUser, IsDisplayedGroup}
+use Rattle.acct_layouts.specs.Bounds.{IfThere, IsListed}
+use Rattle.acct_layouts.specs.Classes.{display_arm, shown_arm}
 use Rattle.acct_layouts.specs.InfoShapes.{IsOfArm}
 use Rattle.acct_layouts.specs.Refusals.{is_refusal}
 use Rattle.acct_layouts.specs.Table.{layout_of}
+use Rattle.acct_layouts.specs.declared.classes.DisplayArm.{DisplayArm}
+use Rattle.acct_layouts.specs.declared.classes.DisplayArm.TheVariants as display
 use Rattle.acct_layouts.specs.declared.classes.Subject.{Subject}
 use Rattle.acct_layouts.specs.declared.fields.Translation.{Translation}
 use Rattle.acct_layouts.specs.declared.fields.Translation.TheVariants as translation
@@ -43,6 +47,12 @@ ArePlain scalar.Granted (outs.Created h granted rid) = IsHandle h × IsLong gran
 ArePlain scalar.Sid (outs.OneSid s) = IfThere IsSid s
 ArePlain _ _ = ⊥
 
+-- Users or groups, by the class; another class displays none.
+abbrev pub AreDisplayed : Option DisplayArm → List DisplayRow → Type 0
+AreDisplayed None rows = rows ≡ []
+AreDisplayed (Some display.User) rows = IsListed IsDisplayedUser rows
+AreDisplayed (Some display.Group) rows = IsListed IsDisplayedGroup rows
+
 abbrev pub AreLists : Listed → Outs → Type 0
 AreLists listed.Page (outs.Page context entries) = IsLong context × IfThere (IsListed IsAccount) entries
 AreLists listed.Rids (outs.RidList rids) = IsListed IsLong rids
@@ -52,6 +62,8 @@ AreLists listed.NameUses (outs.NameUses names uses) = IsListed IsText names × I
 AreLists listed.Groups (outs.Pairs groups) = IfThere (IsListed IsMember) groups
 AreLists listed.Members (outs.Pairs members) = IfThere (IsListed IsMember) members
 AreLists listed.Sids (outs.SidList sids) = IsListed IsSid sids
+AreLists listed.Display (outs.Display class total returned rows) =
+    (class < 2 ^ 16) × IsLong total × IsLong returned × AreDisplayed (display_arm class) rows
 AreLists _ _ = ⊥
 
 -- A class that is shown of such an object, with a value of this class; or the class 0, and no value.
@@ -74,12 +86,27 @@ ArePolicyOuts policy.Name (outs.OneName name) = IfThere IsText name
 ArePolicyOuts policy.Rights (outs.NameList names) = IsListed IsText names
 ArePolicyOuts _ _ = ⊥
 
-abbrev pub AreTranslated : Translation → Outs → Type 0
-AreTranslated translation.Names (outs.Sids domains entries mapped) =
+abbrev pub AreNamesTranslated : Outs → Type 0
+AreNamesTranslated (outs.Sids domains entries mapped) =
     IsListed IsDomain domains × IsListed IsTranslatedSid entries × IsLong mapped
-AreTranslated translation.Sids (outs.Names domains entries mapped) =
+AreNamesTranslated _ = ⊥
+
+abbrev pub AreSidsTranslated : Outs → Type 0
+AreSidsTranslated (outs.Names domains entries mapped) =
     IsListed IsDomain domains × IsListed IsTranslatedName entries × IsLong mapped
-AreTranslated _ _ = ⊥
+AreSidsTranslated _ = ⊥
+
+abbrev pub AreNamesWithSids : Outs → Type 0
+AreNamesWithSids (outs.SidRefs domains entries mapped) =
+    IsListed IsDomain domains × IsListed IsSidRef entries × IsLong mapped
+AreNamesWithSids _ = ⊥
+
+abbrev pub AreTranslated : Translation → Outs → Type 0
+AreTranslated translation.Names o = AreNamesTranslated o
+AreTranslated translation.Sids o = AreSidsTranslated o
+AreTranslated translation.Names2 o = AreNamesTranslated o
+AreTranslated translation.Sids2 o = AreSidsTranslated o
+AreTranslated translation.Names3 o = AreNamesWithSids o
 
 abbrev pub AreOutputs : Outputs → Outs → Type 0
 AreOutputs (outputs.Scalar p) o = ArePlain p o
@@ -92,6 +119,7 @@ AreOutputs (outputs.Translation t) o = AreTranslated t o
 abbrev pub domains_of : Outs → List ReferencedDomain
 domains_of (outs.Sids domains entries mapped) = domains
 domains_of (outs.Names domains entries mapped) = domains
+domains_of (outs.SidRefs domains entries mapped) = domains
 domains_of _ = []
 
 -- A refusal refers to no domain.

@@ -19,6 +19,7 @@ use Rattle.acct_codes.specs.Opnums.{samr_delete_user, samr_query_information_use
 use Rattle.acct_codes.specs.Opnums.{samr_get_groups_for_user, samr_query_information_domain2}
 use Rattle.acct_codes.specs.Opnums.{samr_query_information_user2, samr_create_user2_in_domain, samr_connect2}
 use Rattle.acct_codes.specs.Opnums.{samr_set_information_user2, samr_connect4, samr_connect5, samr_rid_to_sid}
+use Rattle.acct_codes.specs.Opnums.{samr_query_display_information}
 use Rattle.acct_codes.specs.Opnums.{lsar_close, lsar_enumerate_privileges, lsar_query_information_policy}
 use Rattle.acct_codes.specs.Opnums.{lsar_create_account, lsar_enumerate_accounts, lsar_lookup_names, lsar_lookup_sids}
 use Rattle.acct_codes.specs.Opnums.{lsar_open_account, lsar_enumerate_privileges_account}
@@ -27,7 +28,8 @@ use Rattle.acct_codes.specs.Opnums.{lsar_get_system_access_account, lsar_set_sys
 use Rattle.acct_codes.specs.Opnums.{lsar_lookup_privilege_value, lsar_lookup_privilege_name, lsar_delete_object}
 use Rattle.acct_codes.specs.Opnums.{lsar_enumerate_accounts_with_user_right, lsar_enumerate_account_rights}
 use Rattle.acct_codes.specs.Opnums.{lsar_add_account_rights, lsar_remove_account_rights, lsar_open_policy2}
-use Rattle.acct_codes.specs.Opnums.{lsar_query_information_policy2}
+use Rattle.acct_codes.specs.Opnums.{lsar_query_information_policy2, lsar_lookup_sids2, lsar_lookup_names2}
+use Rattle.acct_codes.specs.Opnums.{lsar_lookup_names3}
 use Rattle.acct_layouts.specs.declared.classes.Subject.TheVariants as subject
 use Rattle.acct_layouts.specs.declared.fields.Connect.TheVariants as connect
 use Rattle.acct_layouts.specs.declared.fields.Creation.TheVariants as creation
@@ -119,6 +121,8 @@ samr_table =
     ∷ operation samr_set_information_user (fields.Put subject.User) (outputs.Scalar scalar.Nothing)
     -- SamrGetGroupsForUser (3.1.5.9.1)
     ∷ operation samr_get_groups_for_user (fields.Scalar plain.Nothing) (outputs.Listed listed.Groups)
+    -- SamrQueryDisplayInformation (3.1.5.3.3)
+    ∷ operation samr_query_display_information (fields.Search search.Display) (outputs.Listed listed.Display)
     -- SamrQueryInformationDomain2 (3.1.5.5.1)
     ∷ operation samr_query_information_domain2 (fields.Class subject.Domain) (outputs.Shown subject.Domain)
     -- SamrQueryInformationUser2 (3.1.5.5.5)
@@ -185,6 +189,12 @@ lsa_table =
     ∷ operation lsar_open_policy2 (fields.Connect connect.OpenPolicy2) (outputs.Scalar scalar.Handle)
     -- LsarQueryInformationPolicy2 (MS-LSAD 3.1.4.4.3)
     ∷ operation lsar_query_information_policy2 (fields.Class subject.Policy) (outputs.Shown subject.Policy)
+    -- LsarLookupSids2 (MS-LSAT 3.1.4.10)
+    ∷ operation lsar_lookup_sids2 (fields.Translation translation.Sids2) (outputs.Translation translation.Sids2)
+    -- LsarLookupNames2 (MS-LSAT 3.1.4.7)
+    ∷ operation lsar_lookup_names2 (fields.Translation translation.Names2) (outputs.Translation translation.Names2)
+    -- LsarLookupNames3 (MS-LSAT 3.1.4.6)
+    ∷ operation lsar_lookup_names3 (fields.Translation translation.Names3) (outputs.Translation translation.Names3)
     ∷ []
 
 -- the layout that stands beside an opnum

@@ -30,6 +30,7 @@ pub enum Search {
     Sids,
     Names,
     Rids,
+    Display,
 }
 
 /// Fields of a new account.
@@ -60,6 +61,12 @@ pub enum PolicyFields {
 pub enum Translation {
     Names,
     Sids,
+    /// As `Names`, with options and the client's revision.
+    Names2,
+    /// As `Sids`, with options and the client's revision.
+    Sids2,
+    /// As `Names2`, where whole SIDs are answered.
+    Names3,
 }
 
 /// The fields of a call behind its handle.

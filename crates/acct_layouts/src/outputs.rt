@@ -29,6 +29,7 @@ pub enum Listed {
     Groups,
     Members,
     Sids,
+    Display,
 }
 
 /// Outputs of the policy and of its accounts.

@@ -1,7 +1,7 @@
 // What a refusal brings.
 ghost use Rattle.std.specs.Prelude.{◌≡◌};
-ghost use Rattle.acct_layouts.specs.Refusals.{context_of, is_refusal, refused_lists, refused_outs, refused_plain};
-ghost use Rattle.acct_layouts.specs.Refusals.{refused_policy, refused_translation};
+ghost use Rattle.acct_layouts.specs.Refusals.{context_of, display_class_of, is_refusal, refused_lists, refused_outs};
+ghost use Rattle.acct_layouts.specs.Refusals.{refused_plain, refused_policy, refused_translation};
 
 use crate::fields::Translation;
 use crate::outputs::{Listed, Outputs, PolicyOutputs, ScalarOutputs};
@@ -23,6 +23,16 @@ fn context_of(args: &Args) -> u32
 {
     match args {
         Args::Page { context, .. } => *context,
+        _ => 0,
+    }
+}
+
+/// The class of what a call asks to be displayed.
+fn display_class_of(args: &Args) -> u16
+    ensures { result ≡ display_class_of args.now }
+{
+    match args {
+        Args::Display { class, .. } => *class,
         _ => 0,
     }
 }
@@ -62,6 +72,12 @@ fn refused_lists(alloc: Global, outputs: Listed, args: &Args) -> Outs
         },
         Listed::Groups | Listed::Members => Outs::Pairs(None),
         Listed::Sids => Outs::SidList(Seq::new(alloc)),
+        Listed::Display => Outs::Display {
+            class: display_class_of(args),
+            total: 0,
+            returned: 0,
+            entries: Seq::new(alloc),
+        },
     }
 }
 
@@ -89,12 +105,17 @@ fn refused_translation(alloc: Global, translation: Translation) -> Outs
     ensures { result ≡ refused_translation translation }
 {
     match translation {
-        Translation::Names => Outs::Sids {
+        Translation::Names | Translation::Names2 => Outs::Sids {
             domains: Seq::new(alloc),
             entries: Seq::new(alloc),
             mapped: 0,
         },
-        Translation::Sids => Outs::Names {
+        Translation::Sids | Translation::Sids2 => Outs::Names {
+            domains: Seq::new(alloc),
+            entries: Seq::new(alloc),
+            mapped: 0,
+        },
+        Translation::Names3 => Outs::SidRefs {
             domains: Seq::new(alloc),
             entries: Seq::new(alloc),
             mapped: 0,
@@ -103,8 +124,8 @@ fn refused_translation(alloc: Global, translation: Translation) -> Outs
 }
 
 /// The outputs of a refusal of a call that brought these arguments and this handle: zero handles, null pointers, zero
-/// numbers and empty lists. A handle that is sent in and out, and the context of an enumeration, come back as they
-/// were given. It takes no memory.
+/// numbers and empty lists. A handle that is sent in and out, the context of an enumeration and the class of what is
+/// displayed come back as they were given. It takes no memory.
 pub fn refused_outs(alloc: Global, outputs: Outputs, args: &Args, handle: Handle) -> Outs
     ensures { result ≡ refused_outs outputs args.now handle }
 {

@@ -1,6 +1,8 @@
 // The table of operations.
 ghost use Rattle.std.specs.Prelude.{◌≡◌};
 ghost use Rattle.acct_layouts.specs.Table.{layout_of, lsa_layout, samr_layout};
+ghost use Rattle.acct_layouts.specs.declared.fields.Fields.TheVariants as fields;
+ghost use Rattle.acct_layouts.specs.declared.outputs.Outputs.TheVariants as outputs;
 
 use crate::classes::Subject;
 use crate::fields::{Connect, Creation, Fields, PolicyFields, ScalarFields, Search, Translation};
@@ -89,6 +91,10 @@ fn samr_layout(opnum: u16) -> Option<Layout>
             nothing,
         ),
         samr_opnum::SAMR_GET_GROUPS_FOR_USER => (brings_nothing, Outputs::Listed(Listed::Groups)),
+        samr_opnum::SAMR_QUERY_DISPLAY_INFORMATION => (
+            Fields::Search(Search::Display),
+            Outputs::Listed(Listed::Display),
+        ),
         samr_opnum::SAMR_CREATE_USER2_IN_DOMAIN => (Fields::Creation(Creation::TypedUser), granted),
         samr_opnum::SAMR_CONNECT2 => (Fields::Connect(Connect::Connect2), handle),
         samr_opnum::SAMR_CONNECT4 => (Fields::Connect(Connect::Connect4), handle),
@@ -102,6 +108,17 @@ fn samr_layout(opnum: u16) -> Option<Layout>
     Some(Layout { fields, outputs })
 }
 
+/// The fields and the outputs of a translation.
+fn translated(translation: Translation) -> (Fields, Outputs)
+    ensures fields { result.0 ≡ fields.Translation translation }
+    ensures outputs { result.1 ≡ outputs.Translation translation }
+{
+    (
+        Fields::Translation(translation),
+        Outputs::Translation(translation),
+    )
+}
+
 /// The layout of an operation of the policy.
 #[tactic(auto, unfolding(crate::specs::Table::lsa_layout))]
 fn lsa_layout(opnum: u16) -> Option<Layout>
@@ -113,8 +130,6 @@ fn lsa_layout(opnum: u16) -> Option<Layout>
     let page = Fields::Search(Search::Page);
     let brings_nothing = Fields::Scalar(ScalarFields::Nothing);
     let policy_shown = Outputs::Shown(Subject::Policy);
-    let names = Fields::Translation(Translation::Names);
-    let sids = Fields::Translation(Translation::Sids);
     let added = Fields::Policy(PolicyFields::AddPrivileges);
     let removed = Fields::Policy(PolicyFields::RemovePrivileges);
     let right = Fields::Policy(PolicyFields::Right);
@@ -138,8 +153,8 @@ fn lsa_layout(opnum: u16) -> Option<Layout>
             handle,
         ),
         lsa_opnum::LSAR_ENUMERATE_ACCOUNTS => (page, Outputs::Policy(PolicyOutputs::SidPage)),
-        lsa_opnum::LSAR_LOOKUP_NAMES => (names, Outputs::Translation(Translation::Names)),
-        lsa_opnum::LSAR_LOOKUP_SIDS => (sids, Outputs::Translation(Translation::Sids)),
+        lsa_opnum::LSAR_LOOKUP_NAMES => translated(Translation::Names),
+        lsa_opnum::LSAR_LOOKUP_SIDS => translated(Translation::Sids),
         lsa_opnum::LSAR_ENUMERATE_PRIVILEGES_ACCOUNT => (brings_nothing, privileges),
         lsa_opnum::LSAR_ADD_PRIVILEGES_TO_ACCOUNT => (added, nothing),
         lsa_opnum::LSAR_REMOVE_PRIVILEGES_FROM_ACCOUNT => (removed, nothing),
@@ -160,6 +175,9 @@ fn lsa_layout(opnum: u16) -> Option<Layout>
             Fields::Policy(PolicyFields::RemoveRights),
             nothing,
         ),
+        lsa_opnum::LSAR_LOOKUP_SIDS2 => translated(Translation::Sids2),
+        lsa_opnum::LSAR_LOOKUP_NAMES2 => translated(Translation::Names2),
+        lsa_opnum::LSAR_LOOKUP_NAMES3 => translated(Translation::Names3),
         lsa_opnum::LSAR_OPEN_POLICY2 => (Fields::Connect(Connect::OpenPolicy2), handle),
         _ => return None,
     };

@@ -101,6 +101,7 @@ search_kind search.Sids (args.SidList sids) f =
     let k = (list_values most_member_sids sid_pointer sid_pointer_has sids).0 f.0 in (k.0, k.2)
 search_kind search.Names (args.NameList names) f = sought_kind text text_has names f.0
 search_kind search.Rids (args.RidList rids) f = sought_kind (flat u32) long_has rids f.0
+search_kind search.Display (args.Display class index count preferred) f = (f.0.0, f.0.1.0, f.0.1.1.0, f.0.1.1.1)
 search_kind _ _ f = absurd (cc f.1)
 
 search_fits : (s : Search) (a : Args) → AreSearchArgs s a → (searched s).Fits a
@@ -112,6 +113,7 @@ search_fits search.Sids (args.SidList sids) is =
     ((list_values most_member_sids sid_pointer sid_pointer_has sids).1 (is.0, omega (arith, is.0), is.1), refl)
 search_fits search.Names (args.NameList names) is = (sought_fits text text_has names is, refl)
 search_fits search.Rids (args.RidList rids) is = (sought_fits (flat u32) long_has rids is, refl)
+search_fits search.Display (args.Display class index count preferred) is = ((is.0, (is.1, (is.2, is.3))), refl)
 search_fits _ _ is = absurd is
 
 -- ---- what stands behind the handle

@@ -35,7 +35,7 @@ use Rattle.ndr_types.specs.Sids.{sid_pointer}
 use Rattle.ndr_types.specs.Texts.{text, text_tail}
 use Rattle.acct_stubs.specs.Arguments.{access_rid_in, access_sid_in, arguments, class_in, filtered_page_in, name_in}
 use Rattle.acct_stubs.specs.Arguments.{names_in, page_in, plain_args, put_in, rid_bits_in, rid_in, rids_in, searched}
-use Rattle.acct_stubs.specs.Arguments.{sid_in, sids_in, sought}
+use Rattle.acct_stubs.specs.Arguments.{display_in, sid_in, sids_in, sought}
 use Rattle.acct_stubs.specs.Calls.{stub_of, without_handle}
 use Rattle.acct_stubs.specs.Infos.{alias_in, class_set, empty_head, empty_text, group_in, nothing_of, number_in}
 use Rattle.acct_stubs.specs.Infos.{place_in, set_value, text_in, two_texts_in, user_in, value_of}
@@ -107,6 +107,10 @@ searched_complete search.Sids =
 searched_complete search.Names = made_complete args.NameList names_in (sought_complete text text_has) (λ x h. (h, refl))
 searched_complete search.Rids =
     made_complete args.RidList rids_in (sought_complete (flat u32) long_has) (λ x h. (h, refl))
+searched_complete search.Display =
+    made_complete (λ x. args.Display x.0 x.1.0 x.1.1.0 x.1.1.1) display_in
+    (chain_complete u16_complete
+    (λ x h. chain_complete u32_complete (λ y k. chain_complete u32_complete (λ z l. u32_complete)))) (λ x h. (h, refl))
 
 -- ---- information classes
 

@@ -38,6 +38,7 @@ use Rattle.ndr_types.specs.Members.{rid_bits}
 use Rattle.ndr_types.specs.Sids.{sid, sid_pointer}
 use Rattle.ndr_types.specs.Texts.{text}
 use Rattle.acct_stubs.proofs.Complete.{value_complete}
+use Rattle.acct_stubs.proofs.DisplayValues.{displayed_complete}
 use Rattle.acct_stubs.proofs.MemberLists.{members_complete}
 use Rattle.acct_stubs.specs.Calls.{start}
 use Rattle.acct_stubs.specs.Infos.{class_shown, is_named, named_value, shown_of, shown_parts}
@@ -45,7 +46,7 @@ use Rattle.acct_stubs.specs.Lawful.{IsLawful}
 use Rattle.acct_stubs.specs.Outputs.{created_out, done_of, granted_out, handle_out, how_many, listed_outs}
 use Rattle.acct_stubs.specs.Outputs.{name_uses_out, page_out, pairs_out, parts_of_reply, plain_outs, reply_stub}
 use Rattle.acct_stubs.specs.Outputs.{revision_answered, rid_uses_out, rids_out, shown_out, shown_outs, sid_out}
-use Rattle.acct_stubs.specs.Outputs.{sids_out, with_status}
+use Rattle.acct_stubs.specs.Outputs.{display_out, sids_out, with_status}
 use Rattle.acct_stubs.specs.Shared.{shared_outputs}
 use Rattle.acct_stubs.specs.Wire.{Wire}
 
@@ -106,6 +107,9 @@ listed_complete listed.Groups =
 listed_complete listed.Members = made_complete outs.Pairs pairs_out members_complete (λ x h. (h, refl))
 listed_complete listed.Sids =
     made_complete outs.SidList sids_out (list_complete any sid_pointer sid_pointer_has) (λ x h. (h, refl))
+listed_complete listed.Display =
+    made_complete (λ x. outs.Display x.1.1.0 x.0 x.1.0 x.1.1.1) display_out
+    (chain_complete u32_complete (λ x h. chain_complete u32_complete (λ y k. displayed_complete))) (λ x h. (h, refl))
 
 named_complete : (a : Option Arm) → IsComplete (named_value a)
 named_complete None = given_complete info.Unserved

@@ -2,6 +2,7 @@ pub mod Asked
 pub mod CallLaws
 pub mod CallValues
 pub mod Complete
+pub mod DisplayValues
 pub mod CompleteReplies
 pub mod InfoValues
 pub mod MemberLists

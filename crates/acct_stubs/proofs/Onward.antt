@@ -49,6 +49,7 @@ use Rattle.ndr_types.specs.Members.{membership, rid_bits}
 use Rattle.ndr_types.specs.Sids.{sid, sid_pointer}
 use Rattle.ndr_types.specs.Texts.{text, text_tail}
 use Rattle.acct_stubs.specs.Arguments.{arguments, plain_args, searched, sought}
+use Rattle.acct_stubs.proofs.DisplayValues.{displayed_onward}
 use Rattle.acct_stubs.specs.Calls.{NoCallWantsMemory, call_at, call_in, call_read, is_withheld, start, stub_of}
 use Rattle.acct_stubs.specs.Infos.{class_set, class_shown, empty_text, named_value, set_value, value_of}
 use Rattle.acct_stubs.specs.Lawful.{IsLawful}
@@ -104,6 +105,8 @@ searched_onward search.Page = takes_made 0 _ _ (takes_chain 0 long (λ x. long))
 searched_onward search.FilteredPage = takes_made 0 _ _ (takes_chain 0 long (λ x. takes_chain 0 long (λ y. long)))
 searched_onward search.Sids = takes_made 0 _ _ (sid_list_onward most_member_sids)
 searched_onward search.Names = takes_made 0 _ _ (sought_onward text takes_text)
+searched_onward search.Display =
+    takes_made 0 _ _ (takes_chain 0 short (λ x. takes_chain 0 long (λ y. takes_chain 0 long (λ z. long))))
 searched_onward search.Rids = takes_made 0 _ _ (sought_onward (flat u32) (takes_flat u32 long))
 
 -- ---- information classes
@@ -214,6 +217,7 @@ listed_onward listed.Groups =
     takes_made 0 _ _ (to_value (list_of any rid_bits) (list_onward any rid_bits takes_rid_bits))
 listed_onward listed.Members = takes_made 0 _ _ members_onward
 listed_onward listed.Sids = takes_made 0 _ _ (sid_list_onward any)
+listed_onward listed.Display = takes_made 0 _ _ (takes_chain 0 long (λ x. takes_chain 0 long (λ y. displayed_onward)))
 
 shown_onward : (s : Subject) → Takes 0 (shown_outs s)
 unfolding shown_outs

@@ -35,7 +35,10 @@ use Rattle.ndr_types.specs.Members.{rid_bits}
 use Rattle.ndr_types.specs.Sids.{sid, sid_pointer}
 use Rattle.ndr_types.specs.Texts.{text}
 use Rattle.acct_stubs.proofs.CompleteReplies.{count_fits, revision_fits}
+use Rattle.acct_stubs.proofs.DisplayValues.{rows_fit, rows_kind}
 use Rattle.acct_stubs.proofs.InfoValues.{class_fits, class_kind}
+use Rattle.acct_layouts.specs.Classes.{display_arm}
+use Rattle.acct_stubs.specs.Displayed.{displayed}
 use Rattle.acct_stubs.proofs.MemberLists.{members_values}
 use Rattle.acct_stubs.proofs.Shared.{layouts_of_their_face}
 use Rattle.acct_stubs.specs.Lawful.{IsLawful}
@@ -102,7 +105,7 @@ to_groups =
     (list_complete any rid_bits rid_bits_has)
 
 lists_kind : (l : Listed) (o : Outs) → (listed_outs l).Fits o → AreLists l o
-unfolding listed_outs
+unfolding listed_outs displayed
 lists_kind listed.Page (outs.Page context entries) f =
     (f.0.0, entries_kind entries ((rid_names_values entries).0 f.0.1.0))
 lists_kind listed.Rids (outs.RidList rids) f = listed_kind (flat u32) long_has rids f.0
@@ -113,10 +116,12 @@ lists_kind listed.NameUses (outs.NameUses names uses) f =
 lists_kind listed.Groups (outs.Pairs groups) f = whole_kind (pointer_to (list_of any rid_bits)) to_groups groups f.0
 lists_kind listed.Members (outs.Pairs members) f = (members_values members).0 f.0
 lists_kind listed.Sids (outs.SidList sids) f = listed_kind sid_pointer sid_pointer_has sids f.0
+lists_kind listed.Display (outs.Display class total returned rows) f =
+    (f.0.1.1.0, f.0.0, f.0.1.0, rows_kind (display_arm class) rows f.0.1.1.1.0.1)
 lists_kind _ _ f = absurd (cc f.1)
 
 lists_fit : (l : Listed) (o : Outs) → AreLists l o → (listed_outs l).Fits o
-unfolding listed_outs
+unfolding listed_outs displayed
 lists_fit listed.Page (outs.Page context entries) is =
     let f = (rid_names_values entries).1 (entries_fit entries is.1) in
     ((is.0, (f, count_fits entries f)), refl)
@@ -129,6 +134,8 @@ lists_fit listed.Groups (outs.Pairs groups) is =
     (whole_fits (pointer_to (list_of any rid_bits)) to_groups groups is, refl)
 lists_fit listed.Members (outs.Pairs members) is = ((members_values members).1 is, refl)
 lists_fit listed.Sids (outs.SidList sids) is = (listed_fits sid_pointer sid_pointer_has sids is, refl)
+lists_fit listed.Display (outs.Display class total returned rows) is =
+    ((is.1, (is.2, (is.0, ((tt, rows_fit (display_arm class) rows is.3), refl)))), refl)
 lists_fit _ _ is = absurd is
 
 -- a status, and outputs of a kind
@@ -155,6 +162,8 @@ plain_refers scalar.Nothing (outs.Sids domains entries mapped) is = absurd is
 plain_refers _ (outs.Sids domains entries mapped) is = absurd is
 plain_refers scalar.Nothing (outs.Names domains entries mapped) is = absurd is
 plain_refers _ (outs.Names domains entries mapped) is = absurd is
+plain_refers scalar.Nothing (outs.SidRefs domains entries mapped) is = absurd is
+plain_refers _ (outs.SidRefs domains entries mapped) is = absurd is
 plain_refers _ _ is = refl
 
 lists_refer : (l : Listed) (o : Outs) → AreLists l o → domains_of o ≡ []
@@ -162,11 +171,14 @@ lists_refer listed.Page (outs.Sids domains entries mapped) is = absurd is
 lists_refer _ (outs.Sids domains entries mapped) is = absurd is
 lists_refer listed.Page (outs.Names domains entries mapped) is = absurd is
 lists_refer _ (outs.Names domains entries mapped) is = absurd is
+lists_refer listed.Page (outs.SidRefs domains entries mapped) is = absurd is
+lists_refer _ (outs.SidRefs domains entries mapped) is = absurd is
 lists_refer _ _ is = refl
 
 shown_refers : (s : Subject) (o : Outs) → AreShown s o → domains_of o ≡ []
 shown_refers s (outs.Sids domains entries mapped) is = absurd is
 shown_refers s (outs.Names domains entries mapped) is = absurd is
+shown_refers s (outs.SidRefs domains entries mapped) is = absurd is
 shown_refers s _ is = refl
 
 -- ---- whole replies

@@ -57,6 +57,10 @@ abbrev pub filtered_page_in : Args → ℕ × (ℕ × ℕ)
 filtered_page_in (args.Page context filter preferred) = (context, (filter, preferred))
 filtered_page_in _ = (0, (0, 0))
 
+abbrev pub display_in : Args → ℕ × (ℕ × (ℕ × ℕ))
+display_in (args.Display class index count preferred) = (class, (index, (count, preferred)))
+display_in _ = (0, (0, (0, 0)))
+
 abbrev pub sids_in : Args → List SidValue
 sids_in (args.SidList sids) = sids
 sids_in _ = []
@@ -115,6 +119,10 @@ searched search.Sids = made args.SidList sids_in (sid_list most_member_sids)
 searched search.Names = made args.NameList names_in (sought text)
 -- Count, RelativeIds
 searched search.Rids = made args.RidList rids_in (sought (flat u32))
+-- DisplayInformationClass, Index, EntryCount, PreferredMaximumLength
+searched search.Display =
+    made (λ (class, (index, (count, preferred))). args.Display class index count preferred) display_in
+    (chain u16 (λ _. chain u32 (λ _. chain u32 (λ _. u32))))
 
 -- behind the handle, if the operation takes one
 unfoldable pub arguments : Wire → Fields → Codec Args

@@ -1,5 +1,6 @@
 pub mod ServerNames
 pub mod Infos
+pub mod Displayed
 pub mod Members
 pub mod Wire
 pub mod Arguments

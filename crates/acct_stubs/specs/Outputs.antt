@@ -8,6 +8,7 @@ use Rattle.ndr_core.specs.Shapes.{chain, given, ignored, made, u32, u32_such}
 use Rattle.dtyp_sid.specs.Value.{SidValue}
 use Rattle.acct_calls.specs.declared.handle.Handle.{Handle}
 use Rattle.acct_calls.specs.declared.info.Info.{Info}
+use Rattle.acct_calls.specs.declared.lists.DisplayRow.{DisplayRow}
 use Rattle.acct_calls.specs.declared.lists.RidBits.{RidBits}
 use Rattle.acct_calls.specs.declared.lists.RidName.{RidName}
 use Rattle.acct_calls.specs.declared.replies.Outs.{Outs}
@@ -26,6 +27,7 @@ use Rattle.ndr_types.specs.Handles.{handle, handle_of}
 use Rattle.ndr_types.specs.Lists.{rid_list, sid_list, text_list}
 use Rattle.ndr_types.specs.Members.{rid_bits}
 use Rattle.ndr_types.specs.Sids.{sid}
+use Rattle.acct_stubs.specs.Displayed.{displayed}
 use Rattle.acct_stubs.specs.Infos.{class_shown}
 use Rattle.acct_stubs.specs.Members.{members}
 use Rattle.acct_stubs.specs.Wire.{Wire}
@@ -76,6 +78,10 @@ pairs_out _ = None
 abbrev pub sids_out : Outs → List SidValue
 sids_out (outs.SidList sids) = sids
 sids_out _ = []
+
+abbrev pub display_out : Outs → ℕ × (ℕ × (ℕ × List DisplayRow))
+display_out (outs.Display class total returned rows) = (total, (returned, (class, rows)))
+display_out _ = (0, (0, (0, [])))
 
 abbrev pub shown_out : Outs → ℕ × Option Info
 shown_out (outs.Shown class value) = (class, value)
@@ -130,6 +136,10 @@ listed_outs listed.Groups = made outs.Pairs pairs_out (whole (pointer_to (list_o
 listed_outs listed.Members = made outs.Pairs pairs_out members
 -- Members
 listed_outs listed.Sids = made outs.SidList sids_out (sid_list any)
+-- TotalAvailable, TotalReturned, Buffer
+listed_outs listed.Display =
+    made (λ (total, (returned, (class, rows))). outs.Display class total returned rows) display_out
+    (chain u32 (λ _. chain u32 (λ _. displayed)))
 
 -- ---- whole replies: the outputs, and the status
 

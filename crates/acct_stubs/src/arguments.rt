@@ -137,6 +137,18 @@ fn read_searched(alloc: Global, from: &mut In<'_>, layout: Search) -> Result<Arg
             Ok(Args::NameList(Names::from_vec(names.into_vec())))
         }
         Search::Rids => read_sought(alloc, from).map(Args::RidList),
+        Search::Display => {
+            let class = from.u16()?;
+            let index = from.u32()?;
+            let count = from.u32()?;
+            let preferred = from.u32()?;
+            Ok(Args::Display {
+                class,
+                index,
+                count,
+                preferred,
+            })
+        }
     }
 }
 
@@ -172,6 +184,20 @@ fn write_searched(to: &mut Out, layout: Search, args: &Args) -> Result<(), NoMem
         (Search::Sids, Args::SidList(sids)) => write_sid_list(to, sids),
         (Search::Names, Args::NameList(names)) => write_sought(to, names.as_slice()),
         (Search::Rids, Args::RidList(rids)) => write_sought(to, rids.as_slice()),
+        (
+            Search::Display,
+            Args::Display {
+                class,
+                index,
+                count,
+                preferred,
+            },
+        ) => {
+            to.u16(*class)?;
+            to.u32(*index)?;
+            to.u32(*count)?;
+            to.u32(*preferred)
+        }
         _ => unreachable!(),
     }
 }

@@ -11,6 +11,7 @@
 
 mod arguments;
 mod calls;
+mod displayed;
 mod errors;
 mod infos;
 mod interface;

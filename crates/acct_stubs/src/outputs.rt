@@ -6,6 +6,7 @@ ghost use Rattle.ndr_types.specs.Outcomes.{ReadsIfRoom};
 ghost use Rattle.acct_stubs.specs.Outputs.{listed_outs, plain_outs, reply_stub, revision_answered, shown_outs};
 
 use crate::NoMemory;
+use crate::displayed::{read_displayed, write_displayed};
 use crate::infos::{read_class_shown, write_class_shown};
 use crate::interface::Interface;
 use crate::members::{read_members, write_members};
@@ -159,6 +160,17 @@ fn read_listed(alloc: Global, from: &mut In<'_>, layout: Listed) -> Result<Outs,
             let sids = read_sid_list(alloc, from, u32::MAX)?;
             Ok(Outs::SidList(sids))
         }
+        Listed::Display => {
+            let total = from.u32()?;
+            let returned = from.u32()?;
+            let (class, entries) = read_displayed(alloc, from)?;
+            Ok(Outs::Display {
+                class,
+                total,
+                returned,
+                entries,
+            })
+        }
     }
 }
 
@@ -193,6 +205,19 @@ fn write_listed(to: &mut Out, layout: Listed, outs: &Outs) -> Result<(), NoMemor
         }
         (Listed::Members, Outs::Pairs(members)) => write_members(to, members),
         (Listed::Sids, Outs::SidList(sids)) => write_sid_list(to, sids),
+        (
+            Listed::Display,
+            Outs::Display {
+                class,
+                total,
+                returned,
+                entries,
+            },
+        ) => {
+            to.u32(*total)?;
+            to.u32(*returned)?;
+            write_displayed(to, *class, entries)
+        }
         _ => unreachable!(),
     }
 }

@@ -5,6 +5,7 @@ use Rattle.acct_codes.specs.Limits.{most_privileges, most_translated_names}
 use Rattle.acct_calls.specs.declared.lists.ReferencedDomain.{ReferencedDomain}
 use Rattle.acct_calls.specs.declared.lists.Privilege.{Privilege}
 use Rattle.acct_calls.specs.declared.lists.RidName.{RidName}
+use Rattle.acct_calls.specs.declared.lists.SidRef.{SidRef}
 use Rattle.acct_calls.specs.declared.lists.TranslatedName.{TranslatedName}
 use Rattle.acct_calls.specs.declared.lists.TranslatedSid.{TranslatedSid}
 use Rattle.acct_layouts.specs.Bounds.{IfThere, IsAccount, IsDomain, IsListed, IsPrivilegeSet, IsText, IsTranslatedName}
@@ -16,9 +17,11 @@ use Rattle.ndr_types.specs.Pointers.{IsFew, text_pointer, privilege_set_pointer}
 use Rattle.ndr_types.specs.Privileges.{privilege_set}
 use Rattle.ndr_types.specs.PrivilegeNames.{privilege_names}
 use Rattle.ndr_types.specs.Texts.{text}
-use Rattle.ndr_types.specs.Translations.{translated_name, translated_names, translated_sid, translated_sids}
+use Rattle.ndr_types.specs.Translations.{flagged, flagged_names, flagged_sids, sid_ref, sid_refs, translated_name}
+use Rattle.ndr_types.specs.Translations.{translated_names, translated_sid, translated_sids}
 use Rattle.ndr_types.proofs.Entries.{privilege_names_values, privilege_set_pointer_values, text_pointer_values}
 use Rattle.ndr_types.proofs.Entries.{translated_name_has, translated_sid_has}
+use Rattle.ndr_types.proofs.LaterEntries.{flagged_name_has, flagged_ref_has, flagged_sid_has}
 use Rattle.ndr_types.proofs.Parts.{all_as}
 use Rattle.ndr_types.proofs.Records.{privilege_set_kind}
 use Rattle.ndr_types.proofs.ShapeValues.{list_values, referenced_values}
@@ -64,6 +67,19 @@ entries_listed most entries h =
     let k = (list_values most translated_name translated_name_has entries).0 h in
     (k.1, all_as {P = IsTranslatedName} {Q = HasShortText} entries (λ t is. is.1.0) k.2)
 
+pub flagged_counted : (most : ℕ) (entries : List TranslatedSid) → (flagged_sids most).Fits entries
+    → length entries < 2 ^ 32
+flagged_counted most entries h = ((list_values most (flagged (flat translated_sid)) flagged_sid_has entries).0 h).1
+
+pub flagged_listed : (most : ℕ) (entries : List TranslatedName) → (flagged_names most).Fits entries
+    → IsListed HasShortText entries
+flagged_listed most entries h =
+    let k = (list_values most (flagged translated_name) flagged_name_has entries).0 h in
+    (k.1, all_as {P = IsTranslatedName} {Q = HasShortText} entries (λ t is. is.1.0) k.2)
+
+pub refs_counted : (most : ℕ) (entries : List SidRef) → (sid_refs most).Fits entries → length entries < 2 ^ 32
+refs_counted most entries h = ((list_values most (flagged sid_ref) flagged_ref_has entries).0 h).1
+
 short_places : (domains : Option (List ReferencedDomain)) → IfThere (IsListOf any IsDomain) domains
     → IfThere (IsListed IsShortPlace) domains
 short_places None h = tt
@@ -87,7 +103,8 @@ names_short names h =
 
 pub ruleset policy_outs_asked = (few_or_none, short_or_none, texts_listed, sids_counted, privileges_listed)
 
-pub ruleset translated_asked = (domains_listed, entries_counted, entries_listed)
+pub ruleset translated_asked =
+    (domains_listed, entries_counted, entries_listed, flagged_counted, flagged_listed, refs_counted)
 
 pub ruleset policy_args_asked = (few_privileges, few_or_none, short_or_none, texts_listed)
 

@@ -1,6 +1,5 @@
 -- What stands behind the handle in the calls that this interface has alone: the fields of each layout, as they stand in
--- the IDL, and the
--- arguments that they make.
+-- the IDL, and the arguments that they make.
 use Rattle.std.specs.Prelude.{ℕ, Bool, true, false, Option, Some, None, List, [], length, nat_le, ◌==◌}
 use Rattle.ndr_core.specs.Codec.{Codec}
 use Rattle.ndr_core.specs.Cursor.{is_there}
@@ -26,7 +25,7 @@ use Rattle.ndr_types.specs.Pointers.{text_pointer, privilege_set_pointer}
 use Rattle.ndr_types.specs.Privileges.{privilege_set}
 use Rattle.ndr_types.specs.Sids.{sid}
 use Rattle.ndr_types.specs.Texts.{text}
-use Rattle.ndr_types.specs.Translations.{translated_names, translated_sids}
+use Rattle.ndr_types.specs.Translations.{flagged_names, flagged_sids, sid_refs, translated_names, translated_sids}
 use Rattle.lsa_wire.specs.Opening.{object_attributes}
 
 -- ---- what is written for arguments: their parts, in the fields' order
@@ -120,17 +119,32 @@ counted most p =
     led_by length (u32_such (λ count. nat_le count most))
     (λ count. ignored count (u32_such (λ maximum. maximum == count)) (whole (array count p)))
 
+-- LookupLevel and MappedCount, which isn't kept
+abbrev pub level_asked : Codec ℕ
+level_asked = followed 0 u32 u16
+
+-- LookupLevel, and three that aren't kept: MappedCount, LookupOptions, written as 0, and ClientRevision, written as 2
+abbrev pub later_level_asked : Codec ℕ
+later_level_asked = followed 2 u32 (followed 0 u32 level_asked)
+
+-- Count and Names, room for the answers, of which nothing is kept, and the level
+abbrev pub names_asked : {A : Type 0} → Codec (List A) → Codec ℕ → Codec Args
+names_asked room level =
+    made (λ (names, n). args.LookNames n names) names_in
+    (chain (counted most_translated_names text) (λ _. ignored [] room level))
+
+-- SidEnumBuffer, room for the answers, of which nothing is kept, and the level
+abbrev pub sids_asked : {A : Type 0} → Codec (List A) → Codec ℕ → Codec Args
+sids_asked room level =
+    made (λ (sids, n). args.LookSids n sids) sids_in
+    (chain (sid_list most_translated_sids) (λ _. ignored [] room level))
+
 unfoldable pub translation_args : Translation → Codec Args
--- Count, Names, TranslatedSids, LookupLevel, MappedCount; of the translations and the last count nothing is kept
-translation_args translation.Names =
-    made (λ (names, level). args.LookNames level names) names_in
-    (chain (counted most_translated_names text)
-    (λ _. ignored [] (translated_sids most_translated_names) (followed 0 u32 u16)))
--- SidEnumBuffer, TranslatedNames, LookupLevel, MappedCount
-translation_args translation.Sids =
-    made (λ (sids, level). args.LookSids level sids) sids_in
-    (chain (sid_list most_translated_sids)
-    (λ _. ignored [] (translated_names most_translated_sids) (followed 0 u32 u16)))
+translation_args translation.Names = names_asked (translated_sids most_translated_names) level_asked
+translation_args translation.Sids = sids_asked (translated_names most_translated_sids) level_asked
+translation_args translation.Names2 = names_asked (flagged_sids most_translated_names) later_level_asked
+translation_args translation.Sids2 = sids_asked (flagged_names most_translated_sids) later_level_asked
+translation_args translation.Names3 = names_asked (sid_refs most_translated_names) later_level_asked
 
 -- behind the handle, if the operation takes one
 unfoldable pub own_fields : Fields → Codec Args

@@ -7,8 +7,8 @@ use Rattle.std.proofs.lemmas.Bool.{eqb-true}
 use Rattle.std.proofs.lemmas.List.Elements.{All-nil}
 use Rattle.ndr_core.specs.Cursor.{is_there}
 use Rattle.ndr_core.specs.Codec.{Codec}
-use Rattle.ndr_core.specs.Shapes.{followed, u16, u32, u32_such, ignored}
-use Rattle.ndr_core.specs.Parts.{Part, whole, array, flat}
+use Rattle.ndr_core.specs.Shapes.{u32_such, ignored}
+use Rattle.ndr_core.specs.Parts.{Part, whole, array, flat, list_of}
 use Rattle.ndr_core.proofs.Complete.{IsComplete, u8_complete, u16_complete, u32_complete, such_complete, chain_complete}
 use Rattle.ndr_core.proofs.Complete.{made_complete, led_by_complete, followed_complete, ignored_complete, ignored_same}
 use Rattle.acct_codes.specs.Limits.{most_rights, most_translated_names, most_translated_sids}
@@ -23,9 +23,10 @@ use Rattle.acct_layouts.specs.declared.fields.Translation.{Translation}
 use Rattle.acct_layouts.specs.declared.fields.Translation.TheVariants as translation
 use Rattle.ndr_types.specs.Sids.{sid_pointer}
 use Rattle.ndr_types.specs.Texts.{text}
-use Rattle.ndr_types.specs.Translations.{translated_name, translated_names, translated_sid, translated_sids}
+use Rattle.ndr_types.specs.Translations.{flagged, sid_ref, translated_name, translated_sid}
 use Rattle.ndr_types.proofs.Entries.{privilege_set_pointer_complete, text_pointer_complete, translated_name_has}
 use Rattle.ndr_types.proofs.Entries.{translated_sid_has}
+use Rattle.ndr_types.proofs.LaterEntries.{flagged_name_has, flagged_ref_has, flagged_sid_has}
 use Rattle.ndr_types.proofs.Parts.{Has, array_all, array_complete}
 use Rattle.ndr_types.proofs.Records.{privilege_set_complete}
 use Rattle.ndr_types.proofs.ShapeValues.{list_complete, list_values}
@@ -33,7 +34,8 @@ use Rattle.ndr_types.proofs.Sids.{sid_complete, sid_pointer_has}
 use Rattle.ndr_types.proofs.Texts.{text_has}
 use Rattle.lsa_wire.specs.Arguments.{connect_args, flag, flag_number, policy_args, counted, translation_args}
 use Rattle.lsa_wire.specs.Arguments.{own_fields, opening_in, account_in, added_in, removed_in, bits_in, luid_in}
-use Rattle.lsa_wire.specs.Arguments.{right_in, rights_in, all_rights_in, names_in, sids_in}
+use Rattle.lsa_wire.specs.Arguments.{right_in, rights_in, all_rights_in, names_in, sids_in, level_asked}
+use Rattle.lsa_wire.specs.Arguments.{later_level_asked, names_asked, sids_asked}
 use Rattle.lsa_wire.specs.Opening.{object_attributes}
 use Rattle.acct_stubs.proofs.Complete.{server_name_complete, server_name_fits, unspelled_complete}
 
@@ -130,31 +132,43 @@ counted_complete {A = A} most p q =
           (λ (k : ℕ). (counted_rest p k).Fits xs) (sym len) h,
     ))
 
-level_complete : IsComplete (followed 0 u32 u16)
+level_complete : IsComplete level_asked
 level_complete = followed_complete 0 u16_complete u32_complete (lit< tt)
 
-pub no_sids_fit : (translated_sids most_translated_names).Fits []
-no_sids_fit =
-    (list_values most_translated_names (flat translated_sid) translated_sid_has []).1 (omega arith, lit< tt, All-nil _)
+later_level_complete : IsComplete later_level_asked
+later_level_complete =
+    followed_complete 2 (followed_complete 0 level_complete u32_complete (lit< tt)) u32_complete (lit< tt)
 
-pub no_names_fit : (translated_names most_translated_sids).Fits []
-no_names_fit =
-    (list_values most_translated_sids translated_name translated_name_has []).1 (omega arith, lit< tt, All-nil _)
+pub none_fit : {S A : Type 0} {P : A → Type 0} (most : ℕ) (p : Part S A) → Has p P → (list_of most p).Fits []
+none_fit most p q = (list_values most p q []).1 (omega arith, lit< tt, All-nil _)
+
+names_complete : {S A : Type 0} {P : A → Type 0} (p : Part S A) (level : Codec ℕ) → Has p P → IsComplete level
+    → IsComplete (names_asked (list_of most_translated_names p) level)
+names_complete p level q l =
+    made_complete (λ x. args.LookNames x.1 x.0) names_in
+    (chain_complete (counted_complete most_translated_names text text_has)
+    (λ x h. ignored_complete [] (list_complete most_translated_names p q) l (none_fit most_translated_names p q)))
+    (λ x h. (h, refl))
+
+sids_complete : {S A : Type 0} {P : A → Type 0} (p : Part S A) (level : Codec ℕ) → Has p P → IsComplete level
+    → IsComplete (sids_asked (list_of most_translated_sids p) level)
+sids_complete p level q l =
+    made_complete (λ x. args.LookSids x.1 x.0) sids_in
+    (chain_complete (list_complete most_translated_sids sid_pointer sid_pointer_has)
+    (λ x h. ignored_complete [] (list_complete most_translated_sids p q) l (none_fit most_translated_sids p q)))
+    (λ x h. (h, refl))
 
 translation_complete : (t : Translation) → IsComplete (translation_args t)
 unfolding translation_args
 translation_complete translation.Names =
-    made_complete (λ x. args.LookNames x.1 x.0) names_in
-    (chain_complete (counted_complete most_translated_names text text_has)
-    (λ x h. ignored_complete []
-    (list_complete most_translated_names (flat translated_sid) translated_sid_has) level_complete no_sids_fit))
-    (λ x h. (h, refl))
-translation_complete translation.Sids =
-    made_complete (λ x. args.LookSids x.1 x.0) sids_in
-    (chain_complete (list_complete most_translated_sids sid_pointer sid_pointer_has)
-    (λ x h. ignored_complete [] (list_complete most_translated_sids translated_name translated_name_has)
-    level_complete no_names_fit))
-    (λ x h. (h, refl))
+    names_complete (flat translated_sid) level_asked translated_sid_has level_complete
+translation_complete translation.Sids = sids_complete translated_name level_asked translated_name_has level_complete
+translation_complete translation.Names2 =
+    names_complete (flagged (flat translated_sid)) later_level_asked flagged_sid_has later_level_complete
+translation_complete translation.Sids2 =
+    sids_complete (flagged translated_name) later_level_asked flagged_name_has later_level_complete
+translation_complete translation.Names3 =
+    names_complete (flagged sid_ref) later_level_asked flagged_ref_has later_level_complete
 
 pub fields_complete : (f : Fields) → IsComplete (own_fields f)
 unfolding own_fields

@@ -1,14 +1,16 @@
 -- The arguments that the layouts of this interface alone can write are those of their kinds.
-use Rattle.std.proofs.Common.{◌≡◌, ℕ, ◌^◌, ◌<◌, ◌≤◌, Bool, true, false, All, List, length, Some, refl}
+use Rattle.std.proofs.Common.{◌≡◌, ℕ, ◌^◌, ◌<◌, ◌≤◌, Bool, true, false, All, List, [], length, Some, refl}
 use Rattle.std.proofs.Common.{arith, lit<}
 use Rattle.std.proofs.lemmas.Bool.{leb-true, le-leb, eq-eqb}
-use Rattle.ndr_core.specs.Parts.{Part, PartFits, list_of}
+use Rattle.ndr_core.specs.Codec.{Codec}
+use Rattle.ndr_core.specs.Parts.{Part, PartFits, flat, list_of}
 use Rattle.acct_codes.specs.Limits.{most_rights, most_translated_names, most_translated_sids}
 use Rattle.acct_calls.specs.declared.calls.Args.{Args}
 use Rattle.acct_calls.specs.declared.calls.Args.TheVariants as args
 use Rattle.acct_calls.specs.declared.calls.Face.TheVariants.{Lsa}
 use Rattle.acct_layouts.specs.Bounds.{IsText}
-use Rattle.acct_layouts.specs.CallShapes.{AreArguments, AreConnectArgs, ArePolicyArgs, AreTranslationArgs}
+use Rattle.acct_layouts.specs.CallShapes.{AreArguments, AreConnectArgs, AreNamesAsked, ArePolicyArgs, AreSidsAsked}
+use Rattle.acct_layouts.specs.CallShapes.{AreTranslationArgs}
 use Rattle.acct_layouts.specs.declared.fields.Connect.{Connect}
 use Rattle.acct_layouts.specs.declared.fields.Connect.TheVariants as connect
 use Rattle.acct_layouts.specs.declared.fields.Fields.{Fields}
@@ -20,15 +22,19 @@ use Rattle.acct_layouts.specs.declared.fields.Translation.TheVariants as transla
 use Rattle.acct_stubs.specs.Shared.{are_own}
 use Rattle.ndr_types.specs.Sids.{sid_pointer}
 use Rattle.ndr_types.specs.Texts.{text}
-use Rattle.ndr_types.proofs.Entries.{privilege_set_pointer_values, text_pointer_values}
+use Rattle.ndr_types.specs.Translations.{flagged, flagged_names, flagged_sids, sid_ref, sid_refs, translated_name}
+use Rattle.ndr_types.specs.Translations.{translated_names, translated_sid, translated_sids}
+use Rattle.ndr_types.proofs.Entries.{privilege_set_pointer_values, text_pointer_values, translated_name_has}
+use Rattle.ndr_types.proofs.Entries.{translated_sid_has}
+use Rattle.ndr_types.proofs.LaterEntries.{flagged_name_has, flagged_ref_has, flagged_sid_has}
 use Rattle.ndr_types.proofs.Parts.{Has, all_as, array_all, array_fits}
 use Rattle.ndr_types.proofs.Records.{privilege_set_fits, privilege_set_kind}
 use Rattle.ndr_types.proofs.ShapeValues.{list_values}
 use Rattle.ndr_types.proofs.Sids.{sid_fits, sid_kind, sid_pointer_has}
 use Rattle.ndr_types.proofs.Texts.{text_has}
 use Rattle.lsa_wire.specs.Arguments.{connect_args, flag, policy_args, counted, translation_args}
-use Rattle.lsa_wire.specs.Arguments.{own_fields}
-use Rattle.lsa_wire.specs.Complete.{attributes_fit, no_sids_fit, no_names_fit}
+use Rattle.lsa_wire.specs.Arguments.{own_fields, level_asked, later_level_asked, names_asked, sids_asked}
+use Rattle.lsa_wire.specs.Complete.{attributes_fit, none_fit}
 use Rattle.acct_stubs.proofs.Complete.{server_name_fits}
 
 -- ---- the opening of the policy
@@ -107,31 +113,85 @@ counted_fits {P = P} p q xs few all =
     let a = array_fits p xs (all_as {P = P} {Q = PartFits p} xs q.fits all) in
     (((small, le-leb n most_translated_names few), (((small, eq-eqb n n refl), (a, refl)), refl)), refl)
 
-translation_kind : (t : Translation) (a : Args) → (translation_args t).Fits a → AreTranslationArgs t a
-unfolding translation_args
-translation_kind translation.Names (args.LookNames level names) f = (
-  f.0.1.0.1.0.0,
+abbrev IsShortLevel : ℕ → Type 0
+IsShortLevel n = n < 2 ^ 16
+
+-- The levels that are asked are the shorts.
+record AsksLevels (level : Codec ℕ) : Type 0 where
+  pub kind : (n : ℕ) → level.Fits n → IsShortLevel n
+  pub fits : (n : ℕ) → IsShortLevel n → level.Fits n
+
+asks_levels : AsksLevels level_asked
+asks_levels = record { kind = λ n h. h.0.0; fits = λ n h. ((h, lit< tt), refl) }
+
+asks_later_levels : AsksLevels later_level_asked
+asks_later_levels = record {
+  kind = λ n h. asks_levels.kind n h.0.0.0.0;
+  fits = λ n h. ((((asks_levels.fits n h, lit< tt), refl), lit< tt), refl);
+}
+
+names_kind : {A : Type 0} (room : Codec (List A)) (level : Codec ℕ) → AsksLevels level → (a : Args)
+    → (names_asked room level).Fits a → AreNamesAsked a
+names_kind room level l (args.LookNames n names) f = (
+  l.kind n f.0.1.0.1,
   counted_few most_translated_names text names f.0.0,
   all_as {P = PartFits text} {Q = IsText} names text_has.kind
       (counted_all most_translated_names text names f.0.0),
 )
-translation_kind translation.Sids (args.LookSids level sids) f =
-    let k = (list_values most_translated_sids sid_pointer sid_pointer_has sids).0 f.0.0 in
-    (f.0.1.0.1.0.0, k.0, k.2)
-translation_kind _ _ f = absurd (cc f.1)
+names_kind room level l _ f = absurd (cc f.1)
 
-translation_fits : (t : Translation) (a : Args) → AreTranslationArgs t a → (translation_args t).Fits a
+sids_kind : {A : Type 0} (room : Codec (List A)) (level : Codec ℕ) → AsksLevels level → (a : Args)
+    → (sids_asked room level).Fits a → AreSidsAsked a
+sids_kind room level l (args.LookSids n sids) f =
+    let k = (list_values most_translated_sids sid_pointer sid_pointer_has sids).0 f.0.0 in
+    (l.kind n f.0.1.0.1, k.0, k.2)
+sids_kind room level l _ f = absurd (cc f.1)
+
+translation_kind : (t : Translation) (a : Args) → (translation_args t).Fits a → AreTranslationArgs t a
 unfolding translation_args
-translation_fits translation.Names (args.LookNames level names) is =
-    ((counted_fits text text_has names is.1 is.2, ((no_sids_fit, ((is.0, lit< tt), refl)), refl)), refl)
-translation_fits translation.Sids (args.LookSids level sids) is = (
+translation_kind translation.Names a f = names_kind (translated_sids most_translated_names) level_asked asks_levels a f
+translation_kind translation.Sids a f = sids_kind (translated_names most_translated_sids) level_asked asks_levels a f
+translation_kind translation.Names2 a f =
+    names_kind (flagged_sids most_translated_names) later_level_asked asks_later_levels a f
+translation_kind translation.Sids2 a f =
+    sids_kind (flagged_names most_translated_sids) later_level_asked asks_later_levels a f
+translation_kind translation.Names3 a f =
+    names_kind (sid_refs most_translated_names) later_level_asked asks_later_levels a f
+
+names_fit : {A : Type 0} (room : Codec (List A)) (level : Codec ℕ) → room.Fits [] → AsksLevels level → (a : Args)
+    → AreNamesAsked a → (names_asked room level).Fits a
+names_fit room level none l (args.LookNames n names) is =
+    ((counted_fits text text_has names is.1 is.2, ((none, l.fits n is.0), refl)), refl)
+names_fit room level none l _ is = absurd is
+
+sids_fit : {A : Type 0} (room : Codec (List A)) (level : Codec ℕ) → room.Fits [] → AsksLevels level → (a : Args)
+    → AreSidsAsked a → (sids_asked room level).Fits a
+sids_fit room level none l (args.LookSids n sids) is = (
   (
     (list_values most_translated_sids sid_pointer sid_pointer_has sids).1 (is.1, omega (arith, is.1), is.2),
-    ((no_names_fit, ((is.0, lit< tt), refl)), refl),
+    ((none, l.fits n is.0), refl),
   ),
   refl,
 )
-translation_fits _ _ is = absurd is
+sids_fit room level none l _ is = absurd is
+
+translation_fits : (t : Translation) (a : Args) → AreTranslationArgs t a → (translation_args t).Fits a
+unfolding translation_args
+translation_fits translation.Names a is =
+    names_fit (translated_sids most_translated_names) level_asked
+    (none_fit most_translated_names (flat translated_sid) translated_sid_has) asks_levels a is
+translation_fits translation.Sids a is =
+    sids_fit (translated_names most_translated_sids) level_asked
+    (none_fit most_translated_sids translated_name translated_name_has) asks_levels a is
+translation_fits translation.Names2 a is =
+    names_fit (flagged_sids most_translated_names) later_level_asked
+    (none_fit most_translated_names (flagged (flat translated_sid)) flagged_sid_has) asks_later_levels a is
+translation_fits translation.Sids2 a is =
+    sids_fit (flagged_names most_translated_sids) later_level_asked
+    (none_fit most_translated_sids (flagged translated_name) flagged_name_has) asks_later_levels a is
+translation_fits translation.Names3 a is =
+    names_fit (sid_refs most_translated_names) later_level_asked
+    (none_fit most_translated_names (flagged sid_ref) flagged_ref_has) asks_later_levels a is
 
 -- ---- what stands behind the handle
 

@@ -1,6 +1,7 @@
 -- Reading goes onward: of each layout that this interface has alone, from the shapes that it is made of.
-use Rattle.std.proofs.Common.{ℕ, Bool, false, [], length, None}
-use Rattle.ndr_core.specs.Shapes.{followed, u8, u16, u32, pointer_such}
+use Rattle.std.proofs.Common.{ℕ, Bool, false, List, [], length, None}
+use Rattle.ndr_core.specs.Codec.{Codec}
+use Rattle.ndr_core.specs.Shapes.{u8, pointer_such}
 use Rattle.ndr_core.specs.Parts.{Part, array}
 use Rattle.acct_codes.specs.Limits.{most_rights, most_translated_names, most_translated_sids}
 use Rattle.acct_layouts.specs.declared.fields.Connect.{Connect}
@@ -26,11 +27,13 @@ use Rattle.ndr_types.proofs.Onward.{takes_text, sid_onward, sid_list_onward, tex
 use Rattle.ndr_types.proofs.Onward.{referenced_onward}
 use Rattle.ndr_types.proofs.OnwardEntries.{privilege_names_onward, privilege_set_pointer_onward, text_pointer_onward}
 use Rattle.ndr_types.proofs.OnwardEntries.{translated_names_onward, translated_sids_onward}
+use Rattle.ndr_types.proofs.LaterEntries.{flagged_names_onward, flagged_sids_onward, sid_refs_onward}
 use Rattle.lsa_wire.specs.Arguments.{connect_args, flag, policy_args, counted, translation_args, own_fields}
+use Rattle.lsa_wire.specs.Arguments.{level_asked, later_level_asked, names_asked, sids_asked}
 use Rattle.lsa_wire.specs.Opening.{is_null, attributes_head, attributes_tail, quality, object_attributes}
 use Rattle.lsa_wire.specs.Opening.{root_byte}
 use Rattle.acct_stubs.specs.Outputs.{with_status}
-use Rattle.lsa_wire.specs.Outputs.{policy_outs, translated, own_replies}
+use Rattle.lsa_wire.specs.Outputs.{policy_outs, translated, translated_fields, own_replies}
 use Rattle.acct_stubs.proofs.Onward.{server_name_onward, takes_unspelled}
 
 small : Takes 0 u8
@@ -98,19 +101,30 @@ counted_onward most p q =
     (λ count. takes_ignored 0 count (any_size 4 (takes_such 4 _ takes_u32))
     (takes_whole (array count p) (takes_array count p q)))
 
-level_onward : Takes 0 (followed 0 u32 u16)
+level_onward : Takes 0 level_asked
 level_onward = takes_followed 0 short long
+
+later_level_onward : Takes 0 later_level_asked
+later_level_onward = takes_followed 2 (takes_followed 0 level_onward long) long
+
+names_onward : {A : Type 0} {room : Codec (List A)} {level : Codec ℕ} → Takes 0 room → Takes 0 level
+    → Takes 0 (names_asked room level)
+names_onward p q =
+    takes_made 0 _ _
+    (takes_chain 0 (counted_onward most_translated_names text takes_text) (λ x. takes_ignored 0 [] p q))
+
+sids_onward : {A : Type 0} {room : Codec (List A)} {level : Codec ℕ} → Takes 0 room → Takes 0 level
+    → Takes 0 (sids_asked room level)
+sids_onward p q =
+    takes_made 0 _ _ (takes_chain 0 (sid_list_onward most_translated_sids) (λ x. takes_ignored 0 [] p q))
 
 translation_onward : (t : Translation) → Takes 0 (translation_args t)
 unfolding translation_args
-translation_onward translation.Names =
-    takes_made 0 _ _
-    (takes_chain 0 (counted_onward most_translated_names text takes_text)
-    (λ x. takes_ignored 0 [] (translated_sids_onward most_translated_names) level_onward))
-translation_onward translation.Sids =
-    takes_made 0 _ _
-    (takes_chain 0 (sid_list_onward most_translated_sids)
-    (λ x. takes_ignored 0 [] (translated_names_onward most_translated_sids) level_onward))
+translation_onward translation.Names = names_onward (translated_sids_onward most_translated_names) level_onward
+translation_onward translation.Sids = sids_onward (translated_names_onward most_translated_sids) level_onward
+translation_onward translation.Names2 = names_onward (flagged_sids_onward most_translated_names) later_level_onward
+translation_onward translation.Sids2 = sids_onward (flagged_names_onward most_translated_sids) later_level_onward
+translation_onward translation.Names3 = names_onward (sid_refs_onward most_translated_names) later_level_onward
 
 pub fields_onward : (f : Fields) → Takes 0 (own_fields f)
 unfolding own_fields
@@ -135,16 +149,18 @@ outs_onward outs.Luid = takes_made 0 _ _ (takes_chain 0 long (λ x. long))
 outs_onward outs.Name = takes_made 0 _ _ text_pointer_onward
 outs_onward outs.Rights = takes_made 0 _ _ (text_list_onward any)
 
+translated_fields_onward : {A : Type 0} {entries : Codec (List A)} → Takes 0 entries
+    → Takes 0 (translated_fields entries)
+translated_fields_onward p =
+    takes_chain 0 referenced_onward (λ x. takes_chain 0 p (λ y. takes_chain 0 long (λ z. long)))
+
 translated_onward : (t : Translation) → Takes 0 (translated t)
 unfolding translated
-translated_onward translation.Names =
-    takes_made 0 _ _
-    (takes_chain 0 referenced_onward
-    (λ x. takes_chain 0 (translated_sids_onward any) (λ y. takes_chain 0 long (λ z. long))))
-translated_onward translation.Sids =
-    takes_made 0 _ _
-    (takes_chain 0 referenced_onward
-    (λ x. takes_chain 0 (translated_names_onward any) (λ y. takes_chain 0 long (λ z. long))))
+translated_onward translation.Names = takes_made 0 _ _ (translated_fields_onward (translated_sids_onward any))
+translated_onward translation.Sids = takes_made 0 _ _ (translated_fields_onward (translated_names_onward any))
+translated_onward translation.Names2 = takes_made 0 _ _ (translated_fields_onward (flagged_sids_onward any))
+translated_onward translation.Sids2 = takes_made 0 _ _ (translated_fields_onward (flagged_names_onward any))
+translated_onward translation.Names3 = takes_made 0 _ _ (translated_fields_onward (sid_refs_onward any))
 
 status_onward : (p : PolicyOutputs) → Takes 0 (with_status (policy_outs p))
 unfolding with_status

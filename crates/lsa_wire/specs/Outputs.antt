@@ -7,6 +7,7 @@ use Rattle.dtyp_sid.specs.Value.{SidValue}
 use Rattle.acct_calls.specs.declared.lists.ReferencedDomain.{ReferencedDomain}
 use Rattle.acct_calls.specs.declared.lists.Privilege.{Privilege}
 use Rattle.acct_calls.specs.declared.lists.RidName.{RidName}
+use Rattle.acct_calls.specs.declared.lists.SidRef.{SidRef}
 use Rattle.acct_calls.specs.declared.lists.TranslatedName.{TranslatedName}
 use Rattle.acct_calls.specs.declared.lists.TranslatedSid.{TranslatedSid}
 use Rattle.acct_calls.specs.declared.replies.Outs.{Outs}
@@ -26,7 +27,7 @@ use Rattle.ndr_types.specs.Domains.{or_empty, referenced}
 use Rattle.ndr_types.specs.Lists.{sid_list, text_list}
 use Rattle.ndr_types.specs.Pointers.{text_pointer, privilege_set_pointer}
 use Rattle.ndr_types.specs.PrivilegeNames.{privilege_names}
-use Rattle.ndr_types.specs.Translations.{translated_names, translated_sids}
+use Rattle.ndr_types.specs.Translations.{flagged_names, flagged_sids, sid_refs, translated_names, translated_sids}
 
 -- ---- what is written for outputs: their parts, in the fields' order
 
@@ -105,13 +106,24 @@ names_parts (reply.Done status (outs.Names domains entries mapped)) =
     (referred_of status domains, (entries, (mapped, status)))
 names_parts _ = (None, ([], (0, 0)))
 
+abbrev pub refs_done : TranslatedParts SidRef → Reply
+refs_done = λ (domains, (entries, (mapped, status))). reply.Done status (outs.SidRefs (or_empty domains) entries mapped)
+
+abbrev pub refs_parts : Reply → TranslatedParts SidRef
+refs_parts (reply.Done status (outs.SidRefs domains entries mapped)) =
+    (referred_of status domains, (entries, (mapped, status)))
+refs_parts _ = (None, ([], (0, 0)))
+
+abbrev pub translated_fields : {A : Type 0} → Codec (List A) → Codec (TranslatedParts A)
+translated_fields entries = chain referenced (λ _. chain entries (λ _. chain u32 (λ _. u32)))
+
+-- ReferencedDomains, TranslatedSids or TranslatedNames, MappedCount
 unfoldable pub translated : Translation → Codec Reply
--- ReferencedDomains, TranslatedSids, MappedCount
-translated translation.Names =
-    made sids_done sids_parts (chain referenced (λ _. chain (translated_sids any) (λ _. chain u32 (λ _. u32))))
--- ReferencedDomains, TranslatedNames, MappedCount
-translated translation.Sids =
-    made names_done names_parts (chain referenced (λ _. chain (translated_names any) (λ _. chain u32 (λ _. u32))))
+translated translation.Names = made sids_done sids_parts (translated_fields (translated_sids any))
+translated translation.Sids = made names_done names_parts (translated_fields (translated_names any))
+translated translation.Names2 = made sids_done sids_parts (translated_fields (flagged_sids any))
+translated translation.Sids2 = made names_done names_parts (translated_fields (flagged_names any))
+translated translation.Names3 = made refs_done refs_parts (translated_fields (sid_refs any))
 
 -- ---- whole replies
 

@@ -1,22 +1,18 @@
 -- The replies that the layouts of this interface alone can write are those of their shapes.
-use Rattle.std.proofs.Common.{◌≡◌, Bool, true, false, cond, List, [], Option, Some, None, refl, sym}
+use Rattle.std.proofs.Common.{◌≡◌, ℕ, Bool, true, false, cond, List, [], Option, Some, None, refl, sym}
 use Rattle.std.proofs.Common.{ap, subst, arith, lit<}
 use Rattle.std.proofs.lemmas.List.Elements.{All-nil}
-use Rattle.ndr_core.specs.Codec.{Codec}
 use Rattle.ndr_core.specs.Cursor.{Cursor}
-use Rattle.ndr_core.specs.Shapes.{u32, chain}
 use Rattle.ndr_core.specs.Parts.{Part, flat, list_of}
 use Rattle.ndr_core.specs.Written.{IsBytes}
 use Rattle.ndr_core.proofs.Complete.{IsComplete, u32_complete, chain_complete, made_complete}
 use Rattle.acct_calls.specs.declared.calls.Face.TheVariants.{Lsa}
 use Rattle.acct_calls.specs.declared.lists.ReferencedDomain.{ReferencedDomain}
-use Rattle.acct_calls.specs.declared.lists.TranslatedName.{TranslatedName}
-use Rattle.acct_calls.specs.declared.lists.TranslatedSid.{TranslatedSid}
 use Rattle.acct_calls.specs.declared.replies.Outs.{Outs}
 use Rattle.acct_calls.specs.declared.replies.Outs.TheVariants as outs
 use Rattle.acct_calls.specs.declared.replies.Reply.{Reply}
 use Rattle.acct_calls.specs.declared.replies.Reply.TheVariants as reply
-use Rattle.acct_layouts.specs.Bounds.{IsDomain, IsListed}
+use Rattle.acct_layouts.specs.Bounds.{IsDomain, IsListed, IsLong}
 use Rattle.acct_layouts.specs.Refusals.{is_refusal}
 use Rattle.acct_layouts.specs.ReplyShapes.{ArePolicyOuts, IsReplyOf, RefersRightly, domains_of}
 use Rattle.acct_layouts.specs.declared.fields.Translation.{Translation}
@@ -31,17 +27,18 @@ use Rattle.ndr_types.specs.Accounts.{any}
 use Rattle.ndr_types.specs.Domains.{or_empty, referenced}
 use Rattle.ndr_types.specs.Sids.{sid_pointer}
 use Rattle.ndr_types.specs.Texts.{text}
-use Rattle.ndr_types.specs.Translations.{translated_name, translated_names, translated_sid, translated_sids}
+use Rattle.ndr_types.specs.Translations.{flagged, sid_ref, translated_name, translated_sid}
 use Rattle.ndr_types.proofs.Entries.{privilege_names_complete, privilege_names_values, privilege_set_pointer_complete}
 use Rattle.ndr_types.proofs.Entries.{privilege_set_pointer_values, text_pointer_complete, text_pointer_values}
 use Rattle.ndr_types.proofs.Entries.{translated_name_has, translated_sid_has}
+use Rattle.ndr_types.proofs.LaterEntries.{flagged_name_has, flagged_ref_has, flagged_sid_has}
 use Rattle.ndr_types.proofs.Parts.{Has}
 use Rattle.ndr_types.proofs.ShapeValues.{list_complete, list_values, referenced_complete, referenced_values}
 use Rattle.ndr_types.proofs.Sids.{sid_pointer_has}
 use Rattle.ndr_types.proofs.Texts.{text_has}
 use Rattle.lsa_wire.specs.Outputs.{policy_outs, privilege_page_out, sid_page_out, privileges_out, bits_out, luid_out}
 use Rattle.lsa_wire.specs.Outputs.{name_out, names_out, referred_of, TranslatedParts, sids_done, names_done}
-use Rattle.lsa_wire.specs.Outputs.{translated, own_replies}
+use Rattle.lsa_wire.specs.Outputs.{refs_done, translated, translated_fields, own_replies}
 
 -- ---- lists of any length that a count can say
 
@@ -136,87 +133,131 @@ domains_in (reply.Fault status) = []
 
 -- ---- translations
 
-abbrev sids_fields : Codec (TranslatedParts TranslatedSid)
-sids_fields = chain referenced (λ _. chain (translated_sids any) (λ _. chain u32 (λ _. u32)))
-
-abbrev names_fields : Codec (TranslatedParts TranslatedName)
-names_fields = chain referenced (λ _. chain (translated_names any) (λ _. chain u32 (λ _. u32)))
-
-sids_fields_complete : IsComplete sids_fields
-sids_fields_complete =
+fields_complete : {S A : Type 0} {P : A → Type 0} (p : Part S A) → Has p P
+    → IsComplete (translated_fields (list_of any p))
+fields_complete p q =
     chain_complete referenced_complete
-    (λ x h. chain_complete (list_complete any (flat translated_sid) translated_sid_has)
-    (λ y k. chain_complete u32_complete (λ z l. u32_complete)))
+    (λ x h. chain_complete (list_complete any p q) (λ y k. chain_complete u32_complete (λ z l. u32_complete)))
 
-names_fields_complete : IsComplete names_fields
-names_fields_complete =
-    chain_complete referenced_complete
-    (λ x h. chain_complete (list_complete any translated_name translated_name_has)
-    (λ y k. chain_complete u32_complete (λ z l. u32_complete)))
+abbrev HasFields : {A : Type 0} → (A → Type 0) → ℕ → List ReferencedDomain → List A → ℕ → Type 0
+HasFields P status domains entries mapped =
+    IsLong status × (IsListed IsDomain domains × IsListed P entries × IsLong mapped)
 
-sids_kind : (x : TranslatedParts TranslatedSid) → sids_fields.Fits x → RefersRightly (sids_done x)
-    → IsReplyOf (outputs.Translation translation.Names) (sids_done x)
-sids_kind x f rightly = (
-  f.1.1.1,
-  (domains_kind x.0 f.0, listed_kind (flat translated_sid) translated_sid_has x.1.0 f.1.0, f.1.1.0),
-  rightly,
-)
+-- what is read
+fields_made : {S A : Type 0} {P : A → Type 0} (p : Part S A) → Has p P → (x : TranslatedParts A)
+    → (translated_fields (list_of any p)).Fits x → HasFields P x.1.1.1 (or_empty x.0) x.1.0 x.1.1.0
+fields_made p q x f = (f.1.1.1, (domains_kind x.0 f.0, listed_kind p q x.1.0 f.1.0, f.1.1.0))
 
-names_kind : (x : TranslatedParts TranslatedName) → names_fields.Fits x → RefersRightly (names_done x)
-    → IsReplyOf (outputs.Translation translation.Sids) (names_done x)
-names_kind x f rightly =
-    (f.1.1.1, (domains_kind x.0 f.0, listed_kind translated_name translated_name_has x.1.0 f.1.0, f.1.1.0), rightly)
+-- what can be written
+fields_kind : {S A : Type 0} {P : A → Type 0} (p : Part S A) → Has p P → (status : ℕ) (domains : List ReferencedDomain)
+    (entries : List A) (mapped : ℕ)
+    → (translated_fields (list_of any p)).Fits (referred_of status domains, (entries, (mapped, status)))
+    → or_empty (referred_of status domains) ≡ domains
+    → HasFields P status domains entries mapped × (is_refusal status ≡ true → domains ≡ [])
+fields_kind {A = A} p q status domains entries mapped f e =
+    let x : TranslatedParts A = (referred_of status domains, (entries, (mapped, status))) in
+    let k = fields_made p q x f in (
+      (k.0, (subst (λ (ds : List ReferencedDomain). IsListed IsDomain ds) e k.1.0, k.1.1, k.1.2)),
+      refused_none (is_refusal status) domains e,
+    )
+
+fields_fit : {S A : Type 0} {P : A → Type 0} (p : Part S A) → Has p P → (status : ℕ) (domains : List ReferencedDomain)
+    (entries : List A) (mapped : ℕ) → HasFields P status domains entries mapped
+    → (translated_fields (list_of any p)).Fits (referred_of status domains, (entries, (mapped, status)))
+fields_fit p q status domains entries mapped is =
+    (domains_fit (is_refusal status) domains is.1.0, (listed_fits p q entries is.1.1, (is.1.2, is.0)))
 
 translated_kind : (t : Translation) (r : Reply) → (translated t).Fits r → IsReplyOf (outputs.Translation t) r
 unfolding translated domains_in
 translated_kind translation.Names (reply.Done status (outs.Sids domains entries mapped)) f =
     let e : or_empty (referred_of status domains) ≡ domains = ap domains_in f.1 in
-    let parts : TranslatedParts TranslatedSid = (referred_of status domains, (entries, (mapped, status))) in
-    subst (λ (r : Reply). IsReplyOf (outputs.Translation translation.Names) r) f.1
-    (sids_kind parts f.0
-    (subst (λ (r : Reply). RefersRightly r) (sym f.1) (refused_none (is_refusal status) domains e)))
+    let k = fields_kind (flat translated_sid) translated_sid_has status domains entries mapped f.0 e in
+    (k.0.0, k.0.1, k.1)
 translated_kind translation.Sids (reply.Done status (outs.Names domains entries mapped)) f =
     let e : or_empty (referred_of status domains) ≡ domains = ap domains_in f.1 in
-    let parts : TranslatedParts TranslatedName = (referred_of status domains, (entries, (mapped, status))) in
-    subst (λ (r : Reply). IsReplyOf (outputs.Translation translation.Sids) r) f.1
-    (names_kind parts f.0
-    (subst (λ (r : Reply). RefersRightly r) (sym f.1) (refused_none (is_refusal status) domains e)))
+    let k = fields_kind translated_name translated_name_has status domains entries mapped f.0 e in
+    (k.0.0, k.0.1, k.1)
+translated_kind translation.Names2 (reply.Done status (outs.Sids domains entries mapped)) f =
+    let e : or_empty (referred_of status domains) ≡ domains = ap domains_in f.1 in
+    let k = fields_kind (flagged (flat translated_sid)) flagged_sid_has status domains entries mapped f.0 e in
+    (k.0.0, k.0.1, k.1)
+translated_kind translation.Sids2 (reply.Done status (outs.Names domains entries mapped)) f =
+    let e : or_empty (referred_of status domains) ≡ domains = ap domains_in f.1 in
+    let k = fields_kind (flagged translated_name) flagged_name_has status domains entries mapped f.0 e in
+    (k.0.0, k.0.1, k.1)
+translated_kind translation.Names3 (reply.Done status (outs.SidRefs domains entries mapped)) f =
+    let e : or_empty (referred_of status domains) ≡ domains = ap domains_in f.1 in
+    let k = fields_kind (flagged sid_ref) flagged_ref_has status domains entries mapped f.0 e in
+    (k.0.0, k.0.1, k.1)
 translated_kind _ _ f = absurd (cc f.1)
 
 translated_fits : (t : Translation) (r : Reply) → IsReplyOf (outputs.Translation t) r → (translated t).Fits r
 unfolding translated
 translated_fits translation.Names (reply.Done status (outs.Sids domains entries mapped)) is = (
-  (
-    domains_fit (is_refusal status) domains is.1.0,
-    (listed_fits (flat translated_sid) translated_sid_has entries is.1.1, (is.1.2, is.0)),
-  ),
+  fields_fit (flat translated_sid) translated_sid_has status domains entries mapped (is.0, is.1),
   ap (λ (ds : List ReferencedDomain). reply.Done status (outs.Sids ds entries mapped))
       (domains_back (is_refusal status) domains is.2),
 )
 translated_fits translation.Sids (reply.Done status (outs.Names domains entries mapped)) is = (
-  (
-    domains_fit (is_refusal status) domains is.1.0,
-    (listed_fits translated_name translated_name_has entries is.1.1, (is.1.2, is.0)),
-  ),
+  fields_fit translated_name translated_name_has status domains entries mapped (is.0, is.1),
   ap (λ (ds : List ReferencedDomain). reply.Done status (outs.Names ds entries mapped))
+      (domains_back (is_refusal status) domains is.2),
+)
+translated_fits translation.Names2 (reply.Done status (outs.Sids domains entries mapped)) is = (
+  fields_fit (flagged (flat translated_sid)) flagged_sid_has status domains entries mapped (is.0, is.1),
+  ap (λ (ds : List ReferencedDomain). reply.Done status (outs.Sids ds entries mapped))
+      (domains_back (is_refusal status) domains is.2),
+)
+translated_fits translation.Sids2 (reply.Done status (outs.Names domains entries mapped)) is = (
+  fields_fit (flagged translated_name) flagged_name_has status domains entries mapped (is.0, is.1),
+  ap (λ (ds : List ReferencedDomain). reply.Done status (outs.Names ds entries mapped))
+      (domains_back (is_refusal status) domains is.2),
+)
+translated_fits translation.Names3 (reply.Done status (outs.SidRefs domains entries mapped)) is = (
+  fields_fit (flagged sid_ref) flagged_ref_has status domains entries mapped (is.0, is.1),
+  ap (λ (ds : List ReferencedDomain). reply.Done status (outs.SidRefs ds entries mapped))
       (domains_back (is_refusal status) domains is.2),
 )
 translated_fits translation.Names (reply.Done status _) is = absurd is.1
 translated_fits translation.Sids (reply.Done status _) is = absurd is.1
+translated_fits translation.Names2 (reply.Done status _) is = absurd is.1
+translated_fits translation.Sids2 (reply.Done status _) is = absurd is.1
+translated_fits translation.Names3 (reply.Done status _) is = absurd is.1
 translated_fits _ (reply.Fault status) is = absurd is
+
+made_fits : (t : Translation) (r made : Reply) → made ≡ r → RefersRightly r
+    → (RefersRightly made → IsReplyOf (outputs.Translation t) made) → (translated t).Fits r
+made_fits t r made e rightly is =
+    translated_fits t r (subst (λ (x : Reply). IsReplyOf (outputs.Translation t) x) e
+    (is (subst (λ (x : Reply). RefersRightly x) (sym e) rightly)))
 
 translated_writable : (t : Translation) (r : Reply) (start end : Cursor) → IsBytes start.stub
     → (translated t).Spells r start end → RefersRightly r → (translated t).Fits r
 unfolding translated
 translated_writable translation.Names r start end bytes s rightly =
-    let k = sids_kind s.0 (sids_fields_complete.fits s.0 start end bytes s.1)
-    (subst (λ (x : Reply). RefersRightly x) (sym s.2) rightly) in
-    translated_fits translation.Names r
-    (subst (λ (x : Reply). IsReplyOf (outputs.Translation translation.Names) x) s.2 k)
+    let p = flat translated_sid in
+    let k = fields_made p translated_sid_has s.0
+    ((fields_complete p translated_sid_has).fits s.0 start end bytes s.1) in
+    made_fits translation.Names r (sids_done s.0) s.2 rightly (λ refers. (k.0, k.1, refers))
 translated_writable translation.Sids r start end bytes s rightly =
-    let k = names_kind s.0 (names_fields_complete.fits s.0 start end bytes s.1)
-    (subst (λ (x : Reply). RefersRightly x) (sym s.2) rightly) in
-    translated_fits translation.Sids r (subst (λ (x : Reply). IsReplyOf (outputs.Translation translation.Sids) x) s.2 k)
+    let k = fields_made translated_name translated_name_has s.0
+    ((fields_complete translated_name translated_name_has).fits s.0 start end bytes s.1) in
+    made_fits translation.Sids r (names_done s.0) s.2 rightly (λ refers. (k.0, k.1, refers))
+translated_writable translation.Names2 r start end bytes s rightly =
+    let p = flagged (flat translated_sid) in
+    let k = fields_made p flagged_sid_has s.0
+    ((fields_complete p flagged_sid_has).fits s.0 start end bytes s.1) in
+    made_fits translation.Names2 r (sids_done s.0) s.2 rightly (λ refers. (k.0, k.1, refers))
+translated_writable translation.Sids2 r start end bytes s rightly =
+    let p = flagged translated_name in
+    let k = fields_made p flagged_name_has s.0
+    ((fields_complete p flagged_name_has).fits s.0 start end bytes s.1) in
+    made_fits translation.Sids2 r (names_done s.0) s.2 rightly (λ refers. (k.0, k.1, refers))
+translated_writable translation.Names3 r start end bytes s rightly =
+    let p = flagged sid_ref in
+    let k = fields_made p flagged_ref_has s.0
+    ((fields_complete p flagged_ref_has).fits s.0 start end bytes s.1) in
+    made_fits translation.Names3 r (refs_done s.0) s.2 rightly (λ refers. (k.0, k.1, refers))
 
 -- ---- whole replies
 

@@ -1,11 +1,12 @@
 // The fields of calls behind their handles.
 ghost use Rattle.std.specs.Prelude.{◌≡◌, ◌<◌, ◌^◌, ℕ, [], All, OnOk, length};
 ghost use Rattle.ndr_core.specs.Cursor.{Reads};
-ghost use Rattle.ndr_core.specs.Shapes.{followed, u16, u32};
-ghost use Rattle.acct_codes.specs.Limits.{most_translated_names, most_translated_sids};
-ghost use Rattle.lsa_wire.specs.Arguments.{counted, flag, own_fields, policy_args, translation_args};
+ghost use Rattle.acct_codes.specs.Limits.{most_translated_names};
+ghost use Rattle.lsa_wire.specs.Arguments.{counted, flag, later_level_asked, level_asked, own_fields, policy_args};
+ghost use Rattle.lsa_wire.specs.Arguments.{translation_args};
 ghost use Rattle.ndr_types.specs.Outcomes.{ReadsIfRoom};
-ghost use Rattle.ndr_types.specs.Translations.{translated_names, translated_sids};
+ghost use Rattle.ndr_types.specs.Texts.{text};
+ghost use Rattle.ndr_types.specs.Translations.{flagged_names, flagged_sids, sid_refs, translated_names, translated_sids};
 
 use crate::NoMemory;
 use crate::opening::{read_connect, write_connect};
@@ -15,8 +16,9 @@ use acct_codes::limit::{MOST_RIGHTS, MOST_TRANSLATED_NAMES, MOST_TRANSLATED_SIDS
 use acct_layouts::{Fields, PolicyFields, Translation};
 use ndr_core::{In, NdrError, Out};
 use ndr_types::{
-    Embedded, read_array, read_privilege_set, read_privilege_set_pointer, read_sid, read_sid_list,
-    read_text_list, read_text_pointer, read_translated_names, read_translated_sids, write_heads,
+    Embedded, read_array, read_flagged_names, read_flagged_sids, read_privilege_set,
+    read_privilege_set_pointer, read_sid, read_sid_list, read_sid_refs, read_text_list,
+    read_text_pointer, read_translated_names, read_translated_sids, write_heads,
     write_privilege_set, write_privilege_set_pointer, write_sid, write_sid_list, write_tails,
     write_text_list, write_text_pointer,
 };
@@ -157,7 +159,7 @@ fn write_counted<X: Embedded>(to: &mut Out, values: &[X]) -> Result<(), NoMemory
 
 /// The level of a translation, and the number of mapped entries, which isn't kept.
 fn read_level(from: &mut In<'_>) -> Result<u16, NdrError>
-    ensures { Reads result from.new ((followed 0 u32 u16).read from.old) }
+    ensures { Reads result from.new (level_asked.read from.old) }
 {
     let level = from.u16()?;
     from.u32()?;
@@ -165,49 +167,87 @@ fn read_level(from: &mut In<'_>) -> Result<u16, NdrError>
 }
 
 fn write_level(to: &mut Out, level: u16) -> Result<(), NoMemory>
-    ensures { OnOk result (to.new ≡ (followed 0 u32 u16).write level to.old) }
+    ensures { OnOk result (to.new ≡ level_asked.write level to.old) }
 {
     to.u16(level)?;
     to.u32(0)
 }
 
-/// An empty list of translated names, which has a count of 0 and a null pointer.
+/// The level of a translation, and behind the number of mapped entries the options and the client's revision, of which
+/// nothing is kept.
+fn read_later_level(from: &mut In<'_>) -> Result<u16, NdrError>
+    ensures { Reads result from.new (later_level_asked.read from.old) }
+{
+    let level = read_level(from)?;
+    from.u32()?;
+    from.u32()?;
+    Ok(level)
+}
+
+fn write_later_level(to: &mut Out, level: u16) -> Result<(), NoMemory>
+    ensures { OnOk result (to.new ≡ later_level_asked.write level to.old) }
+{
+    write_level(to, level)?;
+    to.u32(0)?;
+    to.u32(2)
+}
+
+/// An empty list, which has a count of 0 and a null pointer, whatever it is of.
 #[tactic(auto, unfolding(ndr_core::specs::Parts::list_of, ndr_core::specs::Parts::list))]
-fn write_no_sids(to: &mut Out) -> Result<(), NoMemory>
-    ensures { OnOk result (to.new ≡ (translated_sids most_translated_names).write [] to.old) }
+fn write_no_entries(to: &mut Out) -> Result<(), NoMemory>
+    ensures sids { OnOk result ((most : ℕ) → to.new ≡ (translated_sids most).write [] to.old) }
+    ensures names { OnOk result ((most : ℕ) → to.new ≡ (translated_names most).write [] to.old) }
+    ensures flagged_sids { OnOk result ((most : ℕ) → to.new ≡ (flagged_sids most).write [] to.old) }
+    ensures flagged_names { OnOk result ((most : ℕ) → to.new ≡ (flagged_names most).write [] to.old) }
+    ensures refs { OnOk result ((most : ℕ) → to.new ≡ (sid_refs most).write [] to.old) }
 {
     to.u32(0)?;
     to.pointer(false)
 }
 
-/// An empty list of translated SIDs.
-#[tactic(auto, unfolding(ndr_core::specs::Parts::list_of, ndr_core::specs::Parts::list))]
-fn write_no_names(to: &mut Out) -> Result<(), NoMemory>
-    ensures { OnOk result (to.new ≡ (translated_names most_translated_sids).write [] to.old) }
+/// The names that are asked for.
+fn read_names(alloc: Global, from: &mut In<'_>) -> Result<Names, NdrError>
+    ensures { ReadsIfRoom result from.new ((counted most_translated_names text).read from.old) }
 {
-    to.u32(0)?;
-    to.pointer(false)
+    let names = read_counted(alloc, from, MOST_TRANSLATED_NAMES)?;
+    Ok(Names::from_vec(names.into_vec()))
 }
 
+/// What is translated, and the level. The answers that a call brings aren't kept.
 #[tactic(auto, unfolding(crate::specs::Arguments::translation_args))]
 fn read_sought(alloc: Global, from: &mut In<'_>, row: Translation) -> Result<Args, NdrError>
     ensures { ReadsIfRoom result from.new ((translation_args row).read from.old) }
 {
     match row {
         Translation::Names => {
-            let names = read_counted(alloc, from, MOST_TRANSLATED_NAMES)?;
+            let names = read_names(alloc, from)?;
             read_translated_sids(alloc, from, MOST_TRANSLATED_NAMES)?;
             let level = read_level(from)?;
-            Ok(Args::LookNames {
-                level,
-                names: Names::from_vec(names.into_vec()),
-            })
+            Ok(Args::LookNames { level, names })
         }
         Translation::Sids => {
             let sids = read_sid_list(alloc, from, MOST_TRANSLATED_SIDS)?;
             read_translated_names(alloc, from, MOST_TRANSLATED_SIDS)?;
             let level = read_level(from)?;
             Ok(Args::LookSids { level, sids })
+        }
+        Translation::Names2 => {
+            let names = read_names(alloc, from)?;
+            read_flagged_sids(alloc, from, MOST_TRANSLATED_NAMES)?;
+            let level = read_later_level(from)?;
+            Ok(Args::LookNames { level, names })
+        }
+        Translation::Sids2 => {
+            let sids = read_sid_list(alloc, from, MOST_TRANSLATED_SIDS)?;
+            read_flagged_names(alloc, from, MOST_TRANSLATED_SIDS)?;
+            let level = read_later_level(from)?;
+            Ok(Args::LookSids { level, sids })
+        }
+        Translation::Names3 => {
+            let names = read_names(alloc, from)?;
+            read_sid_refs(alloc, from, MOST_TRANSLATED_NAMES)?;
+            let level = read_later_level(from)?;
+            Ok(Args::LookNames { level, names })
         }
     }
 }
@@ -220,13 +260,28 @@ fn write_sought(to: &mut Out, row: Translation, args: &Args) -> Result<(), NoMem
     match (row, args) {
         (Translation::Names, Args::LookNames { level, names }) => {
             write_counted(to, names.as_slice())?;
-            write_no_sids(to)?;
+            write_no_entries(to)?;
             write_level(to, *level)
         }
         (Translation::Sids, Args::LookSids { level, sids }) => {
             write_sid_list(to, sids)?;
-            write_no_names(to)?;
+            write_no_entries(to)?;
             write_level(to, *level)
+        }
+        (Translation::Names2, Args::LookNames { level, names }) => {
+            write_counted(to, names.as_slice())?;
+            write_no_entries(to)?;
+            write_later_level(to, *level)
+        }
+        (Translation::Sids2, Args::LookSids { level, sids }) => {
+            write_sid_list(to, sids)?;
+            write_no_entries(to)?;
+            write_later_level(to, *level)
+        }
+        (Translation::Names3, Args::LookNames { level, names }) => {
+            write_counted(to, names.as_slice())?;
+            write_no_entries(to)?;
+            write_later_level(to, *level)
         }
         _ => unreachable!(),
     }

@@ -1,21 +1,24 @@
 // Replies that this interface has alone.
 ghost use Rattle.std.specs.Prelude.{◌≡◌, OnOk};
 ghost use Rattle.std.specs.Option.{option_copied};
-ghost use Rattle.lsa_wire.specs.Outputs.{own_replies, policy_outs, referred_of, translated};
+ghost use Rattle.lsa_wire.specs.Outputs.{names_done, own_replies, policy_outs, referred_of, refs_done, sids_done};
+ghost use Rattle.lsa_wire.specs.Outputs.{translated};
 ghost use Rattle.acct_stubs.specs.Outputs.{with_status};
 ghost use Rattle.ndr_types.specs.Domains.{or_empty};
 ghost use Rattle.ndr_types.specs.Outcomes.{ReadsIfRoom};
 
 use crate::NoMemory;
 use acct_base::Seq;
-use acct_calls::{Outs, Places, Reply};
+use acct_calls::{NamedList, Outs, Places, Reply, SidRefs, Translated};
 use acct_layouts::{Outputs, PolicyOutputs, Translation, is_refusal};
 use ndr_core::{In, NdrError, Out};
 use ndr_types::{
-    read_privilege_names, read_privilege_set_pointer, read_referenced_pointer, read_sid_list,
-    read_text_list, read_text_pointer, read_translated_names, read_translated_sids,
+    read_flagged_names, read_flagged_sids, read_privilege_names, read_privilege_set_pointer,
+    read_referenced_pointer, read_sid_list, read_sid_refs, read_text_list, read_text_pointer,
+    read_translated_names, read_translated_sids, write_flagged_names, write_flagged_sids,
     write_privilege_names, write_privilege_set_pointer, write_referenced, write_sid_list,
-    write_text_list, write_text_pointer, write_translated_names, write_translated_sids,
+    write_sid_refs, write_text_list, write_text_pointer, write_translated_names,
+    write_translated_sids,
 };
 use std::alloc::Global;
 
@@ -132,6 +135,66 @@ fn referred(status: u32, domains: &Places) -> Option<&Places>
     Some(domains)
 }
 
+fn sids_done(
+    alloc: Global,
+    list: Option<Places>,
+    entries: Translated,
+    mapped: u32,
+    status: u32,
+) -> Reply
+    ensures { result ≡ sids_done (list, (entries, (mapped, status))) }
+{
+    let domains = domains_of(alloc, list);
+    Reply::Done {
+        status,
+        outs: Outs::Sids {
+            domains,
+            entries,
+            mapped,
+        },
+    }
+}
+
+fn names_done(
+    alloc: Global,
+    list: Option<Places>,
+    entries: NamedList,
+    mapped: u32,
+    status: u32,
+) -> Reply
+    ensures { result ≡ names_done (list, (entries, (mapped, status))) }
+{
+    let domains = domains_of(alloc, list);
+    Reply::Done {
+        status,
+        outs: Outs::Names {
+            domains,
+            entries,
+            mapped,
+        },
+    }
+}
+
+fn refs_done(
+    alloc: Global,
+    list: Option<Places>,
+    entries: SidRefs,
+    mapped: u32,
+    status: u32,
+) -> Reply
+    ensures { result ≡ refs_done (list, (entries, (mapped, status))) }
+{
+    let domains = domains_of(alloc, list);
+    Reply::Done {
+        status,
+        outs: Outs::SidRefs {
+            domains,
+            entries,
+            mapped,
+        },
+    }
+}
+
 #[tactic(auto, unfolding(crate::specs::Outputs::translated))]
 fn read_translated(alloc: Global, from: &mut In<'_>, row: Translation) -> Result<Reply, NdrError>
     ensures { ReadsIfRoom result from.new ((translated row).read from.old) }
@@ -142,29 +205,31 @@ fn read_translated(alloc: Global, from: &mut In<'_>, row: Translation) -> Result
             let entries = read_translated_sids(alloc, from, u32::MAX)?;
             let mapped = from.u32()?;
             let status = from.u32()?;
-            let domains = domains_of(alloc, list);
-            Ok(Reply::Done {
-                status,
-                outs: Outs::Sids {
-                    domains,
-                    entries,
-                    mapped,
-                },
-            })
+            Ok(sids_done(alloc, list, entries, mapped, status))
         }
         Translation::Sids => {
             let entries = read_translated_names(alloc, from, u32::MAX)?;
             let mapped = from.u32()?;
             let status = from.u32()?;
-            let domains = domains_of(alloc, list);
-            Ok(Reply::Done {
-                status,
-                outs: Outs::Names {
-                    domains,
-                    entries,
-                    mapped,
-                },
-            })
+            Ok(names_done(alloc, list, entries, mapped, status))
+        }
+        Translation::Names2 => {
+            let entries = read_flagged_sids(alloc, from, u32::MAX)?;
+            let mapped = from.u32()?;
+            let status = from.u32()?;
+            Ok(sids_done(alloc, list, entries, mapped, status))
+        }
+        Translation::Sids2 => {
+            let entries = read_flagged_names(alloc, from, u32::MAX)?;
+            let mapped = from.u32()?;
+            let status = from.u32()?;
+            Ok(names_done(alloc, list, entries, mapped, status))
+        }
+        Translation::Names3 => {
+            let entries = read_sid_refs(alloc, from, u32::MAX)?;
+            let mapped = from.u32()?;
+            let status = from.u32()?;
+            Ok(refs_done(alloc, list, entries, mapped, status))
         }
     }
 }
@@ -201,6 +266,45 @@ fn write_translated(to: &mut Out, row: Translation, reply: &Reply) -> Result<(),
         ) => {
             write_referenced(to, referred(*status, domains))?;
             write_translated_names(to, entries)?;
+            to.u32(*mapped)?;
+            to.u32(*status)
+        }
+        (
+            Translation::Names2,
+            Outs::Sids {
+                domains,
+                entries,
+                mapped,
+            },
+        ) => {
+            write_referenced(to, referred(*status, domains))?;
+            write_flagged_sids(to, entries)?;
+            to.u32(*mapped)?;
+            to.u32(*status)
+        }
+        (
+            Translation::Sids2,
+            Outs::Names {
+                domains,
+                entries,
+                mapped,
+            },
+        ) => {
+            write_referenced(to, referred(*status, domains))?;
+            write_flagged_names(to, entries)?;
+            to.u32(*mapped)?;
+            to.u32(*status)
+        }
+        (
+            Translation::Names3,
+            Outs::SidRefs {
+                domains,
+                entries,
+                mapped,
+            },
+        ) => {
+            write_referenced(to, referred(*status, domains))?;
+            write_sid_refs(to, entries)?;
             to.u32(*mapped)?;
             to.u32(*status)
         }

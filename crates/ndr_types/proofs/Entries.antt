@@ -42,7 +42,7 @@ unfolding signed_long
 signed_complete = made_complete (cast_signed w32) (cast_unsigned w32) u32_complete
     (λ n lt. let e = of_z-to_z w32 n lt in (subst (λ (k : ℕ). k < 2 ^ 32) (sym e) lt, ap (cast_signed w32) e))
 
-signed_has : Has (flat signed_long) (FitsSigned w32)
+pub signed_has : Has (flat signed_long) (FitsSigned w32)
 signed_has = flat_has signed_long signed_fits signed_kind signed_complete
 
 -- ---- padding in front
@@ -77,10 +77,10 @@ translated_sid_has = flat_has translated_sid translated_sid_fits translated_sid_
 
 -- ---- translated SIDs
 
-abbrev IsShortNumber : ℕ → Type 0
+abbrev pub IsShortNumber : ℕ → Type 0
 IsShortNumber n = n < 2 ^ 16
 
-short_has : Has (flat u16) IsShortNumber
+pub short_has : Has (flat u16) IsShortNumber
 short_has = flat_has u16 (λ n h. h) (λ n h. h) u16_complete
 
 pub translated_name_has : Has translated_name IsTranslatedName

@@ -9,3 +9,5 @@ pub mod ShapeValues
 pub mod Onward
 pub mod Entries
 pub mod OnwardEntries
+pub mod LaterEntries
+pub mod DisplayRows

@@ -16,21 +16,21 @@ use Rattle.ndr_types.proofs.Onward.{takes_chain}
 use Rattle.ndr_types.proofs.Onward.{takes_made, takes_ignored, takes_whole, takes_join, takes_flat, takes_part_of}
 use Rattle.ndr_types.proofs.Onward.{takes_pointer_to, list_onward, takes_text, text_onward, privilege_set_onward}
 
-signed_onward : Takes 0 signed_long
+pub signed_onward : Takes 0 signed_long
 unfolding signed_long
 signed_onward = takes_made 0 _ _ long
 
 takes_padded : {S A : Type 0} (p : Part S A) → TakesPart p → TakesPart (padded_part p)
 takes_padded p q = record { head = takes_ignored 0 tt takes_padding q.head; tail = q.tail }
 
-translated_sid_onward : Takes 0 translated_sid
+pub translated_sid_onward : Takes 0 translated_sid
 unfolding translated_sid
 translated_sid_onward = takes_made 0 _ _ (takes_chain 0 short (λ x. takes_chain 0 long (λ y. signed_onward)))
 
 pub translated_sids_onward : (most : ℕ) → Takes 0 (translated_sids most)
 translated_sids_onward most = list_onward most (flat translated_sid) (takes_flat translated_sid translated_sid_onward)
 
-takes_translated_name : TakesPart translated_name
+pub takes_translated_name : TakesPart translated_name
 unfolding translated_name
 takes_translated_name =
     takes_part_of translated_name_of parts_of_translated_name _

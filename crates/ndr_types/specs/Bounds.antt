@@ -3,6 +3,7 @@ use Rattle.std.specs.Prelude.{ℕ, ◌≤◌, List, length}
 use Rattle.acct_calls.specs.declared.lists.RidName.{RidName}
 use Rattle.acct_calls.specs.declared.lists.ReferencedDomain.{ReferencedDomain}
 use Rattle.acct_calls.specs.declared.lists.TranslatedName.{TranslatedName}
+use Rattle.acct_calls.specs.declared.lists.DisplayRow.{DisplayRow}
 
 -- A text's length in bytes has 16 bits and is even.
 abbrev pub IsShort : List ℕ → Type 0
@@ -19,3 +20,6 @@ IsShortPlace place = IsShort place.name
 
 abbrev pub HasShortText : TranslatedName → Type 0
 HasShortText entry = IsShort entry.name
+
+abbrev pub HasShortTexts : DisplayRow → Type 0
+HasShortTexts row = IsShort row.name × IsShort row.comment × IsShort row.full_name

@@ -12,4 +12,5 @@ pub mod Bounds
 pub mod Pointers
 pub mod PrivilegeNames
 pub mod Translations
+pub mod Displays
 pub mod Laws

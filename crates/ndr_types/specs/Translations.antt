@@ -1,11 +1,14 @@
--- What a translation answers: names as SIDs, and SIDs as names (MS-LSAT 2.2.14 and 2.2.19).
-use Rattle.std.specs.Prelude.{ℕ, ℤ, Bool, List}
+-- What a translation answers: names as SIDs, and SIDs as names (MS-LSAT 2.2.14 to 2.2.26).
+use Rattle.std.specs.Prelude.{ℕ, ℤ, Bool, Option, List}
 use Rattle.std.specs.Int.{w32, cast_signed, cast_unsigned}
 use Rattle.ndr_core.specs.Codec.{Codec}
-use Rattle.ndr_core.specs.Shapes.{u16, u32, padding4, chain, made, ignored}
-use Rattle.ndr_core.specs.Parts.{Part, join, flat, part_of, list_of}
+use Rattle.ndr_core.specs.Shapes.{u16, u32, padding4, chain, made, ignored, followed}
+use Rattle.ndr_core.specs.Parts.{Part, join, flat, part_of, pointer_to, list_of}
+use Rattle.dtyp_sid.specs.Value.{SidValue}
+use Rattle.acct_calls.specs.declared.lists.SidRef.{SidRef}
 use Rattle.acct_calls.specs.declared.lists.TranslatedName.{TranslatedName}
 use Rattle.acct_calls.specs.declared.lists.TranslatedSid.{TranslatedSid}
+use Rattle.ndr_types.specs.Sids.{sid}
 use Rattle.ndr_types.specs.Texts.{text}
 
 -- a long, signed: its two's complement
@@ -44,3 +47,30 @@ translated_name =
 -- at most so many (LSAPR_TRANSLATED_NAMES, MS-LSAT 2.2.20)
 abbrev pub translated_names : ℕ → Codec (List TranslatedName)
 translated_names most = list_of most translated_name
+
+-- ---- the later forms: Flags behind the other fields, which aren't looked at and are written as 0
+
+abbrev pub flagged : {S A : Type 0} → Part S A → Part S A
+flagged p = record { head = followed 0 u32 p.head; tail = p.tail; head_of = p.head_of }
+
+-- at most so many (LSAPR_TRANSLATED_SIDS_EX, MS-LSAT 2.2.24), each with the fields of LSAPR_TRANSLATED_SID_EX (2.2.23)
+abbrev pub flagged_sids : ℕ → Codec (List TranslatedSid)
+flagged_sids most = list_of most (flagged (flat translated_sid))
+
+-- at most so many (LSAPR_TRANSLATED_NAMES_EX, MS-LSAT 2.2.22), each with the fields of LSAPR_TRANSLATED_NAME_EX (2.2.21)
+abbrev pub flagged_names : ℕ → Codec (List TranslatedName)
+flagged_names most = list_of most (flagged translated_name)
+
+abbrev pub sid_ref_of : ℕ × (Option SidValue × ℤ) → SidRef
+sid_ref_of x = record { usage = x.0; sid = x.1.0; index = x.1.1 }
+
+abbrev pub parts_of_sid_ref : SidRef → ℕ × (Option SidValue × ℤ)
+parts_of_sid_ref r = (r.usage, (r.sid, r.index))
+
+-- Use, Sid, which may be null, and DomainIndex.
+unfoldable pub sid_ref : Part (ℕ × (Bool × ℤ)) SidRef
+sid_ref = part_of sid_ref_of parts_of_sid_ref (join (flat u16) (join (pointer_to sid) (flat signed_long)))
+
+-- at most so many (LSAPR_TRANSLATED_SIDS_EX2, MS-LSAT 2.2.26), each with the fields of LSAPR_TRANSLATED_SID_EX2 (2.2.25)
+abbrev pub sid_refs : ℕ → Codec (List SidRef)
+sid_refs most = list_of most (flagged sid_ref)

@@ -7,7 +7,10 @@ ghost use Rattle.acct_layouts.specs.Bounds.{IfThere};
 ghost use Rattle.ndr_types.specs.Domains.{referenced};
 ghost use Rattle.ndr_types.specs.Handles.{handle};
 ghost use Rattle.acct_layouts.specs.Bounds.{IsAccount, IsDomain, IsHandle, IsLong, IsPrivilegeSet, IsText};
-ghost use Rattle.acct_layouts.specs.Bounds.{IsTranslatedName, IsTranslatedSid};
+ghost use Rattle.acct_layouts.specs.Bounds.{IsDisplayedGroup, IsDisplayedUser, IsSidRef, IsTranslatedName};
+ghost use Rattle.acct_layouts.specs.Bounds.{IsTranslatedSid};
+ghost use Rattle.acct_layouts.specs.declared.classes.DisplayArm.TheVariants as display;
+ghost use Rattle.ndr_types.specs.Displays.{display_rows};
 ghost use Rattle.ndr_types.specs.Laws.{IsLawfulShape, IsListOf};
 ghost use Rattle.ndr_types.specs.Lists.{rid_list, sid_list, text_list};
 ghost use Rattle.ndr_types.specs.Pointers.{privilege_set_pointer, text_pointer};
@@ -15,7 +18,8 @@ ghost use Rattle.ndr_types.specs.PrivilegeNames.{privilege_names};
 ghost use Rattle.ndr_types.specs.Privileges.{privilege_set};
 ghost use Rattle.ndr_types.specs.Sids.{sid};
 ghost use Rattle.ndr_types.specs.Texts.{text};
-ghost use Rattle.ndr_types.specs.Translations.{translated_names, translated_sids};
+ghost use Rattle.ndr_types.specs.Translations.{flagged_names, flagged_sids, sid_refs, translated_names};
+ghost use Rattle.ndr_types.specs.Translations.{translated_sids};
 
 /// Of each shape all laws, with the kind of its values: a value is read exactly where it is spelled, with any padding
 /// and any referents but 0; what is written is read again, whatever stands before and behind it; no stub has two
@@ -32,6 +36,11 @@ pub fn shapes_are_lawful()
     ensures domains { IsLawfulShape referenced (IfThere (IsListOf any IsDomain)) }
     ensures translated_sids { (most : ℕ) → IsLawfulShape (translated_sids most) (IsListOf most IsTranslatedSid) }
     ensures translated_names { (most : ℕ) → IsLawfulShape (translated_names most) (IsListOf most IsTranslatedName) }
+    ensures flagged_sids { (most : ℕ) → IsLawfulShape (flagged_sids most) (IsListOf most IsTranslatedSid) }
+    ensures flagged_names { (most : ℕ) → IsLawfulShape (flagged_names most) (IsListOf most IsTranslatedName) }
+    ensures sid_refs { (most : ℕ) → IsLawfulShape (sid_refs most) (IsListOf most IsSidRef) }
+    ensures displayed_users { IsLawfulShape (display_rows display.User) (IsListOf any IsDisplayedUser) }
+    ensures displayed_groups { IsLawfulShape (display_rows display.Group) (IsListOf any IsDisplayedGroup) }
     ensures privilege_names { IsLawfulShape privilege_names (IsListOf any IsAccount) }
     ensures text_pointers { IsLawfulShape text_pointer (IfThere IsText) }
     ensures privilege_pointers { IsLawfulShape privilege_set_pointer (IfThere IsPrivilegeSet) }

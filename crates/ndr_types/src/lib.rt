@@ -1,6 +1,6 @@
 //! The shapes of stubs that calls and replies share (C706, chapter 14): handles, texts, SIDs, lists of these and of
-//! numbers, sets of privileges, lists of accounts, of the names of privileges, of translated names and SIDs, and of the
-//! domains that these refer to, and pointers to texts and sets of privileges.
+//! numbers, sets of privileges, lists of accounts, of accounts as they are displayed, of the names of privileges, of
+//! translated names and SIDs, and of the domains that these refer to, and pointers to texts and sets of privileges.
 //!
 //! It stands on `ndr_core` for primitives and for what a shape is, on `acct_calls` and `dtyp_sid` for the values. Each
 //! shape is a definition in specs/, by its fields as they stand in the standard's IDL. The layers above use that each
@@ -12,7 +12,9 @@
 
 mod accounts;
 mod array;
+mod displays;
 mod domains;
+mod flagged;
 mod handle;
 mod laws;
 mod lists;
@@ -32,6 +34,7 @@ pub use array::{
     read_array, read_heads, read_list, read_list_head, read_list_tail, read_tails, write_heads,
     write_list, write_list_head, write_list_tail, write_tails,
 };
+pub use displays::{read_display_rows, write_display_rows};
 pub use domains::{read_referenced, read_referenced_pointer, write_referenced};
 pub use handle::{read_handle, write_handle};
 pub use laws::shapes_are_lawful;
@@ -47,7 +50,9 @@ pub use privileges::{read_privilege_set, write_privilege_set};
 pub use sid::{read_sid, write_sid};
 pub use text::{read_text, write_text};
 pub use translations::{
-    read_translated_names, read_translated_sids, write_translated_names, write_translated_sids,
+    read_flagged_names, read_flagged_sids, read_sid_refs, read_translated_names,
+    read_translated_sids, write_flagged_names, write_flagged_sids, write_sid_refs,
+    write_translated_names, write_translated_sids,
 };
 
 /// Want of memory, which is the only fault of the writers here.

@@ -3,6 +3,7 @@
 use Rattle.ndr_core.specs.Parts.{flat, whole}
 use Rattle.ndr_core.specs.Shapes.{u32}
 use Rattle.ndr_types.specs.Accounts.{rid_names}
+use Rattle.ndr_types.specs.Displays.{display_rows}
 use Rattle.ndr_types.specs.Domains.{referenced}
 use Rattle.ndr_types.specs.Handles.{handle}
 use Rattle.ndr_types.specs.Lists.{rid_list, sid_list, text_list}
@@ -11,11 +12,16 @@ use Rattle.ndr_types.specs.PrivilegeNames.{privilege_names}
 use Rattle.ndr_types.specs.Privileges.{privilege_set}
 use Rattle.ndr_types.specs.Sids.{sid, sid_pointer}
 use Rattle.ndr_types.specs.Texts.{text}
-use Rattle.ndr_types.specs.Translations.{translated_name, translated_names, translated_sid, translated_sids}
+use Rattle.ndr_types.specs.Translations.{flagged, flagged_names, flagged_sids, sid_ref, sid_refs, translated_name}
+use Rattle.ndr_types.specs.Translations.{translated_names, translated_sid, translated_sids}
+use Rattle.acct_layouts.specs.declared.classes.DisplayArm.TheVariants as display
+use Rattle.ndr_types.proofs.DisplayRows.{display_rows_onward, groups_complete, groups_values, users_complete, users_values}
 use Rattle.ndr_types.proofs.Digits.{handle_complete, handle_values}
 use Rattle.ndr_types.proofs.Entries.{privilege_names_complete, privilege_names_values, privilege_set_pointer_complete}
 use Rattle.ndr_types.proofs.Entries.{privilege_set_pointer_values, text_pointer_complete, text_pointer_values}
 use Rattle.ndr_types.proofs.Entries.{translated_name_has, translated_sid_has}
+use Rattle.ndr_types.proofs.LaterEntries.{flagged_name_has, flagged_names_onward, flagged_ref_has, flagged_sid_has}
+use Rattle.ndr_types.proofs.LaterEntries.{flagged_sids_onward, sid_refs_onward}
 use Rattle.ndr_types.proofs.Onward.{handle_onward, text_onward, sid_onward, sid_list_onward, rid_list_onward}
 use Rattle.ndr_types.proofs.Onward.{text_list_onward, privilege_set_onward, rid_names_onward, referenced_onward}
 use Rattle.ndr_types.proofs.OnwardEntries.{privilege_names_onward, privilege_set_pointer_onward, text_pointer_onward}
@@ -71,6 +77,32 @@ pub returns-clause-translated_names : goal.returns-clause-translated_names
 returns-clause-translated_names c = λ most.
     lawful (translated_names most) (list_complete most translated_name translated_name_has)
     (list_values most translated_name translated_name_has) (translated_names_onward most)
+
+pub returns-clause-flagged_sids : goal.returns-clause-flagged_sids
+returns-clause-flagged_sids c = λ most.
+    let part = flagged (flat translated_sid) in
+    lawful (flagged_sids most) (list_complete most part flagged_sid_has)
+    (list_values most part flagged_sid_has) (flagged_sids_onward most)
+
+pub returns-clause-flagged_names : goal.returns-clause-flagged_names
+returns-clause-flagged_names c = λ most.
+    let part = flagged translated_name in
+    lawful (flagged_names most) (list_complete most part flagged_name_has)
+    (list_values most part flagged_name_has) (flagged_names_onward most)
+
+pub returns-clause-sid_refs : goal.returns-clause-sid_refs
+returns-clause-sid_refs c = λ most.
+    let part = flagged sid_ref in
+    lawful (sid_refs most) (list_complete most part flagged_ref_has)
+    (list_values most part flagged_ref_has) (sid_refs_onward most)
+
+pub returns-clause-displayed_users : goal.returns-clause-displayed_users
+returns-clause-displayed_users c =
+    lawful (display_rows display.User) users_complete users_values (display_rows_onward display.User)
+
+pub returns-clause-displayed_groups : goal.returns-clause-displayed_groups
+returns-clause-displayed_groups c =
+    lawful (display_rows display.Group) groups_complete groups_values (display_rows_onward display.Group)
 
 pub returns-clause-privilege_names : goal.returns-clause-privilege_names
 returns-clause-privilege_names c =

@@ -1,0 +1,7 @@
+-- The values so far are those in front of the cursor, and the tails of the other heads are left to read.
+use Rattle.ndr_types.specs.Displays.{display_row}
+use Rattle.ndr_types.proofs.Arrays.{EachSoFar}
+use Rattle.ndr_types.proofs.displays.read_tails.Given as goal
+
+abbrev pub invariant-loop-head : goal.invariant-loop-head
+invariant-loop-head l = EachSoFar l.values (display_row l.arm).tail l.heads l.head-index l.fn.from l.from

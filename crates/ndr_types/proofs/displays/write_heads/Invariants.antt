@@ -1,0 +1,7 @@
+-- The heads in front of the place are written.
+use Rattle.ndr_types.specs.Displays.{display_row}
+use Rattle.ndr_types.proofs.Arrays.{HeadsSoFar}
+use Rattle.ndr_types.proofs.displays.write_heads.Given as goal
+
+abbrev pub invariant-loop-value : goal.invariant-loop-value
+invariant-loop-value l = HeadsSoFar (display_row l.arm) l.values l.value-index l.fn.to l.to

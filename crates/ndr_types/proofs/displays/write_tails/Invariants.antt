@@ -1,0 +1,7 @@
+-- The tails in front of the place are written.
+use Rattle.ndr_types.specs.Displays.{display_row}
+use Rattle.ndr_types.proofs.Arrays.{TailsSoFar}
+use Rattle.ndr_types.proofs.displays.write_tails.Given as goal
+
+abbrev pub invariant-loop-value : goal.invariant-loop-value
+invariant-loop-value l = TailsSoFar (display_row l.arm) l.values l.value-index l.fn.to l.to
