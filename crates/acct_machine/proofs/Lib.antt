@@ -10,7 +10,6 @@ pub mod Passing
 pub mod Granting
 pub mod Handles
 pub mod Sounds
-pub mod Frugal
 pub mod Wanting
 pub mod Denying
 pub mod Serials

@@ -12,8 +12,8 @@ use Rattle.acct_rules.specs.declared.planned.Planned.{Planned}
 use Rattle.acct_rules.specs.declared.profile.Memory.{Memory}
 use Rattle.acct_rules.specs.declared.profile.Memory.TheVariants as memory
 use Rattle.acct_rules.specs.Profiles.{is_anywhere, is_never}
-use Rattle.acct_rules.specs.Planned.{Ruled, opening_of}
-use Rattle.acct_rules.specs.Operations.{Operation}
+use Rattle.acct_rules.specs.Planned.{Ruled, opening_of, takes_room}
+use Rattle.acct_rules.specs.Operations.{IsRight, Operation}
 use Rattle.acct_machine.specs.declared.entry.Verdict.{Verdict}
 use Rattle.acct_machine.specs.declared.entry.Verdict.TheVariants.{Ran, StoreFault, NoMemory}
 use Rattle.acct_machine.specs.State.{State}
@@ -21,8 +21,7 @@ use Rattle.acct_machine.specs.Opening.{grant_of, is_opening_refused}
 use Rattle.acct_machine.specs.Access.{held_by, object_of}
 use Rattle.acct_machine.specs.Outcome.{refused, done, opened_to, by_grant, by_effect, ruled_of, planned_of}
 use Rattle.acct_machine.specs.Legal.{NoneFails, HasCommit, MayWant}
-use Rattle.acct_machine.specs.Wants.{takes_room, WantsRoom, Wants}
-use Rattle.acct_machine.proofs.Frugal.{IsFrugal}
+use Rattle.acct_machine.specs.Wants.{WantsRoom, Wants}
 use Rattle.acct_machine.proofs.Deciding.{Decision, decides}
 
 may-want : (m : Memory) (o : Operation) (s : State) (conn : ℕ) (call : Call) (room : Bool)
@@ -32,19 +31,19 @@ may-want memory.Never o s conn call room frugal takes none = let e : true ≡ fa
 may-want memory.BehindConditions o s conn call room frugal takes none = none
 may-want memory.Anywhere o s conn call room frugal takes none = tt
 
-wants-by : (o : Operation) (s : State) (conn : ℕ) (call : Call) → IsFrugal o
+wants-by : (o : Operation) (s : State) (conn : ℕ) (call : Call) → IsRight o
     → Decision (λ status. true) (ruled_of o s conn call).conditions (ruled_of o s conn call).planned
     → WantsRoom s conn (planned_of o s conn call) NoMemory → MayWant o.profile.memory o s conn call
-wants-by o s conn call frugal (inl fails) wants =
+wants-by o s conn call right (inl fails) wants =
     let room : takes_room (planned_of o s conn call) ≡ false = ap (λ (p : Planned). takes_room p) fails.refuses in
     absurd (let e : true ≡ false = sym wants.1 ∙ room in cc)
-wants-by o s conn call frugal (inr passes) wants =
+wants-by o s conn call right (inr passes) wants =
     let planned : Planned = (ruled_of o s conn call).planned in
     let room : takes_room planned ≡ true = subst (λ (p : Planned). takes_room p ≡ true) passes.plans wants.1 in
     let granted : is_opening_refused s conn (opening_of planned.effect) ≡ false =
     subst (λ (p : Planned). is_opening_refused s conn (opening_of p.effect) ≡ false) passes.plans wants.0 in
     may-want o.profile.memory o s conn call (takes_room planned)
-    (frugal s.rows (object_of (held_by s conn call)) call.args) room
+    (right.frugal s.rows (object_of (held_by s conn call)) call.args) room
     (record { conditions = passes.none; opening = granted })
 
 -- ---- commits
@@ -91,15 +90,15 @@ commits-by o s conn call (inr passes) granted differs = record {
       (sym (effect-rows s conn call (planned_of o s conn call) (planned_of o s conn call).effect granted) ∙ same);
 }
 
-pub wants-room : (o : Operation) (s : State) (conn : ℕ) (call : Call) → IsFrugal o → (verdict : Verdict)
+pub wants-room : (o : Operation) (s : State) (conn : ℕ) (call : Call) → IsRight o → (verdict : Verdict)
     → WantsRoom s conn (planned_of o s conn call) verdict → Wants o s conn call verdict
-wants-room o s conn call frugal Ran wants = tt
-wants-room o s conn call frugal (StoreFault n) wants =
+wants-room o s conn call right Ran wants = tt
+wants-room o s conn call right (StoreFault n) wants =
     let ruled : Ruled = ruled_of o s conn call in
     commits-by o s conn call (decides (λ status. true) ruled.conditions ruled.planned) wants.0 wants.1
-wants-room o s conn call frugal NoMemory wants =
+wants-room o s conn call right NoMemory wants =
     let ruled : Ruled = ruled_of o s conn call in
-    wants-by o s conn call frugal (decides (λ status. true) ruled.conditions ruled.planned) wants
+    wants-by o s conn call right (decides (λ status. true) ruled.conditions ruled.planned) wants
 
 pub wants-anywhere : (m : Memory) (o : Operation) (s : State) (conn : ℕ) (call : Call) → is_anywhere m ≡ true
     → MayWant m o s conn call

@@ -1,24 +1,15 @@
 -- Where memory may want for what was planned, and where its commit may fail.
-use Rattle.std.specs.Prelude.{◌≡◌, ◌≢◌, ℕ, Bool, true, false, ◌||◌, length, nat_lt, ⊤}
+use Rattle.std.specs.Prelude.{◌≡◌, ◌≢◌, ℕ, true, false, ⊤}
 use Rattle.acct_calls.specs.declared.calls.Call.{Call}
-use Rattle.acct_rows.specs.declared.plan.Plan.{Plan}
 use Rattle.acct_rows.specs.Rows.{after}
 use Rattle.acct_rules.specs.declared.planned.Planned.{Planned}
-use Rattle.acct_rules.specs.Planned.{gives_handle, opening_of}
+use Rattle.acct_rules.specs.Planned.{has_change, opening_of, takes_room}
 use Rattle.acct_rules.specs.Operations.{Operation}
 use Rattle.acct_machine.specs.declared.entry.Verdict.{Verdict}
 use Rattle.acct_machine.specs.declared.entry.Verdict.TheVariants.{Ran, StoreFault, NoMemory}
 use Rattle.acct_machine.specs.State.{State}
 use Rattle.acct_machine.specs.Opening.{is_opening_refused}
 use Rattle.acct_machine.specs.Legal.{HasCommit, MayWant}
-
--- whether a plan puts or removes a row
-abbrev pub has_change : Plan → Bool
-has_change plan = nat_lt 0 (length plan.puts) || nat_lt 0 (length plan.removes)
-
--- room is taken for a handle, and to make and to store a change of rows
-abbrev pub takes_room : Planned → Bool
-takes_room planned = gives_handle planned.effect || has_change planned.plan
 
 -- Where the change of a plan may not be made: its commit fails only where the rows after it aren't those before, and
 -- memory wants only where there is a change.

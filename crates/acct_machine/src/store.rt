@@ -12,6 +12,7 @@ ghost use Rattle.acct_keeper.specs.Causes.{KeepCause};
 ghost use Rattle.acct_keeper.specs.Counts.{after_call};
 ghost use Rattle.acct_keeper.specs.declared.keeper.KeepError.TheVariants as keeps;
 ghost use Rattle.acct_layouts.specs.CallShapes.{CanBeSpelled};
+ghost use Rattle.acct_rules.specs.Planned.{has_change};
 ghost use Rattle.acct_rules.specs.declared.planned.Effect.TheVariants as effects;
 ghost use Rattle.acct_operations.specs.Table.{operation};
 ghost use Rattle.acct_layouts.specs.Table.{layout_of};
@@ -28,7 +29,7 @@ ghost use Rattle.acct_machine.specs.Sound.{IsSound};
 ghost use Rattle.acct_machine.specs.Step.{acted, step, live_ended};
 ghost use Rattle.acct_machine.specs.Storing.{HoldsRows, Counts};
 ghost use Rattle.acct_machine.specs.Legal.{HasPassed, MayHave};
-ghost use Rattle.acct_machine.specs.Wants.{has_change, MayMiss, Wants, WantsRoom};
+ghost use Rattle.acct_machine.specs.Wants.{MayMiss, Wants, WantsRoom};
 
 use crate::checks::{Access, access_with, object_of};
 use crate::index::Handles;

@@ -11,8 +11,7 @@ use Rattle.std.proofs.lemmas.List.{get_or_past}
 use Rattle.std.proofs.lemmas.List.FromFn.{get_or-map-range_with_len, length-map-range_with_len}
 use Rattle.acct_calls.specs.declared.calls.Face.{Face}
 use Rattle.acct_calls.specs.declared.calls.Face.TheVariants.{Samr, Lsa}
-use Rattle.acct_codes.specs.Opnums.{samr_rid_to_sid, lsar_query_information_policy2}
-use Rattle.acct_operations.specs.Table.{operation, same_face, is_work_of, work_of, works}
+use Rattle.acct_operations.specs.Table.{operation, same_face, is_work_of, work_of, all_works, opnum_count}
 use Rattle.acct_operations.specs.declared.table.Work.{Work}
 
 -- whether an operation is of another interface, or has an opnum below the number
@@ -31,21 +30,14 @@ behind face n opnum (x ∷ xs) all over =
     (another (same_face face (operation x).profile.face) n opnum (operation x).profile.opnum (first_so _ _ all) over)
     ∙ behind face n opnum xs (second_so _ _ all) over
 
-samr_below : list_all (is_below Samr (samr_rid_to_sid + 1)) works ≡ true
+all_below : (face : Face) → list_all (is_below face (opnum_count face)) all_works ≡ true
 unfolding operation
-samr_below = refl
+all_below Samr = refl
+all_below Lsa = refl
 
-lsa_below : list_all (is_below Lsa (lsar_query_information_policy2 + 1)) works ≡ true
-unfolding operation
-lsa_below = refl
-
-samr_behind : (opnum : ℕ) → samr_rid_to_sid + 1 ≤ opnum → work_of Samr opnum ≡ None
+none_behind : (face : Face) (opnum : ℕ) → opnum_count face ≤ opnum → work_of face opnum ≡ None
 unfolding work_of
-samr_behind opnum over = behind Samr (samr_rid_to_sid + 1) opnum works samr_below over
-
-lsa_behind : (opnum : ℕ) → lsar_query_information_policy2 + 1 ≤ opnum → work_of Lsa opnum ≡ None
-unfolding work_of
-lsa_behind opnum over = behind Lsa (lsar_query_information_policy2 + 1) opnum works lsa_below over
+none_behind face opnum over = behind face (opnum_count face) opnum all_works (all_below face) over
 
 -- what stands at the place of an opnum among those below a number, behind which nothing is served
 at_opnum : (face : Face) (n opnum : ℕ) → (n ≤ opnum → work_of face opnum ≡ None)
@@ -64,9 +56,9 @@ at_opnum face n opnum over =
     ]
 
 pub samr_at : (opnum : ℕ)
-    → get_or (map (work_of Samr) (range_with_len 0 (samr_rid_to_sid + 1))) opnum None ≡ work_of Samr opnum
-samr_at opnum = at_opnum Samr (samr_rid_to_sid + 1) opnum (samr_behind opnum)
+    → get_or (map (work_of Samr) (range_with_len 0 (opnum_count Samr))) opnum None ≡ work_of Samr opnum
+samr_at opnum = at_opnum Samr (opnum_count Samr) opnum (none_behind Samr opnum)
 
 pub lsa_at : (opnum : ℕ)
-    → get_or (map (work_of Lsa) (range_with_len 0 (lsar_query_information_policy2 + 1))) opnum None ≡ work_of Lsa opnum
-lsa_at opnum = at_opnum Lsa (lsar_query_information_policy2 + 1) opnum (lsa_behind opnum)
+    → get_or (map (work_of Lsa) (range_with_len 0 (opnum_count Lsa))) opnum None ≡ work_of Lsa opnum
+lsa_at opnum = at_opnum Lsa (opnum_count Lsa) opnum (none_behind Lsa opnum)

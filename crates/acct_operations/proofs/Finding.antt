@@ -6,7 +6,7 @@ use Rattle.std.proofs.lemmas.Bool.Decides.{nat_tests}
 use Rattle.acct_calls.specs.declared.calls.Face.{Face}
 use Rattle.acct_calls.specs.declared.calls.Face.TheVariants.{Samr, Lsa}
 use Rattle.acct_operations.specs.declared.table.Work.{Work}
-use Rattle.acct_operations.specs.Table.{operation, same_face, is_work_of, work_of, works}
+use Rattle.acct_operations.specs.Table.{operation, same_face, is_work_of, work_of, all_works}
 
 -- the first element that passes passes
 found-by : {X : Type 0} (p : X → Bool) (x y : X) (passes : Bool) (rest : Option X) → p x ≡ passes
@@ -33,12 +33,12 @@ pub work-of-face : (face : Face) (opnum : ℕ) (work : Work) → work_of face op
     → (operation work).profile.face ≡ face
 unfolding work_of
 work-of-face face opnum work found =
-    faces-same face (operation work).profile.face (both _ _ (find-passes (is_work_of face opnum) works work found)).0
+    faces-same face (operation work).profile.face (both _ _ (find-passes (is_work_of face opnum) all_works work found)).0
 
 pub work-of-opnum : (face : Face) (opnum : ℕ) (work : Work) → work_of face opnum ≡ Some work
     → (operation work).profile.opnum ≡ opnum
 unfolding work_of
 work-of-opnum face opnum work found =
     let same : (opnum == (operation work).profile.opnum) ≡ true =
-    (both _ _ (find-passes (is_work_of face opnum) works work found)).1 in
+    (both _ _ (find-passes (is_work_of face opnum) all_works work found)).1 in
     grind (arith, nat_tests)

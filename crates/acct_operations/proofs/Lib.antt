@@ -1,4 +1,5 @@
 pub mod ByOpnum
+pub mod Each
 pub mod Finding
 pub mod Ruling
 pub mod Served

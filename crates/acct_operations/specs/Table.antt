@@ -1,10 +1,10 @@
 -- The table of operations: the profile of each, and its rule.
-use Rattle.std.specs.Prelude.{ℕ, ◌==◌, Bool, true, false, ◌&&◌, List, [], ◌∷◌, Option, is_some}
+use Rattle.std.specs.Prelude.{ℕ, ◌+◌, ◌==◌, Bool, true, false, ◌&&◌, List, [], ◌∷◌, Option, is_some}
 use Rattle.std.specs.List.{find}
 use Rattle.acct_calls.specs.declared.calls.Face.{Face}
 use Rattle.acct_calls.specs.declared.calls.Face.TheVariants.{Samr, Lsa}
 use Rattle.acct_codes.specs.Opnums.{samr_connect2, samr_connect4, samr_connect5, samr_close_handle, lsar_open_policy2}
-use Rattle.acct_codes.specs.Opnums.{lsar_close}
+use Rattle.acct_codes.specs.Opnums.{lsar_close, samr_rid_to_sid, lsar_lookup_names3}
 use Rattle.acct_rules.specs.declared.profile.Brings.TheVariants as brings
 use Rattle.acct_rules.specs.declared.profile.Kinds.{Kinds}
 use Rattle.acct_rules.specs.declared.profile.Kinds.TheVariants as kinds
@@ -14,65 +14,13 @@ use Rattle.acct_rules.specs.declared.profile.Profile.{Profile}
 use Rattle.acct_rules.specs.Operations.{Operation}
 use Rattle.acct_rules.specs.Profiles.{asking}
 use Rattle.acct_operations.specs.declared.table.Work.{Work}
-use Rattle.acct_operations.specs.declared.table.Work.TheVariants.{SamrConnect2, SamrConnect4, SamrConnect5}
-use Rattle.acct_operations.specs.declared.table.Work.TheVariants.{SamrCloseHandle, SamrLookupDomainInSamServer}
-use Rattle.acct_operations.specs.declared.table.Work.TheVariants.{SamrEnumerateDomainsInSamServer, SamrOpenDomain}
-use Rattle.acct_operations.specs.declared.table.Work.TheVariants.{SamrQueryInformationDomain}
-use Rattle.acct_operations.specs.declared.table.Work.TheVariants.{SamrQueryInformationDomain2, SamrSetInformationDomain}
-use Rattle.acct_operations.specs.declared.table.Work.TheVariants.{SamrCreateGroupInDomain, SamrEnumerateGroupsInDomain}
-use Rattle.acct_operations.specs.declared.table.Work.TheVariants.{SamrCreateUserInDomain, SamrEnumerateUsersInDomain}
-use Rattle.acct_operations.specs.declared.table.Work.TheVariants.{SamrCreateAliasInDomain, SamrEnumerateAliasesInDomain}
-use Rattle.acct_operations.specs.declared.table.Work.TheVariants.{SamrGetAliasMembership, SamrLookupNamesInDomain}
-use Rattle.acct_operations.specs.declared.table.Work.TheVariants.{SamrLookupIdsInDomain, SamrOpenGroup}
-use Rattle.acct_operations.specs.declared.table.Work.TheVariants.{SamrQueryInformationGroup, SamrSetInformationGroup}
-use Rattle.acct_operations.specs.declared.table.Work.TheVariants.{SamrAddMemberToGroup, SamrDeleteGroup}
-use Rattle.acct_operations.specs.declared.table.Work.TheVariants.{SamrRemoveMemberFromGroup, SamrGetMembersInGroup}
-use Rattle.acct_operations.specs.declared.table.Work.TheVariants.{SamrOpenAlias, SamrQueryInformationAlias}
-use Rattle.acct_operations.specs.declared.table.Work.TheVariants.{SamrSetInformationAlias, SamrDeleteAlias}
-use Rattle.acct_operations.specs.declared.table.Work.TheVariants.{SamrAddMemberToAlias, SamrRemoveMemberFromAlias}
-use Rattle.acct_operations.specs.declared.table.Work.TheVariants.{SamrGetMembersInAlias, SamrOpenUser, SamrDeleteUser}
-use Rattle.acct_operations.specs.declared.table.Work.TheVariants.{SamrQueryInformationUser, SamrSetInformationUser}
-use Rattle.acct_operations.specs.declared.table.Work.TheVariants.{SamrGetGroupsForUser, SamrQueryInformationUser2}
-use Rattle.acct_operations.specs.declared.table.Work.TheVariants.{SamrCreateUser2InDomain, SamrSetInformationUser2}
-use Rattle.acct_operations.specs.declared.table.Work.TheVariants.{SamrRidToSid, LsarOpenPolicy2, LsarClose}
-use Rattle.acct_operations.specs.declared.table.Work.TheVariants.{LsarEnumeratePrivileges, LsarQueryInformationPolicy}
-use Rattle.acct_operations.specs.declared.table.Work.TheVariants.{LsarCreateAccount, LsarEnumerateAccounts}
-use Rattle.acct_operations.specs.declared.table.Work.TheVariants.{LsarOpenAccount, LsarEnumeratePrivilegesAccount}
-use Rattle.acct_operations.specs.declared.table.Work.TheVariants.{LsarAddPrivilegesToAccount}
-use Rattle.acct_operations.specs.declared.table.Work.TheVariants.{LsarRemovePrivilegesFromAccount}
-use Rattle.acct_operations.specs.declared.table.Work.TheVariants.{LsarGetSystemAccessAccount}
-use Rattle.acct_operations.specs.declared.table.Work.TheVariants.{LsarSetSystemAccessAccount}
-use Rattle.acct_operations.specs.declared.table.Work.TheVariants.{LsarLookupPrivilegeValue, LsarLookupPrivilegeName}
-use Rattle.acct_operations.specs.declared.table.Work.TheVariants.{LsarDeleteObject}
-use Rattle.acct_operations.specs.declared.table.Work.TheVariants.{LsarEnumerateAccountsWithUserRight}
-use Rattle.acct_operations.specs.declared.table.Work.TheVariants.{LsarEnumerateAccountRights, LsarAddAccountRights}
-use Rattle.acct_operations.specs.declared.table.Work.TheVariants.{LsarRemoveAccountRights}
-use Rattle.acct_operations.specs.declared.table.Work.TheVariants.{LsarQueryInformationPolicy2, LsarLookupNames}
-use Rattle.acct_operations.specs.declared.table.Work.TheVariants.{LsarLookupSids}
+use Rattle.acct_operations.specs.declared.table.Work.TheVariants as works
 use Rattle.acct_operations.specs.Openings.{connect, open_policy}
 use Rattle.acct_operations.specs.Closings.{close}
-use Rattle.lsad_rights.specs.Table.{enumerate_privileges, query_information_policy, create_account_in_policy}
-use Rattle.lsad_rights.specs.Table.{enumerate_accounts, open_account_in_policy, enumerate_privileges_account}
-use Rattle.lsad_rights.specs.Table.{add_privileges_to_account, remove_privileges_from_account}
-use Rattle.lsad_rights.specs.Table.{get_system_access_account, set_system_access_account, lookup_privilege_value}
-use Rattle.lsad_rights.specs.Table.{lookup_privilege_name, delete_object, enumerate_accounts_with_user_right}
-use Rattle.lsad_rights.specs.Table.{enumerate_account_rights, add_account_rights, remove_account_rights}
-use Rattle.lsad_rights.specs.Table.{query_information_policy2}
-use Rattle.lsat_translate.specs.Table.{lookup_names, lookup_sids}
-use Rattle.samr_members.specs.Table.{get_alias_membership, add_member_to_group, remove_member_from_group}
-use Rattle.samr_members.specs.Table.{get_members_in_group, add_member_to_alias, remove_member_from_alias}
-use Rattle.samr_members.specs.Table.{get_members_in_alias, get_groups_for_user}
-use Rattle.samr_objects.specs.Table.{lookup_domain_in_sam_server, enumerate_domains_in_sam_server}
-use Rattle.samr_objects.specs.Table.{open_domain_in_sam_server, query_information_domain, query_information_domain2}
-use Rattle.samr_objects.specs.Table.{set_information_domain, create_group_in_domain, enumerate_groups_in_domain}
-use Rattle.samr_objects.specs.Table.{create_user_in_domain, enumerate_users_in_domain, create_alias_in_domain}
-use Rattle.samr_objects.specs.Table.{enumerate_aliases_in_domain, lookup_names_in_domain, lookup_ids_in_domain}
-use Rattle.samr_objects.specs.Table.{open_group_in_domain, query_information_group, set_information_group}
-use Rattle.samr_objects.specs.Table.{delete_group_in_domain, open_alias_in_domain, query_information_alias}
-use Rattle.samr_objects.specs.Table.{set_information_alias, delete_alias_in_domain, open_user_in_domain}
-use Rattle.samr_objects.specs.Table.{delete_user_in_domain, query_information_user, set_information_user}
-use Rattle.samr_objects.specs.Table.{query_information_user2, create_user2_in_domain, set_information_user2}
-use Rattle.samr_objects.specs.Table.{sid_of_rid_in_domain}
+use Rattle.lsad_rights.specs.Table as rights
+use Rattle.lsat_translate.specs.Table as translations
+use Rattle.samr_members.specs.Table as members
+use Rattle.samr_objects.specs.Table as objects
 
 -- It brings no handle and needs no bit, and memory may want for the new handle alone.
 abbrev pub opening : Face → ℕ → Profile
@@ -88,139 +36,170 @@ opening face opnum = record {
 abbrev pub closing : Face → ℕ → Kinds → Profile
 closing face opnum taken = asking face opnum taken 0 memory.Never
 
+-- ---- those that connect and close
+
+abbrev pub connect2 : Operation
+connect2 = record { profile = opening Samr samr_connect2; rule = connect }
+
+abbrev pub connect4 : Operation
+connect4 = record { profile = opening Samr samr_connect4; rule = connect }
+
+abbrev pub connect5 : Operation
+connect5 = record { profile = opening Samr samr_connect5; rule = connect }
+
+abbrev pub close_handle : Operation
+close_handle = record { profile = closing Samr samr_close_handle kinds.Samr; rule = close }
+
+abbrev pub open_policy2 : Operation
+open_policy2 = record { profile = opening Lsa lsar_open_policy2; rule = open_policy }
+
+abbrev pub close_policy : Operation
+close_policy = record { profile = closing Lsa lsar_close kinds.Lsa; rule = close }
+
+-- ---- the table
+
 -- It is unfolded by name alone, so that nothing above looks into one operation.
 unfoldable pub operation : Work → Operation
-operation SamrConnect2 = record { profile = opening Samr samr_connect2; rule = connect }
-operation SamrConnect4 = record { profile = opening Samr samr_connect4; rule = connect }
-operation SamrConnect5 = record { profile = opening Samr samr_connect5; rule = connect }
-operation SamrCloseHandle = record { profile = closing Samr samr_close_handle kinds.Samr; rule = close }
-operation SamrLookupDomainInSamServer = lookup_domain_in_sam_server
-operation SamrEnumerateDomainsInSamServer = enumerate_domains_in_sam_server
-operation SamrOpenDomain = open_domain_in_sam_server
-operation SamrQueryInformationDomain = query_information_domain
-operation SamrQueryInformationDomain2 = query_information_domain2
-operation SamrSetInformationDomain = set_information_domain
-operation SamrCreateGroupInDomain = create_group_in_domain
-operation SamrEnumerateGroupsInDomain = enumerate_groups_in_domain
-operation SamrCreateUserInDomain = create_user_in_domain
-operation SamrEnumerateUsersInDomain = enumerate_users_in_domain
-operation SamrCreateAliasInDomain = create_alias_in_domain
-operation SamrEnumerateAliasesInDomain = enumerate_aliases_in_domain
-operation SamrGetAliasMembership = get_alias_membership
-operation SamrLookupNamesInDomain = lookup_names_in_domain
-operation SamrLookupIdsInDomain = lookup_ids_in_domain
-operation SamrOpenGroup = open_group_in_domain
-operation SamrQueryInformationGroup = query_information_group
-operation SamrSetInformationGroup = set_information_group
-operation SamrAddMemberToGroup = add_member_to_group
-operation SamrDeleteGroup = delete_group_in_domain
-operation SamrRemoveMemberFromGroup = remove_member_from_group
-operation SamrGetMembersInGroup = get_members_in_group
-operation SamrOpenAlias = open_alias_in_domain
-operation SamrQueryInformationAlias = query_information_alias
-operation SamrSetInformationAlias = set_information_alias
-operation SamrDeleteAlias = delete_alias_in_domain
-operation SamrAddMemberToAlias = add_member_to_alias
-operation SamrRemoveMemberFromAlias = remove_member_from_alias
-operation SamrGetMembersInAlias = get_members_in_alias
-operation SamrOpenUser = open_user_in_domain
-operation SamrDeleteUser = delete_user_in_domain
-operation SamrQueryInformationUser = query_information_user
-operation SamrSetInformationUser = set_information_user
-operation SamrGetGroupsForUser = get_groups_for_user
-operation SamrQueryInformationUser2 = query_information_user2
-operation SamrCreateUser2InDomain = create_user2_in_domain
-operation SamrSetInformationUser2 = set_information_user2
-operation SamrRidToSid = sid_of_rid_in_domain
-operation LsarOpenPolicy2 = record { profile = opening Lsa lsar_open_policy2; rule = open_policy }
-operation LsarClose = record { profile = closing Lsa lsar_close kinds.Lsa; rule = close }
-operation LsarEnumeratePrivileges = enumerate_privileges
-operation LsarQueryInformationPolicy = query_information_policy
-operation LsarCreateAccount = create_account_in_policy
-operation LsarEnumerateAccounts = enumerate_accounts
-operation LsarOpenAccount = open_account_in_policy
-operation LsarEnumeratePrivilegesAccount = enumerate_privileges_account
-operation LsarAddPrivilegesToAccount = add_privileges_to_account
-operation LsarRemovePrivilegesFromAccount = remove_privileges_from_account
-operation LsarGetSystemAccessAccount = get_system_access_account
-operation LsarSetSystemAccessAccount = set_system_access_account
-operation LsarLookupPrivilegeValue = lookup_privilege_value
-operation LsarLookupPrivilegeName = lookup_privilege_name
-operation LsarDeleteObject = delete_object
-operation LsarEnumerateAccountsWithUserRight = enumerate_accounts_with_user_right
-operation LsarEnumerateAccountRights = enumerate_account_rights
-operation LsarAddAccountRights = add_account_rights
-operation LsarRemoveAccountRights = remove_account_rights
-operation LsarQueryInformationPolicy2 = query_information_policy2
-operation LsarLookupNames = lookup_names
-operation LsarLookupSids = lookup_sids
+operation works.SamrConnect2 = connect2
+operation works.SamrConnect4 = connect4
+operation works.SamrConnect5 = connect5
+operation works.SamrCloseHandle = close_handle
+operation works.SamrLookupDomainInSamServer = objects.lookup_domain_in_sam_server
+operation works.SamrEnumerateDomainsInSamServer = objects.enumerate_domains_in_sam_server
+operation works.SamrOpenDomain = objects.open_domain_in_sam_server
+operation works.SamrQueryInformationDomain = objects.query_information_domain
+operation works.SamrQueryDisplayInformation = objects.query_display_information
+operation works.SamrQueryInformationDomain2 = objects.query_information_domain2
+operation works.SamrSetInformationDomain = objects.set_information_domain
+operation works.SamrCreateGroupInDomain = objects.create_group_in_domain
+operation works.SamrEnumerateGroupsInDomain = objects.enumerate_groups_in_domain
+operation works.SamrCreateUserInDomain = objects.create_user_in_domain
+operation works.SamrEnumerateUsersInDomain = objects.enumerate_users_in_domain
+operation works.SamrCreateAliasInDomain = objects.create_alias_in_domain
+operation works.SamrEnumerateAliasesInDomain = objects.enumerate_aliases_in_domain
+operation works.SamrGetAliasMembership = members.get_alias_membership
+operation works.SamrLookupNamesInDomain = objects.lookup_names_in_domain
+operation works.SamrLookupIdsInDomain = objects.lookup_ids_in_domain
+operation works.SamrOpenGroup = objects.open_group_in_domain
+operation works.SamrQueryInformationGroup = objects.query_information_group
+operation works.SamrSetInformationGroup = objects.set_information_group
+operation works.SamrAddMemberToGroup = members.add_member_to_group
+operation works.SamrDeleteGroup = objects.delete_group_in_domain
+operation works.SamrRemoveMemberFromGroup = members.remove_member_from_group
+operation works.SamrGetMembersInGroup = members.get_members_in_group
+operation works.SamrOpenAlias = objects.open_alias_in_domain
+operation works.SamrQueryInformationAlias = objects.query_information_alias
+operation works.SamrSetInformationAlias = objects.set_information_alias
+operation works.SamrDeleteAlias = objects.delete_alias_in_domain
+operation works.SamrAddMemberToAlias = members.add_member_to_alias
+operation works.SamrRemoveMemberFromAlias = members.remove_member_from_alias
+operation works.SamrGetMembersInAlias = members.get_members_in_alias
+operation works.SamrOpenUser = objects.open_user_in_domain
+operation works.SamrDeleteUser = objects.delete_user_in_domain
+operation works.SamrQueryInformationUser = objects.query_information_user
+operation works.SamrSetInformationUser = objects.set_information_user
+operation works.SamrGetGroupsForUser = members.get_groups_for_user
+operation works.SamrQueryInformationUser2 = objects.query_information_user2
+operation works.SamrCreateUser2InDomain = objects.create_user2_in_domain
+operation works.SamrSetInformationUser2 = objects.set_information_user2
+operation works.SamrRidToSid = objects.sid_of_rid_in_domain
+operation works.LsarOpenPolicy2 = open_policy2
+operation works.LsarClose = close_policy
+operation works.LsarEnumeratePrivileges = rights.enumerate_privileges
+operation works.LsarQueryInformationPolicy = rights.query_information_policy
+operation works.LsarCreateAccount = rights.create_account_in_policy
+operation works.LsarEnumerateAccounts = rights.enumerate_accounts
+operation works.LsarOpenAccount = rights.open_account_in_policy
+operation works.LsarEnumeratePrivilegesAccount = rights.enumerate_privileges_account
+operation works.LsarAddPrivilegesToAccount = rights.add_privileges_to_account
+operation works.LsarRemovePrivilegesFromAccount = rights.remove_privileges_from_account
+operation works.LsarGetSystemAccessAccount = rights.get_system_access_account
+operation works.LsarSetSystemAccessAccount = rights.set_system_access_account
+operation works.LsarLookupPrivilegeValue = rights.lookup_privilege_value
+operation works.LsarLookupPrivilegeName = rights.lookup_privilege_name
+operation works.LsarDeleteObject = rights.delete_object
+operation works.LsarEnumerateAccountsWithUserRight = rights.enumerate_accounts_with_user_right
+operation works.LsarEnumerateAccountRights = rights.enumerate_account_rights
+operation works.LsarAddAccountRights = rights.add_account_rights
+operation works.LsarRemoveAccountRights = rights.remove_account_rights
+operation works.LsarQueryInformationPolicy2 = rights.query_information_policy2
+operation works.LsarLookupNames = translations.lookup_names
+operation works.LsarLookupSids = translations.lookup_sids
+operation works.LsarLookupSids2 = translations.lookup_sids2
+operation works.LsarLookupNames2 = translations.lookup_names2
+operation works.LsarLookupNames3 = translations.lookup_names3
 
-abbrev pub works : List Work
-works =
-    SamrConnect2
-    ∷ SamrConnect4
-    ∷ SamrConnect5
-    ∷ SamrCloseHandle
-    ∷ SamrLookupDomainInSamServer
-    ∷ SamrEnumerateDomainsInSamServer
-    ∷ SamrOpenDomain
-    ∷ SamrQueryInformationDomain
-    ∷ SamrQueryInformationDomain2
-    ∷ SamrSetInformationDomain
-    ∷ SamrCreateGroupInDomain
-    ∷ SamrEnumerateGroupsInDomain
-    ∷ SamrCreateUserInDomain
-    ∷ SamrEnumerateUsersInDomain
-    ∷ SamrCreateAliasInDomain
-    ∷ SamrEnumerateAliasesInDomain
-    ∷ SamrGetAliasMembership
-    ∷ SamrLookupNamesInDomain
-    ∷ SamrLookupIdsInDomain
-    ∷ SamrOpenGroup
-    ∷ SamrQueryInformationGroup
-    ∷ SamrSetInformationGroup
-    ∷ SamrAddMemberToGroup
-    ∷ SamrDeleteGroup
-    ∷ SamrRemoveMemberFromGroup
-    ∷ SamrGetMembersInGroup
-    ∷ SamrOpenAlias
-    ∷ SamrQueryInformationAlias
-    ∷ SamrSetInformationAlias
-    ∷ SamrDeleteAlias
-    ∷ SamrAddMemberToAlias
-    ∷ SamrRemoveMemberFromAlias
-    ∷ SamrGetMembersInAlias
-    ∷ SamrOpenUser
-    ∷ SamrDeleteUser
-    ∷ SamrQueryInformationUser
-    ∷ SamrSetInformationUser
-    ∷ SamrGetGroupsForUser
-    ∷ SamrQueryInformationUser2
-    ∷ SamrCreateUser2InDomain
-    ∷ SamrSetInformationUser2
-    ∷ SamrRidToSid
-    ∷ LsarOpenPolicy2
-    ∷ LsarClose
-    ∷ LsarEnumeratePrivileges
-    ∷ LsarQueryInformationPolicy
-    ∷ LsarCreateAccount
-    ∷ LsarEnumerateAccounts
-    ∷ LsarOpenAccount
-    ∷ LsarEnumeratePrivilegesAccount
-    ∷ LsarAddPrivilegesToAccount
-    ∷ LsarRemovePrivilegesFromAccount
-    ∷ LsarGetSystemAccessAccount
-    ∷ LsarSetSystemAccessAccount
-    ∷ LsarLookupPrivilegeValue
-    ∷ LsarLookupPrivilegeName
-    ∷ LsarDeleteObject
-    ∷ LsarEnumerateAccountsWithUserRight
-    ∷ LsarEnumerateAccountRights
-    ∷ LsarAddAccountRights
-    ∷ LsarRemoveAccountRights
-    ∷ LsarQueryInformationPolicy2
-    ∷ LsarLookupNames
-    ∷ LsarLookupSids
+-- all of them
+abbrev pub all_works : List Work
+all_works =
+    works.SamrConnect2
+    ∷ works.SamrConnect4
+    ∷ works.SamrConnect5
+    ∷ works.SamrCloseHandle
+    ∷ works.SamrLookupDomainInSamServer
+    ∷ works.SamrEnumerateDomainsInSamServer
+    ∷ works.SamrOpenDomain
+    ∷ works.SamrQueryInformationDomain
+    ∷ works.SamrQueryDisplayInformation
+    ∷ works.SamrQueryInformationDomain2
+    ∷ works.SamrSetInformationDomain
+    ∷ works.SamrCreateGroupInDomain
+    ∷ works.SamrEnumerateGroupsInDomain
+    ∷ works.SamrCreateUserInDomain
+    ∷ works.SamrEnumerateUsersInDomain
+    ∷ works.SamrCreateAliasInDomain
+    ∷ works.SamrEnumerateAliasesInDomain
+    ∷ works.SamrGetAliasMembership
+    ∷ works.SamrLookupNamesInDomain
+    ∷ works.SamrLookupIdsInDomain
+    ∷ works.SamrOpenGroup
+    ∷ works.SamrQueryInformationGroup
+    ∷ works.SamrSetInformationGroup
+    ∷ works.SamrAddMemberToGroup
+    ∷ works.SamrDeleteGroup
+    ∷ works.SamrRemoveMemberFromGroup
+    ∷ works.SamrGetMembersInGroup
+    ∷ works.SamrOpenAlias
+    ∷ works.SamrQueryInformationAlias
+    ∷ works.SamrSetInformationAlias
+    ∷ works.SamrDeleteAlias
+    ∷ works.SamrAddMemberToAlias
+    ∷ works.SamrRemoveMemberFromAlias
+    ∷ works.SamrGetMembersInAlias
+    ∷ works.SamrOpenUser
+    ∷ works.SamrDeleteUser
+    ∷ works.SamrQueryInformationUser
+    ∷ works.SamrSetInformationUser
+    ∷ works.SamrGetGroupsForUser
+    ∷ works.SamrQueryInformationUser2
+    ∷ works.SamrCreateUser2InDomain
+    ∷ works.SamrSetInformationUser2
+    ∷ works.SamrRidToSid
+    ∷ works.LsarOpenPolicy2
+    ∷ works.LsarClose
+    ∷ works.LsarEnumeratePrivileges
+    ∷ works.LsarQueryInformationPolicy
+    ∷ works.LsarCreateAccount
+    ∷ works.LsarEnumerateAccounts
+    ∷ works.LsarOpenAccount
+    ∷ works.LsarEnumeratePrivilegesAccount
+    ∷ works.LsarAddPrivilegesToAccount
+    ∷ works.LsarRemovePrivilegesFromAccount
+    ∷ works.LsarGetSystemAccessAccount
+    ∷ works.LsarSetSystemAccessAccount
+    ∷ works.LsarLookupPrivilegeValue
+    ∷ works.LsarLookupPrivilegeName
+    ∷ works.LsarDeleteObject
+    ∷ works.LsarEnumerateAccountsWithUserRight
+    ∷ works.LsarEnumerateAccountRights
+    ∷ works.LsarAddAccountRights
+    ∷ works.LsarRemoveAccountRights
+    ∷ works.LsarQueryInformationPolicy2
+    ∷ works.LsarLookupNames
+    ∷ works.LsarLookupSids
+    ∷ works.LsarLookupSids2
+    ∷ works.LsarLookupNames2
+    ∷ works.LsarLookupNames3
     ∷ []
 
 abbrev pub same_face : Face → Face → Bool
@@ -233,7 +212,12 @@ is_work_of face opnum work = same_face face (operation work).profile.face && (op
 
 -- the operation of an interface and an opnum
 unfoldable pub work_of : Face → ℕ → Option Work
-work_of face opnum = find (is_work_of face opnum) works
+work_of face opnum = find (is_work_of face opnum) all_works
+
+-- how many opnums an interface has up to the last that is served
+abbrev pub opnum_count : Face → ℕ
+opnum_count Samr = samr_rid_to_sid + 1
+opnum_count Lsa = lsar_lookup_names3 + 1
 
 abbrev pub has_operation : Face → ℕ → Bool
 has_operation face opnum = is_some (work_of face opnum)

@@ -2,11 +2,10 @@
 //! those that connect and close.
 //!
 //! It stands on `acct_rules`, which says what an operation is, and on the crates that decide the others. The layer
-//! above uses the table alone: `work_of` finds an operation by its interface and opnum, `profile_of` and `decide` are
-//! its two halves, and `has_operation` tells whether there is one. Whatever the layer above says of a call it says of
-//! an operation of the table, and what it needs of each it has from the laws `operations_are_right` and
-//! `operations_keep_rows`. One more operation is one more `Work`, with its line in each list of `table` and of the
-//! laws.
+//! above uses the table alone: `work_of` finds an operation by its interface and opnum, if there is one, and
+//! `profile_of` and `decide` are its two halves. Whatever the layer above says of a call it says of an operation of the
+//! table, and what it needs of each it has from the laws `operations_are_right` and `operations_keep_rows`. One more
+//! operation is one more `Work`, with its line in each list of `table`, of its definition and of `Each`.
 #![tactic(auto)]
 
 mod closings;
@@ -15,4 +14,4 @@ mod openings;
 mod table;
 
 pub use laws::{calls_have_operations, operations_are_right, operations_keep_rows};
-pub use table::{Work, decide, has_operation, profile_of, work_of, works};
+pub use table::{Work, decide, profile_of, work_of};

@@ -4,13 +4,12 @@ ghost use Rattle.std.specs.List.{range_with_len};
 ghost use Rattle.acct_calls.specs.declared.calls.Face.TheVariants.{Samr, Lsa};
 ghost use Rattle.acct_rules.specs.Planned.{decision};
 ghost use Rattle.acct_rules.specs.Profiles.{asking, is_anywhere};
-ghost use Rattle.acct_codes.specs.Opnums.{samr_rid_to_sid, lsar_query_information_policy2};
 ghost use Rattle.acct_codes.specs.Rights.{domain_lookup, policy_lookup_names, policy_create_account};
 ghost use Rattle.acct_codes.specs.declared.kind.Kind.TheVariants as kind;
 ghost use Rattle.acct_rules.specs.declared.profile.Kinds.TheVariants.{Only};
 ghost use Rattle.acct_rules.specs.declared.profile.Needs.TheVariants as needs;
 ghost use Rattle.acct_rules.specs.declared.profile.Memory.TheVariants.{Anywhere, BehindConditions};
-ghost use Rattle.acct_operations.specs.Table.{opening, closing, operation, works, work_of, has_operation};
+ghost use Rattle.acct_operations.specs.Table.{opening, closing, operation, work_of, opnum_count};
 ghost use Rattle.samr_objects.specs.Table.{asking_user};
 
 use crate::closings::close;
@@ -106,6 +105,7 @@ use samr_objects::open_domain;
 use samr_objects::open_group;
 use samr_objects::open_user;
 use samr_objects::query_alias;
+use samr_objects::query_display;
 use samr_objects::query_domain;
 use samr_objects::query_group;
 use samr_objects::query_user;
@@ -127,6 +127,7 @@ pub enum Work {
     SamrEnumerateDomainsInSamServer,
     SamrOpenDomain,
     SamrQueryInformationDomain,
+    SamrQueryDisplayInformation,
     SamrQueryInformationDomain2,
     SamrSetInformationDomain,
     SamrCreateGroupInDomain,
@@ -183,84 +184,15 @@ pub enum Work {
     LsarQueryInformationPolicy2,
     LsarLookupNames,
     LsarLookupSids,
-}
-
-/// The operations, as the table lists them.
-pub fn works() -> &'static [Work]
-    ensures { result.now ≡ works }
-{
-    &[
-        Work::SamrConnect2,
-        Work::SamrConnect4,
-        Work::SamrConnect5,
-        Work::SamrCloseHandle,
-        Work::SamrLookupDomainInSamServer,
-        Work::SamrEnumerateDomainsInSamServer,
-        Work::SamrOpenDomain,
-        Work::SamrQueryInformationDomain,
-        Work::SamrQueryInformationDomain2,
-        Work::SamrSetInformationDomain,
-        Work::SamrCreateGroupInDomain,
-        Work::SamrEnumerateGroupsInDomain,
-        Work::SamrCreateUserInDomain,
-        Work::SamrEnumerateUsersInDomain,
-        Work::SamrCreateAliasInDomain,
-        Work::SamrEnumerateAliasesInDomain,
-        Work::SamrGetAliasMembership,
-        Work::SamrLookupNamesInDomain,
-        Work::SamrLookupIdsInDomain,
-        Work::SamrOpenGroup,
-        Work::SamrQueryInformationGroup,
-        Work::SamrSetInformationGroup,
-        Work::SamrAddMemberToGroup,
-        Work::SamrDeleteGroup,
-        Work::SamrRemoveMemberFromGroup,
-        Work::SamrGetMembersInGroup,
-        Work::SamrOpenAlias,
-        Work::SamrQueryInformationAlias,
-        Work::SamrSetInformationAlias,
-        Work::SamrDeleteAlias,
-        Work::SamrAddMemberToAlias,
-        Work::SamrRemoveMemberFromAlias,
-        Work::SamrGetMembersInAlias,
-        Work::SamrOpenUser,
-        Work::SamrDeleteUser,
-        Work::SamrQueryInformationUser,
-        Work::SamrSetInformationUser,
-        Work::SamrGetGroupsForUser,
-        Work::SamrQueryInformationUser2,
-        Work::SamrCreateUser2InDomain,
-        Work::SamrSetInformationUser2,
-        Work::SamrRidToSid,
-        Work::LsarOpenPolicy2,
-        Work::LsarClose,
-        Work::LsarEnumeratePrivileges,
-        Work::LsarQueryInformationPolicy,
-        Work::LsarCreateAccount,
-        Work::LsarEnumerateAccounts,
-        Work::LsarOpenAccount,
-        Work::LsarEnumeratePrivilegesAccount,
-        Work::LsarAddPrivilegesToAccount,
-        Work::LsarRemovePrivilegesFromAccount,
-        Work::LsarGetSystemAccessAccount,
-        Work::LsarSetSystemAccessAccount,
-        Work::LsarLookupPrivilegeValue,
-        Work::LsarLookupPrivilegeName,
-        Work::LsarDeleteObject,
-        Work::LsarEnumerateAccountsWithUserRight,
-        Work::LsarEnumerateAccountRights,
-        Work::LsarAddAccountRights,
-        Work::LsarRemoveAccountRights,
-        Work::LsarQueryInformationPolicy2,
-        Work::LsarLookupNames,
-        Work::LsarLookupSids,
-    ]
+    LsarLookupSids2,
+    LsarLookupNames2,
+    LsarLookupNames3,
 }
 
 // The operations of SAMR up to the last opnum that is served, each at the place that its opnum says.
 #[tactic(auto, unfolding(crate::specs::Table::work_of, crate::specs::Table::operation))]
 fn samr_works() -> &'static [Option<Work>]
-    ensures { result.now ≡ map (work_of Samr) (range_with_len 0 (samr_rid_to_sid + 1)) }
+    ensures { result.now ≡ map (work_of Samr) (range_with_len 0 (opnum_count Samr)) }
 {
     &[
         None,
@@ -303,7 +235,7 @@ fn samr_works() -> &'static [Option<Work>]
         Some(Work::SamrSetInformationUser),
         None,
         Some(Work::SamrGetGroupsForUser),
-        None,
+        Some(Work::SamrQueryDisplayInformation),
         None,
         None,
         None,
@@ -335,7 +267,7 @@ fn samr_works() -> &'static [Option<Work>]
 // The operations of LSARPC up to the last opnum that is served, each at the place that its opnum says.
 #[tactic(auto, unfolding(crate::specs::Table::work_of, crate::specs::Table::operation))]
 fn lsa_works() -> &'static [Option<Work>]
-    ensures { result.now ≡ map (work_of Lsa) (range_with_len 0 (lsar_query_information_policy2 + 1)) }
+    ensures { result.now ≡ map (work_of Lsa) (range_with_len 0 (opnum_count Lsa)) }
 {
     &[
         Some(Work::LsarClose),
@@ -385,6 +317,28 @@ fn lsa_works() -> &'static [Option<Work>]
         Some(Work::LsarOpenPolicy2),
         None,
         Some(Work::LsarQueryInformationPolicy2),
+        None,
+        None,
+        None,
+        None,
+        None,
+        None,
+        None,
+        None,
+        None,
+        None,
+        Some(Work::LsarLookupSids2),
+        Some(Work::LsarLookupNames2),
+        None,
+        None,
+        None,
+        None,
+        None,
+        None,
+        None,
+        None,
+        None,
+        Some(Work::LsarLookupNames3),
     ]
 }
 
@@ -408,13 +362,6 @@ pub fn work_of(face: Face, opnum: u16) -> Option<Work>
         Face::Samr => at(samr_works(), opnum),
         Face::Lsa => at(lsa_works(), opnum),
     }
-}
-
-/// Whether there is an operation of an interface and an opnum.
-pub fn has_operation(face: Face, opnum: u16) -> bool
-    ensures { result ≡ has_operation face opnum }
-{
-    work_of(face, opnum).is_some()
 }
 
 // An operation that opens what a connection begins with.
@@ -561,6 +508,10 @@ pub fn profile_of(work: Work) -> Profile
         Work::SamrQueryInformationDomain => on_domain(
             samr_opnum::SAMR_QUERY_INFORMATION_DOMAIN,
             DOMAIN_READ_OTHER_PARAMETERS,
+        ),
+        Work::SamrQueryDisplayInformation => on_domain(
+            samr_opnum::SAMR_QUERY_DISPLAY_INFORMATION,
+            DOMAIN_LIST_ACCOUNTS,
         ),
         Work::SamrQueryInformationDomain2 => on_domain(
             samr_opnum::SAMR_QUERY_INFORMATION_DOMAIN2,
@@ -763,6 +714,9 @@ pub fn profile_of(work: Work) -> Profile
         ),
         Work::LsarLookupNames => on_policy(lsa_opnum::LSAR_LOOKUP_NAMES, POLICY_LOOKUP_NAMES),
         Work::LsarLookupSids => on_policy(lsa_opnum::LSAR_LOOKUP_SIDS, POLICY_LOOKUP_NAMES),
+        Work::LsarLookupSids2 => on_policy(lsa_opnum::LSAR_LOOKUP_SIDS2, POLICY_LOOKUP_NAMES),
+        Work::LsarLookupNames2 => on_policy(lsa_opnum::LSAR_LOOKUP_NAMES2, POLICY_LOOKUP_NAMES),
+        Work::LsarLookupNames3 => on_policy(lsa_opnum::LSAR_LOOKUP_NAMES3, POLICY_LOOKUP_NAMES),
     }
 }
 
@@ -788,6 +742,7 @@ pub fn decide(
         Work::SamrEnumerateDomainsInSamServer => list_domains(alloc, rows, object, args),
         Work::SamrOpenDomain => open_domain(alloc, rows, object, args),
         Work::SamrQueryInformationDomain => query_domain(alloc, rows, object, args),
+        Work::SamrQueryDisplayInformation => query_display(alloc, rows, object, args),
         Work::SamrQueryInformationDomain2 => query_domain(alloc, rows, object, args),
         Work::SamrSetInformationDomain => set_domain(alloc, rows, object, args),
         Work::SamrCreateGroupInDomain => create_group(alloc, rows, object, args),
@@ -844,5 +799,8 @@ pub fn decide(
         Work::LsarQueryInformationPolicy2 => query_policy(alloc, rows, object, args),
         Work::LsarLookupNames => lsat_translate::look_names(alloc, rows, object, args),
         Work::LsarLookupSids => lsat_translate::look_sids(alloc, rows, object, args),
+        Work::LsarLookupSids2 => lsat_translate::look_sids2(alloc, rows, object, args),
+        Work::LsarLookupNames2 => lsat_translate::look_names2(alloc, rows, object, args),
+        Work::LsarLookupNames3 => lsat_translate::look_names3(alloc, rows, object, args),
     }
 }

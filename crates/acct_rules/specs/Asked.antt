@@ -11,6 +11,7 @@ use Rattle.acct_rows.specs.Rows.{Lists, lsa_at}
 abbrev pub class_of : Args → ℕ
 class_of (args.Class class) = class
 class_of (args.Put class value) = class
+class_of (args.Display class index count preferred) = class
 class_of _ = 0
 
 -- the access that an opening asks for
@@ -59,15 +60,26 @@ abbrev pub asked_context : Args → ℕ
 asked_context (args.Page context filter preferred) = context
 asked_context _ = 0
 
--- the length that is preferred for a page of it
+-- the length that is preferred for a page of it, or of what is displayed
 abbrev pub asked_length : Args → ℕ
 asked_length (args.Page context filter preferred) = preferred
+asked_length (args.Display class index count preferred) = preferred
 asked_length _ = 0
 
 -- the control bits of which an entry needs one; 0 where it needs none
 abbrev pub asked_filter : Args → ℕ
 asked_filter (args.Page context filter preferred) = filter
 asked_filter _ = 0
+
+-- how many entries of what is displayed are passed over
+abbrev pub asked_index : Args → ℕ
+asked_index (args.Display class index count preferred) = index
+asked_index _ = 0
+
+-- how many entries are asked for at most
+abbrev pub asked_count : Args → ℕ
+asked_count (args.Display class index count preferred) = count
+asked_count _ = 0
 
 -- ---- what a creation asks for
 

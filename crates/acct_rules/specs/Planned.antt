@@ -8,6 +8,7 @@ use Rattle.acct_calls.specs.declared.replies.Outs.{Outs}
 use Rattle.acct_calls.specs.declared.replies.Outs.TheVariants as outs
 use Rattle.acct_codes.specs.Statuses.{status_success}
 use Rattle.acct_rows.specs.declared.object.Object.{Object}
+use Rattle.acct_rows.specs.declared.plan.Plan.{Plan}
 use Rattle.acct_rows.specs.declared.row.Row.{Row}
 use Rattle.acct_rows.specs.declared.row.RowKey.{RowKey}
 use Rattle.acct_rules.specs.declared.planned.Opening.{Opening}
@@ -105,6 +106,10 @@ gives_handle effects.Nothing = false
 gives_handle effects.Closes = false
 gives_handle (effects.Deletes object) = false
 
--- room is taken for a handle, and for rows that are put
+-- whether a plan puts or removes a row
+abbrev pub has_change : Plan → Bool
+has_change plan = nat_lt 0 (length plan.puts) || nat_lt 0 (length plan.removes)
+
+-- room is taken for a handle, and to make and to store a change of rows
 abbrev pub takes_room : Planned → Bool
-takes_room planned = gives_handle planned.effect || nat_lt 0 (length planned.plan.puts)
+takes_room planned = gives_handle planned.effect || has_change planned.plan

@@ -3,7 +3,8 @@ ghost use Rattle.std.specs.Prelude.{◌≡◌, IfOk};
 ghost use Rattle.std.specs.Option.{option_copied};
 ghost use Rattle.acct_rules.specs.Asked.{class_of, desired_access, has_account, asked_sid, asked_rid, asked_name};
 ghost use Rattle.acct_rules.specs.Asked.{asked_names, asked_rids, asked_context, asked_length, asked_filter};
-ghost use Rattle.acct_rules.specs.Asked.{made_name, made_bits, put_text, put_number, units_in, or_empty};
+ghost use Rattle.acct_rules.specs.Asked.{asked_index, asked_count, made_name, made_bits, put_text, put_number};
+ghost use Rattle.acct_rules.specs.Asked.{units_in, or_empty};
 
 use acct_calls::{Args, Info, Name, NoMemory};
 use acct_rows::Rows;
@@ -17,6 +18,7 @@ pub fn class_of(args: &Args) -> u16
     match args {
         Args::Class(class) => *class,
         Args::Put { class, .. } => *class,
+        Args::Display { class, .. } => *class,
         _ => 0,
     }
 }
@@ -107,12 +109,13 @@ pub fn asked_context(args: &Args) -> u32
     }
 }
 
-/// The length that is preferred for a page of it.
+/// The length that is preferred for a page of it, or of what is displayed.
 pub fn asked_length(args: &Args) -> u32
     ensures { result ≡ asked_length args.now }
 {
     match args {
         Args::Page { preferred, .. } => *preferred,
+        Args::Display { preferred, .. } => *preferred,
         _ => 0,
     }
 }
@@ -123,6 +126,26 @@ pub fn asked_filter(args: &Args) -> u32
 {
     match args {
         Args::Page { filter, .. } => *filter,
+        _ => 0,
+    }
+}
+
+/// How many entries of what is displayed are passed over.
+pub fn asked_index(args: &Args) -> u32
+    ensures { result ≡ asked_index args.now }
+{
+    match args {
+        Args::Display { index, .. } => *index,
+        _ => 0,
+    }
+}
+
+/// How many entries are asked for at most.
+pub fn asked_count(args: &Args) -> u32
+    ensures { result ≡ asked_count args.now }
+{
+    match args {
+        Args::Display { count, .. } => *count,
         _ => 0,
     }
 }

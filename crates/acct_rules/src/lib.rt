@@ -19,9 +19,9 @@ mod profile;
 pub use acct_calls::NoMemory;
 pub use acct_rows::Object;
 pub use asked::{
-    asked_context, asked_filter, asked_length, asked_name, asked_names, asked_rid, asked_rids,
-    asked_sid, class_of, desired_access, made_bits, made_name, put_number, put_text, text_or_empty,
-    units_in,
+    asked_context, asked_count, asked_filter, asked_index, asked_length, asked_name, asked_names,
+    asked_rid, asked_rids, asked_sid, class_of, desired_access, made_bits, made_name, put_number,
+    put_text, text_or_empty, units_in,
 };
 pub use mapped::{mapped_status, use_of_kind};
 pub use outputs::fill;

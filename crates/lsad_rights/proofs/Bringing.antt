@@ -26,80 +26,20 @@ arguments call face opnum faces opnums spelled =
 -- a SID that an account is created for
 asks-sid : (a : Args) → ArePolicyArgs policy.Account a → IfThere IsSid (asked_sid a)
 asks-sid (args.AccessSid x y) n = n.1
-asks-sid args.Nothing n = absurd n
-asks-sid (args.Access x) n = absurd n
-asks-sid (args.AccessRid x y) n = absurd n
-asks-sid (args.Make x y z) n = absurd n
-asks-sid (args.Page x y z) n = absurd n
-asks-sid (args.Class x) n = absurd n
-asks-sid (args.Put x y) n = absurd n
-asks-sid (args.Rid x) n = absurd n
-asks-sid (args.RidBits x y) n = absurd n
-asks-sid (args.OneSid x) n = absurd n
-asks-sid (args.SidList x) n = absurd n
-asks-sid (args.NameList x) n = absurd n
-asks-sid (args.RidList x) n = absurd n
-asks-sid (args.OneName x) n = absurd n
-asks-sid (args.Luid x y) n = absurd n
-asks-sid (args.Bits x) n = absurd n
-asks-sid (args.Privileges x y) n = absurd n
-asks-sid (args.Rights x y z) n = absurd n
-asks-sid (args.LookNames x y) n = absurd n
-asks-sid (args.LookSids x y) n = absurd n
-asks-sid (args.Policy x y) n = absurd n
+asks-sid _ n = absurd n
 
 -- the SID of an account whose rights are added
 adds-sid : (a : Args) → ArePolicyArgs policy.AddRights a → IfThere IsSid (brought_sid a)
 adds-sid (args.Rights x false z) n = n.0
 adds-sid (args.Rights x true z) n = absurd n
-adds-sid args.Nothing n = absurd n
-adds-sid (args.Access x) n = absurd n
-adds-sid (args.AccessRid x y) n = absurd n
-adds-sid (args.AccessSid x y) n = absurd n
-adds-sid (args.Make x y z) n = absurd n
-adds-sid (args.Page x y z) n = absurd n
-adds-sid (args.Class x) n = absurd n
-adds-sid (args.Put x y) n = absurd n
-adds-sid (args.Rid x) n = absurd n
-adds-sid (args.RidBits x y) n = absurd n
-adds-sid (args.OneSid x) n = absurd n
-adds-sid (args.SidList x) n = absurd n
-adds-sid (args.NameList x) n = absurd n
-adds-sid (args.RidList x) n = absurd n
-adds-sid (args.OneName x) n = absurd n
-adds-sid (args.Luid x y) n = absurd n
-adds-sid (args.Bits x) n = absurd n
-adds-sid (args.Privileges x y) n = absurd n
-adds-sid (args.LookNames x y) n = absurd n
-adds-sid (args.LookSids x y) n = absurd n
-adds-sid (args.Policy x y) n = absurd n
+adds-sid _ n = absurd n
 
 -- the privileges that are added
 adds-privileges : (a : Args) → ArePolicyArgs policy.AddPrivileges a → All IsPrivilege (brought_privileges a)
 adds-privileges (args.Privileges false (Some set)) n = n.1
 adds-privileges (args.Privileges false None) n = absurd n
 adds-privileges (args.Privileges true set) n = absurd n
-adds-privileges args.Nothing n = absurd n
-adds-privileges (args.Access x) n = absurd n
-adds-privileges (args.AccessRid x y) n = absurd n
-adds-privileges (args.AccessSid x y) n = absurd n
-adds-privileges (args.Make x y z) n = absurd n
-adds-privileges (args.Page x y z) n = absurd n
-adds-privileges (args.Class x) n = absurd n
-adds-privileges (args.Put x y) n = absurd n
-adds-privileges (args.Rid x) n = absurd n
-adds-privileges (args.RidBits x y) n = absurd n
-adds-privileges (args.OneSid x) n = absurd n
-adds-privileges (args.SidList x) n = absurd n
-adds-privileges (args.NameList x) n = absurd n
-adds-privileges (args.RidList x) n = absurd n
-adds-privileges (args.OneName x) n = absurd n
-adds-privileges (args.Luid x y) n = absurd n
-adds-privileges (args.Bits x) n = absurd n
-adds-privileges (args.Rights x y z) n = absurd n
-adds-privileges (args.LookNames x y) n = absurd n
-adds-privileges (args.LookSids x y) n = absurd n
-adds-privileges (args.Policy x y) n = absurd n
+adds-privileges _ n = absurd n
 
 pub created-sid : (call : Call) → call.face ≡ Lsa → call.opnum ≡ lsar_create_account → CanBeSpelled call
     → IfThere IsSid (asked_sid call.args)

@@ -13,7 +13,7 @@ use Rattle.acct_rows.specs.declared.object.Object.{Object}
 use Rattle.acct_rows.specs.declared.row.Held.{Held}
 use Rattle.acct_rows.specs.declared.row.LsaRow.{LsaRow}
 use Rattle.acct_rules.specs.Asked.{asked_context, asked_length}
-use Rattle.acct_rules.specs.Operations.{IsRight, KeepsRows}
+use Rattle.acct_rules.specs.Operations.{IsRight, KeepsRows, Operation}
 use Rattle.acct_rules.specs.Pages.{page}
 use Rattle.dtyp_sid.specs.Value.{SidValue}
 use Rattle.lsad_rights.specs.HeldRights.{held_name, names_held}
@@ -35,47 +35,33 @@ use Rattle.lsad_rights.specs.Table.{create_account_in_policy, open_account_in_po
 use Rattle.lsad_rights.specs.Table.{add_privileges_to_account, remove_privileges_from_account}
 use Rattle.lsad_rights.specs.Table.{set_system_access_account, add_account_rights, remove_account_rights}
 
-pub record AreRight : Type 0 where
-  pub list_privileges : IsRight enumerate_privileges
-  pub query_policy : IsRight query_information_policy
-  pub query_policy2 : IsRight query_information_policy2
-  pub list_accounts : IsRight enumerate_accounts
-  pub privilege_value : IsRight lookup_privilege_value
-  pub privilege_name : IsRight lookup_privilege_name
-  pub accounts_with_right : IsRight enumerate_accounts_with_user_right
-  pub account_rights : IsRight enumerate_account_rights
-  pub account_privileges : IsRight enumerate_privileges_account
-  pub system_access : IsRight get_system_access_account
+-- what holds of each operation
+pub record Each (P : Operation → Type 0) : Type 0 where
+  pub list_privileges : P enumerate_privileges
+  pub query_policy : P query_information_policy
+  pub query_policy2 : P query_information_policy2
+  pub list_accounts : P enumerate_accounts
+  pub privilege_value : P lookup_privilege_value
+  pub privilege_name : P lookup_privilege_name
+  pub accounts_with_right : P enumerate_accounts_with_user_right
+  pub account_rights : P enumerate_account_rights
+  pub account_privileges : P enumerate_privileges_account
+  pub system_access : P get_system_access_account
   -- those that make, open, change and delete an account
-  pub create_account : IsRight create_account_in_policy
-  pub open_account : IsRight open_account_in_policy
-  pub delete_account : IsRight delete_object
-  pub add_privileges : IsRight add_privileges_to_account
-  pub remove_privileges : IsRight remove_privileges_from_account
-  pub set_system_access : IsRight set_system_access_account
-  pub add_rights : IsRight add_account_rights
-  pub remove_rights : IsRight remove_account_rights
+  pub create_account : P create_account_in_policy
+  pub open_account : P open_account_in_policy
+  pub delete_account : P delete_object
+  pub add_privileges : P add_privileges_to_account
+  pub remove_privileges : P remove_privileges_from_account
+  pub set_system_access : P set_system_access_account
+  pub add_rights : P add_account_rights
+  pub remove_rights : P remove_account_rights
 
-pub record KeepRows : Type 0 where
-  pub list_privileges : KeepsRows enumerate_privileges
-  pub query_policy : KeepsRows query_information_policy
-  pub query_policy2 : KeepsRows query_information_policy2
-  pub list_accounts : KeepsRows enumerate_accounts
-  pub privilege_value : KeepsRows lookup_privilege_value
-  pub privilege_name : KeepsRows lookup_privilege_name
-  pub accounts_with_right : KeepsRows enumerate_accounts_with_user_right
-  pub account_rights : KeepsRows enumerate_account_rights
-  pub account_privileges : KeepsRows enumerate_privileges_account
-  pub system_access : KeepsRows get_system_access_account
-  -- those that make, open, change and delete an account
-  pub create_account : KeepsRows create_account_in_policy
-  pub open_account : KeepsRows open_account_in_policy
-  pub delete_account : KeepsRows delete_object
-  pub add_privileges : KeepsRows add_privileges_to_account
-  pub remove_privileges : KeepsRows remove_privileges_from_account
-  pub set_system_access : KeepsRows set_system_access_account
-  pub add_rights : KeepsRows add_account_rights
-  pub remove_rights : KeepsRows remove_account_rights
+abbrev pub AreRight : Type 0
+AreRight = Each IsRight
+
+abbrev pub KeepRows : Type 0
+KeepRows = Each KeepsRows
 
 -- ---- names
 

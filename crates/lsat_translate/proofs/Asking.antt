@@ -4,16 +4,13 @@ use Rattle.acct_calls.specs.declared.calls.Args.{Args}
 use Rattle.acct_calls.specs.declared.calls.Args.TheVariants as args
 use Rattle.acct_calls.specs.declared.calls.Call.{Call}
 use Rattle.acct_calls.specs.declared.calls.Face.{Face}
-use Rattle.acct_calls.specs.declared.calls.Face.TheVariants.{Lsa}
-use Rattle.acct_codes.specs.Opnums.{lsar_lookup_names, lsar_lookup_sids}
-use Rattle.acct_layouts.specs.CallShapes.{CanBeSpelled, HasArguments, AreTranslationArgs}
-use Rattle.acct_layouts.specs.Table.{layout_of, lsa_layout}
-use Rattle.acct_layouts.specs.declared.fields.Translation.TheVariants as translation
+use Rattle.acct_layouts.specs.CallShapes.{CanBeSpelled, HasArguments, AreNamesAsked, AreSidsAsked}
+use Rattle.acct_layouts.specs.Table.{layout_of}
 use Rattle.dtyp_sid.specs.Value.{IsSid}
 use Rattle.lsat_translate.specs.Translations.{asked_names, asked_sids}
 
 -- the arguments are those of the layout
-arguments : (call : Call) (face : Face) (opnum : ℕ) → call.face ≡ face → call.opnum ≡ opnum → CanBeSpelled call
+pub arguments : (call : Call) (face : Face) (opnum : ℕ) → call.face ≡ face → call.opnum ≡ opnum → CanBeSpelled call
     → HasArguments (layout_of face opnum) call
 unfolding CanBeSpelled
 arguments call face opnum faces opnums spelled =
@@ -21,8 +18,8 @@ arguments call face opnum faces opnums spelled =
     (subst (λ n. HasArguments (layout_of call.face n) call) opnums spelled)
 
 record Asks (a : Args) : Type 0 where
-  names : AreTranslationArgs translation.Names a → length (asked_names a) ≤ 1000
-  sids : AreTranslationArgs translation.Sids a → (length (asked_sids a) ≤ 20480) × All IsSid (asked_sids a)
+  names : AreNamesAsked a → length (asked_names a) ≤ 1000
+  sids : AreSidsAsked a → (length (asked_sids a) ≤ 20480) × All IsSid (asked_sids a)
 
 asks : (a : Args) → Asks a
 asks args.Nothing = record { names = λ n. absurd n; sids = λ n. absurd n }
@@ -31,6 +28,7 @@ asks (args.AccessRid x y) = record { names = λ n. absurd n; sids = λ n. absurd
 asks (args.AccessSid x y) = record { names = λ n. absurd n; sids = λ n. absurd n }
 asks (args.Make x y z) = record { names = λ n. absurd n; sids = λ n. absurd n }
 asks (args.Page x y z) = record { names = λ n. absurd n; sids = λ n. absurd n }
+asks (args.Display w x y z) = record { names = λ n. absurd n; sids = λ n. absurd n }
 asks (args.Class x) = record { names = λ n. absurd n; sids = λ n. absurd n }
 asks (args.Put x y) = record { names = λ n. absurd n; sids = λ n. absurd n }
 asks (args.Rid x) = record { names = λ n. absurd n; sids = λ n. absurd n }
@@ -48,14 +46,8 @@ asks (args.LookNames x y) = record { names = λ n. n.1; sids = λ n. absurd n }
 asks (args.LookSids x y) = record { names = λ n. absurd n; sids = λ n. (n.1, n.2) }
 asks (args.Policy x y) = record { names = λ n. absurd n; sids = λ n. absurd n }
 
-pub few-names : (call : Call) → call.face ≡ Lsa → call.opnum ≡ lsar_lookup_names → CanBeSpelled call
-    → length (asked_names call.args) ≤ 1000
-unfolding lsa_layout
-few-names call face opnum spelled =
-    (asks call.args).names (arguments call Lsa lsar_lookup_names face opnum spelled).1
+pub few-names : (a : Args) → AreNamesAsked a → length (asked_names a) ≤ 1000
+few-names a = (asks a).names
 
-pub few-sids : (call : Call) → call.face ≡ Lsa → call.opnum ≡ lsar_lookup_sids → CanBeSpelled call
-    → (length (asked_sids call.args) ≤ 20480) × All IsSid (asked_sids call.args)
-unfolding lsa_layout
-few-sids call face opnum spelled =
-    (asks call.args).sids (arguments call Lsa lsar_lookup_sids face opnum spelled).1
+pub few-sids : (a : Args) → AreSidsAsked a → (length (asked_sids a) ≤ 20480) × All IsSid (asked_sids a)
+few-sids a = (asks a).sids

@@ -21,8 +21,8 @@ use Rattle.dtyp_sid.specs.Made.{with_last, authority_alone}
 use Rattle.dtyp_sid.specs.Order.{sid_eq, EqualSidsAreOne}
 use Rattle.dtyp_sid.specs.Value.{SidValue}
 use Rattle.lsat_translate.specs.Known.{all_well_known, well_known_sid, row_sid, domain_sid}
-use Rattle.lsat_translate.specs.Laws.{HidesNone, sid_of}
-use Rattle.lsat_translate.specs.Matches.{account_match}
+use Rattle.lsat_translate.specs.Laws.{HidesNone}
+use Rattle.lsat_translate.specs.Matches.{account_match, with_rid, sid_of}
 use Rattle.lsat_translate.specs.Names.{is_never_mapped, is_backslash, is_domain_named, account_named, domain_named}
 use Rattle.lsat_translate.specs.Names.{well_known_named, is_authority_named, match_alone, match_in, match_behind}
 use Rattle.lsat_translate.specs.Names.{match_split, match_of_name}
@@ -223,6 +223,7 @@ long-unknown one sid long =
 
 record IsAccountSid (sid : SidValue) : Type 0 where
   some : 1 ≤ length sid.subs
+  room : length sid.subs ≤ 14
   apart : sid_eq sid builtin_sid ≡ false
 
 turned : (b : Bool) → not b ≡ true → b ≡ false
@@ -233,7 +234,12 @@ account-sid : (sid : SidValue) → is_domain_sid sid ≡ true → IsAccountSid s
 unfolding is_domain_sid
 account-sid sid is =
     let few : nat_le 1 (length sid.subs) ≡ true = first_so _ _ (first_so _ _ is) in
-    record { some = grind (arith, nat_tests); apart = turned (sid_eq sid builtin_sid) (second_so _ _ is) }
+    let most : nat_le (length sid.subs) 14 ≡ true = second_so (nat_le 1 (length sid.subs)) _ (first_so _ _ is) in
+    record {
+      some = grind (arith, nat_tests);
+      room = grind (arith, nat_tests);
+      apart = turned (sid_eq sid builtin_sid) (second_so _ _ is);
+    }
 
 row-apart : EachIsGood → (r : Lists) (o : Option DomainRow) → IsSoundRows r → domain_at r 0 ≡ o
     → sid_eq (row_sid o) builtin_sid ≡ false
@@ -254,6 +260,17 @@ row-some : EachIsGood → (r : Lists) (rid : ℕ) (o : Option DomainRow) → IsS
 row-some each r rid None sound at below = absurd (omega (arith, below))
 row-some each r rid (Some d) sound at below =
     (account-sid d.sid ((sound.domain_rules 0 d at).account_sid ((each r sound).domain_number 0 d at))).some
+
+row-room : EachIsGood → (r : Lists) (o : Option DomainRow) → IsSoundRows r → domain_at r 0 ≡ o
+    → length (row_sid o).subs ≤ 14
+row-room each r None sound at = omega arith
+row-room each r (Some d) sound at =
+    (account-sid d.sid ((sound.domain_rules 0 d at).account_sid ((each r sound).domain_number 0 d at))).room
+
+has-room : (sid : SidValue) (rid : ℕ) → length sid.subs ≤ 14 → with_rid rid sid ≡ Some (with_last sid rid)
+has-room sid rid room =
+    let test : nat_le (length sid.subs) 14 ≡ true = grind (arith, nat_tests) in
+    ap (λ b. cond b (Some (with_last sid rid)) None) test
 
 -- ---- each match
 
@@ -328,10 +345,13 @@ alias-back each one r rid k sound hides there =
     true-false e = cc
 
 match-back : EachIsGood → EqualSidsAreOne → (r : Lists) (m : Match) → IsSoundRows r → HidesNone r → IsFound r m
-    → match_of_sid r (sid_of r m) ≡ Some m
+    → option_and_then (match_of_sid r) (sid_of r m) ≡ Some m
 match-back each one r (matches.WellKnown w) sound hides found = known-back r w
 match-back each one r (matches.Domain k) sound hides found = domain-back each one r k sound hides found
-match-back each one r (matches.Account zero rid k) sound hides found = user-back each one r rid k sound found
+match-back each one r (matches.Account zero rid k) sound hides found =
+    ap (option_and_then (match_of_sid r)) (has-room (domain_sid r known.Account) rid
+    (row-room each r (domain_at r 0) sound refl))
+    ∙ user-back each one r rid k sound found
 match-back each one r (matches.Account (suc zero) rid k) sound hides found = alias-back each one r rid k sound hides
     found
 match-back each one r (matches.Account (suc (suc n)) rid k) sound hides found = absurd
@@ -339,6 +359,6 @@ match-back each one r (matches.Account (suc (suc n)) rid k) sound hides found = 
 
 pub translate-back : EachIsGood → EqualSidsAreOne → (r : Lists) (name : List ℕ) (m : Match) → IsSoundRows r
     → HidesNone r
-    → match_of_name r name ≡ Some m → match_of_sid r (sid_of r m) ≡ Some m
+    → match_of_name r name ≡ Some m → option_and_then (match_of_sid r) (sid_of r m) ≡ Some m
 translate-back each one r name m sound hides is =
     match-back each one r m sound hides (subst (λ o. IfThere (IsFound r) o) is (name-found each r name sound))

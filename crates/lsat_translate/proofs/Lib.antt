@@ -4,3 +4,4 @@ pub mod Firsts
 pub mod Naming
 pub mod Referring
 pub mod Shaping
+pub mod Shown

@@ -1,18 +1,20 @@
 -- What the operations answer has the outputs of their layouts.
 use Rattle.std.proofs.Common.{◌≡◌, ℕ, pos, ◌+◌, ◌^◌, ◌<◌, ◌≤◌, Bool, true, false, cond, All, List, [], ◌∷◌, length}
-use Rattle.std.proofs.Common.{map, get_or, take, drop, Option, Some, None, refl, arith, lit<}
+use Rattle.std.proofs.Common.{nat_le, map, get_or, take, drop, Option, Some, None, refl, arith, lit<}
 use Rattle.std.specs.Prelude.{position, FitsSigned}
 use Rattle.std.specs.Int.{w32}
 use Rattle.std.proofs.lemmas.Int.{ints}
 use Rattle.std.specs.List.{find, list_all, list_any}
 use Rattle.std.specs.Option.{option_map, option_or, option_and_then}
-use Rattle.std.proofs.lemmas.List.{length-map}
-use Rattle.std.proofs.lemmas.List.Elements.{All-head, All-tail, All-map, All-nil, All-cons}
+use Rattle.std.proofs.lemmas.Bool.Decides.{nat_tests}
+use Rattle.std.proofs.lemmas.List.{length-append, length-map}
+use Rattle.std.proofs.lemmas.List.Elements.{All-head, All-tail, All-map, All-nil, All-cons, All-push}
 use Rattle.std.proofs.lemmas.List.Quantifiers.{position-Some}
 use Rattle.acct_codes.specs.Statuses.{status_success, status_some_not_mapped, status_none_mapped}
 use Rattle.acct_codes.specs.declared.kind.Kind.{Kind}
 use Rattle.acct_codes.specs.declared.kind.Kind.TheVariants as kind
-use Rattle.acct_layouts.specs.Bounds.{IsLong, IsText, IsDomain, IsListed, IsTranslatedSid, IsTranslatedName, IfThere}
+use Rattle.acct_layouts.specs.Bounds.{IsLong, IsText, IsDomain, IsListed, IsTranslatedSid, IsTranslatedName, IsSidRef}
+use Rattle.acct_layouts.specs.Bounds.{IfThere}
 use Rattle.acct_layouts.specs.Refusals.{is_refusal}
 use Rattle.acct_rows.specs.Laws.{EachIsGood}
 use Rattle.acct_rows.specs.Rows.{Lists, domain_at, find_name, has_name}
@@ -20,13 +22,14 @@ use Rattle.acct_rows.specs.Sound.{IsSoundRows, IsGoodAccount, next_rid_of}
 use Rattle.acct_rows.specs.declared.row.AccountRow.{AccountRow}
 use Rattle.acct_rows.specs.declared.row.DomainRow.{DomainRow}
 use Rattle.acct_rules.specs.Mapped.{is_mapped, mapped_status}
+use Rattle.dtyp_sid.specs.Made.{with_last}
 use Rattle.dtyp_sid.specs.Value.{SidValue, IsSid}
 use Rattle.acct_rules.specs.Mapped.{use_of_kind}
 use Rattle.lsat_translate.specs.Entries.{referenced, known_in, place_of, index_of, index_in, translated_sid}
-use Rattle.lsat_translate.specs.Entries.{named_entry}
+use Rattle.lsat_translate.specs.Entries.{sid_ref, named_entry}
 use Rattle.lsat_translate.specs.Entries.{shown_name, mapped_count}
-use Rattle.lsat_translate.specs.Known.{row_sid, domain_sid, same_known}
-use Rattle.lsat_translate.specs.Matches.{account_match, known_of, use_in, rid_in}
+use Rattle.lsat_translate.specs.Known.{row_sid, domain_sid, same_known, well_known_sid}
+use Rattle.lsat_translate.specs.Matches.{account_match, known_of_number, known_of, use_in, rid_in, sid_in}
 use Rattle.lsat_translate.specs.Names.{is_never_mapped, is_backslash, account_named, domain_named, well_known_named}
 use Rattle.lsat_translate.specs.Names.{is_authority_named, match_alone, match_in, match_behind, match_split}
 use Rattle.lsat_translate.specs.Names.{match_of_name}
@@ -72,13 +75,17 @@ row-whole : (r : Lists) (o : Option DomainRow) → IsSoundRows r → domain_at r
 row-whole r None sound at = authority-alone 0 (lit< tt)
 row-whole r (Some d) sound at = (sound.domain_rules 0 d at).sid_whole
 
+one-sub : (authority sub : ℕ) → authority < 2 ^ 48 → sub < 2 ^ 32
+    → IsSid (record { authority = authority; subs = sub ∷ [] })
+one-sub authority sub fits below = record {
+  authority_fits = fits;
+  count_fits = omega arith;
+  subs_fit = All-cons (λ sub. sub < 2 ^ 32) sub [] below (All-nil (λ sub. sub < 2 ^ 32));
+}
+
 domain-whole : (r : Lists) (k : Known) → IsSoundRows r → IsSid (domain_sid r k)
 domain-whole r known.Account sound = row-whole r (domain_at r 0) sound refl
-domain-whole r known.Builtin sound = record {
-  authority_fits = lit< tt;
-  count_fits = omega arith;
-  subs_fit = All-cons (λ sub. sub < 2 ^ 32) 32 [] (lit< tt) (All-nil (λ sub. sub < 2 ^ 32));
-}
+domain-whole r known.Builtin sound = one-sub 5 32 (lit< tt) (lit< tt)
 domain-whole r known.NtAuthority sound = authority-alone 5 (lit< tt)
 domain-whole r known.World sound = authority-alone 1 (lit< tt)
 
@@ -214,6 +221,33 @@ name-long each r name sound =
     either-long (is_never_mapped name) (match_split r name (position is_backslash name))
     (split-long each r name (position is_backslash name) sound)
 
+-- ---- SIDs
+
+well-known-whole : (w : WellKnown) → IsSid (well_known_sid w)
+well-known-whole Everyone = one-sub 1 0 (lit< tt) (lit< tt)
+well-known-whole AnonymousLogon = one-sub 5 7 (lit< tt) (lit< tt)
+well-known-whole AuthenticatedUsers = one-sub 5 11 (lit< tt) (lit< tt)
+well-known-whole System = one-sub 5 18 (lit< tt) (lit< tt)
+
+with-whole : (sid : SidValue) (rid : ℕ) (b : Bool) → nat_le (length sid.subs) 14 ≡ b → IsSid sid → IsLong rid
+    → IfThere IsSid (cond b (Some (with_last sid rid)) None)
+with-whole sid rid true room whole long = record {
+  authority_fits = whole.authority_fits;
+  count_fits =
+      let few : length sid.subs ≤ 14 = grind (arith, nat_tests) in
+      omega (arith, few, length-append sid.subs (rid ∷ []));
+  subs_fit = All-push (λ sub. sub < 2 ^ 32) sid.subs rid whole.subs_fit long;
+}
+with-whole sid rid false room whole long = tt
+
+match-whole : (r : Lists) (m : Option Match) → IsSoundRows r → Long m → IfThere IsSid (sid_in r m)
+match-whole r None sound long = tt
+match-whole r (Some (matches.WellKnown w)) sound long = well-known-whole w
+match-whole r (Some (matches.Domain k)) sound long = domain-whole r k sound
+match-whole r (Some (matches.Account number rid k)) sound long =
+    let domain = domain_sid r (known_of_number number) in
+    with-whole domain rid (nat_le (length domain.subs) 14) refl (domain-whole r (known_of_number number) sound) long
+
 -- ---- entries
 
 pub sids-shaped : EachIsGood → (r : Lists) (names : List (List ℕ)) → IsSoundRows r → length names ≤ 1000
@@ -228,6 +262,22 @@ sids-shaped each r names sound few =
           (λ k d lt. let name = get_or names k d in (
             use-short (match_of_name r name),
             name-long each r name sound,
+            index-shaped ks (match_of_name r name) (four-at-most (known_in found)),
+          ))),
+    )
+
+pub refs-shaped : EachIsGood → (r : Lists) (names : List (List ℕ)) → IsSoundRows r → length names ≤ 1000
+    → IsListed IsSidRef (map (sid_ref r (referenced (map (match_of_name r) names)))
+    (map (match_of_name r) names))
+refs-shaped each r names sound few =
+    let found = map (match_of_name r) names in
+    let ks = referenced found in (
+      omega (arith, length-map found (sid_ref r ks), length-map names (match_of_name r), few),
+      All-map IsSidRef (sid_ref r ks) found
+          (All-map (λ (m : Option Match). IsSidRef (sid_ref r ks m)) (match_of_name r) names
+          (λ k d lt. let name = get_or names k d in (
+            use-short (match_of_name r name),
+            match-whole r (match_of_name r name) sound (name-long each r name sound),
             index-shaped ks (match_of_name r name) (four-at-most (known_in found)),
           ))),
     )

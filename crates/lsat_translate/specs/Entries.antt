@@ -1,18 +1,19 @@
 -- What a translation answers: the domains that it refers to, and an entry for each name or SID
--- (MS-LSAT 2.2.14, 2.2.19).
+-- (MS-LSAT 2.2.14, 2.2.19, 2.2.25).
 use Rattle.std.specs.Prelude.{ℕ, ℤ, pos, negsuc, ◌-◌, ◌^◌, min, not, List, [], ◌∷◌, ◌++◌, filter, filter_map, position}
 use Rattle.std.specs.Prelude.{count_by, Option, Some, None, is_some, if◌then◌else◌}
 use Rattle.std.specs.List.{list_any}
 use Rattle.std.specs.Option.{option_map}
 use Rattle.acct_calls.specs.Domains.{name_of_text}
 use Rattle.acct_calls.specs.declared.lists.ReferencedDomain.{ReferencedDomain}
+use Rattle.acct_calls.specs.declared.lists.SidRef.{SidRef}
 use Rattle.acct_calls.specs.declared.lists.TranslatedName.{TranslatedName}
 use Rattle.acct_calls.specs.declared.lists.TranslatedSid.{TranslatedSid}
 use Rattle.acct_rows.specs.Rows.{Lists}
 use Rattle.dtyp_sid.specs.Text.{text_of}
 use Rattle.dtyp_sid.specs.Value.{SidValue}
 use Rattle.lsat_translate.specs.Known.{same_known, domain_name, domain_sid}
-use Rattle.lsat_translate.specs.Matches.{known_of, use_in, rid_in, name_of}
+use Rattle.lsat_translate.specs.Matches.{known_of, use_in, rid_in, sid_in, name_of}
 use Rattle.lsat_translate.specs.Sids.{match_of_sid}
 use Rattle.lsat_translate.specs.declared.known.Known.{Known}
 use Rattle.lsat_translate.specs.declared.matches.Match.{Match}
@@ -51,11 +52,19 @@ abbrev pub index_in : List Known → Option Match → ℤ
 index_in domains None = negsuc 0
 index_in domains (Some m) = index_of (position (same_known (known_of m)) domains)
 
--- a name's entry
+-- a name's entry, with the RID of its match
 abbrev pub translated_sid : List Known → Option Match → TranslatedSid
 translated_sid domains found = record {
   usage = use_in found;
   rid = rid_in found;
+  index = index_in domains found;
+}
+
+-- a name's entry, with the SID of its match
+abbrev pub sid_ref : Lists → List Known → Option Match → SidRef
+sid_ref r domains found = record {
+  usage = use_in found;
+  sid = sid_in r found;
   index = index_in domains found;
 }
 

@@ -2,16 +2,16 @@
 ghost use Rattle.std.specs.Prelude.{◌≡◌, ℕ, ◌≤◌, ◌<◌, ◌^◌, [], ◌∷◌, ◌++◌, IfOk, OnOk, map, length, take};
 ghost use Rattle.std.specs.Int.{w32};
 ghost use Rattle.lsat_translate.specs.Entries.{with_domain, referenced, place_of, index_in, translated_sid};
-ghost use Rattle.lsat_translate.specs.Entries.{shown_name, translated_name, named_entry, mapped_count};
+ghost use Rattle.lsat_translate.specs.Entries.{sid_ref, shown_name, translated_name, named_entry, mapped_count};
 ghost use Rattle.lsat_translate.specs.Sids.{match_of_sid};
 ghost use Rattle.lsat_translate.specs.Matches.{use_in};
 
 use crate::known::Known;
-use crate::matches::{Match, rid_in, use_in};
+use crate::matches::{Match, rid_in, sid_in, use_in};
 use acct_base::Seq;
 use acct_calls::{
-    Name, NamedList, NoMemory, Places, ReferencedDomain, Rids, Sids, Translated, TranslatedName,
-    TranslatedSid,
+    Name, NamedList, NoMemory, Places, ReferencedDomain, Rids, SidRef, SidRefs, Translated,
+    TranslatedName, TranslatedSid,
 };
 use acct_rows::Rows;
 use dtyp_sid::Sid;
@@ -81,7 +81,7 @@ pub(crate) fn places(
     Ok(places)
 }
 
-/// The entries of names, by their matches.
+/// The entries of names, each with the RID of its match.
 pub(crate) fn translated_sids(
     alloc: Global,
     domains: &IndexSet<Known>,
@@ -95,6 +95,27 @@ pub(crate) fn translated_sids(
         entries.push(TranslatedSid {
             usage: use_in(*one) as u16,
             rid: rid_in(*one),
+            index: index_in(domains, *one),
+        })?;
+    }
+    Ok(entries)
+}
+
+/// The entries of names, each with the SID of its match.
+pub(crate) fn sid_refs(
+    alloc: Global,
+    rows: &Rows,
+    domains: &IndexSet<Known>,
+    found: &[Option<Match>],
+) -> Result<SidRefs, NoMemory>
+    requires { length domains.now.keys ≤ 4 }
+    ensures { IfOk result (λ entries. entries ≡ map (sid_ref rows.now.lists domains.now.keys) found.now) }
+{
+    let mut entries = Seq::new(alloc);
+    for one in found {
+        entries = entries.with(SidRef {
+            usage: use_in(*one) as u16,
+            sid: sid_in(rows, *one),
             index: index_in(domains, *one),
         })?;
     }

@@ -1,5 +1,6 @@
 //! Laws of the operations, each the contract of a function that does nothing.
 ghost use Rattle.lsat_translate.specs.Laws.{AreRight, KeepRows, EntriesReferRightly, SidsTranslateBack};
+ghost use Rattle.lsat_translate.specs.Laws.{EntriesTranslateBack};
 
 use acct_rows::laws::each_is_good;
 use dtyp_sid::laws::equal_sids_are_one;
@@ -22,12 +23,21 @@ pub fn entries_refer_rightly()
     ensures { EntriesReferRightly }
 {}
 
-/// The SID of what a name is translated to is translated to the same: to an account or a domain with the same use, in
-/// the same domain. It is so in sound rows whose account domain has no well-known SID, nor one that an account of
-/// BUILTIN may have.
+/// What a name is translated to has a SID, which is translated to the same: to an account or a domain with the same
+/// use, in the same domain. It is so in sound rows whose account domain has no well-known SID, nor one that an account
+/// of BUILTIN may have.
 pub fn sids_translate_back()
     ensures { SidsTranslateBack }
 {
     each_is_good();
     equal_sids_are_one();
+}
+
+/// Each mapped entry of LsarLookupNames3 has a SID, which is translated to what has the same use and refers to the same
+/// domain. It is so where the SIDs of names are translated back.
+pub fn entries_translate_back()
+    ensures { EntriesTranslateBack }
+{
+    sids_translate_back();
+    entries_refer_rightly();
 }

@@ -3,7 +3,7 @@ ghost use Rattle.std.specs.Prelude.{◌≡◌, ◌<◌, ◌^◌, IfOk};
 ghost use Rattle.std.specs.Option.{option_copied, option_map};
 ghost use Rattle.acct_rows.specs.Rows.{account_at};
 ghost use Rattle.lsat_translate.specs.Matches.{account_match, known_of_number, known_of, use_of, use_in};
-ghost use Rattle.lsat_translate.specs.Matches.{rid_of, rid_in, account_name, name_of};
+ghost use Rattle.lsat_translate.specs.Matches.{rid_of, rid_in, sid_of, sid_in, account_name, name_of};
 
 use crate::known::{Known, WellKnown};
 use acct_calls::{Name, NoMemory};
@@ -11,6 +11,7 @@ use acct_codes::Kind;
 use acct_codes::sid_use::{SID_TYPE_DOMAIN, SID_TYPE_UNKNOWN, SID_TYPE_WELL_KNOWN_GROUP};
 use acct_rows::{ACCOUNT_DOMAIN, AccountRow, Rows};
 use acct_rules::use_of_kind;
+use dtyp_sid::Sid;
 use std::alloc::Global;
 
 /// What a name or a SID is translated to.
@@ -94,6 +95,17 @@ impl Match {
         }
     }
 
+    /// Its SID: that of an account is its domain's with its RID behind, which each domain of sound rows has room for.
+    pub(crate) fn sid(self, rows: &Rows) -> Option<Sid>
+        ensures { result ≡ sid_of rows.now.lists self }
+    {
+        match self {
+            Match::WellKnown(name) => Some(name.sid()),
+            Match::Domain(domain) => Some(domain.sid(rows)),
+            Match::Account { rid, .. } => self.known().sid(rows).with_rid(rid),
+        }
+    }
+
     /// Its name.
     pub(crate) fn name(self, alloc: Global, rows: &Rows) -> Result<Name, NoMemory>
         ensures { IfOk result (λ name. name ≡ name_of rows.now.lists self) }
@@ -123,5 +135,15 @@ pub(crate) fn rid_in(found: Option<Match>) -> u32
     match found {
         Some(found) => found.rid(),
         None => 0,
+    }
+}
+
+/// The SID of a match, or none.
+pub(crate) fn sid_in(rows: &Rows, found: Option<Match>) -> Option<Sid>
+    ensures { result ≡ sid_in rows.now.lists found }
+{
+    match found {
+        Some(found) => found.sid(rows),
+        None => None,
     }
 }

@@ -3,14 +3,17 @@ ghost use Rattle.std.specs.Prelude.{◌≡◌, ◌≤◌, true, IfOk, OnErr, len
 ghost use Rattle.acct_calls.specs.declared.replies.Outs.TheVariants as outs;
 ghost use Rattle.acct_rules.specs.Mapped.{mapped_status};
 ghost use Rattle.acct_rules.specs.Planned.{answers, decision, none_fails};
-ghost use Rattle.lsat_translate.specs.Entries.{mapped_count, named_entry, place_of, referenced, translated_sid};
+ghost use Rattle.lsat_translate.specs.Entries.{mapped_count, named_entry, place_of, sid_ref, translated_sid};
 ghost use Rattle.lsat_translate.specs.Matches.{use_in};
 ghost use Rattle.lsat_translate.specs.Names.{match_of_name};
 ghost use Rattle.lsat_translate.specs.Sids.{match_of_sid};
-ghost use Rattle.lsat_translate.specs.Translations.{asked_level, asked_names, asked_sids, is_level, look_names};
-ghost use Rattle.lsat_translate.specs.Translations.{look_sids};
+ghost use Rattle.lsat_translate.specs.Translations.{asked_level, asked_names, asked_sids, is_level, names_shown};
+ghost use Rattle.lsat_translate.specs.Translations.{names_translated, sids_shown, look_names, look_names2};
+ghost use Rattle.lsat_translate.specs.Translations.{look_names3, look_sids, look_sids2};
 
-use crate::entries::{mapped_count, places, referenced, translated_names, translated_sids, uses};
+use crate::entries::{
+    mapped_count, places, referenced, sid_refs, translated_names, translated_sids, uses,
+};
 use crate::known::Known;
 use crate::matches::Match;
 use crate::names::match_of_name;
@@ -24,6 +27,15 @@ use acct_rules::{NoMemory, Planned, answers, mapped_status, refusal};
 use dtyp_sid::Sid;
 use indexmap::IndexSet;
 use std::alloc::Global;
+
+// By what the entry of a name tells its match.
+#[derive(Clone, Copy, Debug, PartialEq, Eq)]
+enum Form {
+    // By its RID, which stands behind the SID of its domain.
+    Rid,
+    // By its SID.
+    Sid,
+}
 
 fn asked_level(args: &Args) -> u16
     ensures { result ≡ asked_level args.now }
@@ -93,8 +105,8 @@ fn status_of(alloc: Global, found: &[Option<Match>]) -> Result<u32, NoMemory>
     Ok(status)
 }
 
-// What is shown of the matches of names, beside the domains that they refer to.
-fn shown_sids(
+// What is shown of the matches of names by their RIDs, beside the domains that they refer to.
+fn shown_by_rid(
     alloc: Global,
     rows: &Rows,
     domains: &IndexSet<Known>,
@@ -118,17 +130,81 @@ fn shown_sids(
     }
 }
 
-// What is answered where these are the matches of the names.
-fn answered_sids(alloc: Global, rows: &Rows, found: &[Option<Match>]) -> Result<Planned, NoMemory>
+// What is shown of the matches of names by their SIDs, beside the domains that they refer to.
+fn shown_by_sid(
+    alloc: Global,
+    rows: &Rows,
+    domains: &IndexSet<Known>,
+    found: &[Option<Match>],
+) -> Result<Outs, NoMemory>
+    requires { length domains.now.keys ≤ 4 }
+    ensures { IfOk result (λ shown. shown ≡ outs.SidRefs (map (place_of rows.now.lists) domains.now.keys)
+        (map (sid_ref rows.now.lists domains.now.keys) found.now) (mapped_count found.now)) }
+{
+    let places = places(alloc, rows, domains)?;
+    match sid_refs(alloc, rows, domains, found) {
+        Ok(entries) => Ok(Outs::SidRefs {
+            domains: places,
+            entries,
+            mapped: mapped_count(found),
+        }),
+        Err(full) => {
+            drop(places);
+            Err(full)
+        }
+    }
+}
+
+// What is shown of the matches of names in a form.
+fn names_shown(
+    alloc: Global,
+    rows: &Rows,
+    form: Form,
+    found: &[Option<Match>],
+) -> Result<Outs, NoMemory>
+    ensures { IfOk result (λ shown. shown ≡ names_shown form rows.now.lists found.now) }
+{
+    let domains = referenced(alloc, found)?;
+    let shown = match form {
+        Form::Rid => shown_by_rid(alloc, rows, &domains, found),
+        Form::Sid => shown_by_sid(alloc, rows, &domains, found),
+    };
+    drop(domains);
+    shown
+}
+
+// What is answered in a form where these are the matches of the names.
+fn names_answered(
+    alloc: Global,
+    rows: &Rows,
+    form: Form,
+    found: &[Option<Match>],
+) -> Result<Planned, NoMemory>
     ensures { IfOk result (λ p. p ≡ answers (mapped_status (map use_in found.now))
-        (outs.Sids (map (place_of rows.now.lists) (referenced found.now))
-        (map (translated_sid (referenced found.now)) found.now) (mapped_count found.now))) }
+        (names_shown form rows.now.lists found.now)) }
 {
     let status = status_of(alloc, found)?;
-    let domains = referenced(alloc, found)?;
-    let shown = shown_sids(alloc, rows, &domains, found);
-    drop(domains);
-    Ok(answers(alloc, status, shown?))
+    let shown = names_shown(alloc, rows, form, found)?;
+    Ok(answers(alloc, status, shown))
+}
+
+// The names that are asked for, translated and shown in a form.
+fn names_translated(
+    alloc: Global,
+    rows: &Rows,
+    form: Form,
+    args: &Args,
+) -> Result<Planned, NoMemory>
+    ensures decided { IfOk result (λ p. p ≡ decision (names_translated form rows.now.lists args.now)) }
+    ensures frugal { OnErr result (none_fails (names_translated form rows.now.lists args.now).conditions ≡ true) }
+{
+    if !is_level(asked_level(args)) {
+        return Ok(refusal(alloc, STATUS_INVALID_PARAMETER));
+    }
+    let found = matches_of_names(alloc, rows, asked_names(args))?;
+    let planned = names_answered(alloc, rows, form, found.as_slice());
+    drop(found);
+    planned
 }
 
 /// LsarLookupNames (MS-LSAT 3.1.4.8): the RIDs of names, what each is used for, and the domains that they refer to.
@@ -141,17 +217,37 @@ pub fn look_names(
     ensures decided { IfOk result (λ p. p ≡ decision (look_names rows.now.lists object args.now)) }
     ensures frugal { OnErr result (none_fails (look_names rows.now.lists object args.now).conditions ≡ true) }
 {
-    if !is_level(asked_level(args)) {
-        return Ok(refusal(alloc, STATUS_INVALID_PARAMETER));
-    }
-    let found = matches_of_names(alloc, rows, asked_names(args))?;
-    let planned = answered_sids(alloc, rows, found.as_slice());
-    drop(found);
-    planned
+    names_translated(alloc, rows, Form::Rid, args)
 }
 
-// What is shown of the matches of SIDs, beside the domains that they refer to.
-fn shown_names(
+/// LsarLookupNames2 (MS-LSAT 3.1.4.7): as LsarLookupNames.
+pub fn look_names2(
+    alloc: Global,
+    rows: &Rows,
+    object: Object,
+    args: &Args,
+) -> Result<Planned, NoMemory>
+    ensures decided { IfOk result (λ p. p ≡ decision (look_names2 rows.now.lists object args.now)) }
+    ensures frugal { OnErr result (none_fails (look_names2 rows.now.lists object args.now).conditions ≡ true) }
+{
+    look_names(alloc, rows, object, args)
+}
+
+/// LsarLookupNames3 (MS-LSAT 3.1.4.6): as LsarLookupNames, but with the SIDs of names in place of their RIDs.
+pub fn look_names3(
+    alloc: Global,
+    rows: &Rows,
+    object: Object,
+    args: &Args,
+) -> Result<Planned, NoMemory>
+    ensures decided { IfOk result (λ p. p ≡ decision (look_names3 rows.now.lists object args.now)) }
+    ensures frugal { OnErr result (none_fails (look_names3 rows.now.lists object args.now).conditions ≡ true) }
+{
+    names_translated(alloc, rows, Form::Sid, args)
+}
+
+// What is shown of the matches of SIDs by their names, beside the domains that they refer to.
+fn shown_by_name(
     alloc: Global,
     rows: &Rows,
     domains: &IndexSet<Known>,
@@ -178,7 +274,7 @@ fn shown_names(
 }
 
 // What is answered where these are the matches of the SIDs.
-fn answered_names(
+fn sids_answered(
     alloc: Global,
     rows: &Rows,
     sids: &[Sid],
@@ -186,12 +282,11 @@ fn answered_names(
 ) -> Result<Planned, NoMemory>
     requires { found.now ≡ map (match_of_sid rows.now.lists) sids.now }
     ensures { IfOk result (λ p. p ≡ answers (mapped_status (map use_in found.now))
-        (outs.Names (map (place_of rows.now.lists) (referenced found.now))
-        (map (named_entry rows.now.lists (referenced found.now)) sids.now) (mapped_count found.now))) }
+        (sids_shown rows.now.lists sids.now found.now)) }
 {
     let status = status_of(alloc, found)?;
     let domains = referenced(alloc, found)?;
-    let shown = shown_names(alloc, rows, &domains, sids, found);
+    let shown = shown_by_name(alloc, rows, &domains, sids, found);
     drop(domains);
     Ok(answers(alloc, status, shown?))
 }
@@ -211,7 +306,20 @@ pub fn look_sids(
     }
     let sids = asked_sids(args);
     let found = matches_of_sids(alloc, rows, sids)?;
-    let planned = answered_names(alloc, rows, sids, found.as_slice());
+    let planned = sids_answered(alloc, rows, sids, found.as_slice());
     drop(found);
     planned
+}
+
+/// LsarLookupSids2 (MS-LSAT 3.1.4.10): as LsarLookupSids.
+pub fn look_sids2(
+    alloc: Global,
+    rows: &Rows,
+    object: Object,
+    args: &Args,
+) -> Result<Planned, NoMemory>
+    ensures decided { IfOk result (λ p. p ≡ decision (look_sids2 rows.now.lists object args.now)) }
+    ensures frugal { OnErr result (none_fails (look_sids2 rows.now.lists object args.now).conditions ≡ true) }
+{
+    look_sids(alloc, rows, object, args)
 }

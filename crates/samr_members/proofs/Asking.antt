@@ -27,28 +27,9 @@ record Asks (a : Args) : Type 0 where
   sid : ArePlainArgs plain.Sid a → IfThere IsSid (asked_sid a)
 
 asks : (a : Args) → Asks a
-asks args.Nothing = record { attributes = λ n. absurd n; sid = λ n. absurd n }
-asks (args.Access x) = record { attributes = λ n. absurd n; sid = λ n. absurd n }
-asks (args.AccessRid x y) = record { attributes = λ n. absurd n; sid = λ n. absurd n }
-asks (args.AccessSid x y) = record { attributes = λ n. absurd n; sid = λ n. absurd n }
-asks (args.Make x y z) = record { attributes = λ n. absurd n; sid = λ n. absurd n }
-asks (args.Page x y z) = record { attributes = λ n. absurd n; sid = λ n. absurd n }
-asks (args.Class x) = record { attributes = λ n. absurd n; sid = λ n. absurd n }
-asks (args.Put x y) = record { attributes = λ n. absurd n; sid = λ n. absurd n }
-asks (args.Rid x) = record { attributes = λ n. absurd n; sid = λ n. absurd n }
 asks (args.RidBits x y) = record { attributes = λ n. n.1; sid = λ n. absurd n }
 asks (args.OneSid x) = record { attributes = λ n. absurd n; sid = λ n. n }
-asks (args.SidList x) = record { attributes = λ n. absurd n; sid = λ n. absurd n }
-asks (args.NameList x) = record { attributes = λ n. absurd n; sid = λ n. absurd n }
-asks (args.RidList x) = record { attributes = λ n. absurd n; sid = λ n. absurd n }
-asks (args.OneName x) = record { attributes = λ n. absurd n; sid = λ n. absurd n }
-asks (args.Luid x y) = record { attributes = λ n. absurd n; sid = λ n. absurd n }
-asks (args.Bits x) = record { attributes = λ n. absurd n; sid = λ n. absurd n }
-asks (args.Privileges x y) = record { attributes = λ n. absurd n; sid = λ n. absurd n }
-asks (args.Rights x y z) = record { attributes = λ n. absurd n; sid = λ n. absurd n }
-asks (args.LookNames x y) = record { attributes = λ n. absurd n; sid = λ n. absurd n }
-asks (args.LookSids x y) = record { attributes = λ n. absurd n; sid = λ n. absurd n }
-asks (args.Policy x y) = record { attributes = λ n. absurd n; sid = λ n. absurd n }
+asks _ = record { attributes = λ n. absurd n; sid = λ n. absurd n }
 
 pub long-attributes : (call : Call) → call.face ≡ Samr → call.opnum ≡ samr_add_member_to_group → CanBeSpelled call
     → IsLong (added_attributes call.args)

@@ -8,7 +8,7 @@ use Rattle.acct_rows.specs.Sound.{IsSoundRows}
 use Rattle.acct_rows.specs.declared.object.Object.{Object}
 use Rattle.acct_rows.specs.declared.object.Object.TheVariants.{Alias}
 use Rattle.acct_rules.specs.Asked.{asked_rid, asked_sid}
-use Rattle.acct_rules.specs.Operations.{IsRight, KeepsRows}
+use Rattle.acct_rules.specs.Operations.{IsRight, KeepsRows, Operation}
 use Rattle.acct_rules.specs.Planned.{none_fails}
 use Rattle.dtyp_sid.specs.Order.{sid_eq}
 use Rattle.dtyp_sid.specs.Value.{SidValue}
@@ -18,25 +18,22 @@ use Rattle.samr_members.specs.Table.{add_member_to_group, remove_member_from_gro
 use Rattle.samr_members.specs.Table.{add_member_to_alias, remove_member_from_alias, get_members_in_alias}
 use Rattle.samr_members.specs.Table.{get_groups_for_user, get_alias_membership}
 
-pub record AreRight : Type 0 where
-  pub add_group_member : IsRight add_member_to_group
-  pub remove_group_member : IsRight remove_member_from_group
-  pub group_members : IsRight get_members_in_group
-  pub add_alias_member : IsRight add_member_to_alias
-  pub remove_alias_member : IsRight remove_member_from_alias
-  pub alias_members : IsRight get_members_in_alias
-  pub user_groups : IsRight get_groups_for_user
-  pub alias_membership : IsRight get_alias_membership
+-- what holds of each operation
+pub record Each (P : Operation → Type 0) : Type 0 where
+  pub add_group_member : P add_member_to_group
+  pub remove_group_member : P remove_member_from_group
+  pub group_members : P get_members_in_group
+  pub add_alias_member : P add_member_to_alias
+  pub remove_alias_member : P remove_member_from_alias
+  pub alias_members : P get_members_in_alias
+  pub user_groups : P get_groups_for_user
+  pub alias_membership : P get_alias_membership
 
-pub record KeepRows : Type 0 where
-  pub add_group_member : KeepsRows add_member_to_group
-  pub remove_group_member : KeepsRows remove_member_from_group
-  pub group_members : KeepsRows get_members_in_group
-  pub add_alias_member : KeepsRows add_member_to_alias
-  pub remove_alias_member : KeepsRows remove_member_from_alias
-  pub alias_members : KeepsRows get_members_in_alias
-  pub user_groups : KeepsRows get_groups_for_user
-  pub alias_membership : KeepsRows get_alias_membership
+abbrev pub AreRight : Type 0
+AreRight = Each IsRight
+
+abbrev pub KeepRows : Type 0
+KeepRows = Each KeepsRows
 
 -- ---- the two sides of a membership
 

@@ -26,36 +26,8 @@ pub record Asks (a : Args) : Type 0 where
   pub rid : ArePlainArgs plain.Rid a → IsLong (asked_rid a)
 
 pub asks : (a : Args) → Asks a
-asks args.Nothing = record { names = λ n. absurd n; rids = λ n. absurd n; page = λ n. absurd n; rid = λ n. absurd n }
-asks (args.Access x) = record { names = λ n. absurd n; rids = λ n. absurd n; page = λ n. absurd n; rid = λ n. absurd n }
-asks (args.AccessRid x y) = record
-    { names = λ n. absurd n; rids = λ n. absurd n; page = λ n. absurd n; rid = λ n. absurd n }
-asks (args.AccessSid x y) = record
-    { names = λ n. absurd n; rids = λ n. absurd n; page = λ n. absurd n; rid = λ n. absurd n }
-asks (args.Make x y z) = record
-    { names = λ n. absurd n; rids = λ n. absurd n; page = λ n. absurd n; rid = λ n. absurd n }
 asks (args.Page x y z) = record { names = λ n. absurd n; rids = λ n. absurd n; page = λ n. n.0; rid = λ n. absurd n }
-asks (args.Class x) = record { names = λ n. absurd n; rids = λ n. absurd n; page = λ n. absurd n; rid = λ n. absurd n }
-asks (args.Put x y) = record { names = λ n. absurd n; rids = λ n. absurd n; page = λ n. absurd n; rid = λ n. absurd n }
 asks (args.Rid x) = record { names = λ n. absurd n; rids = λ n. absurd n; page = λ n. absurd n; rid = λ n. n }
-asks (args.RidBits x y) = record
-    { names = λ n. absurd n; rids = λ n. absurd n; page = λ n. absurd n; rid = λ n. absurd n }
-asks (args.OneSid x) = record { names = λ n. absurd n; rids = λ n. absurd n; page = λ n. absurd n; rid = λ n. absurd n }
-asks (args.SidList x) = record
-    { names = λ n. absurd n; rids = λ n. absurd n; page = λ n. absurd n; rid = λ n. absurd n }
 asks (args.NameList x) = record { names = λ n. n.0; rids = λ n. absurd n; page = λ n. absurd n; rid = λ n. absurd n }
 asks (args.RidList x) = record { names = λ n. absurd n; rids = λ n. n.0; page = λ n. absurd n; rid = λ n. absurd n }
-asks (args.OneName x) = record
-    { names = λ n. absurd n; rids = λ n. absurd n; page = λ n. absurd n; rid = λ n. absurd n }
-asks (args.Luid x y) = record { names = λ n. absurd n; rids = λ n. absurd n; page = λ n. absurd n; rid = λ n. absurd n }
-asks (args.Bits x) = record { names = λ n. absurd n; rids = λ n. absurd n; page = λ n. absurd n; rid = λ n. absurd n }
-asks (args.Privileges x y) = record
-    { names = λ n. absurd n; rids = λ n. absurd n; page = λ n. absurd n; rid = λ n. absurd n }
-asks (args.Rights x y z) = record
-    { names = λ n. absurd n; rids = λ n. absurd n; page = λ n. absurd n; rid = λ n. absurd n }
-asks (args.LookNames x y) = record
-    { names = λ n. absurd n; rids = λ n. absurd n; page = λ n. absurd n; rid = λ n. absurd n }
-asks (args.LookSids x y) = record
-    { names = λ n. absurd n; rids = λ n. absurd n; page = λ n. absurd n; rid = λ n. absurd n }
-asks (args.Policy x y) = record
-    { names = λ n. absurd n; rids = λ n. absurd n; page = λ n. absurd n; rid = λ n. absurd n }
+asks _ = record { names = λ n. absurd n; rids = λ n. absurd n; page = λ n. absurd n; rid = λ n. absurd n }

@@ -83,28 +83,8 @@ known-there b h = cc
 -- ---- what is asked for
 
 creation-units : (c : Creation) (a : Args) → AreCreationArgs c a → AreUnits (or_empty (made_name a))
-creation-units c args.Nothing h = absurd h
-creation-units c (args.Access x) h = absurd h
-creation-units c (args.AccessRid x y) h = absurd h
-creation-units c (args.AccessSid x y) h = absurd h
 creation-units c (args.Make x y z) h = h.0.1
-creation-units c (args.Page x y z) h = absurd h
-creation-units c (args.Class x) h = absurd h
-creation-units c (args.Put x y) h = absurd h
-creation-units c (args.Rid x) h = absurd h
-creation-units c (args.RidBits x y) h = absurd h
-creation-units c (args.OneSid x) h = absurd h
-creation-units c (args.SidList x) h = absurd h
-creation-units c (args.NameList x) h = absurd h
-creation-units c (args.RidList x) h = absurd h
-creation-units c (args.OneName x) h = absurd h
-creation-units c (args.Luid x y) h = absurd h
-creation-units c (args.Bits x) h = absurd h
-creation-units c (args.Privileges x y) h = absurd h
-creation-units c (args.Rights x y z) h = absurd h
-creation-units c (args.LookNames x y) h = absurd h
-creation-units c (args.LookSids x y) h = absurd h
-creation-units c (args.Policy x y) h = absurd h
+creation-units c _ h = absurd h
 
 long-rid : (r : Lists) (n : ℕ) → IsSoundRows r → IsLong (next_rid_of (domain_at r n))
 long-rid r n sound = omega (arith, next-long r n (domain_at r n) sound refl)

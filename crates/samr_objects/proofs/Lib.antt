@@ -3,6 +3,9 @@ pub mod Continuing
 pub mod Creating
 pub mod Deciding
 pub mod Deleting
+pub mod DisplayPages
+pub mod DisplayShapes
+pub mod Displaying
 pub mod Keeping
 pub mod Listing
 pub mod Paging

@@ -85,7 +85,7 @@ listed-shaped : EachIsGood → (w : Wanted) (preferred : ℕ) (r : Lists) → Ha
     → IsLong (last_rid w.behind (page cost preferred (left_of w r)))
     × IsListed IsAccount (page cost preferred (left_of w r))
 listed-shaped each w preferred r few sound long =
-    let all = page-all preferred (left_of w r) (left-shaped each w r sound) in
+    let all = page-all IsAccount cost preferred (left_of w r) (left-shaped each w r sound) in
     let most = page-few cost preferred (left_of w r) in
     let left = left-few w r in
     let room = few.accounts in

@@ -136,27 +136,30 @@ listed-good d good =
     let short : length d.name ≤ 15 = short-by d good d.number refl good.number_most in
     (lit< tt, (omega (arith, short), good.name_units))
 
-either-all : (b : Bool) (x : RidName) (given : List RidName) → IsAccount x → All IsAccount given
-    → All IsAccount (cond b (x ∷ given) [])
-either-all true x given here rest = All-cons IsAccount x given here rest
-either-all false x given here rest = All-nil IsAccount
+either-all : {A : Type 0} (P : A → Type 0) (b : Bool) (x : A) (given : List A) → P x → All P given
+    → All P (cond b (x ∷ given) [])
+either-all P true x given here rest = All-cons P x given here rest
+either-all P false x given here rest = All-nil P
 
-within-all : (left : ℕ) (xs : List RidName) → All IsAccount xs → All IsAccount (within cost left xs)
-within-all left [] all = All-nil IsAccount
-within-all left (x ∷ xs) all =
-    either-all (nat_le (cost x) left) x (within cost (left - cost x) xs) (All-head IsAccount x xs all)
-    (within-all (left - cost x) xs (All-tail IsAccount x xs all))
+within-all : {A : Type 0} (P : A → Type 0) (cost : A → ℕ) (left : ℕ) (xs : List A) → All P xs
+    → All P (within cost left xs)
+within-all P cost left [] all = All-nil P
+within-all P cost left (x ∷ xs) all =
+    either-all P (nat_le (cost x) left) x (within cost (left - cost x) xs) (All-head P x xs all)
+    (within-all P cost (left - cost x) xs (All-tail P x xs all))
 
-pub page-all : (preferred : ℕ) (xs : List RidName) → All IsAccount xs → All IsAccount (page cost preferred xs)
-page-all preferred [] all = All-nil IsAccount
-page-all preferred (x ∷ xs) all =
-    All-cons IsAccount x _ (All-head IsAccount x xs all)
-    (within-all (min preferred most_page - cost x) xs (All-tail IsAccount x xs all))
+-- what holds of each entry that is left holds of each of a page
+pub page-all : {A : Type 0} (P : A → Type 0) (cost : A → ℕ) (preferred : ℕ) (xs : List A) → All P xs
+    → All P (page cost preferred xs)
+page-all P cost preferred [] all = All-nil P
+page-all P cost preferred (x ∷ xs) all =
+    All-cons P x _ (All-head P x xs all)
+    (within-all P cost (min preferred most_page - cost x) xs (All-tail P x xs all))
 
 pub page-shaped : EachIsGood → (r : Lists) (context preferred : ℕ) → IsSoundRows r
     → All IsAccount (page cost preferred (map listed (drop context r.domains)))
 page-shaped each r context preferred sound =
-    page-all preferred (map listed (drop context r.domains))
+    page-all IsAccount cost preferred (map listed (drop context r.domains))
     (All-map IsAccount listed (drop context r.domains)
     (All-drop (λ (d : DomainRow). IsAccount (listed d)) context r.domains
     (λ k d lt. listed-good (get_or r.domains k d) (goods each r sound k d lt))))

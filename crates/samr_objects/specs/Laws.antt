@@ -1,5 +1,7 @@
 -- What holds of each operation, and what they leave.
 use Rattle.std.specs.Prelude.{◌≡◌, ℕ, nat_lt, List, [], ◌∷◌, ◌++◌, length, ◌≢◌, ◌<◌, true, Some, is_some, ◌+◌, None}
+use Rattle.std.specs.Prelude.{take, drop}
+use Rattle.acct_calls.specs.declared.lists.DisplayRow.{DisplayRow}
 use Rattle.acct_calls.specs.declared.lists.RidName.{RidName}
 use Rattle.acct_rows.specs.Rows.{Lists, domain_at, account_at, after, find_name}
 use Rattle.acct_rows.specs.Sound.{IsSoundRows, next_rid_of}
@@ -16,6 +18,7 @@ use Rattle.acct_rules.specs.Asked.{class_of, made_name, or_empty}
 use Rattle.acct_rules.specs.Pages.{page, page_status}
 use Rattle.acct_calls.specs.Calls.{zero_handle}
 use Rattle.acct_rules.specs.Planned.{Ruled, none_fails, decision, answers}
+use Rattle.samr_objects.specs.Displays.{display_cost}
 use Rattle.samr_objects.specs.Entries.{cost}
 use Rattle.samr_objects.specs.Enumerations.{left_of, last_rid, list_accounts}
 use Rattle.samr_objects.specs.Queries.{query_domain, query_group, query_alias, query_user}
@@ -29,7 +32,7 @@ use Rattle.samr_objects.specs.Table.{enumerate_users_in_domain, set_information_
 use Rattle.samr_objects.specs.Table.{set_information_alias, set_information_user, set_information_user2}
 use Rattle.samr_objects.specs.Table.{delete_group_in_domain, delete_alias_in_domain, delete_user_in_domain}
 use Rattle.samr_objects.specs.Table.{create_group_in_domain, create_alias_in_domain, create_user_in_domain}
-use Rattle.samr_objects.specs.Table.{create_user2_in_domain}
+use Rattle.samr_objects.specs.Table.{create_user2_in_domain, query_display_information}
 use Rattle.samr_objects.specs.declared.enumerations.Wanted.{Wanted}
 use Rattle.std.specs.Option.{option_map}
 use Rattle.acct_calls.specs.declared.calls.Call.{Call}
@@ -45,69 +48,45 @@ use Rattle.samr_objects.specs.Settings.{set_field, with_field, with_oem}
 use Rattle.acct_calls.specs.declared.replies.Outs.{Outs}
 use Rattle.acct_calls.specs.declared.replies.Outs.TheVariants as outs
 
-pub record AreRight : Type 0 where
-  pub look_domain : IsRight lookup_domain_in_sam_server
-  pub list_domains : IsRight enumerate_domains_in_sam_server
-  pub open_domain : IsRight open_domain_in_sam_server
-  pub look_names : IsRight lookup_names_in_domain
-  pub look_ids : IsRight lookup_ids_in_domain
-  pub open_group : IsRight open_group_in_domain
-  pub open_alias : IsRight open_alias_in_domain
-  pub open_user : IsRight open_user_in_domain
-  pub rid_to_sid : IsRight sid_of_rid_in_domain
-  pub list_groups : IsRight enumerate_groups_in_domain
-  pub list_aliases : IsRight enumerate_aliases_in_domain
-  pub list_users : IsRight enumerate_users_in_domain
-  pub delete_group : IsRight delete_group_in_domain
-  pub delete_alias : IsRight delete_alias_in_domain
-  pub delete_user : IsRight delete_user_in_domain
-  pub set_domain : IsRight set_information_domain
-  pub set_group : IsRight set_information_group
-  pub set_alias : IsRight set_information_alias
-  pub set_user : IsRight set_information_user
-  pub set_user2 : IsRight set_information_user2
-  pub query_domain : IsRight query_information_domain
-  pub query_domain2 : IsRight query_information_domain2
-  pub query_group : IsRight query_information_group
-  pub query_alias : IsRight query_information_alias
-  pub query_user : IsRight query_information_user
-  pub query_user2 : IsRight query_information_user2
-  pub create_group : IsRight create_group_in_domain
-  pub create_alias : IsRight create_alias_in_domain
-  pub create_user : IsRight create_user_in_domain
-  pub create_user2 : IsRight create_user2_in_domain
+-- what holds of each operation
+pub record Each (P : Operation → Type 0) : Type 0 where
+  pub look_domain : P lookup_domain_in_sam_server
+  pub list_domains : P enumerate_domains_in_sam_server
+  pub open_domain : P open_domain_in_sam_server
+  pub look_names : P lookup_names_in_domain
+  pub look_ids : P lookup_ids_in_domain
+  pub open_group : P open_group_in_domain
+  pub open_alias : P open_alias_in_domain
+  pub open_user : P open_user_in_domain
+  pub rid_to_sid : P sid_of_rid_in_domain
+  pub list_groups : P enumerate_groups_in_domain
+  pub list_aliases : P enumerate_aliases_in_domain
+  pub list_users : P enumerate_users_in_domain
+  pub query_display : P query_display_information
+  pub delete_group : P delete_group_in_domain
+  pub delete_alias : P delete_alias_in_domain
+  pub delete_user : P delete_user_in_domain
+  pub set_domain : P set_information_domain
+  pub set_group : P set_information_group
+  pub set_alias : P set_information_alias
+  pub set_user : P set_information_user
+  pub set_user2 : P set_information_user2
+  pub query_domain : P query_information_domain
+  pub query_domain2 : P query_information_domain2
+  pub query_group : P query_information_group
+  pub query_alias : P query_information_alias
+  pub query_user : P query_information_user
+  pub query_user2 : P query_information_user2
+  pub create_group : P create_group_in_domain
+  pub create_alias : P create_alias_in_domain
+  pub create_user : P create_user_in_domain
+  pub create_user2 : P create_user2_in_domain
 
-pub record KeepRows : Type 0 where
-  pub look_domain : KeepsRows lookup_domain_in_sam_server
-  pub list_domains : KeepsRows enumerate_domains_in_sam_server
-  pub open_domain : KeepsRows open_domain_in_sam_server
-  pub look_names : KeepsRows lookup_names_in_domain
-  pub look_ids : KeepsRows lookup_ids_in_domain
-  pub open_group : KeepsRows open_group_in_domain
-  pub open_alias : KeepsRows open_alias_in_domain
-  pub open_user : KeepsRows open_user_in_domain
-  pub rid_to_sid : KeepsRows sid_of_rid_in_domain
-  pub list_groups : KeepsRows enumerate_groups_in_domain
-  pub list_aliases : KeepsRows enumerate_aliases_in_domain
-  pub list_users : KeepsRows enumerate_users_in_domain
-  pub delete_group : KeepsRows delete_group_in_domain
-  pub delete_alias : KeepsRows delete_alias_in_domain
-  pub delete_user : KeepsRows delete_user_in_domain
-  pub set_domain : KeepsRows set_information_domain
-  pub set_group : KeepsRows set_information_group
-  pub set_alias : KeepsRows set_information_alias
-  pub set_user : KeepsRows set_information_user
-  pub set_user2 : KeepsRows set_information_user2
-  pub query_domain : KeepsRows query_information_domain
-  pub query_domain2 : KeepsRows query_information_domain2
-  pub query_group : KeepsRows query_information_group
-  pub query_alias : KeepsRows query_information_alias
-  pub query_user : KeepsRows query_information_user
-  pub query_user2 : KeepsRows query_information_user2
-  pub create_group : KeepsRows create_group_in_domain
-  pub create_alias : KeepsRows create_alias_in_domain
-  pub create_user : KeepsRows create_user_in_domain
-  pub create_user2 : KeepsRows create_user2_in_domain
+abbrev pub AreRight : Type 0
+AreRight = Each IsRight
+
+abbrev pub KeepRows : Type 0
+KeepRows = Each KeepsRows
 
 -- ---- enumerations of accounts
 
@@ -140,6 +119,25 @@ pub record GoesOn (w : Wanted) (r : Lists) : Type 0 where
 
 abbrev pub EnumerationsGoOn : Type 0
 EnumerationsGoOn = (w : Wanted) (r : Lists) → IsSoundRows r → GoesOn w r
+
+-- ---- what is displayed
+
+-- the page behind so many entries, of at most as many as are asked for
+abbrev pub display_page : List DisplayRow → ℕ → ℕ → ℕ → List DisplayRow
+display_page all index count preferred = page display_cost preferred (take count (drop index all))
+
+-- What is left behind an index is given by the page there, and by those behind its entries: where each page is asked for
+-- behind those that were given before, each entry is given once. A page is empty only where no entry is asked for or
+-- none is left.
+pub record DisplayGoesOn (all : List DisplayRow) : Type 0 where
+  pub once : (index count preferred : ℕ)
+      → drop index all
+      ≡ display_page all index count preferred ++ drop (index + length (display_page all index count preferred)) all
+  pub empty : (index count preferred : ℕ) → nat_lt 0 count ≡ true → display_page all index count preferred ≡ []
+      → drop index all ≡ []
+
+abbrev pub DisplaysGoOn : Type 0
+DisplaysGoOn = (all : List DisplayRow) → DisplayGoesOn all
 
 -- ---- deletions
 

@@ -1,6 +1,7 @@
 pub mod Accounts
 pub mod Creations
 pub mod Deletions
+pub mod Displays
 pub mod Domains
 pub mod Entries
 pub mod Enumerations

@@ -14,6 +14,7 @@ use Rattle.acct_codes.specs.Opnums.{samr_query_information_group, samr_query_inf
 use Rattle.acct_codes.specs.Opnums.{samr_query_information_user, samr_query_information_user2}
 use Rattle.acct_codes.specs.Opnums.{samr_create_group_in_domain, samr_create_alias_in_domain}
 use Rattle.acct_codes.specs.Opnums.{samr_create_user_in_domain, samr_create_user2_in_domain}
+use Rattle.acct_codes.specs.Opnums.{samr_query_display_information}
 use Rattle.acct_codes.specs.Rights.{delete, domain_write_other_parameters, group_write_account, alias_write_account}
 use Rattle.acct_codes.specs.Rights.{user_write_account, sam_server_lookup_domain, sam_server_enumerate_domains}
 use Rattle.acct_codes.specs.Rights.{domain_lookup, domain_list_accounts, domain_read_other_parameters}
@@ -28,6 +29,7 @@ use Rattle.acct_rules.specs.declared.profile.Kinds.TheVariants as kinds
 use Rattle.acct_rules.specs.declared.profile.Memory.TheVariants as memory
 use Rattle.samr_objects.specs.Accounts.{open_group, open_alias, open_user}
 use Rattle.samr_objects.specs.Deletions.{delete_group, delete_alias, delete_user}
+use Rattle.samr_objects.specs.Displays.{query_display}
 use Rattle.samr_objects.specs.Creations.{create_group, create_alias, create_user}
 use Rattle.samr_objects.specs.Domains.{look_domain, list_domains, open_domain, rid_to_sid}
 use Rattle.samr_objects.specs.Enumerations.{list_groups, list_aliases, list_users}
@@ -92,6 +94,13 @@ enumerate_users_in_domain = record {
   profile =
       asking Samr samr_enumerate_users_in_domain (kinds.Only kind.Domain) domain_list_accounts memory.Anywhere;
   rule = list_users;
+}
+
+abbrev pub query_display_information : Operation
+query_display_information = record {
+  profile =
+      asking Samr samr_query_display_information (kinds.Only kind.Domain) domain_list_accounts memory.Anywhere;
+  rule = query_display;
 }
 
 abbrev pub open_group_in_domain : Operation

@@ -1,6 +1,6 @@
 //! Laws of the operations, each the contract of a function that does nothing.
 ghost use Rattle.samr_objects.specs.Laws.{AreRight, KeepRows, EnumerationsGoOn, AccountsGo, FieldsAreSet};
-ghost use Rattle.samr_objects.specs.Laws.{ClassesAreShown, CreationsAreFound, SetsAreShown};
+ghost use Rattle.samr_objects.specs.Laws.{ClassesAreShown, CreationsAreFound, SetsAreShown, DisplaysGoOn};
 
 use acct_calls::laws::same_is_equivalence;
 use acct_rows::laws::{
@@ -74,6 +74,12 @@ pub fn sets_are_shown()
 /// An enumeration of accounts that goes on behind each page gives each account once, in as many pages as there are.
 pub fn enumerations_go_on()
     ensures { EnumerationsGoOn }
+{}
+
+/// What is displayed, page by page, each behind the entries that were given before, is each entry once, in as many pages
+/// as there are.
+pub fn displays_go_on()
+    ensures { DisplaysGoOn }
 {}
 
 /// An object that is there shows each class of its kind, and no other.

@@ -1,5 +1,5 @@
 //! The operations on the objects of the account database (MS-SAMR): domains are looked for, listed and opened, accounts
-//! looked for, listed, opened, created, shown, set and deleted, and RIDs turned into SIDs.
+//! looked for, listed, displayed, opened, created, shown, set and deleted, and RIDs turned into SIDs.
 //!
 //! It stands on the rows of `acct_rows` and on `acct_rules`, which says what an operation is. For each operation there
 //! is a definition in specs/, which reads as its section of the standard: its conditions in order, each with its
@@ -12,6 +12,7 @@
 mod accounts;
 mod creations;
 mod deletions;
+mod displays;
 mod domains;
 mod entries;
 mod enumerations;
@@ -26,6 +27,7 @@ mod settings;
 pub use accounts::{open_alias, open_group, open_user};
 pub use creations::{create_alias, create_group, create_user};
 pub use deletions::{delete_alias, delete_group, delete_user};
+pub use displays::query_display;
 pub use domains::{list_domains, look_domain, open_domain, rid_to_sid};
 pub use enumerations::{list_aliases, list_groups, list_users};
 pub use lookups::{look_ids, look_names};

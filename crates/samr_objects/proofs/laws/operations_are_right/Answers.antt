@@ -25,6 +25,7 @@ use Rattle.samr_objects.specs.Table.{open_group_in_domain, open_alias_in_domain,
 use Rattle.samr_objects.specs.Table.{sid_of_rid_in_domain}
 use Rattle.samr_objects.proofs.Asking.{arguments, asks}
 use Rattle.samr_objects.proofs.Listing.{list_groups-right, list_aliases-right, list_users-right}
+use Rattle.samr_objects.proofs.DisplayShapes.{query_display-right}
 use Rattle.samr_objects.proofs.Deleting.{delete_group-right, delete_alias-right, delete_user-right}
 use Rattle.samr_objects.proofs.Creating.{create_group-right, create_alias-right, create_user-right, create_user2-right}
 use Rattle.samr_objects.proofs.Paging.{page-few-left, context-long}
@@ -200,6 +201,7 @@ returns c = record {
   list_groups = list_groups-right c.each_is_good.ensures;
   list_aliases = list_aliases-right c.each_is_good.ensures;
   list_users = list_users-right c.each_is_good.ensures;
+  query_display = query_display-right c.each_is_good.ensures;
   delete_group = delete_group-right;
   delete_alias = delete_alias-right;
   delete_user = delete_user-right;

@@ -45,6 +45,7 @@ returns c =
       list_groups = λ r object call is none. answers-keep r _ _ is.rows;
       list_aliases = λ r object call is none. answers-keep r _ _ is.rows;
       list_users = λ r object call is none. answers-keep r _ _ is.rows;
+      query_display = λ r object call is none. answers-keep r _ _ is.rows;
       delete_group = delete_group-keeps c.removed_accounts_stay_sound.ensures c.each_is_good.ensures;
       delete_alias =
           delete_alias-keeps c.removed_accounts_stay_sound.ensures c.others_are_no_primary.ensures

@@ -8,7 +8,6 @@ use Rattle.acct_operations.specs.Table.{operation}
 use Rattle.acct_machine.specs.State.{State}
 use Rattle.acct_machine.specs.Outcome.{concluded, planned_of}
 use Rattle.acct_machine.specs.Wants.{WantsRoom}
-use Rattle.acct_machine.proofs.Frugal.{frugal}
 use Rattle.acct_machine.proofs.Handles.{keeps}
 use Rattle.acct_machine.proofs.Wanting.{wants-room}
 use Rattle.acct_machine.proofs.store.Store.pass.Goals as goal
@@ -31,7 +30,7 @@ returns-in-Ok-clause-wants g c =
     let s : State = c.args.self.now in
     let is : planned_of o s c.args.conn c.args.call.now ≡ c.in-Ok.planned = search rules in
     let room : WantsRoom s c.args.conn c.in-Ok.planned c.conclude.result.0 = search rules in
-    wants-room o s c.args.conn c.args.call.now (frugal c.args.work) c.conclude.result.0
+    wants-room o s c.args.conn c.args.call.now (c.operations_are_right.ensures.right c.args.work) c.conclude.result.0
     (subst (λ (p : Planned). WantsRoom s c.args.conn p c.conclude.result.0) (sym is) room)
 
 pub returns-in-Ok-clause-quiet : goal.returns-in-Ok-clause-quiet
