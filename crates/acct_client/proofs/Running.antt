@@ -20,15 +20,15 @@ use Rattle.acct_client.specs.declared.dialogue.Talk.{Talk}
 use Rattle.acct_client.specs.declared.hearing.Heard.{Heard}
 use Rattle.acct_client.specs.declared.hearing.Heard.TheVariants.{Waits, Answered, NoAnswer}
 use Rattle.acct_client.specs.declared.hearing.Listening.{Listening}
-use Rattle.client_steps.specs.declared.outcomes.Outcome.{Outcome}
-use Rattle.client_steps.specs.declared.outcomes.Outcome.TheVariants.{Goes, Ends, Refuses, Unfit}
-use Rattle.client_steps.specs.declared.steps.Step.{Step}
+use Rattle.client_commands.specs.declared.outcomes.Outcome.{Outcome}
+use Rattle.client_commands.specs.declared.outcomes.Outcome.TheVariants.{Goes, Ends, Refuses, Unfit}
+use Rattle.client_commands.specs.declared.steps.Step.{Step}
 use Rattle.acct_client.specs.Dialogues.{awaits, is_failed, waits, turned, replied, reply_in, answered}
 use Rattle.acct_client.specs.Dialogues.{told, awaited_of, progress, joined, silence}
 use Rattle.acct_client.specs.Hearings.{heard_next, on_next, hear_in, hear, on, with_more, IsCutAnywhere}
 use Rattle.acct_client.proofs.Cutting.{NextStays, next_stays, whole_next}
-use Rattle.client_steps.specs.Outcomes.{after}
-use Rattle.client_steps.specs.Steps.{call_of}
+use Rattle.client_commands.specs.Outcomes.{after}
+use Rattle.client_commands.specs.Steps.{call_of}
 use Rattle.acct_client.specs.Runs.{more, run_on, run_in, run, IsSpokenInPieces}
 
 -- more bytes to hear

@@ -22,12 +22,12 @@ use Rattle.rpc_pdu.specs.Written.{written, IsWholeOutcome}
 use Rattle.rpc_session.specs.Replies.{fault_bytes, first_flag, reply_bytes, response, responses, RepliesBringStubs}
 use Rattle.samr_wire.specs.Interface.{samr}
 use Rattle.lsa_wire.specs.Interface.{lsa}
-use Rattle.client_steps.specs.declared.outcomes.Outcome.{Outcome as Brought}
-use Rattle.client_steps.specs.declared.outcomes.Outcome.TheVariants.{Goes as Onward, Ends, Refuses, Unfit}
-use Rattle.client_steps.specs.declared.steps.Step.{Step}
-use Rattle.client_steps.specs.declared.steps.Step.TheVariants.{Opening}
-use Rattle.client_steps.specs.Outcomes.{after}
-use Rattle.client_steps.specs.Steps.{call_of}
+use Rattle.client_commands.specs.declared.outcomes.Outcome.{Outcome as Brought}
+use Rattle.client_commands.specs.declared.outcomes.Outcome.TheVariants.{Goes as Onward, Ends, Refuses, Unfit}
+use Rattle.client_commands.specs.declared.steps.Step.{Step}
+use Rattle.client_commands.specs.declared.steps.Step.TheVariants.{Opening}
+use Rattle.client_commands.specs.Outcomes.{after}
+use Rattle.client_commands.specs.Steps.{call_of}
 use Rattle.acct_client.specs.declared.answers.Answer.{Answer}
 use Rattle.acct_client.specs.declared.answers.Answer.TheVariants as answer
 use Rattle.acct_client.specs.declared.answers.Awaited.TheVariants.{Binding as TheBind, Reply as TheReply}

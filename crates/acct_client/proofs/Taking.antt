@@ -11,7 +11,7 @@ use Rattle.acct_client.specs.declared.answers.Answer.{Answer}
 use Rattle.acct_client.specs.declared.answers.Answer.TheVariants as answer
 use Rattle.acct_client.specs.declared.answers.Awaited.{Awaited}
 use Rattle.acct_client.specs.declared.answers.PartialReply.{PartialReply}
-use Rattle.client_steps.specs.declared.command.Command.{Command}
+use Rattle.client_commands.specs.declared.command.Command.{Command}
 use Rattle.acct_client.specs.declared.dialogue.Progress.{Progress}
 use Rattle.acct_client.specs.declared.dialogue.State.{State}
 use Rattle.acct_client.specs.declared.dialogue.State.TheVariants.{Binding, Calling, Ended, Failed}
@@ -22,12 +22,12 @@ use Rattle.acct_client.specs.declared.hearing.Heard.TheVariants.{Waits, Answered
 use Rattle.acct_client.specs.declared.hearing.Listening.{Listening}
 use Rattle.acct_client.specs.declared.hearing.Next.{Next}
 use Rattle.acct_client.specs.declared.hearing.Next.TheVariants as next
-use Rattle.client_steps.specs.declared.outcomes.Outcome.{Outcome}
-use Rattle.client_steps.specs.declared.outcomes.Outcome.TheVariants.{Goes, Ends, Refuses, Unfit}
-use Rattle.client_steps.specs.declared.steps.Step.{Step}
+use Rattle.client_commands.specs.declared.outcomes.Outcome.{Outcome}
+use Rattle.client_commands.specs.declared.outcomes.Outcome.TheVariants.{Goes, Ends, Refuses, Unfit}
+use Rattle.client_commands.specs.declared.steps.Step.{Step}
 use Rattle.acct_client.specs.Dialogues.{replied, reply_in, turned}
-use Rattle.client_steps.specs.Outcomes.{after}
-use Rattle.client_steps.specs.Steps.{call_of}
+use Rattle.client_commands.specs.Outcomes.{after}
+use Rattle.client_commands.specs.Steps.{call_of}
 use Rattle.acct_client.specs.Dialogues.{answered, awaited_of, awaits, begun, is_failed, joined, progress}
 use Rattle.acct_client.specs.Askers.{bytes_taken}
 use Rattle.acct_client.specs.Dialogues.{told}

@@ -1,9 +1,9 @@
 -- What the calls of a client promise of its dialogue.
 use Rattle.std.specs.Prelude.{◌≡◌, ◌≢◌, ℕ, ◌+◌, ◌^◌, ◌<◌, Bool, true, false, not, List, ◌++◌, length}
 use Rattle.std.specs.Prelude.{Option, None, Result, Ok, Err}
-use Rattle.client_steps.specs.declared.command.Command.{Command}
-use Rattle.client_steps.specs.declared.words.WordError.{WordError}
-use Rattle.client_steps.specs.declared.words.WordError.TheVariants as unread
+use Rattle.client_commands.specs.declared.command.Command.{Command}
+use Rattle.client_commands.specs.declared.words.WordError.{WordError}
+use Rattle.client_commands.specs.declared.words.WordError.TheVariants as unread
 use Rattle.acct_client.specs.declared.dialogue.Progress.{Progress}
 use Rattle.acct_client.specs.declared.dialogue.State.{State}
 use Rattle.acct_client.specs.declared.dialogue.State.TheVariants.{Failed}

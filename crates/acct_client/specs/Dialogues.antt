@@ -16,7 +16,7 @@ use Rattle.acct_client.specs.declared.answers.Awaited.{Awaited}
 use Rattle.acct_client.specs.declared.answers.Awaited.TheVariants as awaited
 use Rattle.acct_client.specs.declared.answers.Answer.{Answer}
 use Rattle.acct_client.specs.declared.answers.Answer.TheVariants as answer
-use Rattle.client_steps.specs.declared.command.Command.{Command}
+use Rattle.client_commands.specs.declared.command.Command.{Command}
 use Rattle.acct_client.specs.declared.dialogue.State.{State}
 use Rattle.acct_client.specs.declared.dialogue.State.TheVariants.{Binding, Calling, Ended, Failed}
 use Rattle.acct_client.specs.declared.dialogue.Progress.{Progress}
@@ -26,16 +26,16 @@ use Rattle.acct_client.specs.declared.errors.AskError.TheVariants.{PeerBytes, Pe
 use Rattle.acct_client.specs.declared.hearing.Listening.{Listening}
 use Rattle.acct_client.specs.declared.hearing.Heard.{Heard}
 use Rattle.acct_client.specs.declared.hearing.Heard.TheVariants as heard
-use Rattle.client_steps.specs.declared.outcomes.Outcome.{Outcome}
-use Rattle.client_steps.specs.declared.outcomes.Outcome.TheVariants.{Goes, Ends, Refuses, Unfit}
-use Rattle.client_steps.specs.declared.steps.Step.{Step}
-use Rattle.client_steps.specs.declared.steps.Step.TheVariants.{Opening}
-use Rattle.client_steps.specs.Fit.{IsFitCommand, IsFitStep}
+use Rattle.client_commands.specs.declared.outcomes.Outcome.{Outcome}
+use Rattle.client_commands.specs.declared.outcomes.Outcome.TheVariants.{Goes, Ends, Refuses, Unfit}
+use Rattle.client_commands.specs.declared.steps.Step.{Step}
+use Rattle.client_commands.specs.declared.steps.Step.TheVariants.{Opening}
+use Rattle.client_commands.specs.Fit.{IsFitCommand, IsFitStep}
 use Rattle.acct_client.specs.Hearings.{on, listening}
-use Rattle.client_steps.specs.Outcomes.{after, refused_line}
+use Rattle.client_commands.specs.Outcomes.{after, refused_line}
 use Rattle.acct_client.specs.Requests.{bind_bytes, context_of, request_bytes}
 use Rattle.rpc_session.specs.Answers.{size_for}
-use Rattle.client_steps.specs.Steps.{call_of}
+use Rattle.client_commands.specs.Steps.{call_of}
 
 -- ---- what is sent
 

@@ -2,7 +2,7 @@
 -- answer is whole.
 use Rattle.std.specs.Prelude.{◌≡◌, ℕ, zero, suc, Bool, false, List, [], ◌++◌, length, Option, Some, None}
 use Rattle.std.specs.Prelude.{if◌then◌else◌}
-use Rattle.client_steps.specs.declared.command.Command.{Command}
+use Rattle.client_commands.specs.declared.command.Command.{Command}
 use Rattle.acct_client.specs.declared.dialogue.Progress.{Progress}
 use Rattle.acct_client.specs.declared.dialogue.Talk.{Talk}
 use Rattle.acct_client.specs.Hearings.{listening}

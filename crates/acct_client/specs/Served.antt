@@ -11,13 +11,13 @@ use Rattle.rpc_pdu.specs.declared.pdus.Outcome.{Outcome}
 use Rattle.rpc_pdu.specs.declared.pdus.Pdu.TheVariants.{BindAck}
 use Rattle.rpc_pdu.specs.Written.{written, IsWholeOutcome}
 use Rattle.rpc_session.specs.Replies.{fault_bytes, reply_bytes}
-use Rattle.client_steps.specs.declared.command.Command.{Command}
-use Rattle.client_steps.specs.declared.outcomes.Outcome.{Outcome as Brought}
-use Rattle.client_steps.specs.declared.outcomes.Outcome.TheVariants.{Goes, Ends, Refuses, Unfit}
-use Rattle.client_steps.specs.declared.steps.Step.{Step}
-use Rattle.client_steps.specs.declared.steps.Step.TheVariants.{Opening}
-use Rattle.client_steps.specs.Outcomes.{after, refused_line}
-use Rattle.client_steps.specs.Steps.{call_of}
+use Rattle.client_commands.specs.declared.command.Command.{Command}
+use Rattle.client_commands.specs.declared.outcomes.Outcome.{Outcome as Brought}
+use Rattle.client_commands.specs.declared.outcomes.Outcome.TheVariants.{Goes, Ends, Refuses, Unfit}
+use Rattle.client_commands.specs.declared.steps.Step.{Step}
+use Rattle.client_commands.specs.declared.steps.Step.TheVariants.{Opening}
+use Rattle.client_commands.specs.Outcomes.{after, refused_line}
+use Rattle.client_commands.specs.Steps.{call_of}
 use Rattle.acct_client.specs.Dialogues.{next_id, wire_of}
 use Rattle.acct_client.specs.Requests.{context_of}
 use Rattle.acct_client.specs.Runs.{spoken}

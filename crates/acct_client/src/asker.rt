@@ -2,7 +2,7 @@
 ghost use Rattle.std.specs.Prelude.{◌≡◌, ◌≢◌, ◌+◌, ◌^◌, ◌<◌, ◌≤◌, length, map, false};
 ghost use Rattle.std.specs.Prelude.{IfOk, IfErr, OnOk, OnErr, Some, option_map};
 ghost use Rattle.std.specs.String.{string_bytes};
-ghost use Rattle.client_steps.specs.Words.{command_of};
+ghost use Rattle.client_commands.specs.Words.{command_of};
 ghost use Rattle.acct_client.specs.declared.errors.AskError.TheVariants.{Memory};
 ghost use Rattle.acct_client.specs.Askers.{bytes_taken, HasRoom, IsFailed, IsFitTalk, IsLost, IsNoClient};
 ghost use Rattle.acct_client.specs.Askers.{IsTaken, MayTake, answer_of, lost, with_lines};
@@ -13,7 +13,7 @@ use crate::NoMemory;
 use crate::dialogue::{Progress, State, Talk, heard_more, sent, silence};
 use crate::errors::AskError;
 use crate::hearing::{Listening, streams_are_cut_anywhere};
-use client_steps::{Text, command_of};
+use client_commands::{Text, command_of};
 use rpc_pdu::front_is_stable;
 use std::alloc::Global;
 use std::marker::Model;

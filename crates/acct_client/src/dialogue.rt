@@ -9,10 +9,10 @@ ghost use Rattle.acct_stubs.specs.Replies.{reply_at};
 ghost use Rattle.acct_client.specs.Dialogues.{wire_of, call_bytes, sent, awaits, waits, goes_to, failed, refused};
 ghost use Rattle.acct_client.specs.Dialogues.{next_id, turned, replied, reply_in, answered, silence, told, awaited_of};
 ghost use Rattle.acct_client.specs.Dialogues.{is_failed, progress, IsFitState};
-ghost use Rattle.client_steps.specs.Fit.{IsFitStep, IsFitOutcome};
+ghost use Rattle.client_commands.specs.Fit.{IsFitStep, IsFitOutcome};
 ghost use Rattle.acct_client.specs.Runs.{IsSpokenInPieces};
 ghost use Rattle.acct_client.specs.Served.{PrintsReplies};
-ghost use Rattle.client_steps.specs.Steps.{call_of};
+ghost use Rattle.client_commands.specs.Steps.{call_of};
 
 use crate::NoMemory;
 use crate::answers::{Answer, Awaited};
@@ -22,7 +22,7 @@ use crate::requests::{bind_bytes, request_bytes};
 use acct_base::Seq;
 use acct_calls::{Call, Face, Reply};
 use acct_stubs::WireError;
-use client_steps::{
+use client_commands::{
     Command, Outcome, Step, Text, after, call_of, fit_steps_are_spelled, operation_of, refused_line,
 };
 use rpc_pdu::{front_is_stable, written_is_read_back};

@@ -4,7 +4,7 @@ ghost use Rattle.acct_client.specs.Askers.{unspelled};
 ghost use Rattle.std.specs.Prelude.{◌≡◌};
 
 use crate::NoMemory;
-use client_steps::WordError;
+use client_commands::WordError;
 use thiserror::Error;
 
 /// Why a client ends without its last answer.

@@ -1,8 +1,8 @@
-//! The client of the account server, without input and output: from the words of a command to the bytes that bring its
-//! calls, and from the bytes of the peer to the lines that are printed.
+//! A client's bytes, without input and output: those that bring the calls of a command, and those of the peer, with the
+//! lines that are printed of them.
 //!
-//! It stands on `client_steps` for the commands, on `rpc_pdu` for the PDUs, on `rpc_session` for the flags and hints of
-//! fragments, and on both wires for the stubs. The layer above uses that an [`Asker`] sends the bind and then the
+//! It stands on `client_commands` for the commands, on `rpc_pdu` for the PDUs, on `rpc_session` for the flags and hints
+//! of fragments, and on both wires for the stubs. The layer above uses that an [`Asker`] sends the bind and then the
 //! requests of its command's calls, and that its lines are those of the answers that the peer's bytes spell, however
 //! they are cut ([`dialogues_are_cut_anywhere`]), with the first place that is no answer; and that they are those of a
 //! server's replies where the bytes bring these ([`replies_are_printed`]).

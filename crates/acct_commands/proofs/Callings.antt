@@ -6,10 +6,10 @@ use Rattle.std.specs.Option.{option_or}
 use Rattle.acct_streams.specs.declared.outside.Failed.{Failed}
 use Rattle.acct_streams.specs.Causes.{Rose, NotRisen}
 use Rattle.acct_links.specs.Links.{Told, IsNew}
-use Rattle.client_calls.specs.Calls.{Sunk, called_with, IsSilent, IsUncalled, PrintsBy, TalksOver}
-use Rattle.client_calls.specs.Talks.{ComesToItsEnd, IsDoneOrLost as IsDone}
-use Rattle.client_calls.specs.declared.ends.TalkEnd.{TalkEnd}
-use Rattle.client_calls.specs.declared.ends.TalkEnd.TheVariants as talk
+use Rattle.client_link.specs.Calls.{Sunk, called_with, IsSilent, IsUncalled, PrintsBy, TalksOver}
+use Rattle.client_link.specs.Talks.{ComesToItsEnd, IsDoneOrLost as IsDone}
+use Rattle.client_link.specs.declared.ends.TalkEnd.{TalkEnd}
+use Rattle.client_link.specs.declared.ends.TalkEnd.TheVariants as talk
 use Rattle.acct_world.specs.declared.part.Part.TheVariants as part
 use Rattle.acct_server.specs.declared.status.Status.{Status}
 use Rattle.acct_commands.specs.Statuses.{talk_status}
@@ -17,9 +17,9 @@ use Rattle.acct_commands.specs.Words.{Form, Replay, Generate, Serve, Call, Calli
 use Rattle.acct_commands.specs.Words.{call_form, is_call, replay_form, gen_form, serve_form, form_of}
 use Rattle.acct_client.specs.declared.dialogue.Talk.{Talk}
 use Rattle.acct_client.specs.Dialogues.{begun}
-use Rattle.client_calls.specs.Talks.{IsBegun}
-use Rattle.client_steps.specs.declared.command.Command.{Command}
-use Rattle.client_steps.specs.Words.{command_of}
+use Rattle.client_link.specs.Talks.{IsBegun}
+use Rattle.client_commands.specs.declared.command.Command.{Command}
+use Rattle.client_commands.specs.Words.{command_of}
 use Rattle.acct_world.specs.World.{Seen, TakesSink, GivesSink, TakesCaller, GivesCaller}
 use Rattle.acct_commands.specs.Calling.{TellingCall, IsDoneOrLost, HasTalked, HasCalled, Calls}
 use Rattle.acct_commands.specs.Does.{TellingAll, Does}

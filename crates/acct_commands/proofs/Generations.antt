@@ -1,7 +1,7 @@
 -- What a world shows over the command `gen`.
 use Rattle.std.proofs.Common.{◌≡◌, ℕ, List, [], Ok, Option, refl, ◌∙◌, ap}
-use Rattle.acct_summary.specs.Generates.{IsGeneration}
-use Rattle.acct_summary.specs.declared.generating.Generation.{Generation}
+use Rattle.acct_commands.specs.Generating.{IsGeneration}
+use Rattle.acct_commands.specs.declared.generating.Generation.{Generation}
 use Rattle.acct_server.specs.declared.status.Status.{Status}
 use Rattle.acct_world.specs.declared.part.Part.TheVariants as part
 use Rattle.acct_world.specs.World.{Seen, TakesSink, GivesSink}

@@ -5,3 +5,6 @@ pub mod Callings
 pub mod Servings
 pub mod Periods
 pub mod GoingOn
+pub mod Fitting
+pub mod Lines
+pub mod Summarizing

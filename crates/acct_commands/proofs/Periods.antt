@@ -6,10 +6,10 @@ use Rattle.std.specs.List.{flat_map}
 use Rattle.std.proofs.lemmas.List.{append-nil}
 use Rattle.std.proofs.lemmas.Grind.{flat_map-append}
 use Rattle.acct_config.specs.declared.config.Config.{Config}
-use Rattle.acct_serving.specs.Doors.{DoorRun}
-use Rattle.acct_serving.specs.declared.outcome.Outcome.{Outcome}
-use Rattle.acct_serving.specs.declared.outcome.Outcome.TheVariants as outcome
-use Rattle.acct_workers.specs.declared.ends.DoorEnd.TheVariants.{Closed}
+use Rattle.door_workers.specs.Doors.{DoorRun}
+use Rattle.door_workers.specs.declared.outcome.Outcome.{Outcome}
+use Rattle.door_workers.specs.declared.outcome.Outcome.TheVariants as outcome
+use Rattle.door_workers.specs.declared.ends.DoorEnd.TheVariants.{Closed}
 use Rattle.acct_server.specs.Leaves.{StoreCause}
 use Rattle.acct_server.specs.Serving.{Telling, IsServe, served_status}
 use Rattle.acct_server.specs.declared.serving.Served.{Served}

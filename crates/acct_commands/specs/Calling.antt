@@ -3,10 +3,10 @@ use Rattle.std.specs.Prelude.{◌≡◌, ℕ, ◌≤◌, true, List, ◌∷◌, 
 use Rattle.acct_links.specs.Links.{Told, IsNew}
 use Rattle.acct_streams.specs.declared.outside.Failed.{Failed}
 use Rattle.acct_streams.specs.Causes.{NotRisen}
-use Rattle.client_calls.specs.Calls.{Sunk, called_with, IsSilent, IsUncalled, TalksOver}
-use Rattle.client_calls.specs.Talks.{BringsAll}
-use Rattle.client_calls.specs.declared.ends.TalkEnd.{TalkEnd}
-use Rattle.client_steps.specs.declared.command.Command.{Command}
+use Rattle.client_link.specs.Calls.{Sunk, called_with, IsSilent, IsUncalled, TalksOver}
+use Rattle.client_link.specs.Talks.{BringsAll}
+use Rattle.client_link.specs.declared.ends.TalkEnd.{TalkEnd}
+use Rattle.client_commands.specs.declared.command.Command.{Command}
 use Rattle.acct_world.specs.declared.part.Part.TheVariants.{Sink, Caller}
 use Rattle.acct_server.specs.declared.status.Status.{Status}
 use Rattle.acct_server.specs.declared.status.Status.TheVariants.{Done, NoMemory}

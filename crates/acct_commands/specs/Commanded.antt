@@ -9,7 +9,7 @@ use Rattle.acct_server.specs.Replaying.{Telling, Parts, IsReplay}
 use Rattle.acct_server.specs.declared.status.Status.{Status}
 use Rattle.acct_server.specs.declared.status.Status.TheVariants.{ReadFault, WriteFault, StoreFault, DoorFault}
 use Rattle.acct_server.specs.declared.status.Status.TheVariants.{PeerFault, NoMemory}
-use Rattle.acct_sessions.specs.declared.ends.Ended.{Ended}
+use Rattle.link_sessions.specs.declared.ends.Ended.{Ended}
 use Rattle.acct_links.specs.declared.callers.TakeError.{TakeError}
 use Rattle.acct_links.specs.declared.callers.TakeError.TheVariants.{Failed, NoMemory as NoMemoryTaken}
 use Rattle.acct_world.specs.declared.period.Period.{Period}

@@ -1,8 +1,8 @@
 -- What the command `gen N` does to a world. The functions tell of a sink the bytes that it holds, and its count of
 -- faults.
 use Rattle.std.specs.Prelude.{◌≡◌, ℕ, true, List, ◌∷◌, [], ◌++◌, ◌⊎◌, Option, Some}
-use Rattle.acct_summary.specs.Generates.{IsGeneration}
-use Rattle.acct_summary.specs.declared.generating.Generation.{Generation}
+use Rattle.acct_commands.specs.Generating.{IsGeneration}
+use Rattle.acct_commands.specs.declared.generating.Generation.{Generation}
 use Rattle.acct_world.specs.declared.part.Part.TheVariants.{Sink}
 use Rattle.acct_server.specs.declared.status.Status.{Status}
 use Rattle.acct_world.specs.World.{Seen}

@@ -6,3 +6,7 @@ pub mod Serving
 pub mod Rounds
 pub mod Does
 pub mod Statuses
+pub mod Calls
+pub mod Generated
+pub mod Summary
+pub mod Generating

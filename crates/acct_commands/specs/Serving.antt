@@ -7,7 +7,7 @@ use Rattle.acct_keeper.specs.declared.keeper.KeepError.{KeepError}
 use Rattle.acct_keeper.specs.declared.keeper.KeepError.TheVariants as keep
 use Rattle.acct_links.specs.declared.asking.Asking.{Asking}
 use Rattle.acct_streams.specs.Whole.{most_bytes}
-use Rattle.listener_doors.specs.Askings.{Opens, StopsAsking}
+use Rattle.door_workers.specs.Askings.{Opens, StopsAsking}
 use Rattle.acct_server.specs.Configured.{IsConfigured}
 use Rattle.acct_server.specs.Leaves.{ConfigCause}
 use Rattle.acct_server.specs.Replaying.{lists_in}

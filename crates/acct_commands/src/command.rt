@@ -1,9 +1,9 @@
 // The program's commands, over a world.
 ghost use Rattle.std.specs.Prelude.{◌≡◌, ◌≢◌, ◌≤◌, Some, None, length, map, true};
 ghost use Rattle.std.specs.String.{string_bytes};
-ghost use Rattle.acct_generator.specs.Calls.{most_users};
-ghost use Rattle.client_calls.specs.Talks.{IsBegun};
-ghost use Rattle.client_steps.specs.declared.command.Command.{Command};
+ghost use Rattle.acct_commands.specs.Calls.{most_users};
+ghost use Rattle.client_link.specs.Talks.{IsBegun};
+ghost use Rattle.client_commands.specs.declared.command.Command.{Command};
 ghost use Rattle.acct_server.specs.declared.status.Status.TheVariants.{Usage};
 ghost use Rattle.acct_commands.specs.Words.{Form, Calling, form_of, is_call, call_form};
 ghost use Rattle.acct_commands.specs.Commanded.{Commanded, Returned, standard_input};
@@ -12,6 +12,7 @@ ghost use Rattle.acct_commands.specs.Generates.{Generates};
 ghost use Rattle.acct_commands.specs.Does.{Does, IsFormless};
 
 use crate::forms::{behind_two, gen_users, is_call, replay_name, serve_names};
+use crate::generating::{Generation, generate};
 use crate::keeping::keep;
 use crate::period::{parted, period_between};
 use crate::serving::run_serve;
@@ -20,9 +21,8 @@ use acct_base::Seq;
 use acct_client::{AskError, Asker};
 use acct_links::{Door, Entrance};
 use acct_server::{Status, replay};
-use acct_summary::{Generation, generate};
 use acct_world::World;
-use client_calls::{Called, call, dialogues_come_to_their_ends};
+use client_link::{Called, call, dialogues_come_to_their_ends};
 use std::alloc::Global;
 use std::sync::Wait;
 use std::thread::Threads;

@@ -3,11 +3,11 @@ ghost use Rattle.std.specs.Prelude.{◌≡◌, ◌≤◌, None, Some, length, dr
 ghost use Rattle.std.specs.List.{list_any};
 ghost use Rattle.std.specs.String.{string_bytes};
 ghost use Rattle.acct_commands.specs.Words.{replay_form, gen_form, serve_form, users_in, is_call, begins_with_dash};
-ghost use Rattle.acct_generator.specs.Calls.{most_users};
+ghost use Rattle.acct_commands.specs.Calls.{most_users};
 
+use crate::calls::MOST_USERS;
 use acct_base::decimal_of;
 use acct_config::is_address;
-use acct_generator::MOST_USERS;
 
 /// The configuration's name, of the words `replay CONFIG`.
 pub fn replay_name(words: &Vec<String>) -> Option<&str>

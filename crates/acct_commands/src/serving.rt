@@ -13,7 +13,7 @@ use acct_machine::{Config, kept_states_are_sound};
 use acct_rows::pairs::laws::pairs_are_of_one;
 use acct_server::{Status, read_configuration, serve};
 use acct_world::World;
-use listener_doors::open_doors;
+use door_workers::open_doors;
 use std::alloc::Global;
 use std::sync::Wait;
 use std::thread::Threads;

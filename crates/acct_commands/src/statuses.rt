@@ -7,7 +7,7 @@ ghost use Rattle.acct_commands.specs.Statuses.{talk_status};
 use acct_keeper::KeepError;
 use acct_links::TakeError;
 use acct_server::{Failed, Status};
-use client_calls::TalkEnd;
+use client_link::TalkEnd;
 
 pub(crate) fn read_status(e: TakeError) -> Status
     ensures { result ≡ read_status e }

@@ -4,8 +4,8 @@ use Rattle.std.proofs.Common.{slice_set, refl, sym, ap, ◌∙◌, arith, subst,
 use Rattle.std.proofs.lemmas.List.{map-append}
 use Rattle.acct_machine.specs.declared.entry.Entry.{Entry}
 use Rattle.acct_machine.specs.declared.entry.Entry.TheVariants.{Gone}
-use Rattle.acct_requests.specs.declared.connections.Peer.{Peer}
-use Rattle.acct_requests.specs.declared.connections.Peer.TheVariants.{Ended}
+use Rattle.link_sessions.specs.declared.connections.Peer.{Peer}
+use Rattle.link_sessions.specs.declared.connections.Peer.TheVariants.{Ended}
 use Rattle.acct_server.specs.Replayed.{number_of, served_from, peer_of, with_peer}
 
 first_open : (i n : ℕ) (peers : List Peer) → i < length peers

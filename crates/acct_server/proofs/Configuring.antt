@@ -326,17 +326,18 @@ config-not-taken told old new left none out events keeper cause later = record {
 
 pub events-not-taken : {S T K : Type 0} (told : Telling S T K) (old new : Parts S T K) (left : Replayed K)
     → MadeNone left → new.out ≡ old.out → new.keeper ≡ old.keeper → BreaksNone (told.left old.config)
+    → IfSome (told.left old.config) (λ document. length document ≤ most_bytes)
     → EventsCause (told.left old.events) (told.read_faults old.events) (told.read_faults new.events) left.status
     → told.read_faults old.config ≤ told.read_faults new.config
     → told.read_faults old.events ≤ told.read_faults new.events
     → IsReplay told old new left
-events-not-taken told old new left none out keeper breaks cause config_later events_later = record {
+events-not-taken told old new left none out keeper breaks short cause config_later events_later = record {
   leaves = inl (record {
     opening = none.opening;
     nothing = none.nothing;
     rows = none.rows;
     out = out;
-    cause = inr (inl (record { taken = breaks; cause = cause; keeper = keeper }));
+    cause = inr (inl (record { taken = breaks; short = short; cause = cause; keeper = keeper }));
   });
   complete = λ quiet. events-complete (told.left old.config) (told.left old.events) (told.pairs old.keeper)
       (told.read_faults old.events) (told.read_faults new.events) left.history left.status breaks cause quiet.events;

@@ -11,9 +11,9 @@ use Rattle.rpc_session.specs.declared.hearing.Hearing.{Hearing}
 use Rattle.rpc_session.specs.declared.hearing.Hearing.TheVariants.{Going}
 use Rattle.rpc_session.specs.Hearings.{Heard, hear, hear_in, on, joined, is_going, HasRoom}
 use Rattle.rpc_session.specs.Acts.{acts, IsCutAnywhere, IsRoomByLength, IsFit, AllFit, IsLastOf, AreRefusalsLast}
-use Rattle.acct_requests.specs.declared.connections.Peer.{Peer}
-use Rattle.acct_requests.specs.declared.connections.Peer.TheVariants.{Open, Ended as EndedPeer}
-use Rattle.acct_requests.specs.Connections.{nothing_heard}
+use Rattle.link_sessions.specs.declared.connections.Peer.{Peer}
+use Rattle.link_sessions.specs.declared.connections.Peer.TheVariants.{Open, Ended as EndedPeer}
+use Rattle.link_sessions.specs.Connections.{nothing_heard}
 use Rattle.acct_server.specs.Replayed.{peer_of, with_peer}
 use Rattle.acct_server.specs.Running.{Running, Hears, HasHeard, AllHeard, IsClosing, peers_behind}
 use Rattle.acct_server.proofs.Placing.{peer-here, peer-there, some-is, some-there}

@@ -23,16 +23,16 @@ use Rattle.rpc_session.specs.declared.hearing.Hearing.{Hearing}
 use Rattle.rpc_session.specs.Hearings.{on}
 use Rattle.acct_server.specs.declared.events.Event.{Event}
 use Rattle.acct_server.specs.declared.events.Event.TheVariants as event
-use Rattle.acct_requests.specs.declared.connections.Peer.{Peer}
-use Rattle.acct_requests.specs.declared.connections.Peer.TheVariants.{Open, Ended}
+use Rattle.link_sessions.specs.declared.connections.Peer.{Peer}
+use Rattle.link_sessions.specs.declared.connections.Peer.TheVariants.{Open, Ended}
 use Rattle.acct_stubs.specs.declared.errors.WireError.{WireError}
-use Rattle.acct_requests.specs.declared.requests.Asked.{Asked}
-use Rattle.acct_requests.specs.declared.requests.Answer.{Answer}
-use Rattle.acct_requests.specs.declared.requests.Answer.TheVariants as answer
-use Rattle.acct_requests.specs.Transcript.{answer_bytes, undecoded_bytes, busy_bytes}
-use Rattle.acct_requests.specs.Answering.{Enters, AnswersCall, AnswersRequest, BeginsRequest}
+use Rattle.link_sessions.specs.declared.requests.Asked.{Asked}
+use Rattle.link_sessions.specs.declared.requests.Answer.{Answer}
+use Rattle.link_sessions.specs.declared.requests.Answer.TheVariants as answer
+use Rattle.link_sessions.specs.Transcript.{answer_bytes, undecoded_bytes, busy_bytes}
+use Rattle.link_sessions.specs.Answering.{Enters, AnswersCall, AnswersRequest, BeginsRequest}
 use Rattle.acct_server.specs.Replayed.{Standing, Move, Doing, Verdicts, Printed, Out, IsClosed, IsGone, on_listener}
-use Rattle.acct_requests.specs.Connections.{nothing_heard}
+use Rattle.link_sessions.specs.Connections.{nothing_heard}
 use Rattle.acct_server.specs.Replayed.{on_open, listener_from, gone, number_of, peer_of, with_peer}
 use Rattle.acct_server.specs.Replayed.{line_bytes, on_end, on_event, quiet, on_heard, on_data, on_act, on_acts}
 use Rattle.acct_server.specs.Replayed.{on_request, on_call, prints_only, both, both_by, peer_behind, verdict_in}

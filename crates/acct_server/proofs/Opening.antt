@@ -4,7 +4,7 @@ use Rattle.acct_machine.specs.declared.entry.Entry.{Entry}
 use Rattle.acct_machine.specs.declared.machine.Opened.{Opened}
 use Rattle.acct_machine.specs.Machine.{Opens}
 use Rattle.acct_machine.specs.Shown.{Past}
-use Rattle.acct_requests.specs.Turns.{shown, Turn, MachineOpens}
+use Rattle.link_sessions.specs.Turns.{shown, Turn, MachineOpens}
 use Rattle.acct_server.proofs.Moves.{Only}
 
 -- what a turn of the machine does that finds its history

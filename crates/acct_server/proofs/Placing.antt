@@ -9,9 +9,9 @@ use Rattle.acct_machine.specs.Machine.{OneLessLive}
 use Rattle.rpc_session.specs.declared.sessions.Act.{Act}
 use Rattle.rpc_session.specs.declared.sessions.Act.TheVariants as act
 use Rattle.rpc_session.specs.Acts.{is_refusal}
-use Rattle.acct_requests.specs.declared.connections.Peer.{Peer}
-use Rattle.acct_requests.specs.declared.connections.Peer.TheVariants.{Ended}
-use Rattle.acct_requests.specs.Connections.{is_served}
+use Rattle.link_sessions.specs.declared.connections.Peer.{Peer}
+use Rattle.link_sessions.specs.declared.connections.Peer.TheVariants.{Ended}
+use Rattle.link_sessions.specs.Connections.{is_served}
 use Rattle.acct_server.specs.Replayed.{peer_of, with_peer}
 use Rattle.acct_server.specs.Running.{IsClosing, Ties}
 use Rattle.acct_server.proofs.Closing.{length-set_peer}

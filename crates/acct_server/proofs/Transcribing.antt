@@ -23,20 +23,20 @@ use Rattle.rpc_session.specs.Hearings.{Heard, hear, hear_in, on}
 use Rattle.rpc_session.specs.Acts.{acts, IsCutAnywhere}
 use Rattle.acct_server.specs.declared.events.Event.{Event}
 use Rattle.acct_server.specs.declared.events.Event.TheVariants as event
-use Rattle.acct_requests.specs.declared.connections.Peer.{Peer}
-use Rattle.acct_requests.specs.declared.connections.Peer.TheVariants.{Open, Ended}
+use Rattle.link_sessions.specs.declared.connections.Peer.{Peer}
+use Rattle.link_sessions.specs.declared.connections.Peer.TheVariants.{Open, Ended}
 use Rattle.acct_server.specs.declared.status.Status.{Status}
 use Rattle.acct_server.specs.declared.status.Status.TheVariants.{Done, EventLine, HistoryFull}
 use Rattle.acct_stubs.specs.declared.errors.WireError.{WireError}
-use Rattle.acct_requests.specs.declared.requests.Asked.{Asked}
-use Rattle.acct_requests.specs.Requests.{call_on}
-use Rattle.acct_requests.specs.Transcript.{written, answered, answer_bytes, undecoded_bytes, busy_bytes, asked_by}
-use Rattle.acct_requests.specs.Transcript.{decoded_calls}
-use Rattle.acct_requests.specs.Transcript.{with_call}
+use Rattle.link_sessions.specs.declared.requests.Asked.{Asked}
+use Rattle.link_sessions.specs.Requests.{call_on}
+use Rattle.link_sessions.specs.Transcript.{written, answered, answer_bytes, undecoded_bytes, busy_bytes, asked_by}
+use Rattle.link_sessions.specs.Transcript.{decoded_calls}
+use Rattle.link_sessions.specs.Transcript.{with_call}
 use Rattle.acct_server.specs.Events.{event_of, lines_of}
 use Rattle.acct_server.specs.Replayed.{Effect, Move, Doing, Standing, Trace, Verdicts, Printed, Out, IsClosed, IsGone}
 use Rattle.acct_server.specs.Replayed.{on_line, on_event, on_listener, listener_from, on_data, on_heard, on_acts}
-use Rattle.acct_requests.specs.Connections.{nothing_heard}
+use Rattle.link_sessions.specs.Connections.{nothing_heard}
 use Rattle.acct_server.specs.Replayed.{on_act, on_request, on_end, quiet, moved, both_by}
 use Rattle.acct_server.specs.Replayed.{peer_behind, gone, peer_of, with_peer, number_of, served_from, follow}
 use Rattle.acct_server.specs.Replayed.{unless_full, ends, ending, trace_from, at_start, verdict_in, replayed}
@@ -45,7 +45,7 @@ use Rattle.acct_machine.specs.Room.{conns_full, call_full}
 use Rattle.acct_machine.specs.declared.entry.Verdict.{Verdict}
 use Rattle.acct_server.proofs.Placing.{peer-here, peer-there}
 use Rattle.acct_server.proofs.Room.{both-open, both-full}
-use Rattle.acct_requests.specs.Transcribed.{IsTranscribed, last_bytes}
+use Rattle.link_sessions.specs.Transcribed.{IsTranscribed, last_bytes}
 use Rattle.acct_server.specs.Connections.{sent_by_line, brought, sent_in, received, sent}
 use Rattle.acct_server.specs.Connections.{on_connection, is_full_line, full_in, found_full}
 use Rattle.acct_server.specs.Connections.{CutsChangeNothing}

@@ -21,15 +21,15 @@ use Rattle.rpc_session.specs.Hearings.{Heard, on}
 use Rattle.acct_stubs.specs.declared.errors.WireError.{WireError}
 use Rattle.acct_server.specs.declared.events.Event.{Event}
 use Rattle.acct_server.specs.declared.events.Event.TheVariants as event
-use Rattle.acct_requests.specs.declared.connections.Peer.{Peer}
-use Rattle.acct_requests.specs.declared.connections.Peer.TheVariants.{Open, Ended}
+use Rattle.link_sessions.specs.declared.connections.Peer.{Peer}
+use Rattle.link_sessions.specs.declared.connections.Peer.TheVariants.{Open, Ended}
 use Rattle.acct_server.specs.declared.status.Status.{Status}
 use Rattle.acct_server.specs.declared.status.Status.TheVariants.{Done, EventLine, HistoryFull}
 use Rattle.acct_server.specs.Events.{event_of, lines_of}
-use Rattle.acct_requests.specs.Connections.{nothing_heard, is_served}
-use Rattle.acct_requests.specs.Requests.{call_on}
-use Rattle.acct_requests.specs.declared.requests.Asked.{Asked}
-use Rattle.acct_requests.specs.Transcript.{answer_bytes, undecoded_bytes, busy_bytes, asked_by}
+use Rattle.link_sessions.specs.Connections.{nothing_heard, is_served}
+use Rattle.link_sessions.specs.Requests.{call_on}
+use Rattle.link_sessions.specs.declared.requests.Asked.{Asked}
+use Rattle.link_sessions.specs.Transcript.{answer_bytes, undecoded_bytes, busy_bytes, asked_by}
 
 -- ---- lines that are printed
 

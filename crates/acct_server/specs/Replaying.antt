@@ -20,7 +20,7 @@ use Rattle.acct_server.specs.Begun.{IsBegun}
 use Rattle.acct_server.specs.Configured.{BreaksNone, IsConfigured}
 use Rattle.acct_server.specs.Leaves.{Leaves, Breaks, Stops, IsRunThrough, IsOfRun, ConfigCause, EventsCause}
 use Rattle.acct_server.specs.Leaves.{StoreCause, StoreKept, IsAsked}
-use Rattle.acct_requests.specs.Transcribed.{IsTranscribed}
+use Rattle.link_sessions.specs.Transcribed.{IsTranscribed}
 use Rattle.acct_server.specs.Connections.{found_full, received, sent}
 use Rattle.acct_server.specs.Replayed.{replayed}
 use Rattle.acct_server.specs.Denied.{DeniesExactlyIn}
@@ -56,6 +56,7 @@ pub record StopsAtConfig {S T K : Type 0} (told : Telling S T K) (old new : Part
 pub record StopsAtEvents {S T K : Type 0} (told : Telling S T K) (old new : Parts S T K) (status : Status) : Type 0
   where
     pub taken : BreaksNone (told.left old.config)
+    pub short : IfSome (told.left old.config) (λ document. length document ≤ most_bytes)
     pub cause : EventsCause (told.left old.events) (told.read_faults old.events) (told.read_faults new.events) status
     pub keeper : new.keeper ≡ old.keeper
 

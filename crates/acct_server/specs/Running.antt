@@ -5,13 +5,13 @@ use Rattle.std.specs.List.{flat_map}
 use Rattle.acct_machine.specs.declared.entry.Entry.{Entry}
 use Rattle.acct_machine.specs.Shown.{Past}
 use Rattle.acct_machine.specs.State.{State, is_live}
-use Rattle.acct_requests.specs.declared.connections.Peer.{Peer}
-use Rattle.acct_requests.specs.declared.connections.Peer.TheVariants.{Open, Ended}
+use Rattle.link_sessions.specs.declared.connections.Peer.{Peer}
+use Rattle.link_sessions.specs.declared.connections.Peer.TheVariants.{Open, Ended}
 use Rattle.rpc_session.specs.declared.hearing.Hearing.{Hearing}
 use Rattle.rpc_session.specs.declared.sessions.Act.{Act}
 use Rattle.rpc_session.specs.Hearings.{on}
 use Rattle.rpc_session.specs.Acts.{acts, is_refusal, IsSoFar}
-use Rattle.acct_requests.specs.Connections.{is_served}
+use Rattle.link_sessions.specs.Connections.{is_served}
 use Rattle.acct_server.specs.Replayed.{Standing, Move, Doing, Verdicts, peer_of, with_peer, verdict_in}
 use Rattle.acct_server.specs.Replayed.{line_bytes, ending}
 

@@ -7,9 +7,9 @@ use Rattle.acct_links.specs.declared.doors.Door.{Ghosts}
 use Rattle.acct_machine.specs.State.{Start}
 use Rattle.acct_machine.specs.Step.{state_at}
 use Rattle.acct_machine.specs.Storing.{HoldsRows, AreUpTo}
-use Rattle.acct_serving.specs.Doors.{IsServed}
-use Rattle.acct_serving.specs.declared.outcome.Outcome.{Outcome}
-use Rattle.acct_serving.specs.declared.outcome.Outcome.TheVariants as outcome
+use Rattle.door_workers.specs.Doors.{IsServed}
+use Rattle.door_workers.specs.declared.outcome.Outcome.{Outcome}
+use Rattle.door_workers.specs.declared.outcome.Outcome.TheVariants as outcome
 use Rattle.acct_server.specs.Begun.{IsBegun}
 use Rattle.acct_server.specs.Denied.{DeniesExactlyIn}
 use Rattle.acct_server.specs.Leaves.{StoreCause, StoreKept}

@@ -1,13 +1,15 @@
-//! The account server: replays of event lines, and serving over links, both on one machine over a keeper of its rows.
+//! Whole runs of the account server: a replay of event lines, or a period of serving, each on one machine over a keeper
+//! of its rows, with the status that it ends in.
 //!
-//! It stands on `acct_machine` for the history and the rows to begin with, on `acct_requests` for the connections and
-//! for requests over a gate, on `rpc_session` for the acts of a stream, on `acct_streams` and on the kit's `hex`;
-//! acct_streams and acct_requests it hands out again. The layer above uses [`replay`], whose contract is one
-//! definition, `IsReplay`: under the one configuration that the document spells, whatever bytes came and however the
-//! lines cut them, what was sent on each connection is the transcript of the acts of its stream with the replies of
-//! its calls in the one history, which is legal; there access is denied exactly where a recorded grant or an
-//! opening's check lacks a bit; and every status has its cause, that of a configuration its first broken rule, with
-//! the events untouched.
+//! It stands on `acct_machine` for the history and the rows to begin with, on `link_sessions` for the connections and
+//! for requests over a gate, on `door_workers` for all doors, on `rpc_session` for the acts of a stream, on
+//! `acct_streams` and on the kit's `hex`; what a connection is answered, and sources and sinks, it hands out again.
+//!
+//! The layer above uses [`replay`], whose contract is one definition, `IsReplay`: under the one configuration that the
+//! document spells, whatever bytes came and however the lines cut them, what was sent on each connection is the
+//! transcript of the acts of its stream with the replies of its calls in the one history, which is legal; there access
+//! is denied exactly where a recorded grant or an opening's check lacks a bit; and every status has its cause, that of
+//! a configuration its first broken rule, with the events untouched.
 //!
 //! Of [`serve`] the contract is `IsServe`: the doors are served side by side; what was written on each link is the
 //! transcript of the acts of what was read, with the replies of its calls in the one history; each link goes back to
@@ -29,14 +31,15 @@ mod running;
 mod serving;
 mod status;
 
-pub use acct_requests::{Answer, Asked, Gate, Peer, read_request, request};
-pub use acct_sessions::{Ended, SessionEnd, session};
 pub use acct_streams::{
     Failed, MemorySink, MemorySource, Sink, Source, SteadySink, SteadySource, WholeError,
     read_whole, write_all,
 };
 pub use events::{Event, LineError};
 pub use laws::cuts_change_nothing;
+pub use link_sessions::{
+    Answer, Asked, Ended, Gate, Peer, SessionEnd, read_request, request, session,
+};
 pub use replays::{Replayed, read_configuration, replay};
 pub use serving::{Served, serve};
 pub use status::Status;

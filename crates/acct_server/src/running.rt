@@ -13,11 +13,11 @@ ghost use Rattle.rpc_session.specs.declared.hearing.Hearing.{Hearing};
 ghost use Rattle.rpc_session.specs.Hearings.{HasRoom, on, is_going};
 ghost use Rattle.rpc_session.specs.Acts.{IsFit, is_refusal};
 ghost use Rattle.acct_server.specs.declared.events.LineError.TheVariants.{NoMemory, Refused};
-ghost use Rattle.acct_requests.specs.declared.connections.Peer.TheVariants as peer;
-ghost use Rattle.acct_requests.specs.Requests.{call_on};
+ghost use Rattle.link_sessions.specs.declared.connections.Peer.TheVariants as peer;
+ghost use Rattle.link_sessions.specs.Requests.{call_on};
 ghost use Rattle.acct_server.specs.Events.{DataFits};
-ghost use Rattle.acct_requests.specs.Transcript.{busy_bytes};
-ghost use Rattle.acct_requests.specs.Connections.{nothing_heard, is_served};
+ghost use Rattle.link_sessions.specs.Transcript.{busy_bytes};
+ghost use Rattle.link_sessions.specs.Connections.{nothing_heard, is_served};
 ghost use Rattle.acct_server.specs.Replayed.{Out, IsClosed, IsGone, FoundFull, peer_of, with_peer};
 ghost use Rattle.acct_server.specs.Replayed.{number_of, served_from, ending, line_bytes, listener_from, on_open};
 ghost use Rattle.acct_server.specs.Replayed.{on_request, on_act, on_acts, on_data, on_end, on_event, on_line};
@@ -30,7 +30,7 @@ use crate::printing::{closed_line, full_line, gone_line, push_out};
 use acct_base::is_same;
 use acct_codes::fault::NCA_S_SERVER_TOO_BUSY;
 use acct_machine::{Entry, Keeper, Listener, Machine, Opened, Rows};
-use acct_requests::{Answer, Asked, Gate, Peer, heard, is_served, new_peer, request};
+use link_sessions::{Answer, Asked, Gate, Peer, heard, is_served, new_peer, request};
 use rpc_session::{
     Act, calls_fit, fault_bytes, refusals_are_last, room_by_length, streams_are_cut_anywhere,
 };
@@ -210,6 +210,7 @@ impl<K: Keeper + Drop> Run<K> {
         ensures machine { self.new.machine ≡ with_entry self.old.machine (Gone conn) }
         ensures peers { self.new.peers ≡ with_peer conn peer.Ended self.old.peers }
     {
+        // Naming a field opens the run for its proof: that a served connection is live is what a run keeps.
         let _ = &self.machine;
         self.end_live(conn);
     }

@@ -1,7 +1,7 @@
 // What a run leaves to the world.
 use acct_base::Seq;
 use acct_machine::{Entry, Rows};
-use acct_sessions::Ended;
+use link_sessions::Ended;
 
 /// A period: the rows from which its history began, the history, the rows after it, and how the sessions ended that
 /// were served in it, by the numbers of their connections. That of a replay has no ends.

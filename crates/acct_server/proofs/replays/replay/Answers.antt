@@ -53,7 +53,7 @@ returns-in-Err-read_whole g c =
     (record { config = config; events = events; out = a.out.now; keeper = ends.result.keeper })
     ends.result (made-none ends.result ends.ensures.opening ends.ensures.history ends.ensures.rows) refl
     ends.ensures.keeper
-    (breaks_none (s.left a.config.now) c.in-Ok.configuration c.in-Ok.ensures.configured)
+    (breaks_none (s.left a.config.now) c.in-Ok.configuration c.in-Ok.ensures.configured) c.in-Ok.ensures.short
     (subst (λ (x : Status). EventsCause (s.left a.events.now) (s.faults a.events.now) (s.faults events) x)
     (sym (ends.ensures.status ∙ c.from.ensures))
     (events-whole (s.left a.events.now) (s.faults a.events.now) (s.faults events) c.in-Err-read_whole.e

@@ -4,8 +4,8 @@ use Rattle.acct_machine.specs.declared.entry.Entry.{Entry}
 use Rattle.acct_machine.specs.State.{Start}
 use Rattle.acct_machine.specs.Step.{state_at}
 use Rattle.acct_machine.specs.Storing.{HoldsRows, AreUpTo}
-use Rattle.acct_serving.specs.Doors.{IsServed}
-use Rattle.acct_sessions.specs.declared.ends.Ended.{Ended}
+use Rattle.door_workers.specs.Doors.{IsServed}
+use Rattle.link_sessions.specs.declared.ends.Ended.{Ended}
 use Rattle.acct_server.specs.Denied.{DeniesExactlyIn}
 use Rattle.acct_server.proofs.Configuring.{up-to-first}
 use Rattle.acct_server.proofs.serving.serve.Goals as goal

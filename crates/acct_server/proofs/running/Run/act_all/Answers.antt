@@ -6,8 +6,8 @@ use Rattle.acct_machine.specs.State.{Start}
 use Rattle.acct_machine.specs.State.{is_live}
 use Rattle.acct_machine.specs.Machine.{state_of}
 use Rattle.rpc_session.specs.declared.sessions.Act.{Act}
-use Rattle.acct_requests.specs.declared.connections.Peer.{Peer}
-use Rattle.acct_requests.specs.Connections.{is_served}
+use Rattle.link_sessions.specs.declared.connections.Peer.{Peer}
+use Rattle.link_sessions.specs.Connections.{is_served}
 use Rattle.acct_server.specs.Replayed.{on_act, on_acts, peer_of}
 use Rattle.acct_server.specs.Running.{Acts, Began, peers_behind}
 use Rattle.acct_server.proofs.Bytes.{on-err}

@@ -1,7 +1,7 @@
 -- `Run::data` does the acts that its bytes complete, and no stream that was heard grew by more than these bytes.
 use Rattle.std.proofs.Common.{◌+◌, length, List, sym, subst}
 use Rattle.rpc_session.specs.declared.sessions.Act.{Act}
-use Rattle.acct_requests.specs.declared.connections.Peer.{Peer}
+use Rattle.link_sessions.specs.declared.connections.Peer.{Peer}
 use Rattle.acct_server.specs.Running.{AllHeard, Hears}
 use Rattle.acct_server.proofs.Heard.{heard-there, all-heard-behind}
 use Rattle.acct_server.proofs.Moves.{data-does, data-stops}

@@ -4,8 +4,8 @@ use Rattle.std.proofs.Common.{ap, ◌∙◌, subst}
 use Rattle.std.specs.List.{flat_map}
 use Rattle.acct_machine.specs.declared.entry.Entry.TheVariants.{Gone}
 use Rattle.acct_machine.specs.Shown.{Past}
-use Rattle.acct_requests.specs.declared.connections.Peer.{Peer}
-use Rattle.acct_requests.specs.declared.connections.Peer.TheVariants as peer
+use Rattle.link_sessions.specs.declared.connections.Peer.{Peer}
+use Rattle.link_sessions.specs.declared.connections.Peer.TheVariants as peer
 use Rattle.acct_server.specs.Replayed.{IsGone, line_bytes, peer_of, with_peer, number_of}
 use Rattle.acct_server.specs.Running.{Running, Ties, AllHeard}
 use Rattle.acct_server.proofs.Heard.{ended-at, still-there, peer-set, all-heard-ended}

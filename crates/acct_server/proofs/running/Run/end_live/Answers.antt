@@ -2,8 +2,8 @@
 use Rattle.std.proofs.Common.{List, sym, subst}
 use Rattle.std.specs.Prelude.{IsSome}
 use Rattle.acct_machine.specs.Step.{state_at}
-use Rattle.acct_requests.specs.declared.connections.Peer.{Peer}
-use Rattle.acct_requests.specs.declared.connections.Peer.TheVariants.{Ended}
+use Rattle.link_sessions.specs.declared.connections.Peer.{Peer}
+use Rattle.link_sessions.specs.declared.connections.Peer.TheVariants.{Ended}
 use Rattle.acct_server.specs.Replayed.{peer_of}
 use Rattle.acct_server.specs.Running.{Running, Ties}
 use Rattle.acct_server.proofs.Heard.{peer-set}

@@ -2,7 +2,7 @@
 use Rattle.std.proofs.Common.{◌≡◌, true, sym, subst}
 use Rattle.acct_machine.specs.State.{is_live}
 use Rattle.acct_machine.specs.Machine.{state_of}
-use Rattle.acct_requests.specs.Connections.{is_served}
+use Rattle.link_sessions.specs.Connections.{is_served}
 use Rattle.acct_server.specs.Replayed.{peer_of}
 use Rattle.acct_server.specs.Running.{Running}
 use Rattle.acct_server.proofs.Placing.{served-some}

@@ -4,9 +4,9 @@ use Rattle.std.proofs.Common.{◌∙◌, subst}
 use Rattle.rpc_session.specs.declared.sessions.Act.{Act}
 use Rattle.rpc_session.specs.Hearings.{on, is_going}
 use Rattle.rpc_session.specs.Acts.{IsFit}
-use Rattle.acct_requests.specs.declared.connections.Peer.{Peer}
-use Rattle.acct_requests.specs.declared.connections.Peer.TheVariants as peer
-use Rattle.acct_requests.specs.Connections.{is_served}
+use Rattle.link_sessions.specs.declared.connections.Peer.{Peer}
+use Rattle.link_sessions.specs.declared.connections.Peer.TheVariants as peer
+use Rattle.link_sessions.specs.Connections.{is_served}
 use Rattle.acct_server.specs.Replayed.{peer_of}
 use Rattle.acct_server.specs.Running.{Running, HasHeard, AllHeard, IsClosing}
 use Rattle.acct_server.proofs.Placing.{peer-here}

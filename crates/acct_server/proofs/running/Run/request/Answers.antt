@@ -2,9 +2,9 @@
 use Rattle.std.proofs.Common.{List, ℕ, ◌++◌, Some, None, length, sym, ap, ◌∙◌, subst}
 use Rattle.acct_machine.specs.declared.entry.Entry.{Entry}
 use Rattle.acct_machine.specs.Shown.{Past}
-use Rattle.acct_requests.specs.declared.requests.Answer.{Answer}
-use Rattle.acct_requests.specs.Answering.{AnswersRequest}
-use Rattle.acct_requests.specs.Requests.{call_on}
+use Rattle.link_sessions.specs.declared.requests.Answer.{Answer}
+use Rattle.link_sessions.specs.Answering.{AnswersRequest}
+use Rattle.link_sessions.specs.Requests.{call_on}
 use Rattle.acct_server.specs.Replayed.{Out, line_bytes, on_request}
 use Rattle.acct_server.specs.Running.{Running, Acts, Began}
 use Rattle.acct_server.proofs.Bytes.{on-err}

@@ -1,4 +1,0 @@
-pub mod Passing
-pub mod Opened
-pub mod Entering
-pub mod Doing

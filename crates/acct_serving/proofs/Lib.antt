@@ -1,4 +1,0 @@
-pub mod Places
-pub mod Outcomes
-pub mod Joined
-pub mod Closed

@@ -1,9 +1,0 @@
-pub mod Results
-pub mod Fronts
-pub mod Acts
-pub mod Transcripts
-pub mod Answering
-pub mod Talks
-pub mod Telling
-pub mod SoFar
-pub mod Ending

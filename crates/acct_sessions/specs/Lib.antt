@@ -1,4 +1,0 @@
-pub mod Refusals
-pub mod Talking
-pub mod Sessions
-pub mod SoFar

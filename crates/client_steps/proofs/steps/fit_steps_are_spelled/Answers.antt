@@ -1,6 +1,0 @@
--- The calls of steps that fit can be written.
-use Rattle.client_steps.proofs.Spelled.{fit_steps_are_spelled_is}
-use Rattle.client_steps.proofs.steps.fit_steps_are_spelled.Goals as goal
-
-pub returns : goal.returns
-returns c = fit_steps_are_spelled_is

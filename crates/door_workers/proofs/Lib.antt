@@ -1,0 +1,17 @@
+pub mod Passing
+pub mod Opened
+pub mod Entering
+pub mod Doing
+pub mod Staying
+pub mod Places
+pub mod Opens
+pub mod Worked
+pub mod LinksJoined
+pub mod Runs
+pub mod Handled
+pub mod Fullness
+pub mod DoorPlaces
+pub mod Outcomes
+pub mod Joined
+pub mod Closed
+pub mod Placing

@@ -1,0 +1,13 @@
+pub mod Lanes
+pub mod Passing
+pub mod Moving
+pub mod Services
+pub mod Opening
+pub mod Full
+pub mod Working
+pub mod Serving
+pub mod Joining
+pub mod Outcomes
+pub mod Doors
+pub mod Hiring
+pub mod Askings

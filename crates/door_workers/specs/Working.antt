@@ -1,0 +1,78 @@
+-- What a pass knows of the links that were served over it.
+use Rattle.std.specs.Prelude.{◌≡◌, ℕ, ◌<◌, List, length}
+use mathlib.Core.Option.{some}
+use lib.ListN.{get_elem?}
+use Rattle.hist_lock.specs.Histories.{At, In}
+use Rattle.hist_lock.specs.declared.view.View.{View}
+use Rattle.acct_machine.specs.State.{Start}
+use Rattle.acct_machine.specs.Legal.{Legal}
+use Rattle.acct_machine.specs.Passing.{conn_of}
+use Rattle.acct_machine.specs.declared.entry.Entry.{Entry}
+use Rattle.acct_machine.specs.declared.entry.Entry.TheVariants as entry
+use Rattle.acct_links.specs.Links.{Told}
+use Rattle.link_sessions.specs.Turns.{IsFrontOf}
+use Rattle.door_workers.specs.declared.kept.Begun.{Begun}
+use Rattle.door_workers.specs.Passing.{IsMine, OwnsLanes}
+use Rattle.door_workers.specs.Services.{Service, Serves, Unopened, IsOfConn, IsService}
+
+module _ {A : Type 0} where
+  -- the list has this element at some place
+  abbrev pub Has : List A → A → Type 0
+  Has xs x = (i : ℕ) × (get_elem? xs i ≡ some x)
+
+-- Behind a front of what the pass knows, it owns no entry of the connection that the link served.
+pub record OwnsNoneBehind (v : View Begun Entry) (k : ℕ) (front : List Entry) : Type 0 where
+  pub begins : IsFrontOf front v.known
+  pub no_more : (p : ℕ) (e : Entry) → In v.own p e → conn_of e ≡ k → p < length front
+
+module _ {L : Type 0} where
+  -- no connection was served on two links
+  abbrev pub AreDistinct : List (Service L) → Type 0
+  AreDistinct ss =
+      (i j k : ℕ) (s t : Service L) → get_elem? ss i ≡ some s → get_elem? ss j ≡ some t → IsOfConn k s → IsOfConn k t
+      → i ≡ j
+
+  -- one of the links served the connection
+  abbrev pub IsServedOn : List (Service L) → ℕ → Type 0
+  IsServedOn ss k = (s : Service L) × Has ss s × IsOfConn k s
+
+  -- the pass opened the connection that the link served
+  abbrev pub IsMineOn : View Begun Entry → Service L → Type 0
+  IsMineOn v (Serves s) = IsMine v s.conn
+  IsMineOn v (Unopened count link) = Unit {0}
+
+  -- Between two links: each link that was served over the pass stands in what it knows, and each connection that the
+  -- pass opened was served on just one of them.
+  pub record IsWorking (told : L → Told) (start : Start) (most : ℕ) (v : View Begun Entry) (ss : List (Service L))
+      : Type 0 where
+    pub legal : Legal start v.known
+    pub owns : OwnsLanes v
+    pub mine : (s : Service L) → Has ss s → IsMineOn v s
+    pub each : (s : Service L) → Has ss s → IsService told start most v.known s
+    pub all : (k : ℕ) → IsMine v k → IsServedOn ss k
+    pub once : AreDistinct ss
+
+  -- a link stood in the history as of a front of what the pass knows, behind which the pass owns no entry of the
+  -- connection that it served
+  abbrev pub WasService : (L → Told) → Start → ℕ → View Begun Entry → Service L → Type 0
+  WasService told start most v (Serves s) = IsMine v s.conn × ((front : List Entry) × OwnsNoneBehind v s.conn front
+      × IsService told start most front (Serves s))
+  WasService told start most v (Unopened count link) = IsService told start most v.known (Unopened count link)
+
+  -- Of a pass that took the passes of workers in, with the links of all.
+  pub record IsJoined (told : L → Told) (start : Start) (most : ℕ) (v : View Begun Entry) (ss : List (Service L))
+      : Type 0 where
+    pub legal : Legal start v.known
+    pub known : (p : ℕ) (e : Entry) → In v.own p e → At v.known p e
+    pub opened : (p : ℕ) (e : Entry) → In v.own p e → IsMine v (conn_of e)
+    pub was : (s : Service L) → Has ss s → WasService told start most v s
+    pub all : (k : ℕ) → IsMine v k → IsServedOn ss k
+    pub once : AreDistinct ss
+
+  -- What serving leaves in the history, which is legal: each link's, and each connection was served on just one link.
+  pub record AreServed (told : L → Told) (start : Start) (most : ℕ) (history : List Entry) (ss : List (Service L))
+      : Type 0 where
+    pub legal : Legal start history
+    pub each : (s : Service L) → Has ss s → IsService told start most history s
+    pub all : (p k listener : ℕ) → At history p (entry.Opened k listener) → IsServedOn ss k
+    pub once : AreDistinct ss

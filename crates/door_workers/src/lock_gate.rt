@@ -1,0 +1,73 @@
+// A lock and a pass as a gate.
+ghost use Rattle.std.specs.Prelude.{◌≡◌, ◌<◌, length};
+
+use crate::kept::{Calling, Ending, Locked, Opening};
+use acct_machine::{Acted, Call, Keeper, Opened, others_change_nothing};
+use hist_lock::{HistLock, Kept, Pass};
+use link_sessions::Gate;
+use std::sync::Wait;
+
+/// A lock and a pass.
+#[derive(Drop)]
+pub struct LockGate<'a, R: Wait, S: Kept> {
+    pub rt: &'a R,
+    pub lock: &'a HistLock<S>,
+    pub pass: Pass<S>,
+}
+
+impl<'a, R: Wait, K: Keeper + Drop> Gate for LockGate<'a, R, Locked<K>> {
+    ghost use Rattle.std.proofs.Common.{refl, ◌∙◌};
+    ghost use Rattle.hist_lock.specs.Passes.{view, IsPassOf};
+    ghost use Rattle.acct_machine.specs.Legal.{Legal};
+    ghost use Rattle.door_workers.specs.Passing.{start_under, OwnsLanes, Serves, MovesOn, IsPassing, OpensOn};
+    ghost use Rattle.door_workers.specs.Moving.{moves-none, moves-by};
+
+    ghost start = { λ g. start_under g.lock.now };
+
+    ghost known = { λ g. (view g.pass).known };
+
+    ghost finds = { λ g found. IsPassing (start_under g.lock.now) (view g.pass) found };
+
+    ghost serves = { λ g k. IsPassOf g.lock.now g.pass × OwnsLanes (view g.pass)
+        × Serves (start_under g.lock.now) (view g.pass) k };
+
+    ghost moves = { λ g k h. (h.lock.now ≡ g.lock.now) × (IsPassOf g.lock.now g.pass → IsPassOf h.lock.now h.pass)
+        × (OwnsLanes (view g.pass) → OwnsLanes (view h.pass))
+        × MovesOn (start_under g.lock.now) k (view g.pass) (view h.pass) };
+
+    ghost ready = { λ g. IsPassOf g.lock.now g.pass × OwnsLanes (view g.pass) };
+
+    ghost opens = { λ g out h. (h.lock.now ≡ g.lock.now) × ((view h.pass).number ≡ (view g.pass).number)
+        × OpensOn (start_under g.lock.now) out (view g.pass) (view h.pass)
+        × Legal (start_under g.lock.now) (view h.pass).known };
+
+    fn open_conn(&mut self, listener: u32) -> Opened {
+        others_change_nothing();
+        self.lock
+            .turn(self.rt, &mut self.pass, Opening { listener })
+    }
+
+    fn act(&mut self, conn: u32, call: Call, bytes: u32) -> Acted {
+        others_change_nothing();
+        self.lock
+            .turn(self.rt, &mut self.pass, Calling { conn, call, bytes })
+    }
+
+    fn gone(&mut self, conn: u32) {
+        others_change_nothing();
+        self.lock.turn(self.rt, &mut self.pass, Ending { conn })
+    }
+
+    ghost fronts = { λ g found passing. passing.grows };
+
+    ghost passes = { λ g k found serves passing. passing.own k serves.2.mine };
+
+    ghost stays = { λ g k. (refl, λ p. p, λ o. o, moves-none (start_under g.lock.now) k (view g.pass)) };
+
+    ghost goes_on = { λ a b c k p q. (
+      q.0 ∙ p.0,
+      λ h. q.1 (p.1 h),
+      λ h. q.2 (p.2 h),
+      moves-by start_under k a.lock.now b.lock.now (view a.pass) (view b.pass) (view c.pass) p.0 p.3 q.3,
+    ) };
+}

@@ -1,0 +1,62 @@
+// All workers work.
+ghost use Rattle.std.specs.Prelude.{◌≡◌, ◌<◌, ℕ, length, slice_index_or};
+ghost use Rattle.door_workers.specs.Hiring.{IsHired, HasWorked};
+
+use crate::hiring::Hired;
+use crate::kept::Locked;
+use crate::workers::Worker;
+use acct_links::Door;
+use acct_machine::Keeper;
+use hist_lock::HistLock;
+use std::alloc::Global;
+use std::sync::Wait;
+use std::thread;
+use std::thread::Threads;
+
+// A worker serves its door to its end.
+fn work<R: Wait, K: Keeper + Drop, D: Door>(
+    alloc: Global,
+    lock: &HistLock<Locked<K>>,
+    hired: &mut Hired<Worker<R, Locked<K>, D>>,
+    max_read: u64,
+)
+    requires hired { let w = hired.old.worker in
+        IsHired lock.now max_read w.gate.lock.now w.gate.pass (D.listener w.door) w.max_read w.ends.items }
+    ensures place { hired.new.worker.place ≡ hired.old.worker.place }
+    ensures worked { let w = hired.new.worker in HasWorked D.Door D.L.told lock.now max_read w.place w.gate.pass
+        hired.new.end hired.old.worker.door w.door w.ends.items }
+{
+    hired.end = Some(hired.worker.work(alloc));
+}
+
+/// Each worker serves its door in a thread of its own.
+pub(crate) fn work_all<R: Threads + Wait + Sync, K: Keeper + Drop + Send, D: Door + Drop + Send>(
+    rt: &R,
+    alloc: Global,
+    lock: &HistLock<Locked<K>>,
+    workers: &mut [Hired<Worker<R, Locked<K>, D>>],
+    max_read: u64,
+)
+where
+    D::L: Send,
+    requires hired { (i : ℕ) (d : _) → i < length workers.old → let w = (slice_index_or workers.old i d).worker in
+        IsHired lock.now max_read w.gate.lock.now w.gate.pass (D.listener w.door) w.max_read w.ends.items }
+    ensures place { (i : ℕ) (d : _) → i < length workers.old
+        → (slice_index_or workers.new i d).worker.place ≡ (slice_index_or workers.old i d).worker.place }
+    ensures worked { (i : ℕ) (d : _) → i < length workers.old → let h = slice_index_or workers.new i d in
+        HasWorked D.Door D.L.told lock.now max_read h.worker.place h.worker.gate.pass h.end
+        (slice_index_or workers.old i d).worker.door h.worker.door h.worker.ends.items }
+{
+    let threads = workers.len();
+    if threads == 0 {
+        return;
+    }
+    let each = |_at: usize, hired: &mut Hired<Worker<R, Locked<K>, D>>|
+        requires hired { let w = hired.old.worker in
+            IsHired lock.now max_read w.gate.lock.now w.gate.pass (D.listener w.door) w.max_read w.ends.items }
+        ensures place { hired.new.worker.place ≡ hired.old.worker.place }
+        ensures worked { let w = hired.new.worker in HasWorked D.Door D.L.told lock.entry.now max_read w.place
+            w.gate.pass hired.new.end hired.old.worker.door w.door w.ends.items }
+    { work(alloc, lock, hired, max_read) };
+    thread::for_each_mut(rt, workers, threads, &each);
+}

@@ -1,0 +1,12 @@
+pub mod Requesting
+pub mod Opening
+pub mod Results
+pub mod Fronts
+pub mod Acts
+pub mod Transcripts
+pub mod Answering
+pub mod Talks
+pub mod Telling
+pub mod SoFar
+pub mod Staying
+pub mod Ending

@@ -1,0 +1,11 @@
+pub mod Requests
+pub mod Transcript
+pub mod Transcribed
+pub mod Connections
+pub mod Turns
+pub mod Turning
+pub mod Answering
+pub mod Refusals
+pub mod Talking
+pub mod Sessions
+pub mod SoFar
