@@ -1,18 +1,17 @@
 //! The program `account`: `main`, which makes the real world and calls `account` on it.
 //!
-//! It stands on `acct_commands` for the top call, on `host_world` for the real world, on `account_words` for the words
-//! of the command line and what is said of a status, and on `account_usage` for what is written where the words have no
-//! form. What the program promises are the clauses of [`account`], over a world that tells; what is here makes that
-//! world and writes to the standard error.
+//! It stands on `acct_commands` for the top call, on `host_world` for the real world, and on `account_words` for the
+//! words of the command line, what is said of a status, and what is written where the words have no form. What the
+//! program promises are the clauses of [`account`], over a world that tells; what is here makes that world and writes
+//! to the standard error.
 #![tactic(auto)]
 
-use account_usage::usage;
-use account_words::{code_of, message, word_of, words};
+use account_words::{code_of, message, usage, word_of, words};
 pub use acct_commands::account;
 pub use acct_links::{Caller, TakeError};
 use acct_server::Status;
 pub use acct_world::{Period, World};
-use host_world::HostWorld;
+use host_world::{HeldStreams, HostWorld};
 use std::process::ExitCode;
 use std::sync::Wait;
 use std::thread::Threads;
@@ -84,5 +83,8 @@ fn run<R: Threads + Wait + Sync>(rt: &HostRuntime, waiting: &R) -> Status {
 
 /// It only prints and exits: where a line can't be printed, the code says it alone.
 fn main(rt: HostRuntime) -> ExitCode {
-    ExitCode::from(code_of(&run(&rt, &rt)))
+    let held = HeldStreams::new(&rt);
+    let code = code_of(&run(&rt, &rt));
+    drop(held);
+    ExitCode::from(code)
 }

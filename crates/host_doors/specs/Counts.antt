@@ -1,8 +1,13 @@
--- What links and doors of the system show: counts of their faults, and how many links a door still gives.
-use Rattle.std.specs.Prelude.{ℕ, ◌-◌, ◌==◌, Bool, false, Option, Some, None, option_map, if◌then◌else◌}
+-- What links and doors of the system show: counts of their faults, how many links a door still gives, and which link it
+-- keeps for later.
+use Rattle.std.specs.Prelude.{ℕ, ◌-◌, ◌==◌, Bool, true, false, not, ◌&&◌, Option, Some, None, option_map, if◌then◌else◌}
+use Rattle.std.specs.Prelude.{is_none}
+use Rattle.acct_streams.specs.Memory.{one_more}
 use Rattle.acct_links.specs.Links.{Told}
 use Rattle.acct_links.specs.declared.doors.Next.{Next}
 use Rattle.acct_links.specs.declared.doors.Next.TheVariants.{Link, Closed, Failed}
+use Rattle.host_doors.specs.declared.channels.Channel.{Channel}
+use Rattle.host_doors.specs.declared.channels.Channel.TheVariants.{Ended}
 
 -- ---- links
 
@@ -33,3 +38,16 @@ abbrev pub left_after : {L : Type 0} → Next L → Option ℕ → Option ℕ
 left_after (Link link) left = option_map (λ n. n - 1) left
 left_after Closed left = left
 left_after Failed left = left
+
+-- whether a connection had ended before it came
+abbrev pub is_over : {S : Type 0} → Channel S → Bool
+is_over Ended = true
+is_over _ = false
+
+-- A link is given back unused: with the number 0, and nothing of it was read or written, to a door that isn't closed and
+-- keeps none. It isn't counted among those that the door gave: one more is left, where they are counted.
+abbrev pub is_unused : {L : Type 0} → ℕ → Bool → Bool → Option L → Bool
+is_unused conn used closed kept = ((conn == 0) && not used) && (not closed && is_none kept)
+
+abbrev pub left_with : Option ℕ → Option ℕ
+left_with left = option_map one_more left

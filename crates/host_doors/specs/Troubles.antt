@@ -1,5 +1,7 @@
--- What is answered where a listener can't have its address, and what to do about it, by the system's reason.
-use Rattle.std.specs.Prelude.{ℤ, Option, Some, None, Result, Ok, Err}
+-- What is answered where a listener can't have its address, what to do about it, and whether the socket of a door is
+-- lost, by the system's reason.
+use Rattle.std.specs.Prelude.{ℤ, pos, Bool, false, ◌||◌, Option, Some, None, Result, Ok, Err}
+use Rattle.std.specs.Ordering.{int_eq}
 use Rattle.std.specs.IoError.{error_kind}
 use Rattle.std.specs.declared.io.Error.{Error}
 use Rattle.std.specs.declared.io.ErrorKind.{ErrorKind}
@@ -33,3 +35,9 @@ advice_of AddrNotAvailable number = NotHere
 advice_of InvalidInput number = Malformed
 advice_of Uncategorized None = UnknownHost
 advice_of kind number = Other
+
+-- The socket of a door is lost: it is no open file (EBADF), listens no more (EINVAL), or is no socket (ENOTSOCK). Behind
+-- every other error a connection may come.
+abbrev pub is_lost : Option ℤ → Bool
+is_lost None = false
+is_lost (Some number) = int_eq number (pos 9) || (int_eq number (pos 22) || int_eq number (pos 88))

@@ -1,10 +1,16 @@
 // Sockets at their addresses.
+use crate::halls::LOOK;
 use crate::sockets::Socket;
-use std::fs::{self, Files};
+use std::fs::{self, Files, Permissions};
 use std::io;
 use std::net::{Net, TcpListener};
-use std::os::unix::fs::FileTypeExt;
+use std::os::fd::AsFd;
+use std::os::unix::fs::{FileTypeExt, PermissionsExt};
 use std::os::unix::net::{UnixListener, UnixStream};
+use std::time::Duration;
+
+// The owner and the group may connect.
+const OWNER_AND_GROUP: u32 = 0o660;
 
 // Takes away the socket of a server that is gone, where none answers. Whatever else is in use there stays.
 fn clear<R: Files + Net>(rt: &R, path: &str, in_use: io::Error) -> io::Result<()> {
@@ -34,14 +40,41 @@ fn bind_path<R: Files + Net>(rt: &R, path: &str) -> io::Result<UnixListener> {
     }
 }
 
+// Lets one accept wait so long, where the system takes that limit: it is one of the socket, which a second descriptor of
+// it shares, whatever its kind.
+fn limit_accepts<F: AsFd>(socket: &F) {
+    if let Ok(second) = socket.as_fd().try_clone_to_owned() {
+        let _ = UnixStream::from(second).set_read_timeout(Some(Duration::from_secs(LOOK)));
+    }
+}
+
+fn listen_by_path<R: Files + Net>(rt: &R, path: &str) -> io::Result<UnixListener> {
+    let socket = bind_path(rt, path)?;
+    fs::set_permissions(rt, path, Permissions::from_mode(OWNER_AND_GROUP))?;
+    limit_accepts(&socket);
+    Ok(socket)
+}
+
+fn listen_by_tcp<R: Net>(rt: &R, place: &str) -> io::Result<R::Listener>
+where
+    R::Listener: AsFd,
+{
+    let socket = TcpListener::bind(rt, place)?;
+    limit_accepts(&socket);
+    Ok(socket)
+}
+
 /// Listens at an address of the form `tcp:HOST:PORT` or `unix:PATH`. A socket that a killed server left at the path is
-/// taken over.
-pub(crate) fn listen<R: Files + Net>(rt: &R, address: &str) -> io::Result<Socket<R::Listener>> {
+/// taken over. One in a file is for its owner and group.
+pub(crate) fn listen<R: Files + Net>(rt: &R, address: &str) -> io::Result<Socket<R::Listener>>
+where
+    R::Listener: AsFd,
+{
     if let Some(path) = address.strip_prefix("unix:") {
-        return Ok(Socket::Unix(bind_path(rt, path)?));
+        return Ok(Socket::Unix(listen_by_path(rt, path)?));
     }
     match address.strip_prefix("tcp:") {
-        Some(place) => Ok(Socket::Tcp(TcpListener::bind(rt, place)?)),
+        Some(place) => Ok(Socket::Tcp(listen_by_tcp(rt, place)?)),
         None => Err(io::Error::new(io::ErrorKind::InvalidInput, "it has neither form")),
     }
 }

@@ -10,30 +10,35 @@ ghost use Rattle.host_doors.specs.Troubles.{advice_of, answered, keep_error_of};
 
 use crate::binding::listen;
 use crate::doors::HostDoor;
+use crate::halls::{Hall, LIMITS, Limits};
 use crate::sockets::Socket;
 use crate::troubles::{DoorTrouble, advice_of};
 use acct_keeper::KeepError;
 use acct_links::Entrance;
 use std::alloc::Global;
 use std::fs::Files;
-use std::io;
+use std::io::{self, Eprint};
 use std::net::{Net, OpenListener};
+use std::os::fd::AsFd;
 use std::sync::Arc;
+use std::time::Clock;
 
 // The doors of a listener, which share its socket.
-fn share<T: OpenListener + Drop>(
+fn share<R: Drop, T: OpenListener<Stream = S> + Drop, S: Drop>(
     alloc: Global,
+    hall: &Arc<Hall<R>, Global>,
     socket: &Arc<Socket<T>, Global>,
     listener: u32,
     workers: u32,
     links: u64,
-) -> io::Result<Vec<HostDoor<T>>>
+) -> io::Result<Vec<HostDoor<R, T, S>>>
     ensures count { IfOk result (λ doors. length doors.items ≡ workers) }
     ensures doors { IfOk result (λ doors. All (λ door. IsDoor listener links door) doors.items) }
 {
     let mut doors = Vec::new(alloc);
     for _i in 0..workers {
-        doors.push(HostDoor::new(Arc::try_clone(socket)?, listener, links))?;
+        let (hall, socket) = (Arc::try_clone(hall)?, Arc::try_clone(socket)?);
+        doors.push(HostDoor::new(hall, socket, listener, links))?;
     }
     Ok(doors)
 }
@@ -44,14 +49,27 @@ fn share<T: OpenListener + Drop>(
 pub struct HostEntrance<'a, R: Net + Files> {
     rt: &'a R,
     alloc: Global,
+    limits: Limits,
+    hall: Option<Arc<Hall<R>, Global>>,
     fault_count: u64,
     place: Option<String>,
     trouble: Option<DoorTrouble>,
 }
 
-impl<'a, R: Net + Files> HostEntrance<'a, R> {
+impl<'a, R: Net + Files + Copy + Drop> HostEntrance<'a, R> {
     /// An entrance of which nothing was asked.
     pub fn new(rt: &'a R, alloc: Global) -> Self
+        ensures limits { result.limits ≡ record { read = 600; write = 120; last_read = 5 } }
+        ensures count { result.fault_count ≡ 0 }
+        ensures place { result.place ≡ None }
+        ensures trouble { result.trouble ≡ None }
+    {
+        HostEntrance::with_limits(rt, alloc, LIMITS)
+    }
+
+    /// The same, with other limits of time for the links of its doors.
+    pub fn with_limits(rt: &'a R, alloc: Global, limits: Limits) -> Self
+        ensures limits { result.limits ≡ limits }
         ensures count { result.fault_count ≡ 0 }
         ensures place { result.place ≡ None }
         ensures trouble { result.trouble ≡ None }
@@ -59,6 +77,8 @@ impl<'a, R: Net + Files> HostEntrance<'a, R> {
         HostEntrance {
             rt,
             alloc,
+            limits,
+            hall: None,
             fault_count: 0,
             place: None,
             trouble: None,
@@ -76,6 +96,18 @@ impl<'a, R: Net + Files> HostEntrance<'a, R> {
         }
     }
 
+    // What its doors share.
+    fn hall(&mut self) -> io::Result<Arc<Hall<R>, Global>>
+        ensures { self.new ≡ record self.old { hall = self.new.hall } }
+    {
+        if let Some(hall) = &self.hall {
+            return Ok(Arc::try_clone(hall)?);
+        }
+        let hall = Arc::new(self.alloc, Hall::new(*self.rt, self.limits))?;
+        self.hall = Some(Arc::try_clone(&hall)?);
+        Ok(hall)
+    }
+
     /// Why the last listener that has no doors has none.
     pub fn into_trouble(self) -> Option<DoorTrouble>
         ensures { result ≡ self.entry.trouble }
@@ -85,21 +117,24 @@ impl<'a, R: Net + Files> HostEntrance<'a, R> {
 }
 
 // The doors of a listener, and the address at which it listens.
-fn open<R: Net + Files>(
+fn open<R: Net + Files + Drop>(
     rt: &R,
     alloc: Global,
+    hall: io::Result<Arc<Hall<R>, Global>>,
     listener: u32,
     address: &str,
     workers: u32,
     links: u64,
-) -> io::Result<(String, Vec<HostDoor<R::Listener>>)>
+) -> io::Result<(String, Vec<HostDoor<R, R::Listener, R::Stream>>)>
+where
+    R::Listener: AsFd,
     ensures count { IfOk result (λ opened. length opened.1.items ≡ workers) }
     ensures doors { IfOk result (λ opened. All (λ door. IsDoor listener links door) opened.1.items) }
 {
     let socket = listen(rt, address)?;
     let place = socket.address(alloc, address)?;
     let socket = Arc::new(alloc, socket)?;
-    let doors = share(alloc, &socket, listener, workers, links)?;
+    let doors = share(alloc, &hall?, &socket, listener, workers, links)?;
     Ok((place, doors))
 }
 
@@ -112,13 +147,13 @@ fn keep_error_of(error: io::Error) -> KeepError
     }
 }
 
-impl<'a, R: Net + Files> HostEntrance<'a, R> {
+impl<'a, R: Net + Files + Drop> HostEntrance<'a, R> {
     // What is answered where a listener has its doors, or none by the system's reason.
     fn answer(
         &mut self,
         address: String,
-        opened: io::Result<(String, Vec<HostDoor<R::Listener>>)>,
-    ) -> Result<Vec<HostDoor<R::Listener>>, KeepError>
+        opened: io::Result<(String, Vec<HostDoor<R, R::Listener, R::Stream>>)>,
+    ) -> Result<Vec<HostDoor<R, R::Listener, R::Stream>>, KeepError>
         ensures doors { result ≡ answered opened }
         ensures place { IfOk opened (λ given. self.new.place ≡ Some given.0) }
         ensures count { self.new.fault_count ≡ faults_after (is_fault result) self.old.fault_count }
@@ -148,8 +183,11 @@ impl<'a, R: Net + Files> HostEntrance<'a, R> {
     }
 }
 
-impl<'a, R: Net + Files> Entrance for HostEntrance<'a, R> {
-    type D = HostDoor<R::Listener>;
+impl<'a, R: Net + Files + Clock + Eprint + Copy + Drop> Entrance for HostEntrance<'a, R>
+where
+    R::Listener: AsFd,
+{
+    type D = HostDoor<R, R::Listener, R::Stream>;
 
     ghost asked = { λ _. None };
 
@@ -161,7 +199,7 @@ impl<'a, R: Net + Files> Entrance for HostEntrance<'a, R> {
         address: &str,
         workers: u32,
         links: u64,
-    ) -> Result<Vec<HostDoor<R::Listener>>, KeepError>
+    ) -> Result<Vec<HostDoor<R, R::Listener, R::Stream>>, KeepError>
         ensures count { IfOk result (λ doors. length doors.items ≡ workers) }
         ensures doors { IfOk result (λ doors. All (λ door. IsDoor listener links door) doors.items) }
         ensures place { IfOk result (λ doors. IsSome self.new.place) }
@@ -171,7 +209,8 @@ impl<'a, R: Net + Files> Entrance for HostEntrance<'a, R> {
         ensures trouble { is_fault result ≡ true → IsSome self.new.trouble }
     {
         let asked = String::from_str(self.alloc, address)?;
-        let opened = open(self.rt, self.alloc, listener, address, workers, links);
+        let hall = self.hall();
+        let opened = open(self.rt, self.alloc, hall, listener, address, workers, links);
         self.answer(asked, opened)
     }
 }

@@ -2,17 +2,20 @@
 //!
 //! It stands on `acct_links` for the traits of a link, a door and an entrance, and on `acct_keeper` for the errors of
 //! what is opened. The layers above use that a fault is answered only where the object's count of faults rose, that an
-//! entrance gives so many doors for its listener, each of which gives so many links and is then closed, and that a link
-//! notes its end. What a socket gives or takes is told by no clause.
+//! entrance gives so many doors for its listener, each of which gives so many links and is then closed, that a door
+//! fails only once its socket is lost, and hands a link out again that was given back unused, and that a link notes its
+//! end. What a socket gives or takes is told by no clause.
 //!
-//! In rooms: `channels` says what a connection goes over, `sockets` what listens, `links`, `doors` and `entrances` have
-//! the real parts, `binding` gives a socket its address, `troubles` says what went wrong and what to do about it.
+//! In rooms: `channels` says what a connection goes over, `sockets` what listens, `halls` what the doors of an entrance
+//! share, `links`, `doors` and `entrances` have the real parts, `binding` gives a socket its address, `troubles` says
+//! what went wrong and what to do about it.
 #![tactic(auto)]
 
 mod binding;
 mod channels;
 mod doors;
 mod entrances;
+mod halls;
 mod links;
 mod sockets;
 mod troubles;
@@ -20,6 +23,7 @@ mod troubles;
 pub use channels::Channel;
 pub use doors::HostDoor;
 pub use entrances::HostEntrance;
+pub use halls::{Hall, LIMITS, Limits};
 pub use links::{HostLink, LinkTrouble};
 pub use sockets::Socket;
 pub use troubles::{Advice, DoorTrouble};

@@ -1,42 +1,74 @@
 // The connections of the system.
-ghost use Rattle.std.specs.Prelude.{◌≡◌, None, false};
-ghost use Rattle.host_doors.specs.Counts.{told_by};
+ghost use Rattle.std.specs.Prelude.{◌≡◌, None, true, false};
+ghost use Rattle.std.specs.Io.{ReadsAtMost};
+ghost use Rattle.host_doors.specs.Counts.{told_by, is_over};
 
 use crate::channels::Channel;
+use crate::halls::{Hall, LIMITS};
 use acct_links::{Failed, Link};
+use std::alloc::Global;
 use std::io::{self, Read, Write};
+use std::sync::Arc;
+use std::time::Clock;
+use thiserror::Error;
 
 /// Which call of a link failed, and the system's reason.
-#[derive(Clone, Copy, Debug)]
+#[derive(Clone, Copy, Debug, Error)]
 pub enum LinkTrouble {
+    #[error("reading failed ({0})")]
     NotRead(io::Error),
+    #[error("writing failed ({0})")]
     NotWritten(io::Error),
 }
 
-/// A connection. It tells nothing of its bytes, and keeps whether a read has answered the end and what went wrong last.
+/// A connection. It tells nothing of its bytes, and keeps whether anything of it was read or written, whether a read has
+/// answered the end, and what went wrong last.
 #[derive(Drop)]
-pub struct HostLink<S> {
+pub struct HostLink<R, S> {
     channel: Channel<S>,
+    hall: Option<Arc<Hall<R>, Global>>,
+    is_used: bool,
     has_ended: bool,
     read_faults: u64,
     write_faults: u64,
     trouble: Option<LinkTrouble>,
+    ghost fresh: { is_used ≡ false → has_ended ≡ false },
 }
 
-impl<S: Read + Write> HostLink<S> {
-    /// A link of which nothing was read or written.
-    pub fn new(channel: Channel<S>) -> Self
+impl<R, S> HostLink<R, S> {
+    /// A link of which nothing was read or written, and the hall of its door, if it has one.
+    pub fn new(channel: Channel<S>, hall: Option<Arc<Hall<R>, Global>>) -> Self
         ensures channel { result.channel ≡ channel }
+        ensures unused { result.is_used ≡ false }
         ensures going { result.has_ended ≡ false }
         ensures faults { (result.read_faults ≡ 0) × (result.write_faults ≡ 0) }
         ensures trouble { result.trouble ≡ None }
     {
         HostLink {
             channel,
+            hall,
+            is_used: false,
             has_ended: false,
             read_faults: 0,
             write_faults: 0,
             trouble: None,
+        }
+    }
+
+    /// Whether anything of it was read or written, or asked for.
+    pub fn is_used(&self) -> bool
+        ensures { result ≡ self.now.is_used }
+    {
+        self.is_used
+    }
+
+    /// Whether it had ended before it came.
+    pub fn is_over(&self) -> bool
+        ensures { result ≡ is_over self.now.channel }
+    {
+        match &self.channel {
+            Channel::Ended => true,
+            Channel::Tcp(_) | Channel::Unix(_) => false,
         }
     }
 
@@ -55,11 +87,76 @@ impl<S: Read + Write> HostLink<S> {
     }
 }
 
-impl<S: Read + Write> Link for HostLink<S> {
+// Whether nothing came within the limit of one read of the system.
+fn is_silence(got: &io::Result<usize>) -> bool {
+    match got {
+        Err(error) => error.kind() == io::ErrorKind::WouldBlock,
+        Ok(_) => false,
+    }
+}
+
+// Why no more is waited for, behind so many reads of the system, if that is so.
+fn silence<R: Clock>(hall: &Option<Arc<Hall<R>, Global>>, reads: u64) -> Option<io::Error> {
+    let limits = match hall {
+        Some(hall) => hall.limits(),
+        None => LIMITS,
+    };
+    let is_ending = match hall {
+        Some(hall) => hall.is_ending(),
+        None => false,
+    };
+    if reads >= limits.read {
+        return Some(io::Error::new(
+            io::ErrorKind::TimedOut,
+            "nothing came within the limit of time",
+        ));
+    }
+    if is_ending && reads >= limits.last_read {
+        let why = "nothing came for seconds, and a period was to end";
+        return Some(io::Error::new(io::ErrorKind::TimedOut, why));
+    }
+    None
+}
+
+// Reads, and again where nothing came within the limit of one read of the system, until the link's limit is met.
+fn read_within<R: Clock, S: Read + Write>(
+    channel: &mut Channel<S>,
+    hall: &Option<Arc<Hall<R>, Global>>,
+    buf: &mut [u8],
+) -> io::Result<usize>
+    ensures { ReadsAtMost result buf.new }
+{
+    for reads in 1..u64::MAX {
+        let got = channel.read(buf);
+        if !is_silence(&got) {
+            return got;
+        }
+        if let Some(error) = silence(hall, reads) {
+            return Err(error);
+        }
+    }
+    Err(io::Error::from(io::ErrorKind::TimedOut))
+}
+
+// Why a write took nothing: the system's own reason, but where its limit of time was met.
+fn not_taken(error: io::Error) -> io::Error {
+    match error.kind() {
+        io::ErrorKind::WouldBlock => {
+            io::Error::new(
+                io::ErrorKind::TimedOut,
+                "nothing was taken within the limit of time",
+            )
+        }
+        _ => error,
+    }
+}
+
+impl<R: Clock, S: Read + Write> Link for HostLink<R, S> {
     ghost told = { λ link. told_by link.has_ended link.read_faults link.write_faults };
 
     fn read(&mut self, buf: &mut [u8]) -> Result<usize, Failed> {
-        match self.channel.read(buf) {
+        self.is_used = true;
+        match read_within(&mut self.channel, &self.hall, buf) {
             Ok(count) => {
                 self.has_ended |= (count == 0) & !buf.is_empty();
                 Ok(count)
@@ -73,6 +170,7 @@ impl<S: Read + Write> Link for HostLink<S> {
     }
 
     fn write(&mut self, bytes: &[u8]) -> Result<usize, Failed> {
+        self.is_used = true;
         if bytes.is_empty() {
             return Ok(0);
         }
@@ -82,7 +180,7 @@ impl<S: Read + Write> Link for HostLink<S> {
             Err(error) => error,
         };
         self.write_faults = self.write_faults.saturating_add(1);
-        self.trouble = Some(LinkTrouble::NotWritten(error));
+        self.trouble = Some(LinkTrouble::NotWritten(not_taken(error)));
         Err(Failed)
     }
 }

@@ -1,10 +1,17 @@
 // What went wrong with a listener, and what to do about it.
 ghost use Rattle.std.specs.Prelude.{◌≡◌};
 ghost use Rattle.std.specs.IoError.{error_kind, raw_os_error};
-ghost use Rattle.host_doors.specs.Troubles.{advice_of};
+ghost use Rattle.host_doors.specs.Troubles.{advice_of, is_lost};
 
 use std::io;
 use thiserror::Error;
+
+// The system's numbers of errors behind which no connection comes at a socket.
+const EBADF: i32 = 9;
+
+const EINVAL: i32 = 22;
+
+const ENOTSOCK: i32 = 88;
 
 /// What to do about a listener that can't have its address.
 #[derive(Clone, Copy, Debug, PartialEq, Eq, Error)]
@@ -43,7 +50,17 @@ pub(crate) fn advice_of(error: io::Error) -> Advice
     }
 }
 
-/// Why a listener has no doors, or a door gave no connection, and what to do about it.
+/// Whether the socket of a door is lost: it is no open file, listens no more, or is no socket.
+pub(crate) fn is_lost(error: io::Error) -> bool
+    ensures { result ≡ is_lost (raw_os_error error) }
+{
+    match error.raw_os_error() {
+        Some(number) => number == EBADF || number == EINVAL || number == ENOTSOCK,
+        None => false,
+    }
+}
+
+/// Why a listener has no doors, or a door gives no connection any more, and what to do about it.
 #[derive(Debug, Drop, Error)]
 pub enum DoorTrouble {
     #[error("no listener at {address} ({error}); {advice}")]
@@ -52,6 +69,6 @@ pub enum DoorTrouble {
         error: io::Error,
         advice: Advice,
     },
-    #[error("no connection was taken ({0}); raise the limit of open files if that was reached, and start again")]
+    #[error("no connection can be taken any more ({0}); start the server again")]
     NotAccepted(io::Error),
 }

@@ -64,10 +64,10 @@ trouble_of true None = Some Ended
 trouble_of _ trouble = trouble
 
 -- what went wrong at a door, and at the first of some doors at which something did
-abbrev pub trouble_at : {T : Type 0} → HostDoor T → Option DoorTrouble
+abbrev pub trouble_at : {R T S : Type 0} → HostDoor R T S → Option DoorTrouble
 trouble_at door = option_map (λ error. NotAccepted error) door.trouble
 
-abbrev pub first_trouble : {T : Type 0} → List (HostDoor T) → Option DoorTrouble
+abbrev pub first_trouble : {R T S : Type 0} → List (HostDoor R T S) → Option DoorTrouble
 first_trouble doors = slice_get (filter_map trouble_at doors) 0
 
 -- why the source of a name wasn't read: the name `-` is the standard input's

@@ -26,6 +26,9 @@ use std::fs::File;
 use std::io::{self, Input, Print, Printer, Read, Write};
 use std::net::Net;
 
+// A door of the real world.
+type Door = HostDoor<HostRuntime, <HostRuntime as Net>::Listener, <HostRuntime as Net>::Stream>;
+
 /// The standard input or a file. It tells what is left where its reader tells it: over the system's it doesn't. It
 /// keeps what went wrong last.
 #[derive(Drop)]
@@ -293,11 +296,7 @@ impl<'a> World for HostWorld<'a> {
         Ok(SpokenEntrance::new(self.rt, self.alloc))
     }
 
-    fn give_entrance(
-        &mut self,
-        part: SpokenEntrance<'a, HostRuntime>,
-        doors: Vec<HostDoor<<HostRuntime as Net>::Listener>>,
-    )
+    fn give_entrance(&mut self, part: SpokenEntrance<'a, HostRuntime>, doors: Vec<Door>)
         ensures kept { self.new ≡ record self.old { door_trouble = self.new.door_trouble } }
         ensures door_trouble { self.new.door_trouble
             ≡ option_or part.entry.entrance.trouble (first_trouble doors.items) }

@@ -7,8 +7,10 @@ use acct_links::Entrance;
 use host_doors::{DoorTrouble, HostDoor, HostEntrance};
 use std::alloc::Global;
 use std::fs::Files;
-use std::io::{Eprint, Read, Write};
-use std::net::{Net, OpenListener, OpenStream};
+use std::io::Eprint;
+use std::net::{Net, OpenListener};
+use std::os::fd::AsFd;
+use std::time::Clock;
 
 /// The entrance of the system. It says on the standard error where each listener listens, once it does and before a
 /// link is taken there.
@@ -18,7 +20,7 @@ pub struct SpokenEntrance<'a, R: Net + Files + Eprint> {
     entrance: HostEntrance<'a, R>,
 }
 
-impl<'a, R: Net + Files + Eprint> SpokenEntrance<'a, R> {
+impl<'a, R: Net + Files + Eprint + Copy + Drop> SpokenEntrance<'a, R> {
     /// An entrance of which nothing was asked.
     pub fn new(rt: &'a R, alloc: Global) -> Self
         ensures faults { result.entrance.fault_count ≡ 0 }
@@ -38,11 +40,11 @@ impl<'a, R: Net + Files + Eprint> SpokenEntrance<'a, R> {
     }
 }
 
-impl<'a, R: Net + Files + Eprint> Entrance for SpokenEntrance<'a, R>
+impl<'a, R: Net + Files + Eprint + Clock + Copy + Drop> Entrance for SpokenEntrance<'a, R>
 where
-    R::Stream: Read + Write + OpenStream,
+    R::Listener: AsFd,
 {
-    type D = HostDoor<R::Listener>;
+    type D = HostDoor<R, R::Listener, R::Stream>;
 
     ghost asked = { λ _. None };
 
@@ -54,7 +56,7 @@ where
         address: &str,
         workers: u32,
         links: u64,
-    ) -> Result<Vec<HostDoor<R::Listener>>, KeepError> {
+    ) -> Result<Vec<HostDoor<R, R::Listener, R::Stream>>, KeepError> {
         let doors = self.entrance.doors(listener, address, workers, links)?;
         if let Some(place) = self.entrance.place() {
             let _ = eprintln!(self.rt; "account: listening at {place}");
@@ -63,8 +65,10 @@ where
     }
 }
 
-/// Why a connection wasn't taken at the first of the doors at which one wasn't.
-pub fn first_trouble<T: OpenListener>(doors: &[HostDoor<T>]) -> Option<DoorTrouble>
+/// Why no connection can be taken any more at the first of the doors at which none can.
+pub fn first_trouble<R, T: OpenListener<Stream = S>, S>(
+    doors: &[HostDoor<R, T, S>],
+) -> Option<DoorTrouble>
     ensures { result ≡ first_trouble doors.now }
 {
     for door in doors {

@@ -10,10 +10,12 @@
 //!
 //! In rooms: `host` has the world with its sources and its sink, `opened` what a source reads from, `unread` why one
 //! wasn't read; `host_keeper` has the keepers; `host_entrance` the entrance, which says where it listens; `host_link`
-//! the caller and its links, `channel` what these go over, `trouble` what went wrong there, `stranger` what answered.
+//! the caller and its links, `channel` what these go over, `trouble` what went wrong there, `stranger` what answered;
+//! `held_streams` keeps the numbers of standard streams that were closed.
 #![tactic(auto)]
 
 mod channel;
+mod held_streams;
 mod host;
 mod host_entrance;
 mod host_keeper;
@@ -24,6 +26,7 @@ mod trouble;
 mod unread;
 
 pub use channel::Channel;
+pub use held_streams::HeldStreams;
 pub use host::{HostSink, HostSource, HostWorld};
 pub use host_entrance::SpokenEntrance;
 pub use host_keeper::HostKeeper;

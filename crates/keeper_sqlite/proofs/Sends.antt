@@ -3,7 +3,8 @@ use denote.RattleType.{RattleType}
 use denote.Param.Send.{IsSend, AllSend, view_send, recorded_send, struct_send, sendable}
 use denote.Struct.Declared.{fields, shape}
 use Rattle.std.proofs.Crossing.{crosses}
-use Rattle.std.proofs.alloc.Global.TheSendSync as global
+use Rattle.std.specs.contracts.option.Option as Option
+use Rattle.host_lines.proofs.lines.Lines.TheSendSync as lines
 use Rattle.sqlite.proofs.connection.Connection.TheSendSync as connection
 use Rattle.sqlite.proofs.FileStore.TheSendSync as store
 use Rattle.sqlite.below.sqlite_disk.proofs.modelled.Modelled.TheSendSync as modelled
@@ -26,14 +27,23 @@ file = Modelled.the_row Host.the_row Unknown.the_row calls.ghosts unknown.ghosts
 file-send : IsSend file
 file-send = modelled.the_send Host.the_row Unknown.the_row calls.ghosts unknown.ghosts host-send
 
+option-send : (T : RattleType) → IsSend T → IsSend (Option.the_field T).row
+option-send T s = search sendable depth 12
+
 fields-send : AllSend (fields inside.the_type)
 fields-send =
     let on = disk.ghosts Host.the_row Unknown.the_row calls.ghosts disk.no_dict unknown.ghosts disk.no_dict
     disk.no_dict in (
-      global.the_field_send,
+      (search (sendable, crosses) depth 20),
       (
-        connection.the_send _ (stores.ghosts file on stores.no_dict) (store.the_send file on file-send),
-        (search sendable, tt),
+        (search (sendable, crosses) depth 20),
+        (
+          option-send _ (connection.the_send _ (stores.ghosts file on stores.no_dict) (store.the_send file on file-send)),
+          (
+            (search (sendable, crosses) depth 40),
+            ((search sendable), ((search sendable), (lines.the_field_send, tt))),
+          ),
+        ),
       ),
     )
 

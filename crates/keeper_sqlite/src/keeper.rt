@@ -4,27 +4,27 @@ ghost use Rattle.acct_keeper.specs.Pairs.{is_ascending};
 ghost use Rattle.acct_keeper.specs.Causes.{KeepCause};
 ghost use Rattle.acct_keeper.specs.Counts.{counted, after_call};
 
-use acct_base::Seq;
-use acct_keeper::{Change, KeepError, Keeper, Pair, is_ascending};
-use sqlite::{Alter, Connection, Error, ErrorCode, File, FileStore, Row, Transaction, params};
-use std::alloc::Global;
+use crate::files::make_private;
+use crate::keys::Keys;
+use crate::requests::{FileConnection, load, make, opened, repairs_of};
+use acct_keeper::{Change, KeepError, Keeper, Pair};
+use host_lines::Lines;
+use sqlite::{Error, ErrorCode};
 use std::marker::Model;
 
-const TABLE: &str =
-    "CREATE TABLE IF NOT EXISTS pairs (key BLOB NOT NULL PRIMARY KEY, value BLOB NOT NULL) STRICT";
-
-const PUT: &str = "INSERT OR REPLACE INTO pairs (key, value) VALUES (?1, ?2)";
-
-const REMOVE: &str = "DELETE FROM pairs WHERE key = ?1";
-
-const LOAD: &str = "SELECT key, value FROM pairs ORDER BY key";
-
-/// The pairs in a file, of which it tells nothing. A contract sees how many of its calls have failed.
+/// The pairs in a file, of which it tells nothing. A contract sees how many of its calls have failed. It says on the
+/// standard error which commits failed, and whether one may be in the file all the same.
 #[derive(Drop)]
 pub struct SqliteKeeper {
-    alloc: Global,
-    connection: Connection<FileStore<File>>,
+    rt: HostRuntime,
+    path: String,
+    // None from a commit that failed until the file is open again and repaired.
+    connection: Option<FileConnection>,
+    // What puts back all that such a commit may have left in the file. Empty while there is a connection.
+    repairs: Vec<Change>,
+    is_in_doubt: bool,
     fault_count: u64,
+    lines: Lines,
 }
 
 impl Model for SqliteKeeper {
@@ -42,111 +42,116 @@ fn cause_of(error: Error) -> KeepError {
     }
 }
 
-// What is asked of a file that is open: all its pairs, or that changes are made.
-enum Request<'a> {
-    Load(Global),
-    Commit(&'a [Change]),
-}
-
-// The connection to a file, once the file has the table.
-fn with_table<S: Alter + Drop>(
-    opened: Result<Connection<S>, Error>,
-) -> Result<Connection<S>, Error> {
-    let mut connection = opened?;
-    connection.execute(TABLE, &[])?;
-    Ok(connection)
-}
-
-fn pair_of(row: &Row) -> Result<Pair, Error> {
-    Ok(Pair {
-        key: Seq::from_vec(row.get(0)?),
-        value: Seq::from_vec(row.get(1)?),
-    })
-}
-
-fn pairs_of(alloc: Global, rows: &[Row]) -> Result<Vec<Pair>, Error> {
-    let mut pairs = Vec::with_capacity(alloc, rows.len())?;
-    for row in rows {
-        pairs.push(pair_of(row)?)?;
-    }
-    Ok(pairs)
-}
-
-fn query<S: Alter>(alloc: Global, connection: &mut Connection<S>) -> Result<Vec<Pair>, Error> {
-    let rows = connection.query_all(LOAD, &[])?;
-    pairs_of(alloc, &rows)
-}
-
-fn make<S: Alter>(transaction: &mut Transaction<'_, S>, change: &Change) -> Result<usize, Error> {
-    let key = change.key.as_slice();
-    match &change.value {
-        Some(value) => transaction.execute(PUT, params![key, value.as_slice()]),
-        None => transaction.execute(REMOVE, params![key]),
-    }
-}
-
-// One transaction, which is rolled back where a statement fails.
-fn make_all<S: Alter>(connection: &mut Connection<S>, changes: &[Change]) -> Result<(), Error> {
-    if !connection.is_autocommit() {
-        return Err(Error::SqliteFailure(ErrorCode::TransactionState));
-    }
-    let mut transaction = connection.transaction();
-    for change in changes {
-        make(&mut transaction, change)?;
-    }
-    transaction.commit()
-}
-
-// What comes of a request: pairs where they were asked for.
-fn answer<S: Alter>(
-    connection: &mut Connection<S>,
-    request: Request<'_>,
-) -> Result<Option<Vec<Pair>>, Error> {
-    match request {
-        Request::Load(alloc) => Ok(Some(query(alloc, connection)?)),
-        Request::Commit(changes) => {
-            make_all(connection, changes)?;
-            Ok(None)
-        }
-    }
-}
-
-// Each request of a keeper goes through here, so what is to be proved of this kind of connection is proved once.
-fn ask(
-    connection: &mut Connection<FileStore<File>>,
-    request: Request<'_>,
-) -> Result<Option<Vec<Pair>>, Error> {
-    answer(connection, request)
-}
-
-// All pairs, where the rows of the answer come by strictly ascending key.
-fn load(alloc: Global, connection: &mut Connection<FileStore<File>>) -> Result<Vec<Pair>, Error>
-    ensures { IfOk result (λ pairs. is_ascending pairs.items ≡ true) }
-{
-    let pairs = ask(connection, Request::Load(alloc))?.unwrap_or(Vec::new(alloc));
-    if !is_ascending(&pairs) {
-        return Err(Error::SqliteFailure(ErrorCode::DatabaseCorrupt));
-    }
-    Ok(pairs)
-}
-
-fn commit(connection: &mut Connection<FileStore<File>>, changes: &[Change]) -> Result<(), Error> {
-    ask(connection, Request::Commit(changes))?;
-    Ok(())
-}
-
 impl SqliteKeeper {
-    /// Opens the file at a path, or makes it. It fails where there is no folder for it, another program has it open, or
-    /// it is no database.
+    /// Opens the file at a path, or makes it for its owner alone. It fails where there is no folder for it, another
+    /// program has it open, or it is no database.
     pub fn new(rt: &HostRuntime, path: &str) -> Result<SqliteKeeper, KeepError>
         ensures { IfOk result (λ faults. faults ≡ 0) }
     {
-        let connection = with_table(Connection::open(rt, path)).map_err(cause_of)?;
+        make_private(rt, path);
+        let connection = opened(rt, path, &[]).map_err(cause_of)?;
         Ok(SqliteKeeper {
-            alloc: rt.alloc(),
-            connection,
+            rt: *rt,
+            path: String::from_str(rt.alloc(), path)?,
+            connection: Some(connection),
+            repairs: Vec::new(rt.alloc()),
+            is_in_doubt: false,
             fault_count: 0,
+            lines: Lines::new(),
         })
+    }
+
+    // Opens the file again, once what a commit may have left there is put back. The log that ends in that commit may
+    // have reached no disk, so the file is closed in between, which copies the log into it.
+    fn reopen(&mut self) -> Result<FileConnection, Error>
+        ensures { self.new ≡ self.old }
+    {
+        opened(&self.rt, self.path.as_str(), &self.repairs)?.close()?;
+        let connection = opened(&self.rt, self.path.as_str(), &[])?;
+        self.repairs = Vec::new(self.rt.alloc());
+        self.tell_repaired();
+        Ok(connection)
+    }
+
+    // The caller gives it back, if it is still good.
+    fn take_connection(&mut self) -> Result<FileConnection, Error>
+        ensures { self.new ≡ self.old }
+    {
+        match self.connection.take() {
+            Some(connection) => Ok(connection),
+            None => self.reopen(),
+        }
+    }
+
+    fn try_load(&mut self) -> Result<Vec<Pair>, Error>
+        ensures ascending { IfOk result (λ pairs. is_ascending pairs.items ≡ true) }
+        ensures kept { self.new ≡ self.old }
+    {
+        let mut connection = self.take_connection()?;
+        let loaded = load(self.rt.alloc(), &mut connection);
+        self.connection = Some(connection);
+        loaded
+    }
+
+    // The connection is let go where this fails. Where the commit itself fails, the file may hold the changes.
+    fn make_by(&mut self, mut connection: FileConnection, changes: &[Change]) -> Result<(), Error>
+        ensures { self.new ≡ self.old }
+    {
+        let alloc = self.rt.alloc();
+        let repairs = repairs_of(alloc, &mut connection, changes)?;
+        if let Err(error) = make(alloc, &mut connection, changes) {
+            self.repairs = repairs;
+            return Err(error);
+        }
+        self.connection = Some(connection);
+        Ok(())
+    }
+
+    fn try_commit(&mut self, changes: &[Change]) -> Result<(), Error>
+        ensures { self.new ≡ self.old }
+    {
+        let connection = self.take_connection()?;
+        let made = self.make_by(connection, changes);
+        if made.is_err() {
+            self.recover();
+        }
+        made
+    }
+
+    // Opens the file again behind a commit that failed. Where that fails, the next call tries it.
+    fn recover(&mut self)
+        ensures { self.new ≡ self.old }
+    {
+        match self.reopen() {
+            Ok(connection) => self.connection = Some(connection),
+            Err(error) => self.tell_doubt(error),
+        }
+    }
+
+    // Says which change may be in the file though it was refused. There is one such line for each change that was not
+    // put back at once.
+    fn tell_doubt(&mut self, error: Error)
+        ensures { self.new ≡ self.old }
+    {
+        if self.repairs.is_empty() {
+            return;
+        }
+        self.is_in_doubt = true;
+        let keys = Keys::of(&self.repairs);
+        let _ = eprintln!(self.rt;
+            "account: a change that was refused can't be taken back ({error}), and may be in the store at the next \
+            start, at the keys{keys}; see to the disk, and end the server only once it says that it is"
+        );
+    }
+
+    fn tell_repaired(&mut self)
+        ensures { self.new ≡ self.old }
+    {
+        if self.is_in_doubt {
+            self.is_in_doubt = false;
+            self.lines
+                .say(&self.rt, "the change that was refused is taken back");
+        }
     }
 
     // Counts a call that failed otherwise than for want of memory.
@@ -176,7 +181,7 @@ impl Keeper for SqliteKeeper {
         ensures later { self.old ≤ self.new }
         ensures count { self.new ≡ after_call self.old result }
     {
-        match load(self.alloc, &mut self.connection) {
+        match self.try_load() {
             Ok(pairs) => Ok(pairs),
             Err(error) => Err(self.cause(error)),
         }
@@ -187,9 +192,15 @@ impl Keeper for SqliteKeeper {
         ensures later { self.old ≤ self.new }
         ensures count { self.new ≡ after_call self.old result }
     {
-        match commit(&mut self.connection, changes) {
+        match self.try_commit(changes) {
             Ok(()) => Ok(()),
-            Err(error) => Err(self.cause(error)),
+            Err(error) => {
+                self.lines.say(
+                    &self.rt,
+                    format_args!("a change of the store failed ({error}), and was refused"),
+                );
+                Err(self.cause(error))
+            }
         }
     }
 

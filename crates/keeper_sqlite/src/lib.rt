@@ -7,8 +7,18 @@
 //! ```text
 //! sqlite3 FILE 'SELECT hex(key), hex(value) FROM pairs ORDER BY key'
 //! ```
+//!
+//! A commit that failed may have left its changes in the file. So the keeper reads the old values of its keys first,
+//! and behind such a commit opens the file anew and puts them back, before it answers; where that fails too, each later
+//! call tries it first.
+//!
+//! In rooms: `files` makes the file for its owner alone, `requests` has the statements over an open file, `keeper` the
+//! keeper, `keys` the keys of a change in words.
 #![tactic(auto)]
 
+mod files;
 mod keeper;
+mod keys;
+mod requests;
 
 pub use keeper::SqliteKeeper;

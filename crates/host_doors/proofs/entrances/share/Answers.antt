@@ -14,6 +14,7 @@ loop-i-preserved g c = record {
         listener = c.new.ensures.listener;
         left = c.new.ensures.left;
         going = c.new.ensures.open;
+        kept = c.new.ensures.kept;
         faults = c.new.ensures.faults;
       }));
 }
