@@ -4,3 +4,4 @@ mod machine;
 mod operations;
 mod rows;
 mod words;
+mod works;

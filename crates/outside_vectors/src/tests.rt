@@ -1,4 +1,4 @@
-// Streams in memory; keepers; links, doors, entrances and callers; and what the tests share.
+// What lies outside: streams in memory; keepers; links, doors, entrances and callers; and what these tests share.
 mod doors;
 mod files;
 mod keepers;

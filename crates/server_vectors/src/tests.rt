@@ -14,6 +14,7 @@ mod lock;
 mod meeting;
 mod meeting_links;
 mod replays;
+mod runs;
 mod serving;
 mod streams;
 mod worlds;

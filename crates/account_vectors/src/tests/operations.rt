@@ -10,6 +10,7 @@ mod brought;
 mod changes;
 mod creations;
 mod deletions;
+mod displays;
 mod domains;
 mod enumerations;
 mod lists;
@@ -24,9 +25,10 @@ mod words;
 
 use super::first_rows::seeded;
 use super::words::repeated;
+use super::works::all_works;
 use acct_base::Seq;
 use acct_calls::Args;
-use acct_operations::{Work, decide, works};
+use acct_operations::{Work, decide};
 use acct_rows::{Object, Plan, Rows};
 use acct_rules::Planned;
 use asked::{args_of, object_of};
@@ -46,7 +48,7 @@ fn is_named(alloc: Global, work: Work, name: &str) -> Result<bool, Fail> {
 
 /// The operation of a name.
 fn work_named(alloc: Global, name: &str) -> Result<Work, Fail> {
-    for work in works() {
+    for work in &all_works(alloc)? {
         if is_named(alloc, *work, name)? {
             return Ok(*work);
         }
@@ -196,6 +198,9 @@ const TABLES: &[&str] = &[
     enumerations::PAGES,
     enumerations::BETWEEN_PAGES,
     enumerations::LARGEST_PAGES,
+    displays::FIRST_ROWS,
+    displays::KINDS,
+    displays::LARGEST_PAGES,
     queries::CLASSES,
     settings::SETS,
     settings::LIMITS,
@@ -207,6 +212,7 @@ const TABLES: &[&str] = &[
     changes::LIFE,
     translations::NAMES,
     translations::SIDS,
+    translations::LATER,
 ];
 
 #[test]
@@ -234,5 +240,6 @@ fn long_lists_and_full_pages_are_right(rt: HostRuntime) -> Result<(), Fail> {
 #[test]
 fn laws_are_called() {
     laws::enumerations_go_on();
+    laws::displays_go_on();
     laws::classes_are_shown();
 }

@@ -1,4 +1,4 @@
-// Parts in memory, sockets of this process, and the doors of listeners.
-mod listeners;
+// Parts in memory, sockets of this process, and what doors do where something fails or nothing comes.
 mod memory;
 mod sockets;
+mod waiting;

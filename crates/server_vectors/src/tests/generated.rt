@@ -1,6 +1,9 @@
 // The generator: what is printed for a number of users. The counts follow from the calls and from the rows of a new
 // store: two users, three aliases and no member at first; the next RID is 1000, which the alias takes. Twelve calls
 // stand around those of the users, which are three, and four for every second one.
+mod events;
+mod lines;
+
 use super::left::{ended, is_left, push_asked, push_count, written};
 use super::lines::{column, front_of, joined};
 use super::worlds::{Told, making_of, world_of};

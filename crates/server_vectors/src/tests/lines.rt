@@ -1,6 +1,6 @@
 // Lines of events and of what is written by their names, and the columns of a row.
+use super::runs::{accounts, later, limits, names, objects, rights, several, stores, tables};
 use super::{calls, generated, serving};
-use command_tables::{accounts, limits, names, objects, rights, several, stores, tables};
 use std::alloc::Global;
 use std::test::Fail;
 
@@ -21,6 +21,7 @@ pub fn line_of(name: &str) -> &'static str {
         accounts::LINES,
         calls::LINES,
         generated::LINES,
+        later::LINES,
         limits::LINES,
         names::LINES,
         objects::LINES,

@@ -2,11 +2,11 @@
 use super::configs::config_of;
 use super::left::{ended, is_left, push_asked, push_count, push_histories, push_rows, written};
 use super::lines::{column, front_of, joined, lines_of};
+use super::runs::{accounts, later, limits, names, objects, rights, several, stores, tables};
 use super::worlds::{Making, Steady, Told, making_of, steady_world, world_of, world_of_stored};
 use acct_base::Seq;
 use acct_keeper::{Change, Keeper, Pair, SteadyKeeper};
 use acct_links::{SteadyEntrance, SteadyLink};
-use command_tables::{accounts, limits, names, objects, rights, several, stores, tables};
 use std::alloc::Global;
 use std::process::Abort;
 use std::sync::Wait;
@@ -113,6 +113,7 @@ fn calls_of_each_operation(rt: HostRuntime) -> Result<(), Fail> {
         accounts::ACCOUNTS,
         rights::RIGHTS,
         names::NAMES,
+        later::LATER,
     ] {
         tell_all(&rt, rt.alloc(), table)?;
     }

@@ -7,8 +7,6 @@ mod commands;
 mod digits;
 mod errors;
 mod fragments;
-mod generated;
-mod generated_lines;
 mod lists;
 mod peers;
 mod refusals;
@@ -167,5 +165,5 @@ fn laws_are_called() {
     acct_client::dialogues_are_cut_anywhere();
     acct_client::short_stubs_are_one_pdu();
     acct_client::replies_are_printed();
-    client_steps::fit_steps_are_spelled();
+    client_commands::fit_steps_are_spelled();
 }

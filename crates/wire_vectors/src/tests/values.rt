@@ -5,4 +5,5 @@ mod lines;
 mod lists;
 mod names;
 mod numbers;
+mod parts;
 mod sids;

@@ -2,9 +2,10 @@
 ghost use Rattle.acct_config.specs.Right.{IsRight};
 
 use super::configs::{DENY_FIRST, with_entries};
+use crate::tests::works::all_works;
 use acct_codes::Kind;
 use acct_machine::{Access, Config, Conn, Face, Held, Object, access_with, granted};
-use acct_operations::{Work, has_operation, profile_of, work_of, works};
+use acct_operations::{Work, profile_of, work_of};
 use acct_rules::{Brings, Kinds};
 use dtyp_sid::{Sid, parse_text};
 use std::test::Fail;
@@ -65,26 +66,24 @@ fn handles_are_checked(rt: HostRuntime) {
 }
 
 #[test]
-fn operations_are_found_by_interface_and_opnum(rt: HostRuntime) {
-    assert!(rt; works().len() == 64);
+fn operations_are_found_by_interface_and_opnum(rt: HostRuntime) -> Result<(), Fail> {
+    assert!(rt; all_works(rt.alloc())?.len() == 68);
     assert!(rt; work_of(Face::Samr, 64) == Some(Work::SamrConnect5));
     assert!(rt; work_of(Face::Lsa, 0) == Some(Work::LsarClose));
-    assert!(rt; has_operation(Face::Samr, 65));
-    assert!(rt; !has_operation(Face::Lsa, 65));
+    assert!(rt; work_of(Face::Samr, 40) == Some(Work::SamrQueryDisplayInformation));
+    assert!(rt; work_of(Face::Samr, 65) == Some(Work::SamrRidToSid));
+    assert!(rt; work_of(Face::Lsa, 65).is_none());
+    Ok(())
 }
 
-/// The operations, each with the kinds of objects whose handles it takes: server, domain, group, alias, user, policy,
-/// account of the policy (C). One that brings no handle looks at none.
+/// The operations by interface and opnum, each with the kinds of objects whose handles it takes: server, domain, group,
+/// alias, user, policy, account of the policy (C). One that brings no handle looks at none.
 const TAKEN: &str = "\
-Samr 57 SDGAUPC
-Samr 62 SDGAUPC
-Samr 64 SDGAUPC
 Samr 1 SDGAU
 Samr 5 S
 Samr 6 S
 Samr 7 S
 Samr 8 D
-Samr 46 D
 Samr 9 D
 Samr 10 D
 Samr 11 D
@@ -114,16 +113,22 @@ Samr 35 U
 Samr 36 U
 Samr 37 U
 Samr 39 U
+Samr 40 D
+Samr 46 D
 Samr 47 U
 Samr 50 D
+Samr 57 SDGAUPC
 Samr 58 U
+Samr 62 SDGAUPC
+Samr 64 SDGAUPC
 Samr 65 DGAU
-Lsa 44 SDGAUPC
 Lsa 0 PC
 Lsa 2 P
 Lsa 7 P
 Lsa 10 P
 Lsa 11 P
+Lsa 14 P
+Lsa 15 P
 Lsa 17 P
 Lsa 18 C
 Lsa 19 C
@@ -137,9 +142,11 @@ Lsa 35 P
 Lsa 36 P
 Lsa 37 P
 Lsa 38 P
+Lsa 44 SDGAUPC
 Lsa 46 P
-Lsa 14 P
-Lsa 15 P";
+Lsa 57 P
+Lsa 58 P
+Lsa 68 P";
 
 /// An object of the kind that a letter stands for.
 fn object_of(letter: char, account: Sid) -> Object {
@@ -167,8 +174,8 @@ fn push_taken(text: &mut String, work: Work, account: Sid) -> Result<(), Fail> {
 }
 
 /// Tells each row of the table.
-fn push_all_taken(text: &mut String, account: Sid) -> Result<(), Fail> {
-    for work in works() {
+fn push_all_taken(text: &mut String, works: &[Work], account: Sid) -> Result<(), Fail> {
+    for work in works {
         push_taken(text, *work, account)?;
         text.push('\n')?;
     }
@@ -179,7 +186,7 @@ fn push_all_taken(text: &mut String, account: Sid) -> Result<(), Fail> {
 fn a_handle_of_each_kind_at_each_operation(rt: HostRuntime) -> Result<(), Fail> {
     let account = parse_text("S-1-5-21-1-2-3-1000")?;
     let mut text = String::new(rt.alloc());
-    push_all_taken(&mut text, account)?;
+    push_all_taken(&mut text, &all_works(rt.alloc())?, account)?;
     assert_eq!(rt; text.as_str().trim(), TAKEN);
     Ok(())
 }

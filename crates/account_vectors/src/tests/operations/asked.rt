@@ -122,6 +122,12 @@ pub fn args_of(alloc: Global, kind: &str, fields: &str) -> Result<Args, Fail> {
             filter: second,
             preferred: number_at(fields, 2),
         }),
+        "Display" => Ok(Args::Display {
+            class: class_of(fields),
+            index: second,
+            count: number_at(fields, 2),
+            preferred: number_at(fields, 3),
+        }),
         _ => named_of(alloc, kind, fields),
     }
 }

@@ -128,11 +128,71 @@ domain,0,S-1-5-32-545,CORP,,1000|LsarLookupSids|policy|LookSids,1,S-1-5-32-545,S
 |LsarLookupSids|policy|LookSids,6,S-1-5-21-1-2-3-501|0 Names [ 'CORP' S-1-5-21-1-2-3 ] [ 1 'Guest' 0 ] 1
 |LsarLookupSids|policy|LookSids,7,S-1-1-0|0 Names [ '' S-1-1 ] [ 5 'Everyone' 0 ] 1";
 
+/// The later operations, by the same matches. An entry of LsarLookupNames3 is the use, the SID and the index of the
+/// domain. One row has an account domain whose SID has just room for a RID, the next one, whose rows aren't sound, one
+/// without room.
+pub const LATER: &str = "\
+user,0,1000,alice|LsarLookupNames3|policy|LookNames,1,alice,nobody,Everyone\
+    |107 SidRefs [ 'CORP' S-1-5-21-1-2-3 '' S-1-1 ] \
+    [ 1 Some S-1-5-21-1-2-3-1000 0 8 None -1 5 Some S-1-1-0 1 ] 2
+|LsarLookupNames3|policy|LookNames,1,CORP,builtin,NT AUTHORITY,corp\\\
+    |0 SidRefs [ 'CORP' S-1-5-21-1-2-3 'BUILTIN' S-1-5-32 'NT AUTHORITY' S-1-5 ] \
+    [ 3 Some S-1-5-21-1-2-3 0 3 Some S-1-5-32 1 3 Some S-1-5 2 3 Some S-1-5-21-1-2-3 0 ] 4
+|LsarLookupNames3|policy\
+    |LookNames,1,ANONYMOUS LOGON,Authenticated Users,SYSTEM,NT AUTHORITY\\system,eVERYONE\
+    |0 SidRefs [ 'NT AUTHORITY' S-1-5 '' S-1-1 ] \
+    [ 5 Some S-1-5-7 0 5 Some S-1-5-11 0 5 Some S-1-5-18 0 5 Some S-1-5-18 0 5 Some S-1-1-0 1 ] 5
+|LsarLookupNames3|policy|LookNames,1,Administrator,Domain Admins,Administrators,BUILTIN\\Users,CORP\\Users\
+    |107 SidRefs [ 'CORP' S-1-5-21-1-2-3 'BUILTIN' S-1-5-32 ] \
+    [ 1 Some S-1-5-21-1-2-3-500 0 2 Some S-1-5-21-1-2-3-512 0 4 Some S-1-5-32-544 1 4 Some S-1-5-32-545 1 8 None -1 ] 4
+alias,0,1000,Users|LsarLookupNames3|policy|LookNames,1,BUILTIN\\Users,Users,Users\
+    |0 SidRefs [ 'BUILTIN' S-1-5-32 'CORP' S-1-5-21-1-2-3 ] \
+    [ 4 Some S-1-5-32-545 0 4 Some S-1-5-21-1-2-3-1000 1 4 Some S-1-5-21-1-2-3-1000 1 ] 3
+|LsarLookupNames3|policy|LookNames,1,nobody,x@y,|c0000073 SidRefs [ ] [ 8 None -1 8 None -1 8 None -1 ] 0
+|LsarLookupNames3|policy|LookNames,1|0 SidRefs [ ] [ ] 0
+domain,0,S-1-5-21-7-8-9,Other,,1000|LsarLookupNames3|policy|LookNames,1,Other\\Guest,other,CORP\\Guest\
+    |107 SidRefs [ 'Other' S-1-5-21-7-8-9 ] [ 1 Some S-1-5-21-7-8-9-501 0 3 Some S-1-5-21-7-8-9 0 8 None -1 ] 2
+domain,0,S-1-5-21-1-2-3-4-5-6-7-8-9-10-11-12-13,CORP,,1000|LsarLookupNames3|policy|LookNames,1,Guest\
+    |0 SidRefs [ 'CORP' S-1-5-21-1-2-3-4-5-6-7-8-9-10-11-12-13 ] \
+    [ 1 Some S-1-5-21-1-2-3-4-5-6-7-8-9-10-11-12-13-501 0 ] 1
+domain,0,S-1-5-21-1-2-3-4-5-6-7-8-9-10-11-12-13-14,CORP,,1000|LsarLookupNames3|policy|LookNames,1,Guest\
+    |0 SidRefs [ 'CORP' S-1-5-21-1-2-3-4-5-6-7-8-9-10-11-12-13-14 ] [ 1 None 0 ] 1
+domain,0,S-1-5-18,CORP,,1000|LsarLookupNames3|policy|LookNames,1,SYSTEM,CORP,Guest\
+    |0 SidRefs [ 'NT AUTHORITY' S-1-5 'CORP' S-1-5-18 ] \
+    [ 5 Some S-1-5-18 0 3 Some S-1-5-18 1 1 Some S-1-5-18-501 1 ] 3
+|LsarLookupNames3|policy|LookNames,0,CORP|c000000d Nothing
+|LsarLookupNames3|policy|LookNames,8,CORP|c000000d Nothing
+|LsarLookupNames3|policy|LookNames,7,SYSTEM|0 SidRefs [ 'NT AUTHORITY' S-1-5 ] [ 5 Some S-1-5-18 0 ] 1
+user,0,1000,alice|LsarLookupNames2|policy|LookNames,1,alice,nobody,Everyone\
+    |107 Sids [ 'CORP' S-1-5-21-1-2-3 '' S-1-1 ] [ 1 1000 0 8 0 -1 5 0 1 ] 2
+|LsarLookupNames2|policy|LookNames,1,CORP,NT AUTHORITY\\SYSTEM,Administrators\
+    |0 Sids [ 'CORP' S-1-5-21-1-2-3 'NT AUTHORITY' S-1-5 'BUILTIN' S-1-5-32 ] [ 3 4294967295 0 5 18 1 4 544 2 ] 3
+|LsarLookupNames2|policy|LookNames,1,nobody|c0000073 Sids [ ] [ 8 0 -1 ] 0
+|LsarLookupNames2|policy|LookNames,1|0 Sids [ ] [ ] 0
+|LsarLookupNames2|policy|LookNames,0,CORP|c000000d Nothing
+|LsarLookupNames2|policy|LookNames,8,CORP|c000000d Nothing
+|LsarLookupNames2|policy|LookNames,7,Guest|0 Sids [ 'CORP' S-1-5-21-1-2-3 ] [ 1 501 0 ] 1
+|LsarLookupSids2|policy|LookSids,1,S-1-5-21-1-2-3-500,S-1-5-32-544,S-1-5-18,S-1-5-21-9-9-9-5,S-1-5-32\
+    |107 Names [ 'CORP' S-1-5-21-1-2-3 'BUILTIN' S-1-5-32 'NT AUTHORITY' S-1-5 ] \
+    [ 1 'Administrator' 0 4 'Administrators' 1 5 'SYSTEM' 2 8 'S-1-5-21-9-9-9-5' -1 3 'BUILTIN' 1 ] 4
+|LsarLookupSids2|policy|LookSids,1,S-1-1,S-1-1-0|107 Names [ '' S-1-1 ] [ 8 'S-1-1' -1 5 'Everyone' 0 ] 1
+|LsarLookupSids2|policy|LookSids,1,S-1-1|c0000073 Names [ ] [ 8 'S-1-1' -1 ] 0
+|LsarLookupSids2|policy|LookSids,1|0 Names [ ] [ ] 0
+|LsarLookupSids2|policy|LookSids,0,S-1-5-32|c000000d Nothing
+|LsarLookupSids2|policy|LookSids,8,S-1-5-32|c000000d Nothing
+|LsarLookupSids2|policy|LookSids,7,S-1-5-32|0 Names [ 'BUILTIN' S-1-5-32 ] [ 3 'BUILTIN' 0 ] 1";
+
 /// As many names and SIDs as one call may bring. Of the entries are told their number, the first and the last one.
 pub const LARGEST: &str = "\
 |LsarLookupNames|policy|LookNumbered,1,999,Guest\
     |107 [ 'CORP' S-1-5-21-1-2-3 ] 1000 [ 8 0 -1 ] [ 1 501 0 ] 1
 |LsarLookupNames|policy|LookNumbered,1,999,nobody|c0000073 [ ] 1000 [ 8 0 -1 ] [ 8 0 -1 ] 0
+|LsarLookupNames2|policy|LookNumbered,1,999,Guest\
+    |107 [ 'CORP' S-1-5-21-1-2-3 ] 1000 [ 8 0 -1 ] [ 1 501 0 ] 1
+|LsarLookupNames3|policy|LookNumbered,1,999,Guest\
+    |107 [ 'CORP' S-1-5-21-1-2-3 ] 1000 [ 8 None -1 ] [ 1 Some S-1-5-21-1-2-3-501 0 ] 1
+user,0,20480,last|LsarLookupSids2|policy|LookFirstSids,1,S-1-5-21-1-2-3,20480\
+    |107 [ 'CORP' S-1-5-21-1-2-3 ] 20480 [ 8 'S-1-5-21-1-2-3-1' -1 ] [ 1 'last' 0 ] 6
 user,0,20480,last|LsarLookupSids|policy|LookFirstSids,1,S-1-5-21-1-2-3,20480\
     |107 [ 'CORP' S-1-5-21-1-2-3 ] 20480 [ 8 'S-1-5-21-1-2-3-1' -1 ] [ 1 'last' 0 ] 6
 |LsarLookupSids|policy|LookFirstSids,1,S-1-5-32,20480\

@@ -14,7 +14,7 @@ use std::test::Fail;
 const NO_CHANGE: &str = "puts [ ] removes [ ] Nothing ";
 
 /// The names of structs that their field or their list tells already.
-const DROPPED: [&str; 11] = [
+const DROPPED: [&str; 12] = [
     "",
     "Seq",
     "RidName",
@@ -26,6 +26,7 @@ const DROPPED: [&str; 11] = [
     "ReferencedDomain",
     "TranslatedSid",
     "TranslatedName",
+    "SidRef",
 ];
 
 fn is_dropped(word: &str) -> bool {
@@ -96,6 +97,11 @@ pub fn tell_ends(alloc: Global, planned: &Planned) -> Result<String, Fail> {
             mapped,
         } => ends_text(alloc, status, domains, entries.as_slice(), *mapped)?,
         Outs::Names {
+            domains,
+            entries,
+            mapped,
+        } => ends_text(alloc, status, domains, entries.as_slice(), *mapped)?,
+        Outs::SidRefs {
             domains,
             entries,
             mapped,

@@ -3,16 +3,16 @@
 use crate::tests::files::{holds, make_folder};
 use acct_keeper::KeepError;
 use acct_links::{Door, Entrance, Link, Next, send};
-use host_doors::{HostDoor, HostEntrance, Socket};
+use host_doors::HostEntrance;
 use std::fs;
 use std::io::{self, Read, Write};
 use std::net::{TcpListener, TcpStream};
+use std::os::unix::fs::MetadataExt;
 use std::os::unix::net::{UnixListener, UnixStream};
-use std::sync::Arc;
 use std::test::Fail;
 
 // What came over the next link, which is answered and given back; else how the call ended.
-fn answered<D: Door>(door: &mut D) -> [u8; 3] {
+pub fn answered<D: Door>(door: &mut D) -> [u8; 3] {
     match door.next() {
         Next::Link(mut link) => {
             let mut heard = *b"---";
@@ -32,7 +32,7 @@ fn twice<D: Door>(door: &mut D) -> [[u8; 3]; 2] {
 }
 
 // What a door and its client hear of one another, and how many bytes come then.
-fn exchanged<D: Door, C: Read + Write>(
+pub fn exchanged<D: Door, C: Read + Write>(
     door: &mut D,
     client: &mut C,
 ) -> io::Result<([u8; 3], [u8; 3], usize)> {
@@ -98,6 +98,7 @@ fn are_served(rt: &HostRuntime, path: &str, workers: u32) -> Result<bool, Fail> 
 fn two_doors_in_a_folder(rt: HostRuntime) -> Result<(), Fail> {
     make_folder(&rt, "host_doors_two")?;
     assert!(rt; are_served(&rt, "host_doors_two/socket", 2)?);
+    assert!(rt; fs::metadata(&rt, "host_doors_two/socket")?.mode() & 0o777 == 0o660);
     fs::remove_dir_all(&rt, "host_doors_two")?;
     Ok(())
 }
@@ -193,21 +194,5 @@ fn a_port_that_is_in_use(rt: HostRuntime) -> Result<(), Fail> {
     assert!(rt;
         why.as_str().contains("(Address already in use (os error 98)); a program listens there")
     );
-    Ok(())
-}
-
-const NOT_TAKEN: &str =
-    "no connection was taken (Resource temporarily unavailable (os error 11)); raise the limit of open files if that \
-    was reached, and start again";
-
-#[test]
-fn a_connection_that_is_not_taken(rt: HostRuntime) -> Result<(), Fail> {
-    let listener = TcpListener::bind(&rt, "127.0.0.1:0")?;
-    listener.set_nonblocking(true)?;
-    let mut door = HostDoor::new(Arc::new(rt.alloc(), Socket::Tcp(listener))?, 0, 1);
-    assert!(rt; twice(&mut door) == [*b"bad", *b"bad"]);
-    let trouble = door.trouble().ok_or("no trouble")?;
-    let said = format!(in rt.alloc(); "{trouble}")?;
-    assert!(rt; said.as_str() == NOT_TAKEN);
     Ok(())
 }

@@ -1,11 +1,12 @@
 // Files that are made, changed and opened again, tables of another program, and files that are refused.
-use super::words::{SERVED, refusal, serve};
+use super::words::{SERVED, SPARE, refusal, serve};
 use crate::tests::files::{holds, make_folder};
 use crate::tests::words::split;
 use acct_keeper::KeepError;
 use keeper_sqlite::SqliteKeeper;
 use sqlite::{Alter, Connection, Error};
 use std::fs;
+use std::os::unix::fs::MetadataExt;
 use std::test::Fail;
 
 const SERVED_FOLDER: &str = "keeper_sqlite_served";
@@ -21,6 +22,12 @@ const NAME_TAKEN: &str = "CREATE TABLE other (key BLOB); CREATE INDEX pairs ON o
 const COMMITS_FOLDER: &str = "keeper_sqlite_commits";
 
 const COMMITS: &str = "keeper_sqlite_commits/accounts.db";
+
+const PRIVATE_FOLDER: &str = "keeper_sqlite_private";
+
+const PRIVATE: &str = "keeper_sqlite_private/accounts.db";
+
+const PRIVATE_LOG: &str = "keeper_sqlite_private/accounts.db-wal";
 
 // Each row: what another program did with the file before; what is done with it, each opening behind a slash; and what
 // is answered, for each opening its count of faults at the end. A file that is open is refused to who opens it again,
@@ -141,4 +148,57 @@ fn each_commit_stands_whole(rt: HostRuntime) -> Result<(), Fail> {
     make_folder(&rt, COMMITS_FOLDER)?;
     assert!(rt; numbers_are_kept(&rt)?);
     Ok(fs::remove_dir_all(&rt, COMMITS_FOLDER)?)
+}
+
+// A table that refuses long values, with two pairs, and another one, which lies where the first is looked for again.
+const BOUNDED: &str =
+    "CREATE TABLE pairs (key BLOB NOT NULL PRIMARY KEY, value BLOB NOT NULL CHECK (length(value) < 4)) STRICT; INSERT \
+    INTO pairs VALUES (x'61', x'31'), (x'63', x'33')";
+
+const OTHERS: &str =
+    "CREATE TABLE pairs (key BLOB NOT NULL PRIMARY KEY, value BLOB NOT NULL CHECK (length(value) < 4)) STRICT; INSERT \
+    INTO pairs VALUES (x'61', x'32'), (x'62', x'32'), (x'63', x'32'), (x'64', x'32')";
+
+// Each row: what is done with the first table, and what is answered. A commit fails, as a value is too long, and the
+// file is looked for again: where the two were swapped, the keys of that commit have the values of the first table
+// again, one that it hasn't is gone, and the others are the other table's. Where something else lies there, each call
+// fails until the file is back, and the keys are put back then.
+const TAKEN_BACK: &str =
+    "load swap a=2,b=long,b=2,-c load a=5 load|a=1;c=3; swapped Err(Failed) a=1;c=3;d=2; Ok(()) \
+    a=5;c=3;d=2; 1/
+swap a=1,d=long load|swapped Err(Failed) a=1;b=2;c=2; 1/
+swap spoil a=long load b=1 mend load b=1 load|swapped spoiled Err(Failed) Err(Failed) Err(Failed) mended \
+    a=1;b=2;c=2;d=2; Ok(()) a=1;b=1;c=2;d=2; 3/";
+
+fn make_two(rt: &HostRuntime) -> Result<(), Fail> {
+    make_folder(rt, SERVED_FOLDER)?;
+    make_table(rt, SERVED, BOUNDED)?;
+    make_table(rt, SPARE, OTHERS)
+}
+
+fn taken_back_is_right(rt: &HostRuntime, row: &str) -> Result<bool, Fail> {
+    let (words, wanted) = split(row, '|');
+    make_two(rt)?;
+    Ok(answers(rt, SERVED, words)?.as_str() == wanted)
+}
+
+#[test]
+fn a_commit_that_failed_is_taken_back(rt: HostRuntime) -> Result<(), Fail> {
+    for row in TAKEN_BACK.lines() {
+        assert!(rt; taken_back_is_right(&rt, row)?, "{row}");
+    }
+    Ok(fs::remove_dir_all(&rt, SERVED_FOLDER)?)
+}
+
+fn mode_of(rt: &HostRuntime, path: &str) -> Result<u32, Fail> {
+    Ok(fs::metadata(rt, path)?.mode() & 0o777)
+}
+
+#[test]
+fn a_new_file_is_its_owners_alone(rt: HostRuntime) -> Result<(), Fail> {
+    make_folder(&rt, PRIVATE_FOLDER)?;
+    assert!(rt; answers(&rt, PRIVATE, "a=1")?.as_str() == "Ok(()) 0/");
+    assert!(rt; mode_of(&rt, PRIVATE)? == 0o600);
+    assert!(rt; mode_of(&rt, PRIVATE_LOG)? == 0o600);
+    Ok(fs::remove_dir_all(&rt, PRIVATE_FOLDER)?)
 }

@@ -1,16 +1,24 @@
 // Keepers that are asked in words, and what they answer.
 //
 // A word is a load or a commit, and a commit its changes: a pair is put, or the one with the key behind the sign
-// removed. A sign stands for its byte, a star for a long key or value. Of a file there are two words more: it is opened
-// once again, and many numbers are committed.
+// removed. A sign stands for its byte, a star for a long key or value. Of a file there are more words: it is opened once
+// again, many numbers are committed, it is swapped with a spare one, and what lies at its path is no database and then
+// the file again.
 use crate::tests::words::split;
 use acct_base::Seq;
 use acct_keeper::{Change, KeepError, Keeper, Pair};
 use keeper_sqlite::SqliteKeeper;
 use std::alloc::{AllocError, Global};
 use std::fmt::{Debug, Display};
+use std::{fs, io};
 
 pub const SERVED: &str = "keeper_sqlite_served/accounts.db";
+
+const SERVED_LOG: &str = "keeper_sqlite_served/accounts.db-wal";
+
+pub const SPARE: &str = "keeper_sqlite_served/spare.db";
+
+const SPARE_LOG: &str = "keeper_sqlite_served/spare.db-wal";
 
 const COMMIT_COUNT: u16 = 300;
 
@@ -160,8 +168,32 @@ fn commit_numbers<K: Keeper>(alloc: Global, keeper: &mut K) -> Result<(), KeepEr
     Ok(())
 }
 
-// What a word has done: a load, a second opening of the file that is open, the commits of many numbers, or one of
-// changes.
+// The spare file and its log come to lie at the path of the other. A keeper that has that one open keeps it so.
+fn swap(rt: &HostRuntime) -> io::Result<&'static str> {
+    fs::rename(rt, SPARE, SERVED)?;
+    fs::rename(rt, SPARE_LOG, SERVED_LOG)?;
+    Ok("swapped")
+}
+
+// The file and its log are moved away, and something else lies there.
+fn spoil(rt: &HostRuntime) -> io::Result<&'static str> {
+    fs::rename(rt, SERVED, SPARE)?;
+    fs::rename(rt, SERVED_LOG, SPARE_LOG)?;
+    fs::write(rt, SERVED, "Buy milk.")?;
+    Ok("spoiled")
+}
+
+fn mend(rt: &HostRuntime) -> io::Result<&'static str> {
+    swap(rt)?;
+    Ok("mended")
+}
+
+fn move_files(told: &mut String, moved: io::Result<&str>) -> Result<(), AllocError> {
+    told.push_str(moved.unwrap_or("not moved"))
+}
+
+// What a word has done: a load, a second opening of the file that is open, the commits of many numbers, files that are
+// moved, or a commit of changes.
 fn act<K: Keeper>(
     rt: &HostRuntime,
     keeper: &mut K,
@@ -172,6 +204,9 @@ fn act<K: Keeper>(
         "load" => load(keeper, told),
         "again" => push_answer(told, &refusal(rt, SERVED)),
         "numbers" => push_answer(told, &commit_numbers(rt.alloc(), keeper)),
+        "swap" => move_files(told, swap(rt)),
+        "spoil" => move_files(told, spoil(rt)),
+        "mend" => move_files(told, mend(rt)),
         changes => commit(rt.alloc(), keeper, changes, told),
     }
 }

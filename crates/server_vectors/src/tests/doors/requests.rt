@@ -1,8 +1,8 @@
 // Requests of operations that are served, and of others.
 use crate::tests::lines::column;
 use acct_machine::{Call, Face};
-use acct_requests::read_request;
 use acct_stubs::WireError;
+use link_sessions::read_request;
 use std::alloc::Global;
 use std::process::Abort;
 use std::test::Fail;
@@ -22,7 +22,8 @@ samr|8|00|BadStub(0)
 samr|4|00|NotServed(4)
 samr|44|0000000018000000000000000000000000000000000000000000000000000002|NotServed(44)
 samr|0|0000000000000000000001000000000000000001|NotServed(0)
-lsa|57|0000000031000000|NotServed(57)
+lsa|58|0000000031000000|BadStub(8)
+lsa|62|0000000031000000|NotServed(62)
 lsa|1|0000000000000000000001000000000000000001|NotServed(1)
 lsa|15|00|BadStub(0)
 lsa|6|00|NotServed(6)";

@@ -94,3 +94,8 @@ pub fn configured(alloc: Global, limit: &str) -> Result<Config, Fail>
 pub fn word(words: &str) -> (&str, &str) {
     words.split_once(',').unwrap_or((words, ""))
 }
+
+/// The front of a text up to a sign, and what is behind the sign.
+pub fn split(text: &str, sign: char) -> (&str, &str) {
+    text.split_once(sign).unwrap_or((text, ""))
+}

@@ -1,5 +1,5 @@
 // The usage text, whole.
-use account_usage::usage;
+use account_words::usage;
 use std::test::Fail;
 
 const USAGE: &str = "\

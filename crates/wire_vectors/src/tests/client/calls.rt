@@ -1,12 +1,12 @@
 // Calls over links in memory: the command `domains`.
 ghost use Rattle.std.specs.Prelude.{◌≤◌, IfOk, None, false, vec_len};
-ghost use Rattle.client_calls.specs.Talks.{IsBegun};
+ghost use Rattle.client_link.specs.Talks.{IsBegun};
 
 use super::digits::words_of;
 use acct_client::Asker;
 use acct_links::{Caller, Failed, Link, MemoryCaller, MemoryLink, SteadyCaller, SteadyLink};
 use acct_streams::MemorySink;
-use client_calls::{Called, TalkEnd, call};
+use client_link::{Called, TalkEnd, call};
 use std::alloc::Global;
 use std::test::Fail;
 

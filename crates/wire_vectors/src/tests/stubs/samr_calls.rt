@@ -281,6 +281,29 @@ Nothing
 SAMBA
 IMPACKET
 
+40 SamrQueryDisplayInformation, the users
+Display 1 0 10 65535
+4422111111112..444
+SAMBA 01000000 00000000 0a000000 ffff0000
+IMPACKET 0100bfbf 00000000 0a000000 ffff0000
+
+40 SamrQueryDisplayInformation, groups behind the second
+Display 3 2 1000 4096
+4422111111112..444
+SAMBA 03000000 02000000 e8030000 00100000
+IMPACKET 0300bfbf 02000000 e8030000 00100000
+
+40 SamrQueryDisplayInformation, of the machines, without a limit
+Display 2 0 4294967295 4294967295
+4422111111112..444
+SAMBA 02000000 00000000 ffffffff ffffffff
+IMPACKET 0200bfbf 00000000 ffffffff ffffffff
+
+40 SamrQueryDisplayInformation, of no class
+Display 65535 1 2 3
+4422111111112..444
+SAMBA ffff0000 01000000 02000000 03000000
+
 46 SamrQueryInformationDomain2
 Class 5
 4422111111112

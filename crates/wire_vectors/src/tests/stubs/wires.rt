@@ -136,6 +136,7 @@ fn refer_nowhere(outs: &Outs) -> bool
     match outs {
         Outs::Sids { domains, .. } => domains.as_slice().is_empty(),
         Outs::Names { domains, .. } => domains.as_slice().is_empty(),
+        Outs::SidRefs { domains, .. } => domains.as_slice().is_empty(),
         _ => true,
     }
 }

@@ -13,7 +13,7 @@ use dtyp_sid::{Sid, parse_text};
 use std::alloc::Global;
 use std::test::Fail;
 
-fn sid_of(word: &str) -> Result<Sid, Fail> {
+pub fn sid_of(word: &str) -> Result<Sid, Fail> {
     let text = match word {
         "WD" => "S-1-1-0",
         "SY" => "S-1-5-18",
@@ -51,7 +51,7 @@ fn ace_of(text: &str) -> Result<Ace, Fail> {
 }
 
 /// A list of entries, or none for a dash.
-fn acl_of(alloc: Global, text: &str) -> Result<Option<Acl>, Fail> {
+pub fn acl_of(alloc: Global, text: &str) -> Result<Option<Acl>, Fail> {
     if text == "-" {
         return Ok(None);
     }
@@ -63,7 +63,7 @@ fn acl_of(alloc: Global, text: &str) -> Result<Option<Acl>, Fail> {
 }
 
 /// A descriptor, as owner, group and entries.
-fn descriptor_of(alloc: Global, text: &str) -> Result<Descriptor, Fail> {
+pub fn descriptor_of(alloc: Global, text: &str) -> Result<Descriptor, Fail> {
     let (owner, others) = cut(text, '|');
     let (group, aces) = cut(others, '|');
     let group = if group == "-" {
@@ -198,7 +198,7 @@ fn rights_are_granted(rt: HostRuntime) -> Result<(), Fail> {
 }
 
 /// The bytes in hexadecimal digits.
-fn bytes_of(alloc: Global, text: &str) -> Result<Vec<u8>, Fail> {
+pub fn bytes_of(alloc: Global, text: &str) -> Result<Vec<u8>, Fail> {
     let mut bytes = Vec::new(alloc);
     let mut high: Option<u8> = None;
     for letter in text.bytes() {
@@ -240,7 +240,7 @@ const AUDITED: &str =
 /// `O:SY`.
 const NO_LIST: &str = "01000080 14000000 00000000 00000000 00000000 01010000 00000005 12000000";
 
-fn are_equal(left: &Descriptor, right: &Descriptor) -> bool {
+pub fn are_equal(left: &Descriptor, right: &Descriptor) -> bool {
     let lists = match (&left.acl, &right.acl) {
         (None, None) => true,
         (Some(left), Some(right)) => left.aces() == right.aces(),
@@ -262,7 +262,7 @@ fn is_read(alloc: Global, bytes: &[u8], text: &str) -> Result<bool, Fail> {
 }
 
 fn writes(alloc: Global, d: &Descriptor, bytes: &[u8]) -> Result<bool, Fail> {
-    if !has_few_aces(d) {
+    if !has_few_aces(&d.acl) {
         return Ok(false);
     }
     Ok(write_descriptor(alloc, d)?.as_slice() == bytes)
@@ -358,7 +358,7 @@ fn allowing(mask: u32, sid: Sid) -> Ace {
 }
 
 /// Entries that allow a SID 0, 1, 2 and so on.
-fn long_acl(alloc: Global, sid: Sid, count: u32) -> Result<Acl, Fail> {
+pub fn long_acl(alloc: Global, sid: Sid, count: u32) -> Result<Acl, Fail> {
     let mut aces = Vec::new(alloc);
     for mask in 0..count {
         aces.push(allowing(mask, sid))?;
@@ -378,7 +378,7 @@ fn long_list(alloc: Global, count: u32) -> Result<Descriptor, Fail> {
 
 /// The number of bytes that the descriptor is written in, where it is read back.
 fn written_length(alloc: Global, d: &Descriptor) -> Result<usize, Fail> {
-    if !has_few_aces(d) {
+    if !has_few_aces(&d.acl) {
         return Ok(0);
     }
     let bytes = write_descriptor(alloc, d)?;
@@ -461,7 +461,9 @@ fn laws_do_nothing() {
     laws::grants_are_valid();
     laws::maximum_grants_all();
     laws::nothing_is_granted();
+    laws::read_parts_spell();
     laws::read_bytes_spell();
     laws::written_bytes_spell();
+    laws::written_parts_are_read();
     laws::written_bytes_are_read();
 }

@@ -1,6 +1,6 @@
 // The generator against lines that are written from the layouts.
-use super::generated_lines::{FIRST_LINES, LAST_LINES, SECOND_USER};
-use acct_generator::generated;
+use super::lines::{FIRST_LINES, LAST_LINES, SECOND_USER};
+use acct_commands::generated;
 use std::test::Fail;
 
 #[test]

@@ -4,11 +4,11 @@ ghost use Rattle.acct_config.specs.Right.{IsRight};
 ghost use Rattle.acct_links.specs.Links.{IsNew};
 ghost use Rattle.acct_links.specs.Memory.{told_by_steady};
 
-use crate::tests::words::split;
+use super::words::split;
 use acct_base::Seq;
 use acct_config::{Config, read_config};
 use acct_links::{Asking, Door, DoorPlan, Link, MemoryEntrance, Next, SteadyLink};
-use listener_doors::open_doors;
+use door_workers::open_doors;
 use std::alloc::Global;
 use std::test::Fail;
 

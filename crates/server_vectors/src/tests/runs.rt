@@ -1,0 +1,10 @@
+// Rows of runs of the program, as texts: lines of events and lines that are written, by their names, and the runs.
+pub mod accounts;
+pub mod later;
+pub mod limits;
+pub mod names;
+pub mod objects;
+pub mod rights;
+pub mod several;
+pub mod stores;
+pub mod tables;
