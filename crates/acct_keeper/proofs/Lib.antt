@@ -1,3 +1,4 @@
+pub mod Bytes
 mod Halving
 mod Neighbours
 mod Ordered

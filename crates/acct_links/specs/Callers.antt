@@ -1,6 +1,6 @@
 -- When a part of the outside isn't handed out, and which addresses a caller has given links for.
-use Rattle.std.specs.Prelude.{ℕ, List, [], ◌∷◌, ◌++◌, Option, option_map, Result, Ok, Err}
-use Rattle.acct_streams.specs.Causes.{Rose}
+use Rattle.std.specs.Prelude.{ℕ, Bool, true, false, List, [], ◌∷◌, ◌++◌, Option, option_map, Result, Ok, Err}
+use Rattle.acct_keeper.specs.Causes.{Rose}
 use Rattle.acct_links.specs.declared.callers.TakeError.{TakeError}
 use Rattle.acct_links.specs.declared.callers.TakeError.TheVariants.{Failed, NoMemory}
 
@@ -8,6 +8,11 @@ use Rattle.acct_links.specs.declared.callers.TakeError.TheVariants.{Failed, NoMe
 abbrev pub TakeCause : ℕ → ℕ → TakeError → Type 0
 TakeCause before now Failed = Rose before now
 TakeCause before now NoMemory = Unit {0}
+
+abbrev pub is_fault : {T : Type 0} → Result T TakeError → Bool
+is_fault (Ok x) = false
+is_fault (Err Failed) = true
+is_fault (Err NoMemory) = false
 
 -- an address more
 abbrev pub with_address : List ℕ → Option (List (List ℕ)) → Option (List (List ℕ))

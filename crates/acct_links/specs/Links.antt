@@ -1,9 +1,10 @@
 -- What a link tells, and what its reads and writes do to it.
-use Rattle.std.specs.Prelude.{◌≡◌, ℕ, ◌≤◌, ◌||◌, ◌⊎◌, Bool, false, List, [], take, Option, IfSome}
+use Rattle.std.specs.Prelude.{◌≡◌, ℕ, ◌≤◌, ◌||◌, ◌⊎◌, Bool, false, List, [], take, Option, IfSome, is_err}
 use Rattle.std.specs.declared.result.Result.{Result}
 use Rattle.std.specs.Io.KnownBytes.{Appends, WriteAppends, ReadConsumes}
-use Rattle.acct_streams.specs.Causes.{HasCause, Rose}
-use Rattle.acct_streams.specs.Ends.{answers_end}
+use Rattle.acct_keeper.specs.Causes.{HasCause, Rose}
+use Rattle.acct_keeper.specs.Counts.{faults_after}
+use Rattle.acct_keeper.specs.Ends.{answers_end}
 
 -- The bytes that were read, those that are left and those that were written, where they are told; whether a read has
 -- answered the end; and how many reads and how many writes have failed.
@@ -21,6 +22,7 @@ pub record Reads {E : Type 0} (old new : Told) (result : Result ℕ E) (buffer :
   pub left : ReadConsumes old.left new.left result buffer
   pub ended : new.ended ≡ (old.ended || answers_end result buffer)
   pub cause : HasCause old.read_faults new.read_faults result
+  pub count : new.read_faults ≡ faults_after (is_err result) old.read_faults
   pub sent : new.sent ≡ old.sent
   pub write_faults : new.write_faults ≡ old.write_faults
 
@@ -28,6 +30,7 @@ pub record Reads {E : Type 0} (old new : Told) (result : Result ℕ E) (buffer :
 pub record Writes {E : Type 0} (old new : Told) (result : Result ℕ E) (bytes : List ℕ) : Type 0 where
   pub sent : WriteAppends old.sent new.sent result bytes
   pub cause : HasCause old.write_faults new.write_faults result
+  pub count : new.write_faults ≡ faults_after (is_err result) old.write_faults
   pub received : new.received ≡ old.received
   pub left : new.left ≡ old.left
   pub ended : new.ended ≡ old.ended
@@ -47,6 +50,11 @@ pub record SendsFront (old new : Told) (bytes : List ℕ) : Type 0 where
   pub count : ℕ
   pub sends : Sends old new (take count bytes)
   pub failed : Rose old.write_faults new.write_faults
+
+-- whether a read failed, whether a write did, and that no further one did
+pub record FaultsAre (read write : Bool) (old new : Told) : Type 0 where
+  pub reads : new.read_faults ≡ faults_after read old.read_faults
+  pub writes : new.write_faults ≡ faults_after write old.write_faults
 
 -- nothing was read or written, and no read has answered the end
 pub record IsNew (told : Told) : Type 0 where

@@ -1,9 +1,10 @@
 -- What links and callers in memory show, and which of their calls fail.
-use Rattle.std.specs.Prelude.{◌≡◌, ℕ, ◌-◌, ◌==◌, ◌||◌, Bool, true, false, List, [], ◌∷◌, length, nat_lt, is_err}
-use Rattle.std.specs.Prelude.{Some, None, Result, Ok, Err, IfOk, OnErr, if◌then◌else◌}
-use Rattle.acct_streams.specs.Memory.{one_more, is_among}
+use Rattle.std.specs.Prelude.{◌≡◌, ℕ, ◌-◌, ◌==◌, ◌||◌, Bool, false, List, [], ◌∷◌, length, nat_lt, is_err}
+use Rattle.std.specs.Prelude.{Some, None, Result, IfOk, OnErr}
+use Rattle.acct_keeper.specs.Counts.{one_more, faults_after}
+use Rattle.acct_keeper.specs.Memory.{is_among}
 use Rattle.acct_links.specs.declared.callers.TakeError.{TakeError}
-use Rattle.acct_links.specs.declared.callers.TakeError.TheVariants.{Failed, NoMemory}
+use Rattle.acct_links.specs.Callers.{is_fault}
 use Rattle.acct_links.specs.Links.{Told}
 
 -- ---- links
@@ -46,10 +47,6 @@ told_by link = record {
   write_faults = link.write_faults;
 }
 
--- a count of faults after a call
-abbrev pub faults_after : Bool → ℕ → ℕ
-faults_after has_failed count = if has_failed then one_more count else count
-
 -- the next call is one of those that fail
 abbrev pub next_fails : List ℕ → ℕ → Bool
 next_fails failing calls = is_among failing (one_more calls)
@@ -74,11 +71,6 @@ pub record WritesInMemory {E : Type 0} (old new : LinkInMemory) (bytes : List �
   pub count : new.write_faults ≡ faults_after (is_err result) old.write_faults
 
 -- ---- callers
-
-abbrev pub is_fault : {T : Type 0} → Result T TakeError → Bool
-is_fault (Ok x) = false
-is_fault (Err Failed) = true
-is_fault (Err NoMemory) = false
 
 -- the links that it will give, in order, the addresses for which it gave one, how many calls have failed, how many were
 -- made, and the numbers of those that fail

@@ -1,6 +1,7 @@
 // What gives links by their addresses.
 ghost use Rattle.std.specs.Prelude.{◌≡◌, ◌≤◌, ℕ, List, Option, IfOk, IfErr};
-ghost use Rattle.acct_links.specs.Callers.{TakeCause, called_after};
+ghost use Rattle.acct_keeper.specs.Counts.{faults_after};
+ghost use Rattle.acct_links.specs.Callers.{TakeCause, called_after, is_fault};
 ghost use Rattle.acct_links.specs.Links.{IsNew};
 ghost use Rattle.acct_links.specs.declared.callers.TakeError.TheVariants.{NoMemory};
 
@@ -43,5 +44,6 @@ pub trait Caller {
         ensures new { IfOk result (λ link. IsNew (Self.L.told link)) }
         ensures called { called self.new ≡ called_after (called self.old) address.now result }
         ensures cause { IfErr result (TakeCause (faults self.old) (faults self.new)) }
-        ensures later { faults self.old ≤ faults self.new };
+        ensures later { faults self.old ≤ faults self.new }
+        ensures count { faults self.new ≡ faults_after (is_fault result) (faults self.old) };
 }

@@ -1,6 +1,7 @@
 // What gives links one after another.
 ghost use Rattle.std.specs.Prelude.{◌≡◌, ◌≤◌, ◌||◌, ℕ, Bool, true, List, Option, All, IfSome};
-ghost use Rattle.acct_streams.specs.Causes.{Rose};
+ghost use Rattle.acct_keeper.specs.Causes.{Rose};
+ghost use Rattle.acct_keeper.specs.Counts.{faults_after};
 ghost use Rattle.acct_links.specs.Doors.{IfLink, GivesNext, is_closed, is_failed, with_finished};
 ghost use Rattle.acct_links.specs.Links.{IsNew};
 
@@ -52,7 +53,8 @@ pub trait Door {
         ensures finished { finished self.new ≡ finished self.old }
         ensures listener { listener self.new ≡ listener self.old }
         ensures cause { is_failed result ≡ true → Rose (faults self.old) (faults self.new) }
-        ensures later { faults self.old ≤ faults self.new };
+        ensures later { faults self.old ≤ faults self.new }
+        ensures count { faults self.new ≡ faults_after (is_failed result) (faults self.old) };
 
     /// Takes a link back that served a connection.
     fn finish(&mut self, conn: u32, link: Self::L)

@@ -1,6 +1,8 @@
 // What gives the doors of a listener.
 ghost use Rattle.std.specs.Prelude.{◌≡◌, ◌≤◌, ℕ, [], false, List, Option, All, IfOk, IfErr, IfSome, length};
 ghost use Rattle.acct_keeper.specs.Causes.{KeepCause};
+ghost use Rattle.acct_keeper.specs.Counts.{faults_after};
+ghost use Rattle.acct_keeper.specs.Memory.{is_fault};
 ghost use Rattle.acct_links.specs.Doors.{asked_after};
 ghost use Rattle.acct_links.specs.declared.asking.Asking.{Asking};
 
@@ -35,5 +37,6 @@ pub trait Entrance {
         ensures asked { asked self.new ≡ asked_after (asked self.old)
             (record { listener = listener; address = address.now; workers = workers; links = links }) result }
         ensures cause { IfErr result (KeepCause (faults self.old) (faults self.new)) }
-        ensures later { faults self.old ≤ faults self.new };
+        ensures later { faults self.old ≤ faults self.new }
+        ensures faults { faults self.new ≡ faults_after (is_fault result) (faults self.old) };
 }

@@ -1,10 +1,10 @@
 // A connection's bytes in both directions.
-ghost use Rattle.std.specs.Prelude.{◌<◌, length, IfOk, OnOk, OnErr};
+ghost use Rattle.std.specs.Prelude.{◌<◌, false, length, IfOk, OnOk, OnErr, is_err};
 ghost use Rattle.std.specs.Io.{ReadsAtMost, WritesAtMost};
-ghost use Rattle.acct_links.specs.Links.{Told, Reads, Writes, Sends, SendsFront};
+ghost use Rattle.acct_links.specs.Links.{Told, Reads, Writes, Sends, SendsFront, FaultsAre};
 
 use acct_base::rest_of;
-use acct_streams::Failed;
+use acct_keeper::Failed;
 
 /// A connection's bytes in both directions. A link in memory tells them, a real one doesn't.
 pub trait Link {
@@ -29,6 +29,7 @@ pub trait Link {
 pub fn send<L: Link>(link: &mut L, bytes: &[u8]) -> Result<(), Failed>
     ensures ok { OnOk result (Sends (L.told link.old) (L.told link.new) bytes.now) }
     ensures err { OnErr result (SendsFront (L.told link.old) (L.told link.new) bytes.now) }
+    ensures faults { FaultsAre false (is_err result) (L.told link.old) (L.told link.new) }
 {
     let mut at = 0;
     while at < bytes.len() {

@@ -1,7 +1,7 @@
 // Callers in memory.
 ghost use Rattle.std.specs.Prelude.{◌≡◌, ◌<◌, ◌≤◌, ◌||◌, ◌==◌, [], ◌∷◌, ◌++◌, All, length};
 ghost use Rattle.std.specs.Prelude.{Some, IfOk, IfErr, OnOk, OnErr};
-ghost use Rattle.acct_streams.specs.Memory.{is_among};
+ghost use Rattle.acct_keeper.specs.Memory.{is_among};
 ghost use Rattle.acct_links.specs.Callers.{TakeCause, called_after};
 ghost use Rattle.acct_links.specs.declared.callers.TakeError.TheVariants.{NoMemory};
 ghost use Rattle.acct_links.specs.Links.{IsNew};
@@ -11,7 +11,7 @@ use crate::callers::{Caller, TakeError};
 use crate::links::Link;
 use crate::memory_links::SteadyLink;
 use acct_base::Seq;
-use acct_streams::one_more;
+use acct_keeper::one_more;
 use std::alloc::{AllocError, Global};
 use std::collections::VecDeque;
 use std::marker::Model;

@@ -1,14 +1,14 @@
 // Doors in memory.
 ghost use Rattle.std.specs.Prelude.{◌≡◌, ◌+◌, ◌<◌, ◌≤◌, ◌||◌, ◌==◌, ◌∷◌, ◌++◌};
 ghost use Rattle.std.specs.Prelude.{[], All, Some, true, false, length, IfOk};
-ghost use Rattle.acct_streams.specs.Causes.{Rose};
+ghost use Rattle.acct_keeper.specs.Causes.{Rose};
 ghost use Rattle.acct_links.specs.Doors.{IfLink, GivesFirst, is_closed, is_failed};
 ghost use Rattle.acct_links.specs.Links.{IsNew};
 ghost use Rattle.acct_links.specs.MemoryDoors.{Lends, NextInMemory, opened};
 
 use crate::doors::{Door, Next};
 use crate::links::Link;
-use acct_streams::one_more;
+use acct_keeper::one_more;
 use std::alloc::{AllocError, Global};
 use std::collections::VecDeque;
 use std::marker::Model;

@@ -6,7 +6,7 @@ ghost use Rattle.acct_links.specs.Memory.{told_by_steady, told_by, ReadsInMemory
 
 use crate::links::Link;
 use acct_base::rest_of;
-use acct_streams::{Failed, copy_front, one_more};
+use acct_keeper::{Failed, copy_front, one_more};
 use std::alloc::{AllocError, Global};
 use std::marker::Model;
 

@@ -1,5 +1,5 @@
 -- What `send` has written so far is a front of the bytes, and each write of the link adds a piece of the rest.
-use Rattle.std.proofs.Common.{◌≡◌, take, drop, List, ℕ, arith, subst}
+use Rattle.std.proofs.Common.{◌≡◌, ◌∙◌, take, drop, List, ℕ, arith, subst}
 use Rattle.acct_links.specs.Links.{Sends}
 use Rattle.acct_links.proofs.Sending.{Sends-then, Sends-written, take-more}
 use Rattle.acct_links.proofs.links.send.Goals as goal
@@ -18,4 +18,5 @@ loop-at-preserved g c =
       within = omega (arith, c.in_ok-at.ensures.bound, c.rest_of.ensures.length);
       sends = rw take-more (Sends-then (t.told c.args.link.now) now new (take c.loop-at.at c.args.bytes.now)
           (take n (drop c.loop-at.at c.args.bytes.now)) c.loop-at.invariant.sends piece);
+      faults = c.in_ok-at.ensures.writes.count ∙ c.loop-at.invariant.faults;
     }

@@ -1,5 +1,5 @@
--- The bytes in front of the cursor were written to the link, and nothing was read from it.
-use Rattle.std.proofs.Common.{◌≤◌, ◌-◌, length, take}
+-- The bytes before the cursor were written to the link, nothing was read from it, and no write failed.
+use Rattle.std.proofs.Common.{◌≡◌, ◌≤◌, ◌-◌, length, take}
 use Rattle.acct_links.specs.Links.{Sends}
 use Rattle.acct_links.proofs.links.send.Given as goal
 
@@ -9,6 +9,7 @@ invariant-loop-at g l =
     record {
       within : l.at ≤ length l.bytes;
       sends : Sends (t.told l.initial.link) (t.told l.link) (take l.at l.bytes);
+      faults : (t.told l.link).write_faults ≡ (t.told l.initial.link).write_faults;
     }
 
 abbrev pub decreases-loop-at : goal.decreases-loop-at

@@ -27,6 +27,7 @@ returns-clause-reads c =
       );
       ended = search rules;
       cause = record { later = omega arith; failed = tt };
+      count = refl;
       sent = refl;
       write_faults = refl;
     }

@@ -1,8 +1,8 @@
 -- Each read takes a front of the bytes left; 0 bytes into a buffer with room mean that none were left.
 use Rattle.std.proofs.Common.{◌≡◌, List, ℕ, drop, sym, ap, ◌∙◌, ◌++◌, ◌+◌}
-use Rattle.acct_streams.specs.Memory.{SteadyInMemory}
-use Rattle.acct_streams.proofs.Bytes.{read-splits, none-behind}
-use Rattle.acct_streams.proofs.memory.SteadySourceSource.read.Goals as goal
+use Rattle.acct_keeper.specs.Memory.{SteadyInMemory}
+use Rattle.acct_keeper.proofs.Bytes.{read-splits, none-behind}
+use Rattle.acct_keeper.proofs.memory_streams.SteadySourceSource.read.Goals as goal
 
 pub returns-clause-bytes : goal.returns-clause-bytes
 returns-clause-bytes c =

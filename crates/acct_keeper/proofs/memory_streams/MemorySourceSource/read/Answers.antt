@@ -1,8 +1,8 @@
 -- A read that doesn't fail takes a front of the bytes left; 0 bytes into a buffer with room mean that none were left.
 use Rattle.std.proofs.Common.{◌≡◌, List, ℕ, drop, sym, ap, ◌∙◌, ◌++◌, ◌+◌}
-use Rattle.acct_streams.specs.Memory.{SourceInMemory}
-use Rattle.acct_streams.proofs.Bytes.{read-splits, none-behind}
-use Rattle.acct_streams.proofs.memory.MemorySourceSource.read.Goals as goal
+use Rattle.acct_keeper.specs.Memory.{SourceInMemory}
+use Rattle.acct_keeper.proofs.Bytes.{read-splits, none-behind}
+use Rattle.acct_keeper.proofs.memory_streams.MemorySourceSource.read.Goals as goal
 
 pub returns-clause-bytes : goal.returns-clause-bytes
 returns-clause-bytes c =

@@ -1,9 +1,10 @@
 -- What reading a source to its end gives.
-use Rattle.std.specs.Prelude.{◌≡◌, ℕ, ◌<◌, ◌≤◌, List, length, IfSome}
+use Rattle.std.specs.Prelude.{◌≡◌, ℕ, ◌<◌, ◌≤◌, List, length, IfSome, Result, Ok, Err}
 use Rattle.std.specs.declared.option.Option.{Option}
-use Rattle.acct_streams.specs.declared.whole.WholeError.{WholeError}
-use Rattle.acct_streams.specs.declared.whole.WholeError.TheVariants.{Fault, TooLong, Memory}
-use Rattle.acct_streams.specs.Causes.{Rose}
+use Rattle.acct_keeper.specs.declared.whole.WholeError.{WholeError}
+use Rattle.acct_keeper.specs.declared.whole.WholeError.TheVariants.{Fault, TooLong, Memory}
+use Rattle.acct_keeper.specs.Causes.{Rose}
+use Rattle.acct_keeper.specs.Counts.{one_more}
 
 -- how many bytes a configuration or an event file may have
 abbrev pub most_bytes : ℕ
@@ -19,3 +20,10 @@ WholeCause left before now Memory = Unit {0}
 pub record IsWhole (left : Option (List ℕ)) (whole : List ℕ) : Type 0 where
   pub within : length whole ≤ most_bytes
   pub all : IfSome left (λ bytes. whole ≡ bytes)
+
+-- the source's count of faults after it: one more where a read failed, and else as it was
+abbrev pub counted_whole : {T : Type 0} → ℕ → Result T WholeError → ℕ
+counted_whole count (Ok whole) = count
+counted_whole count (Err Fault) = one_more count
+counted_whole count (Err TooLong) = count
+counted_whole count (Err Memory) = count

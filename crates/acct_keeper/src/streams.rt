@@ -1,10 +1,11 @@
 // What the server reads from and writes to.
-ghost use Rattle.std.specs.Prelude.{◌≡◌, ◌<◌, ◌||◌, Bool, List, ℕ, length, IfOk};
+ghost use Rattle.std.specs.Prelude.{◌≡◌, ◌<◌, ◌||◌, Bool, List, ℕ, length, is_err, IfOk};
 ghost use Rattle.std.specs.declared.option.Option.{Option};
 ghost use Rattle.std.specs.Io.{ReadsAtMost, WritesAtMost};
 ghost use Rattle.std.specs.Io.KnownBytes.{ReadConsumes, WriteAppends};
-ghost use Rattle.acct_streams.specs.Causes.{HasCause};
-ghost use Rattle.acct_streams.specs.Ends.{answers_end};
+ghost use Rattle.acct_keeper.specs.Causes.{HasCause};
+ghost use Rattle.acct_keeper.specs.Counts.{faults_after};
+ghost use Rattle.acct_keeper.specs.Ends.{answers_end};
 
 use thiserror::Error;
 
@@ -30,7 +31,8 @@ pub trait Source {
         ensures bound { ReadsAtMost result buf.new }
         ensures bytes { ReadConsumes (left self.old) (left self.new) result buf.new }
         ensures end { ended self.new ≡ (ended self.old || answers_end result buf.new) }
-        ensures cause { HasCause (faults self.old) (faults self.new) result };
+        ensures cause { HasCause (faults self.old) (faults self.new) result }
+        ensures count { faults self.new ≡ faults_after (is_err result) (faults self.old) };
 }
 
 /// Where bytes go. A sink in memory tells what it holds, a real one doesn't.
@@ -47,5 +49,6 @@ pub trait Sink {
         ensures bound { WritesAtMost result bytes.now }
         ensures some { IfOk result (λ n. 0 < length bytes.now → 0 < n) }
         ensures bytes { WriteAppends (held self.old) (held self.new) result bytes.now }
-        ensures cause { HasCause (faults self.old) (faults self.new) result };
+        ensures cause { HasCause (faults self.old) (faults self.new) result }
+        ensures count { faults self.new ≡ faults_after (is_err result) (faults self.old) };
 }

@@ -1,7 +1,7 @@
--- The bytes in front of the cursor were added to what the sink has, and its count of faults didn't fall.
-use Rattle.std.proofs.Common.{◌≤◌, ◌-◌, length, take}
+-- The bytes before the cursor were added to what the sink has, and no write failed.
+use Rattle.std.proofs.Common.{◌≡◌, ◌≤◌, ◌-◌, length, take}
 use Rattle.std.specs.Io.KnownBytes.{Appends}
-use Rattle.acct_streams.proofs.writing.write_all.Given as goal
+use Rattle.acct_keeper.proofs.writing.write_all.Given as goal
 
 abbrev pub invariant-loop-at : goal.invariant-loop-at
 invariant-loop-at g l =
@@ -9,7 +9,7 @@ invariant-loop-at g l =
     record {
       within : l.at ≤ length l.bytes;
       held : Appends (t.held l.initial.out) (t.held l.out) (take l.at l.bytes);
-      later : t.faults l.initial.out ≤ t.faults l.out;
+      faults : t.faults l.out ≡ t.faults l.initial.out;
     }
 
 abbrev pub decreases-loop-at : goal.decreases-loop-at

@@ -1,8 +1,8 @@
 -- What the sink took so far is the front of the bytes up to the place reached, one piece behind the other.
-use Rattle.std.proofs.Common.{◌≡◌, take, drop, List, ℕ, arith, subst}
+use Rattle.std.proofs.Common.{◌≡◌, ◌∙◌, take, drop, List, ℕ, arith, subst}
 use Rattle.std.specs.Io.KnownBytes.{Appends}
-use Rattle.acct_streams.proofs.Bytes.{Appends-then, take-more}
-use Rattle.acct_streams.proofs.writing.write_all.Goals as goal
+use Rattle.acct_keeper.proofs.Bytes.{Appends-then, take-more}
+use Rattle.acct_keeper.proofs.writing.write_all.Goals as goal
 
 pub loop-at-preserved : goal.loop-at-preserved
 loop-at-preserved g c = record {
@@ -17,5 +17,5 @@ loop-at-preserved g c = record {
       rw take-more (Appends-then (t.held c.args.out.now) (t.held c.loop-at.out) (t.held c.write.new.self)
       (take c.loop-at.at c.args.bytes.now) (take c.in_ok-at.field-0 (drop c.loop-at.at c.args.bytes.now))
       c.loop-at.invariant.held piece);
-  later = omega (arith, c.write.ensures.cause.later);
+  faults = c.in_ok-at.ensures.count ∙ c.loop-at.invariant.faults;
 }

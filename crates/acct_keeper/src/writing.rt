@@ -1,7 +1,8 @@
 // Writing to a sink.
-ghost use Rattle.std.specs.Prelude.{◌≡◌, take, ℕ, OnOk, OnErr};
+ghost use Rattle.std.specs.Prelude.{◌≡◌, take, ℕ, is_err, OnOk, OnErr};
 ghost use Rattle.std.specs.Io.KnownBytes.{Appends};
-ghost use Rattle.acct_streams.specs.Causes.{HasCause};
+ghost use Rattle.acct_keeper.specs.Causes.{HasCause};
+ghost use Rattle.acct_keeper.specs.Counts.{faults_after};
 
 use crate::{Failed, Sink};
 use acct_base::rest_of;
@@ -11,6 +12,7 @@ pub fn write_all<T: Sink>(out: &mut T, bytes: &[u8]) -> Result<(), Failed>
     ensures ok { OnOk result (Appends (T.held out.old) (T.held out.new) bytes.now) }
     ensures err { OnErr result ((n : ℕ) × Appends (T.held out.old) (T.held out.new) (take n bytes.now)) }
     ensures cause { HasCause (T.faults out.old) (T.faults out.new) result }
+    ensures count { T.faults out.new ≡ faults_after (is_err result) (T.faults out.old) }
 {
     let mut at = 0;
     while at < bytes.len() {

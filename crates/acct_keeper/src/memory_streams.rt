@@ -1,10 +1,11 @@
-// A source and a sink in memory.
-ghost use Rattle.std.specs.Prelude.{◌≡◌, ◌+◌, ◌-◌, ◌^◌, ◌<◌, ◌≤◌, ◌||◌, [], length, take, min, false, Some, None, IfOk};
+// Sources and sinks in memory.
+ghost use Rattle.std.specs.Prelude.{◌≡◌, ◌+◌, ◌-◌, ◌^◌, ◌<◌, ◌≤◌, ◌||◌, [], length, take, min, false, is_err, Some, None, IfOk};
 ghost use Rattle.std.specs.Io.{ReadsAtMost, WritesAtMost};
 ghost use Rattle.std.specs.Io.KnownBytes.{ReadConsumes, WriteAppends};
-ghost use Rattle.acct_streams.specs.Causes.{HasCause};
-ghost use Rattle.acct_streams.specs.Ends.{answers_end};
-ghost use Rattle.acct_streams.specs.Memory.{one_more, ReadsInMemory, WritesInMemory};
+ghost use Rattle.acct_keeper.specs.Causes.{HasCause};
+ghost use Rattle.acct_keeper.specs.Counts.{one_more, faults_after};
+ghost use Rattle.acct_keeper.specs.Ends.{answers_end};
+ghost use Rattle.acct_keeper.specs.Memory.{ReadsInMemory, WritesInMemory};
 
 use crate::{Failed, Sink, Source};
 use acct_base::rest_of;
@@ -46,7 +47,7 @@ pub struct MemorySource {
 
 impl Model for MemorySource {
     ghost use Rattle.std.specs.Prelude.{◌≤◌, ◌<◌, drop, vec_len};
-    ghost use Rattle.acct_streams.specs.Memory.{SourceInMemory};
+    ghost use Rattle.acct_keeper.specs.Memory.{SourceInMemory};
 
     ghost Value = { SourceInMemory };
 
@@ -92,6 +93,7 @@ impl Source for MemorySource {
         ensures bytes { ReadConsumes (Some self.old.left) (Some self.new.left) result buf.new }
         ensures end { self.new.ended ≡ (self.old.ended || answers_end result buf.new) }
         ensures cause { HasCause self.old.faults self.new.faults result }
+        ensures count { self.new.faults ≡ faults_after (is_err result) self.old.faults }
         ensures fails { ReadsInMemory self.old self.new result }
     {
         self.reads = one_more(self.reads);
@@ -120,7 +122,7 @@ pub struct MemorySink {
 
 impl Model for MemorySink {
     ghost use Rattle.std.specs.Prelude.{◌≤◌, ◌<◌, vec_len, vec_capacity};
-    ghost use Rattle.acct_streams.specs.Memory.{SinkInMemory};
+    ghost use Rattle.acct_keeper.specs.Memory.{SinkInMemory};
 
     ghost Value = { SinkInMemory };
 
@@ -175,6 +177,7 @@ impl Sink for MemorySink {
         ensures some { IfOk result (λ n. 0 < length bytes.now → 0 < n) }
         ensures bytes { WriteAppends (Some self.old.held) (Some self.new.held) result bytes.now }
         ensures cause { HasCause self.old.faults self.new.faults result }
+        ensures count { self.new.faults ≡ faults_after (is_err result) self.old.faults }
         ensures fails { WritesInMemory self.old self.new bytes.now result }
     {
         self.writes = one_more(self.writes);
@@ -200,7 +203,7 @@ pub struct SteadySource {
 
 impl Model for SteadySource {
     ghost use Rattle.std.specs.Prelude.{◌≤◌, drop, vec_len};
-    ghost use Rattle.acct_streams.specs.Memory.{SteadyInMemory};
+    ghost use Rattle.acct_keeper.specs.Memory.{SteadyInMemory};
 
     ghost Value = { SteadyInMemory };
 

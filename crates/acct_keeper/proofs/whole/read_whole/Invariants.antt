@@ -1,8 +1,8 @@
--- The bytes so far are those that the source gave, in order, and are no more than may be read.
-use Rattle.std.proofs.Common.{◌≤◌, ◌-◌, vec_len}
+-- The bytes so far are those that the source gave, in order, and no more than may be read; and no read failed.
+use Rattle.std.proofs.Common.{◌≡◌, ◌≤◌, ◌-◌, vec_len}
 use Rattle.std.specs.Io.KnownBytes.{Consumes}
-use Rattle.acct_streams.specs.Whole.{most_bytes}
-use Rattle.acct_streams.proofs.whole.read_whole.Given as goal
+use Rattle.acct_keeper.specs.Whole.{most_bytes}
+use Rattle.acct_keeper.proofs.whole.read_whole.Given as goal
 
 abbrev pub invariant-loop-whole : goal.invariant-loop-whole
 invariant-loop-whole g l =
@@ -10,7 +10,7 @@ invariant-loop-whole g l =
     record {
       bytes : Consumes (s.left l.initial.source) (s.left l.source) l.whole.items;
       within : vec_len l.whole ≤ most_bytes;
-      later : s.faults l.initial.source ≤ s.faults l.source;
+      faults : s.faults l.source ≡ s.faults l.initial.source;
     }
 
 abbrev pub decreases-loop-whole : goal.decreases-loop-whole

@@ -1,7 +1,7 @@
 // Reading a source to its end.
 ghost use Rattle.std.specs.Prelude.{◌≡◌, ◌≤◌, IfOk, IfErr};
-ghost use Rattle.acct_streams.specs.declared.whole.WholeError.TheVariants.{Fault, Memory};
-ghost use Rattle.acct_streams.specs.Whole.{WholeCause, IsWhole};
+ghost use Rattle.acct_keeper.specs.declared.whole.WholeError.TheVariants.{Fault, Memory};
+ghost use Rattle.acct_keeper.specs.Whole.{WholeCause, IsWhole, counted_whole};
 
 use crate::{Failed, Source};
 use std::alloc::{AllocError, Global};
@@ -44,6 +44,7 @@ pub fn read_whole<S: Source>(alloc: Global, source: &mut S) -> Result<Vec<u8>, W
     ensures whole { IfOk result (λ whole. IsWhole (S.left source.old) whole.items) }
     ensures cause { IfErr result (λ e. WholeCause (S.left source.old) (S.faults source.old) (S.faults source.new) e) }
     ensures later { S.faults source.old ≤ S.faults source.new }
+    ensures count { S.faults source.new ≡ counted_whole (S.faults source.old) result }
 {
     let mut whole = Vec::new(alloc);
     let mut buf = [0u8; 4096];

@@ -1,4 +1,0 @@
-pub mod Causes
-pub mod Ends
-pub mod Memory
-pub mod Whole
