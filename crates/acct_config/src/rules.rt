@@ -83,7 +83,7 @@ fn each_has_name(tables: &[Value]) -> bool
         .all(|table| is_listener_name(listener_name(table)))
 }
 
-fn is_taken(name: &str, tables: &[Value]) -> bool
+pub fn is_taken(name: &str, tables: &[Value]) -> bool
     ensures { result ≡ list_any (bytes_eq name.now) (map listener_name (map view tables.now)) }
 {
     tables.iter().any(|table| name == listener_name(table))
@@ -106,7 +106,7 @@ fn have_names(tables: &[Value]) -> bool
     1 <= tables.len() && tables.len() <= 16 && each_has_name(tables) && names_differ(tables)
 }
 
-fn has_address(listener: &Value) -> bool
+pub fn has_address(listener: &Value) -> bool
     ensures { result ≡ has_address (view listener.now) }
 {
     is_address(listener_address(listener))
@@ -131,7 +131,7 @@ fn are_sids(texts: &[Value]) -> bool
     texts.iter().all(|text| sid_of(text).is_some())
 }
 
-fn has_token(listener: &Value) -> bool
+pub fn has_token(listener: &Value) -> bool
     ensures { result ≡ has_token (view listener.now) }
 {
     let texts = elements_of(listener.get("token"));
@@ -144,7 +144,7 @@ fn have_tokens(tables: &[Value]) -> bool
     tables.iter().all(|table| has_token(table))
 }
 
-fn is_number_within(low: u64, high: u64, number: i64) -> bool
+pub fn is_number_within(low: u64, high: u64, number: i64) -> bool
     ensures { result ≡ is_number_within low high number }
 {
     match u64::try_from(number) {
@@ -167,7 +167,7 @@ pub fn links(listener: &Value) -> i64
     number_of(0, listener.get("links"))
 }
 
-fn has_counts(listener: &Value) -> bool
+pub fn has_counts(listener: &Value) -> bool
     ensures { result ≡ has_counts (view listener.now) }
 {
     is_number_within(1, 64, workers(listener))
@@ -195,7 +195,7 @@ pub fn owner(table: &Value) -> Option<Sid>
 }
 
 #[tactic(auto, unfolding(crate::specs::Rules::owner_is_sid))]
-fn owner_is_sid(document: &Value, kind: Kind) -> bool
+pub fn owner_is_sid(document: &Value, kind: Kind) -> bool
     ensures { result ≡ owner_is_sid (view document.now) kind }
 {
     match descriptor_table(document, kind) {
@@ -219,7 +219,7 @@ fn are_aces(texts: &[Value]) -> bool
 }
 
 #[tactic(auto, unfolding(crate::specs::Rules::aces_are_entries))]
-fn aces_are_entries(document: &Value, kind: Kind) -> bool
+pub fn aces_are_entries(document: &Value, kind: Kind) -> bool
     ensures { result ≡ aces_are_entries (view document.now) kind }
 {
     match descriptor_table(document, kind) {
@@ -247,7 +247,7 @@ pub fn limit_number(document: &Value, limit: Limit) -> i64
     )
 }
 
-fn is_in_range(document: &Value, limit: Limit) -> bool
+pub fn is_in_range(document: &Value, limit: Limit) -> bool
     ensures { result ≡ is_in_range (view document.now) limit }
 {
     let range = range_of(limit);

@@ -15,7 +15,7 @@ use crate::limits::{EACH_LIMIT, LIMIT_KEYS, Limit, limit_key};
 use acct_codes::Kind;
 use toml::{Table, Value};
 
-fn is_among(names: &[&str], key: &str) -> bool
+pub fn is_among(names: &[&str], key: &str) -> bool
     ensures { result ≡ is_among (map (λ name. name.now) names.now) key.now }
 {
     names.iter().any(|name| *name == key)
@@ -38,7 +38,7 @@ fn has_only(value: &Value, names: &[&str]) -> bool
     }
 }
 
-fn requires_text(value: &Value, key: &str) -> bool
+pub fn requires_text(value: &Value, key: &str) -> bool
     ensures { result ≡ required is_text key.now (view value.now) }
 {
     match value.get(key) {
@@ -47,7 +47,7 @@ fn requires_text(value: &Value, key: &str) -> bool
     }
 }
 
-fn allows_number(value: &Value, key: &str) -> bool
+pub fn allows_number(value: &Value, key: &str) -> bool
     ensures { result ≡ optional is_number key.now (view value.now) }
 {
     match value.get(key) {
@@ -62,7 +62,7 @@ fn are_texts(values: &[Value]) -> bool
     values.iter().all(|value| value.is_str())
 }
 
-fn requires_texts(value: &Value, key: &str) -> bool
+pub fn requires_texts(value: &Value, key: &str) -> bool
     ensures { result ≡ required (is_array_of is_text) key.now (view value.now) }
 {
     match value.get(key) {
@@ -71,7 +71,7 @@ fn requires_texts(value: &Value, key: &str) -> bool
     }
 }
 
-fn allows_texts(value: &Value, key: &str) -> bool
+pub fn allows_texts(value: &Value, key: &str) -> bool
     ensures { result ≡ optional (is_array_of is_text) key.now (view value.now) }
 {
     match value.get(key) {
@@ -97,7 +97,7 @@ fn requires_domain(value: &Value, key: &str) -> bool
 }
 
 #[tactic(auto, unfolding(crate::specs::Shape::is_listener))]
-fn is_listener(value: &Value) -> bool
+pub fn is_listener(value: &Value) -> bool
     ensures { result ≡ is_listener (view value.now) }
 {
     has_only(value, &["name", "address", "token", "workers", "links"])
@@ -132,7 +132,7 @@ fn is_descriptor(value: &Value) -> bool
         && allows_texts(value, "aces")
 }
 
-fn allows_descriptor(value: &Value, key: &str) -> bool
+pub fn allows_descriptor(value: &Value, key: &str) -> bool
     ensures { result ≡ optional is_descriptor key.now (view value.now) }
 {
     match value.get(key) {
