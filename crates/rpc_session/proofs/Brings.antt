@@ -4,11 +4,12 @@ use Rattle.std.proofs.Common.{drop, refl, sym, ap, ◌∙◌, arith, length-drop
 use Rattle.std.specs.List.{concat}
 use Rattle.std.proofs.lemmas.Bool.{leb-true, leb-false}
 use Rattle.std.proofs.lemmas.List.{append-nil, length-take-le, take-append-drop}
-use Rattle.rpc_session.specs.Replies.{first_flag, response, reply_from, most_of, BringsStub, RepliesBringStubs}
+use Rattle.rpc_session.specs.Fragments.{cut_stub, first_flag, most_of}
+use Rattle.rpc_session.specs.Replies.{response, BringsStub, RepliesBringStubs}
 use Rattle.rpc_session.proofs.Parts.{one_last, one_more}
 
 abbrev Brings : ℕ → ℕ → ℕ → Bool → List ℕ → Type 0
-Brings id context most first stub = BringsStub id context most first stub (reply_from id context most first stub)
+Brings id context most first stub = BringsStub id context most first stub (cut_stub (response id context) most first stub)
 
 last_part : (id context most : ℕ) (first : Bool) (stub : List ℕ) → length stub ≤ most
     → Brings id context most first stub
@@ -18,7 +19,7 @@ last_part id context most first stub le =
       others = [];
       cut = le;
       joined = append-nil stub;
-      bytes_are = one_last id context most first stub le;
+      bytes_are = one_last (response id context) most first stub le;
     }
 
 more_parts : (id context most : ℕ) (first : Bool) (stub : List ℕ) → 0 < most → most < length stub
@@ -35,9 +36,9 @@ more_parts id context most first stub pos lt r =
       cut = (length-take-le most stub (omega (arith, lt)), omega (arith, len, counted, lt), r.cut);
       joined = joined;
       bytes_are =
-          one_more id context most first stub pos lt
+          one_more (response id context) most first stub pos lt
           ∙ ap (λ (n : ℕ). response id context (first_flag first) n (take most stub)
-          ++ reply_from id context most false (drop most stub)) (ap (λ (x : List ℕ). length x) (sym joined))
+          ++ cut_stub (response id context) most false (drop most stub)) (ap (λ (x : List ℕ). length x) (sym joined))
           ∙ ap (λ (x : List ℕ). response id context (first_flag first)
           (length (concat (take most stub ∷ r.part ∷ r.others))) (take most stub) ++ x) r.bytes_are;
     }

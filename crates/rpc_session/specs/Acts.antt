@@ -9,6 +9,7 @@ use Rattle.rpc_pdu.specs.Laws.{IsDivided}
 use Rattle.rpc_pdu.specs.Written.{type_of, call_id}
 use Rattle.rpc_session.specs.declared.sessions.Act.{Act}
 use Rattle.rpc_session.specs.declared.sessions.Act.TheVariants.{Answered, Call, Closed}
+use Rattle.rpc_session.specs.declared.sessions.Request.{Request}
 use Rattle.rpc_session.specs.declared.sessions.Session.{Session}
 use Rattle.rpc_session.specs.declared.sessions.Session.TheVariants.{Unbound}
 use Rattle.rpc_session.specs.declared.sessions.Step.{Step}
@@ -72,11 +73,14 @@ abbrev pub IsRoomByLength : Type 0
 IsRoomByLength = (conn : ℕ) (stream : List ℕ) (hearing : Hearing) (acts_so_far : List Act) (piece : List ℕ)
     → IsSoFar conn stream hearing acts_so_far → length stream + length piece < 2 ^ 64 → HasRoom hearing piece
 
--- what a call's reply is cut by, and its stub, lie within the limits
+-- what a request's reply is cut by, and its stub, lie within the limits
+abbrev pub IsFitRequest : Request → Type 0
+IsFitRequest request =
+    (least_fragment ≤ request.size) × (request.size ≤ most_fragment) × (length request.stub ≤ most_stub)
+
 abbrev pub IsFit : Act → Type 0
 IsFit (Answered bytes) = Unit {0}
-IsFit (Call id context face opnum size stub) = (least_fragment ≤ size) × (size ≤ most_fragment)
-    × (length stub ≤ most_stub)
+IsFit (Call request) = IsFitRequest request
 IsFit (Closed place cause bytes) = Unit {0}
 
 abbrev pub AllFit : Type 0
@@ -84,7 +88,7 @@ AllFit = (conn : ℕ) (stream : List ℕ) → All IsFit (acts conn stream)
 
 abbrev pub is_refusal : Act → Bool
 is_refusal (Answered bytes) = false
-is_refusal (Call id context face opnum size stub) = false
+is_refusal (Call request) = false
 is_refusal (Closed place cause bytes) = true
 
 -- an act at a place of what was heard that is a refusal is the last one, and nothing more is heard

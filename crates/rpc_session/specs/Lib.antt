@@ -1,4 +1,5 @@
 pub mod Contexts
+pub mod Fragments
 pub mod Replies
 pub mod Answers
 pub mod Sessions

@@ -30,7 +30,14 @@ binds after answer = if nat_lt most_contexts (length after.contexts) then Refuse
 -- answered
 abbrev pub asked : PartialRequest → ℕ → Option Context → Act
 asked g size None = Answered (fault_bytes g.id g.context fault_unknown_interface)
-asked g size (Some c) = Call g.id g.context c.face g.opnum size g.stub
+asked g size (Some c) = Call (record {
+  id = g.id;
+  context = g.context;
+  face = c.face;
+  opnum = g.opnum;
+  size = size;
+  stub = g.stub;
+})
 
 -- a request with one more fragment, which has these flags: PFC_LAST_FRAG marks the last
 abbrev pub gathers : Association → ℕ → PartialRequest → Step

@@ -4,11 +4,12 @@
 //! It stands on `rpc_pdu` for the grammar and on `acct_calls` for the interfaces, which it hands on. The layer above
 //! uses that, however the stream is cut into pieces, the acts that [`Bytes2Acts::feed`] appends in all are `acts` of
 //! the joined pieces, and that [`reply_bytes`] and [`fault_bytes`] are the bytes of the responses that bring a stub and
-//! of a fault.
+//! of a fault; [`cut_stub`] cuts a client's requests as well.
 #![tactic(auto)]
 
 mod answers;
 mod contexts;
+mod fragments;
 mod hearing;
 mod laws;
 mod replies;
@@ -17,10 +18,11 @@ mod sessions;
 pub use acct_calls::Face;
 pub use answers::size_for;
 pub use contexts::Context;
+pub use fragments::{FragmentHead, cut_stub};
 pub use hearing::{Bytes2Acts, Hearing};
 pub use laws::{
     acts_are_of_pdus, calls_fit, refusals_are_last, replies_bring_stubs, room_by_length,
     streams_are_cut_anywhere,
 };
-pub use replies::{fault_bytes, first_flag, hint_of, reply_bytes};
-pub use sessions::{Act, Association, PartialRequest, Session, Sizes, is_first, is_last};
+pub use replies::{fault_bytes, reply_bytes};
+pub use sessions::{Act, Association, PartialRequest, Request, Session, Sizes, is_first, is_last};

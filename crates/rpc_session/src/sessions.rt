@@ -23,6 +23,18 @@ use acct_codes::pdu_header::{PFC_FIRST_FRAG, PFC_LAST_FRAG};
 use rpc_pdu::{Element, NoMemory, Pdu};
 use std::alloc::{AllocError, Global};
 
+/// A whole request, on the context that was accepted with its id: the interface is that of the context, and `size` is
+/// that of the fragments of its reply in bytes.
+#[derive(Debug, Drop)]
+pub struct Request {
+    pub id: u32,
+    pub context: u16,
+    pub face: Face,
+    pub opnum: u16,
+    pub size: u16,
+    pub stub: Seq<u8>,
+}
+
 /// What a client's PDU asks for.
 #[derive(Debug, Drop)]
 pub enum Act {
@@ -30,16 +42,8 @@ pub enum Act {
     Answered {
         bytes: Seq<u8>,
     },
-    /// A whole request: its call id and context, the interface of the context, the opnum, the size of the fragments
-    /// of its reply in bytes, and its stub.
-    Call {
-        id: u32,
-        context: u16,
-        face: Face,
-        opnum: u16,
-        size: u16,
-        stub: Seq<u8>,
-    },
+    /// It is a whole request.
+    Call(Request),
     /// The PDU is refused and nothing more is heard. The place counts bytes from the stream's start. The causes
     /// are those of `acct_codes::cause`: those of `read_pdu`; a first fragment while another request is gathered; a
     /// later fragment while none with its call id is; a stub of more than 1,048,576 bytes; a bind after a bind, or
@@ -122,14 +126,14 @@ fn asked(
                 bytes: Seq::copy_of(alloc, &fault)?,
             })
         }
-        Some(c) => Ok(Act::Call {
+        Some(c) => Ok(Act::Call(Request {
             id: request.id,
             context: request.context,
             face: c.face,
             opnum: request.opnum,
             size,
             stub: request.stub,
-        }),
+        })),
     }
 }
 
