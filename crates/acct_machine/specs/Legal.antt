@@ -7,7 +7,7 @@ use Rattle.acct_rules.specs.declared.profile.Memory.{Memory}
 use Rattle.acct_rules.specs.declared.profile.Memory.TheVariants as memory
 use Rattle.acct_rules.specs.Planned.{none_fails, opening_of}
 use Rattle.acct_rules.specs.Operations.{Operation}
-use Rattle.acct_streams.specs.Causes.{Rose}
+use Rattle.acct_keeper.specs.Causes.{Rose}
 use Rattle.acct_machine.specs.declared.checks.Access.TheVariants.{Passed}
 use Rattle.acct_machine.specs.declared.entry.Verdict.{Verdict}
 use Rattle.acct_machine.specs.declared.entry.Verdict.TheVariants.{Ran, StoreFault, NoMemory}

@@ -9,8 +9,8 @@ use Rattle.acct_rows.specs.declared.pairs.loading.PairsError.{PairsError}
 use Rattle.acct_rows.specs.declared.pairs.loading.PairsError.TheVariants as no_rows
 use Rattle.acct_rows.specs.Rows.{Lists}
 use Rattle.acct_rows.specs.Seed.{seed_lists}
-use Rattle.acct_streams.specs.Causes.{Rose}
-use Rattle.acct_streams.specs.Memory.{one_more}
+use Rattle.acct_keeper.specs.Causes.{Rose}
+use Rattle.acct_keeper.specs.Counts.{one_more}
 use Rattle.acct_machine.specs.declared.opened.OpenError.{OpenError}
 use Rattle.acct_machine.specs.declared.opened.OpenError.TheVariants.{StoreFault, StoredPair, Memory}
 use Rattle.acct_rows.specs.PairsOf.{ArePairsOf}

@@ -1,7 +1,7 @@
 //! The account machine: one history of what was asked, the state after it, and the reply to each call.
 //!
 //! It stands on the configuration of `acct_config`, the access check of `dtyp_access`, the rows of `acct_rows`, the
-//! keepers of `acct_keeper` with the causes of `acct_streams`, the sorted tables of `acct_tables`, in which it keeps
+//! keepers of `acct_keeper`, the sorted tables of `acct_tables`, in which it keeps
 //! the handles, and the table of `acct_operations` with what `acct_rules` says of an operation; and for which calls
 //! there are and which shape a reply has on `acct_layouts`. It names no operation: access, outcome, step, legal
 //! histories and the laws speak of whatever operation the table has at a call's interface and opnum, and have what they

@@ -9,7 +9,8 @@ use Rattle.acct_layouts.specs.Classes.{display_arm}
 use Rattle.acct_layouts.specs.ReplyShapes.{AreDisplayed}
 use Rattle.acct_layouts.specs.declared.classes.DisplayArm.{DisplayArm}
 use Rattle.acct_layouts.specs.declared.classes.DisplayArm.TheVariants as display
-use Rattle.ndr_types.proofs.DisplayRows.{display_rows_onward, groups_complete, groups_values, users_complete, users_values}
+use Rattle.ndr_types.proofs.DisplayRows.{display_rows_onward, groups_complete, groups_values}
+use Rattle.ndr_types.proofs.DisplayRows.{users_complete, users_values}
 use Rattle.ndr_types.proofs.Onward.{Takes, short, such_long, takes_chain, takes_given, takes_ignored, takes_padding}
 use Rattle.ndr_types.proofs.Parts.{all_as}
 use Rattle.ndr_types.specs.Bounds.{HasShortTexts}

@@ -3,9 +3,11 @@ ghost use Rattle.std.specs.Prelude.{◌≡◌, ◌==◌, ◌++◌, ◌∷◌, []
 ghost use Rattle.std.specs.Fmt.{decimal, signed_decimal};
 ghost use Rattle.std.specs.List.{flat_map};
 ghost use Rattle.std.specs.Option.{option_copied};
-ghost use Rattle.client_commands.specs.Outcomes.{domain_line, user_line, member_line, right_line, done_line, refused_line};
+ghost use Rattle.client_commands.specs.Outcomes.{domain_line, user_line, member_line};
+ghost use Rattle.client_commands.specs.Outcomes.{right_line, done_line, refused_line};
 ghost use Rattle.client_commands.specs.Outcomes.{name_line, sid_line, name_lines, sid_lines, listed, opened};
-ghost use Rattle.client_commands.specs.Outcomes.{after_opening, after_domains, after_domain, in_domain, after_open_domain};
+ghost use Rattle.client_commands.specs.Outcomes.{after_opening, after_domains, after_domain};
+ghost use Rattle.client_commands.specs.Outcomes.{in_domain, after_open_domain};
 ghost use Rattle.client_commands.specs.Outcomes.{after_users, after_creation, rid_at, found, after_look_up};
 ghost use Rattle.client_commands.specs.Outcomes.{after_open_user, after_deletion, with_group, after_open_group};
 ghost use Rattle.client_commands.specs.Outcomes.{after_members, after_addition, after_query, answered, after};

@@ -248,7 +248,8 @@ parts_are_spelled law needed bytes p all read =
     })
 
 -- the parts of a descriptor that is made of parts are those
-made_of : (owner group : Option SidValue) (acl : Option (List Ace)) (d : Descriptor) → with_owner owner group acl ≡ Ok d →
+made_of : (owner group : Option SidValue) (acl : Option (List Ace)) (d : Descriptor) →
+    with_owner owner group acl ≡ Ok d →
     (let p : Parts = record { owner = owner; group = group; acl = acl } in p) ≡ parts_of d
 made_of None group acl d is = cc
 made_of (Some owner) group acl d is =

@@ -1,6 +1,7 @@
 -- The written bytes of parts spell them, whatever bytes follow
 use Rattle.std.proofs.Common.{◌≡◌, ℕ, ◌+◌, ◌-◌, ◌*◌, ◌^◌, ◌<◌, ◌≤◌, inl, List, [], ◌∷◌, ◌++◌, length, take, drop}
-use Rattle.std.proofs.Common.{get_or, refl, sym, ap, ◌∙◌, arith, subst, append_assoc, Bool, true, false, Option, Some, None, All}
+use Rattle.std.proofs.Common.{get_or, refl, sym, ap, ◌∙◌, arith, subst, append_assoc}
+use Rattle.std.proofs.Common.{Bool, true, false, Option, Some, None, All}
 use Rattle.std.specs.Prelude.{slice_index, is_some}
 use Rattle.std.specs.Int.{w16, w32, to_le_bytes, from_le_bytes}
 use Rattle.std.proofs.lemmas.Nat.{from_le_bytes-to_le_bytes_2, from_le_bytes-to_le_bytes_4}
@@ -232,7 +233,8 @@ fields_stand lengths p rest are =
           (offset_fits acl_there (behind_group p) (omega arith)) refl;
     }
 
-pub written_is_spelled : SidsHaveLengths → (p : Parts) (rest : List ℕ) → AreParts p → SpellParts (parts_bytes p ++ rest) p
+pub written_is_spelled : SidsHaveLengths → (p : Parts) (rest : List ℕ) → AreParts p →
+    SpellParts (parts_bytes p ++ rest) p
 unfolding parts_bytes
 written_is_spelled lengths p rest are =
     let owner = sid_bytes p.owner in

@@ -1,4 +1,5 @@
--- The written bytes of a descriptor, or of its parts: the self-relative form of MS-DTYP 2.4.6, with its parts in order and without gaps
+-- The written bytes of a descriptor, or of its parts: the self-relative form of MS-DTYP 2.4.6, with its parts in order
+-- and without gaps
 use Rattle.std.specs.Prelude.{ℕ, ◌+◌, Bool, List, [], ◌∷◌, ◌++◌, length, is_some, if◌then◌else◌}
 use Rattle.std.specs.Int.{w16, w32, to_le_bytes}
 use Rattle.std.specs.List.{flat_map}

@@ -59,7 +59,8 @@ fn bytes_of_parts(
     acl: &Option<Acl>,
 ) -> Result<Vec<u8>, AllocError>
     requires { HasFewAces acl.now }
-    ensures { IfOk result (λ bytes. bytes.items ≡ parts_bytes (record { owner = owner.now; group = group.now; acl = acl.now })) }
+    ensures { IfOk result (λ bytes.
+        bytes.items ≡ parts_bytes (record { owner = owner.now; group = group.now; acl = acl.now })) }
 {
     let mut out = Vec::new(alloc);
     push_header(&mut out, owner, group, acl)?;

@@ -38,8 +38,8 @@ parts_of_row r = (r.index, (r.rid, (r.bits, (r.name, (r.comment, r.full_name))))
 abbrev pub TextHeads : Type 0
 TextHeads = (ℕ × Bool) × ((ℕ × Bool) × (ℕ × Bool))
 
--- Index, Rid, AccountControl or Attributes, AccountName, AdminComment, and of a user FullName (SAMPR_DOMAIN_DISPLAY_USER,
--- MS-SAMR 2.2.8.2; SAMPR_DOMAIN_DISPLAY_GROUP, MS-SAMR 2.2.8.4).
+-- Index, Rid, AccountControl or Attributes, AccountName, AdminComment, and of a user FullName
+-- (SAMPR_DOMAIN_DISPLAY_USER, MS-SAMR 2.2.8.2; SAMPR_DOMAIN_DISPLAY_GROUP, MS-SAMR 2.2.8.4).
 unfoldable pub display_row : DisplayArm → Part (ℕ × (ℕ × (ℕ × TextHeads))) DisplayRow
 display_row arm =
     part_of row_of parts_of_row

@@ -57,7 +57,8 @@ flagged p = record { head = followed 0 u32 p.head; tail = p.tail; head_of = p.he
 abbrev pub flagged_sids : ℕ → Codec (List TranslatedSid)
 flagged_sids most = list_of most (flagged (flat translated_sid))
 
--- at most so many (LSAPR_TRANSLATED_NAMES_EX, MS-LSAT 2.2.22), each with the fields of LSAPR_TRANSLATED_NAME_EX (2.2.21)
+-- at most so many (LSAPR_TRANSLATED_NAMES_EX, MS-LSAT 2.2.22), each with the fields of LSAPR_TRANSLATED_NAME_EX
+-- (2.2.21)
 abbrev pub flagged_names : ℕ → Codec (List TranslatedName)
 flagged_names most = list_of most (flagged translated_name)
 
@@ -71,6 +72,7 @@ parts_of_sid_ref r = (r.usage, (r.sid, r.index))
 unfoldable pub sid_ref : Part (ℕ × (Bool × ℤ)) SidRef
 sid_ref = part_of sid_ref_of parts_of_sid_ref (join (flat u16) (join (pointer_to sid) (flat signed_long)))
 
--- at most so many (LSAPR_TRANSLATED_SIDS_EX2, MS-LSAT 2.2.26), each with the fields of LSAPR_TRANSLATED_SID_EX2 (2.2.25)
+-- at most so many (LSAPR_TRANSLATED_SIDS_EX2, MS-LSAT 2.2.26), each with the fields of LSAPR_TRANSLATED_SID_EX2
+-- (2.2.25)
 abbrev pub sid_refs : ℕ → Codec (List SidRef)
 sid_refs most = list_of most (flagged sid_ref)

@@ -58,7 +58,8 @@ fn write_full_name_head(to: &mut Out, arm: DisplayArm, name: &Name) -> Result<()
 
 fn write_full_name(to: &mut Out, arm: DisplayArm, name: &Name) -> Result<(), NoMemory>
     requires { IsShort name.now }
-    ensures { OnOk result (to.new ≡ ((full_name_of arm).tail ((full_name_of arm).head_of name.now)).write name.now to.old) }
+    ensures { OnOk result (to.new
+        ≡ ((full_name_of arm).tail ((full_name_of arm).head_of name.now)).write name.now to.old) }
 {
     match arm {
         DisplayArm::User => name.write_tail(to),
@@ -219,7 +220,8 @@ pub fn read_display_rows(
 fn write_rows_tail(to: &mut Out, arm: DisplayArm, values: &[DisplayRow]) -> Result<(), NoMemory>
     requires { IsListed HasShortTexts values.now }
     ensures { OnOk result (to.new
-        ≡ ((list any (display_row arm)).tail ((list any (display_row arm)).head_of values.now)).write values.now to.old) }
+        ≡ ((list any (display_row arm)).tail
+        ((list any (display_row arm)).head_of values.now)).write values.now to.old) }
 {
     if values.is_empty() {
         return Ok(());

@@ -114,7 +114,8 @@ fn write_count<X: Embedded>(to: &mut Out, values: &[X]) -> Result<(), NoMemory>
 fn write_array<X: Embedded>(to: &mut Out, values: &[X]) -> Result<(), NoMemory>
     requires { IsListed X.Bounded values.now }
     ensures { OnOk result ((most : ℕ) → to.new
-        ≡ ((list most (flagged X.part)).tail ((list most (flagged X.part)).head_of values.now)).write values.now to.old) }
+        ≡ ((list most (flagged X.part)).tail
+        ((list most (flagged X.part)).head_of values.now)).write values.now to.old) }
 {
     if values.is_empty() {
         return Ok(());

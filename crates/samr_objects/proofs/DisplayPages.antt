@@ -34,7 +34,8 @@ page-parts preferred (suc count) [] = refl
 page-parts preferred (suc count) (x ∷ xs) =
     ap (λ (ys : List DisplayRow). x ∷ ys) (parts (min preferred most_page - display_cost x) count xs)
 
-none-left : (preferred count : ℕ) (xs : List DisplayRow) → nat_lt 0 count ≡ true → paged preferred count xs ≡ [] → xs ≡ []
+none-left : (preferred count : ℕ) (xs : List DisplayRow) → nat_lt 0 count ≡ true → paged preferred count xs ≡ [] →
+    xs ≡ []
 none-left preferred zero xs some none = cc
 none-left preferred (suc count) [] some none = refl
 none-left preferred (suc count) (x ∷ xs) some none = cc

@@ -1,8 +1,8 @@
 -- What is displayed has the shape of its class: numbers of 32 bits, texts, and no full name of a group.
-use Rattle.std.proofs.Common.{◌≡◌, ℕ, ◌+◌, ◌^◌, ◌<◌, ◌≤◌, Bool, true, false, cond, All, List, [], ◌∷◌, length, map}
-use Rattle.std.proofs.Common.{take, drop, Option, Some, None, get_or, refl, sym, ap, subst, ◌∙◌, arith}
+use Rattle.std.proofs.Common.{◌≡◌, ℕ, ◌+◌, ◌^◌, ◌<◌, ◌≤◌, Bool, true, false, cond, All, List, [], ◌∷◌, length}
+use Rattle.std.proofs.Common.{take, drop, Option, Some, None, refl, ap, ◌∙◌, arith}
 use Rattle.std.proofs.Math.Seq.{take-nil, drop-nil}
-use Rattle.std.specs.Prelude.{◌&&◌, min, if◌then◌else◌}
+use Rattle.std.specs.Prelude.{if◌then◌else◌}
 use Rattle.std.specs.Cmp.{second_so}
 use Rattle.std.specs.List.{filter}
 use Rattle.std.proofs.lemmas.List.{length-drop, length-take}
@@ -32,7 +32,6 @@ use Rattle.acct_rules.specs.Asked.{class_of, asked_index, asked_count, asked_len
 use Rattle.acct_rules.specs.Operations.{IsRight}
 use Rattle.acct_rules.specs.Pages.{page, leaves_some}
 use Rattle.samr_objects.specs.Displays.{is_displayed, displayed, displayed_from, display_of, display_cost, as_count}
-use Rattle.samr_objects.specs.Displays.{costs_of}
 use Rattle.samr_objects.specs.Table.{query_display_information}
 use Rattle.samr_objects.proofs.Asking.{arguments}
 use Rattle.samr_objects.proofs.Listing.{filter-few}

@@ -11,7 +11,6 @@ use Rattle.std.proofs.lemmas.List.Elements.{All-nil, All-cons, All-head, All-tai
 use Rattle.acct_calls.specs.CodePoints.{units_of}
 use Rattle.acct_calls.specs.Domains.{is_domain_name, builtin_name}
 use Rattle.acct_calls.specs.Validity.{is_valid_name, most_units}
-use Rattle.acct_calls.specs.declared.lists.RidName.{RidName}
 use Rattle.acct_codes.specs.Limits.{most_page, most_domain_subs}
 use Rattle.acct_codes.specs.Statuses.{status_success, status_some_not_mapped, status_none_mapped, status_more_entries}
 use Rattle.acct_codes.specs.declared.kind.Kind.{Kind}

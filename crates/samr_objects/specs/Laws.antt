@@ -126,9 +126,9 @@ EnumerationsGoOn = (w : Wanted) (r : Lists) → IsSoundRows r → GoesOn w r
 abbrev pub display_page : List DisplayRow → ℕ → ℕ → ℕ → List DisplayRow
 display_page all index count preferred = page display_cost preferred (take count (drop index all))
 
--- What is left behind an index is given by the page there, and by those behind its entries: where each page is asked for
--- behind those that were given before, each entry is given once. A page is empty only where no entry is asked for or
--- none is left.
+-- What is left after an index is given by the page there, and by those after its entries: where each page is asked
+-- for after those that were given before, each entry is given once. A page is empty only where no entry is asked for
+-- or none is left.
 pub record DisplayGoesOn (all : List DisplayRow) : Type 0 where
   pub once : (index count preferred : ℕ)
       → drop index all

@@ -76,8 +76,8 @@ pub fn enumerations_go_on()
     ensures { EnumerationsGoOn }
 {}
 
-/// What is displayed, page by page, each behind the entries that were given before, is each entry once, in as many pages
-/// as there are.
+/// What is displayed, page by page, each after the entries that were given before, is each entry once, in as many
+/// pages as there are.
 pub fn displays_go_on()
     ensures { DisplaysGoOn }
 {}

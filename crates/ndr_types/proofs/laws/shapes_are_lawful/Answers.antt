@@ -15,7 +15,8 @@ use Rattle.ndr_types.specs.Texts.{text}
 use Rattle.ndr_types.specs.Translations.{flagged, flagged_names, flagged_sids, sid_ref, sid_refs, translated_name}
 use Rattle.ndr_types.specs.Translations.{translated_names, translated_sid, translated_sids}
 use Rattle.acct_layouts.specs.declared.classes.DisplayArm.TheVariants as display
-use Rattle.ndr_types.proofs.DisplayRows.{display_rows_onward, groups_complete, groups_values, users_complete, users_values}
+use Rattle.ndr_types.proofs.DisplayRows.{display_rows_onward, groups_complete, groups_values}
+use Rattle.ndr_types.proofs.DisplayRows.{users_complete, users_values}
 use Rattle.ndr_types.proofs.Digits.{handle_complete, handle_values}
 use Rattle.ndr_types.proofs.Entries.{privilege_names_complete, privilege_names_values, privilege_set_pointer_complete}
 use Rattle.ndr_types.proofs.Entries.{privilege_set_pointer_values, text_pointer_complete, text_pointer_values}

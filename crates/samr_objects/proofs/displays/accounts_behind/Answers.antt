@@ -1,6 +1,5 @@
 -- An account that is displayed is passed over, and another isn't counted.
 use Rattle.std.proofs.Common.{◌≡◌, ◌+◌, drop, subst, sym, ap, ◌∙◌, arith}
-use Rattle.std.specs.Prelude.{suc}
 use Rattle.std.specs.List.{filter}
 use Rattle.samr_objects.specs.Displays.{is_displayed}
 use Rattle.samr_objects.proofs.Displaying.{passes-shown, shown-next, hidden-next}
