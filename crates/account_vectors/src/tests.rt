@@ -1,7 +1,11 @@
-// Rows, the operations on them, and the machine.
+// Rows, the operations on them, and the machine; and streams and keepers, in memory and in files.
+mod files;
 mod first_rows;
+mod keepers;
+mod lines;
 mod machine;
 mod operations;
 mod rows;
+mod streams;
 mod words;
 mod works;

@@ -1,8 +1,15 @@
+mod Answering
 mod Asking
+mod Completing
 mod Cutting
+mod Ending
+mod Listened
+mod Moving
 mod Parts
 mod Places
+mod Requesting
 mod Running
+mod Sending
 mod Serving
 mod Taken
 mod Taking

@@ -19,7 +19,8 @@ use Rattle.rpc_pdu.specs.declared.pdus.Outcome.{Outcome}
 use Rattle.rpc_pdu.specs.declared.pdus.Pdu.TheVariants as pdu
 use Rattle.rpc_pdu.specs.Laws.{IsStable, AreReadBack}
 use Rattle.rpc_pdu.specs.Written.{written, IsWholeOutcome}
-use Rattle.rpc_session.specs.Replies.{fault_bytes, first_flag, reply_bytes, response, responses, RepliesBringStubs}
+use Rattle.rpc_session.specs.Fragments.{first_flag}
+use Rattle.rpc_session.specs.Replies.{fault_bytes, reply_bytes, response, responses, RepliesBringStubs}
 use Rattle.samr_wire.specs.Interface.{samr}
 use Rattle.lsa_wire.specs.Interface.{lsa}
 use Rattle.client_commands.specs.declared.outcomes.Outcome.{Outcome as Brought}

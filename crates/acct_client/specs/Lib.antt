@@ -5,3 +5,7 @@ pub mod Dialogues
 pub mod Askers
 pub mod Runs
 pub mod Served
+pub mod Asks
+pub mod Talks
+pub mod Parts
+pub mod Calls

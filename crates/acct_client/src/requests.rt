@@ -1,19 +1,15 @@
 // The bytes that the client sends.
-ghost use Rattle.std.specs.Prelude.{◌≡◌, ◌++◌, ◌≤◌, ◌<◌, length, IfOk, OnOk};
+ghost use Rattle.std.specs.Prelude.{◌≡◌, ◌≤◌, IfOk};
 ghost use Rattle.acct_codes.specs.Limits.{least_fragment, most_fragment};
-ghost use Rattle.acct_client.specs.Requests.{context_of, offered, bind_bytes, request, request_bytes};
-ghost use Rattle.acct_client.specs.Requests.{AreOnePdu};
+ghost use Rattle.acct_client.specs.Requests.{context_of, offered, bind_bytes, request_bytes, AreOnePdu};
 
 use crate::NoMemory;
-use acct_base::{Seq, front_of, rest_of};
+use acct_base::Seq;
 use acct_calls::Face;
 use acct_codes::limit::MOST_FRAGMENT;
-use acct_codes::pdu_header::{
-    DREP_IEEE, DREP_LITTLE_ENDIAN_ASCII, PFC_LAST_FRAG, RPC_VERS, RPC_VERS_MINOR,
-};
 use acct_codes::pdu_type::PTYPE_REQUEST;
-use rpc_pdu::{Element, Pdu, Syntax, lsarpc, ndr, samr, u16_bytes, u32_bytes, write_pdu};
-use rpc_session::{first_flag, hint_of};
+use rpc_pdu::{Element, Pdu, Syntax, lsarpc, ndr, samr, write_pdu};
+use rpc_session::{FragmentHead, cut_stub};
 use std::alloc::Global;
 
 /// The context that the calls of an interface are made on.
@@ -55,62 +51,6 @@ pub fn bind_bytes(alloc: Global) -> Result<Vec<u8>, NoMemory>
     write_pdu(alloc, &bind)
 }
 
-/// What every request of a call has.
-#[derive(Clone, Copy)]
-struct Asked {
-    id: u32,
-    context: u16,
-    opnum: u16,
-}
-
-/// A request with a part of the stub, written behind what is there. `left` is the number of stub bytes that are left
-/// with this part.
-#[tactic(auto, unfolding(crate::specs::Requests::request))]
-fn push_request(
-    out: &mut Vec<u8>,
-    asked: Asked,
-    flags: u8,
-    left: usize,
-    part: &[u8],
-) -> Result<(), NoMemory>
-    requires { length part.now < 8192 }
-    ensures { OnOk result (out.new.items
-        ≡ out.old.items ++ request asked.id asked.context asked.opnum flags left part.now) }
-{
-    let size = u16_bytes(24 + part.len() as u16);
-    let call = u32_bytes(asked.id);
-    let hint = u32_bytes(hint_of(left));
-    let on = u16_bytes(asked.context);
-    let operation = u16_bytes(asked.opnum);
-    out.extend_from_slice(&[
-        RPC_VERS,
-        RPC_VERS_MINOR,
-        PTYPE_REQUEST,
-        flags,
-        DREP_LITTLE_ENDIAN_ASCII,
-        DREP_IEEE,
-        0,
-        0,
-        size[0],
-        size[1],
-        0,
-        0,
-        call[0],
-        call[1],
-        call[2],
-        call[3],
-        hint[0],
-        hint[1],
-        hint[2],
-        hint[3],
-        on[0],
-        on[1],
-        operation[0],
-        operation[1],
-    ])?;
-    out.extend_from_slice(part)
-}
-
 /// The requests that bring a call's stub, each of at most `size` bytes.
 pub fn request_bytes(
     alloc: Global,
@@ -124,29 +64,13 @@ pub fn request_bytes(
     requires high { size ≤ most_fragment }
     ensures { IfOk result (λ bytes. bytes.items ≡ request_bytes id (context_of face) opnum size stub.now) }
 {
-    let asked = Asked {
+    let head = FragmentHead {
+        ptype: PTYPE_REQUEST,
         id,
         context: context_of(face),
         opnum,
     };
-    let most = 8 * ((size as usize - 24) / 8);
-    let mut out = Vec::new(alloc);
-    let mut first = true;
-    let mut rest = stub;
-    while rest.len() > most {
-        let part = front_of(rest, most);
-        push_request(&mut out, asked, first_flag(first), rest.len(), part)?;
-        rest = rest_of(rest, most);
-        first = false;
-    }
-    push_request(
-        &mut out,
-        asked,
-        first_flag(first) + PFC_LAST_FRAG,
-        rest.len(),
-        rest,
-    )?;
-    Ok(out)
+    cut_stub(alloc, head, size, stub)
 }
 
 /// A law: a stub that fits a fragment is brought by the one PDU that `write_pdu` writes.

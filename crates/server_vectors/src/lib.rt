@@ -1,11 +1,12 @@
 //! Test tables of what stands above the machine: requests, sessions over links in memory, entrances that are asked for
-//! doors, serving over doors in memory, the generator's lines, worked runs of `account` over worlds in memory with what
-//! they leave there, and the real world's parts with what the program says. And the lock that keeps a history, under
-//! threads that really run.
+//! doors, links and doors, in memory call by call and at sockets of the tests themselves, with accepts that fail and
+//! clients that say nothing, serving over doors in memory, the generator's lines, worked runs of `account` over worlds
+//! in memory with what they leave there, and the real world's parts with what the program says. And the lock that keeps
+//! a history, under threads that really run.
 //!
-//! It has tests alone, which call `hist_lock`, `link_sessions`, `door_workers`, `acct_server`, `acct_commands`,
-//! `host_world` and `account_words` as a layer above does, so these crates themselves are proved without tests. They
-//! share configurations, the words of rows and links that wait.
+//! It has tests alone, which call `hist_lock`, `acct_links`, `host_doors`, `link_sessions`, `door_workers`,
+//! `acct_server`, `acct_commands`, `host_world` and `account_words` as a layer above does, so these crates themselves
+//! are proved without tests. They share configurations, the words of rows and links that wait.
 #![tactic(auto)]
 
 #[cfg(test)]

@@ -4,7 +4,7 @@
 //   access, each privilege with its attributes). With `+` the row goes on from what the row before left;
 // - the operation by its name in the table of operations, the object of the handle, and the arguments. A name `256*61`
 //   has 256 units 0x61;
-// - what is wanted: the status, the outputs, and what is put, removed, opened or deleted, where there is such.
+// - what is expected: the status, the outputs, and what is put, removed, opened or deleted, where there is such.
 mod asked;
 mod brought;
 mod changes;
@@ -114,14 +114,14 @@ fn begin_again(rt: &impl Abort, alloc: Global, rows: &mut Rows) -> Result<(), Fa
     Ok(())
 }
 
-/// What is told is what a row wants.
+/// What is told is what a row expects.
 fn told_is_wanted(rt: &impl Abort, alloc: Global, told: &str, row: &str) -> Result<(), Fail> {
     let wanted = spelled(alloc, part(row, '|', 4))?;
     assert_eq!(rt; told, wanted.as_str(), "{row}");
     Ok(())
 }
 
-/// A row is told as what is wanted.
+/// A row is told as what is expected.
 fn row_is_right(rt: &impl Abort, alloc: Global, rows: &mut Rows, row: &str) -> Result<(), Fail> {
     if !row.starts_with('+') {
         begin_again(rt, alloc, rows)?;
@@ -142,7 +142,7 @@ fn rows_are_right(
     Ok(())
 }
 
-/// Each row of a table is told as what is wanted.
+/// Each row of a table is told as what is expected.
 fn table_is_right(rt: &impl Abort, alloc: Global, table: &str) -> Result<(), Fail> {
     let mut rows = seeded(rt, alloc)?;
     let are_right = rows_are_right(rt, alloc, &mut rows, table);
@@ -166,7 +166,7 @@ fn told_ends(rt: &impl Abort, alloc: Global, row: &str) -> Result<String, Fail> 
     text
 }
 
-/// Each large translation or long list of SIDs of a table is told as what is wanted.
+/// Each large translation or long list of SIDs of a table is told as what is expected.
 fn ends_are_right(rt: &impl Abort, alloc: Global, table: &str) -> Result<(), Fail> {
     for row in table.lines() {
         let told = told_ends(rt, alloc, row)?;

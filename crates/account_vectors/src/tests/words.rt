@@ -3,13 +3,13 @@ use std::alloc::Global;
 use std::process::Abort;
 use std::test::Fail;
 
-/// The first word, and those behind it.
+/// The first word, and those after it.
 pub fn word(text: &str) -> (&str, &str) {
     let text = text.trim();
     text.split_once(' ').unwrap_or((text, ""))
 }
 
-/// The first column, and those behind it.
+/// The first column, and those after it.
 pub fn column(row: &str) -> (&str, &str) {
     row.split_once('|').unwrap_or((row, ""))
 }
@@ -35,7 +35,7 @@ fn push_numbered(
     Ok(())
 }
 
-/// Adds a text and the repeat sign behind it, where there is one.
+/// Adds a text and the repeat sign after it, where there is one.
 fn push_piece(whole: &mut String, alloc: Global, piece: &str) -> Result<(), Fail> {
     let (text, sign) = piece.split_once('<').unwrap_or((piece, ""));
     let (bounds, repeated) = sign.split_once(':').unwrap_or(("", ""));
@@ -56,7 +56,12 @@ pub fn repeated(alloc: Global, text: &str) -> Result<String, Fail> {
     Ok(whole)
 }
 
-/// Asserts that what is told of a row is what it wants.
+/// Asserts that what is told of a row is what it expects.
 pub fn is_told(rt: &impl Abort, told: &str, wanted: &str, row: &str) {
     assert_eq!(rt; told, wanted, "{row}");
+}
+
+/// The front of a text up to a sign, and what is behind the sign.
+pub fn split(text: &str, sign: char) -> (&str, &str) {
+    text.split_once(sign).unwrap_or((text, ""))
 }

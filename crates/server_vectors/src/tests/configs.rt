@@ -7,7 +7,7 @@ const CONFIG: &str =
     "[domain]\nname = \"CORP\"\nsid = \"S-1-5-21-1-2-3\"\n[[listener]]\nname = \"a\"\naddress = \
     \"tcp:127.0.0.1:4045\"\ntoken = [\"S-1-5-21-1-2-3-500\", \"S-1-1-0\", \"S-1-5-32-544\"]\n";
 
-/// A second listener, whose clients are users, and the front of a descriptor of the server.
+/// A second listener, whose clients are users, and the beginning of a descriptor of the server.
 const SECOND: &str = "[[listener]]\nname = \"b\"\naddress = \"unix:b\"\ntoken = [\"S-1-1-0\", \
     \"S-1-5-32-545\"]\n[descriptor.server]\nowner = \"S-1-5-18\"\naces = [\"";
 
@@ -32,7 +32,7 @@ fn limited(alloc: Global, limit: &str) -> Result<String, Fail> {
     joined(alloc, &[CONFIG, "[limits]\n", limit, "\n"])
 }
 
-/// The configuration with these lines behind it, as `LINE;LINE` says.
+/// The configuration with these lines after it, as `LINE;LINE` says.
 pub fn config_with(alloc: Global, lines: &str) -> Result<String, Fail> {
     let mut text = joined(alloc, &[CONFIG])?;
     for line in lines.split(';') {

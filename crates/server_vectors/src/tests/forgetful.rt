@@ -5,7 +5,7 @@ use acct_links::{Caller, Entrance, TakeError};
 use acct_world::{Period, World};
 use std::alloc::AllocError;
 
-/// A world as another is, but that it keeps no period: memory is wanted for each.
+/// A world as another is, except that it keeps no period: there is no memory for any.
 #[derive(Drop)]
 pub struct Forgetful<W: World + Drop> {
     pub world: W,

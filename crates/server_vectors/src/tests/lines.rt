@@ -38,7 +38,7 @@ pub fn line_of(name: &str) -> &'static str {
     "a line without a name"
 }
 
-/// Texts, one behind the other.
+/// Texts, one after the other.
 pub fn joined(alloc: Global, texts: &[&str]) -> Result<String, Fail> {
     let mut whole = String::new(alloc);
     for text in texts {
@@ -76,7 +76,7 @@ pub fn bytes_of(alloc: Global, names: &str) -> Result<Vec<u8>, Fail> {
     Ok(hex::decode(alloc, digits.as_str().as_bytes())?)
 }
 
-/// A column of a row, and those behind it.
+/// A column of a row, and those after it.
 pub fn column(row: &str) -> (&str, &str) {
     let (column, rest) = row.split_once('|').unwrap_or((row, ""));
     (column.trim(), rest)
@@ -100,7 +100,7 @@ fn push_numbered(
     Ok(())
 }
 
-/// Adds a text and the repeat sign behind it, where there is one.
+/// Adds a text and the repeat sign after it, where there is one.
 fn push_piece(whole: &mut String, alloc: Global, piece: &str) -> Result<(), Fail> {
     let (text, sign) = piece.split_once('<').unwrap_or((piece, ""));
     let (bounds, repeated) = sign.split_once(':').unwrap_or(("", ""));

@@ -200,7 +200,7 @@ fn changes_of(
     Ok(changes)
 }
 
-/// A keeper with these pairs, but for the value of one key, as `KEY=VALUE` says, or with all of them.
+/// A keeper with these pairs, except for the value of one key, as `KEY=VALUE` says, or with all of them.
 fn stored_with(alloc: Global, pairs: &[Pair], change: &str) -> Result<SteadyKeeper, Fail> {
     let (key, value) = change.split_once('=').unwrap_or((change, ""));
     let key = hex::decode(alloc, key.as_bytes())?;
@@ -211,7 +211,7 @@ fn stored_with(alloc: Global, pairs: &[Pair], change: &str) -> Result<SteadyKeep
     Ok(stored)
 }
 
-/// Replays over a world to the end: a keeper with the pairs that are stored then, but for a change.
+/// Replays over a world to the end: a keeper with the pairs that are stored then, except for a change.
 fn stored_by<R: Abort + Threads + Wait + Sync>(
     rt: &R,
     alloc: Global,
@@ -224,7 +224,7 @@ fn stored_by<R: Abort + Threads + Wait + Sync>(
     stored_with(alloc, pairs, change)
 }
 
-/// A keeper with the pairs that a replay of these events stores, but for a change.
+/// A keeper with the pairs that a replay of these events stores, except for a change.
 pub fn stored_after<R: Abort + Threads + Wait + Sync>(
     rt: &R,
     alloc: Global,

@@ -72,7 +72,7 @@ t3|serve first.toml ''||BIND|DoorFault|source first.toml;keeper ;entrance;|||
 |serve -first.toml store||BIND|Usage||||
 |serve first.toml store x||BIND|Usage||||";
 
-/// The number behind a letter, 0 where no word begins with it.
+/// The number after a letter, 0 where no word begins with it.
 fn number_of(words: &str, letter: char) -> u64 {
     for word in words.split(' ') {
         if let Some(digits) = word.strip_prefix(letter) {
@@ -144,7 +144,7 @@ fn entrance_of(
     Ok(MemoryEntrance::new(alloc, plans, numbered(alloc, failing)?))
 }
 
-/// A keeper without pairs, or one with the pairs of a seeded store but for its format, which is unknown.
+/// A keeper without pairs, or one with the pairs of a seeded store except for its format, which is unknown.
 fn stored_of<R: Abort + Threads + Wait + Sync>(
     rt: &R,
     alloc: Global,

@@ -204,7 +204,7 @@ pub fn world_of_entrance(
     Ok(world_over(alloc, frame, stored, entrance, nobody(alloc)))
 }
 
-/// A world whose parts never fail, but for its entrance.
+/// A world whose parts never fail, except for its entrance.
 pub type Steady<E> = MemoryWorld<SteadySource, SteadySink, SteadyKeeper, E, SteadyCaller>;
 
 /// A world with this entrance and these texts of the configuration and of the events.

@@ -137,7 +137,7 @@ fn words_off_the_table_are_refused(rt: HostRuntime) -> Result<(), Fail> {
     ))
 }
 
-/// Whether a command with so many words behind some is taken.
+/// Whether a command with so many words after some is taken.
 fn is_taken(alloc: Global, front: &str, word: &str, count: usize) -> Result<bool, Fail> {
     let mut words = words_of(alloc, front)?;
     for _ in 0..count {

@@ -62,7 +62,7 @@ pub fn joined(alloc: Global, front: &str, rest: &str) -> Result<Vec<u8>, Fail> {
     Ok(bytes)
 }
 
-/// The number that a line begins with, and what stands behind it.
+/// The number that a line begins with, and what stands after it.
 pub fn numbered<'a>(rt: &impl Abort, line: &'a str) -> (u16, &'a str) {
     let (number, rest) = line.split_once(' ').unwrap_or((line, ""));
     match number.parse::<u16>() {
@@ -71,7 +71,7 @@ pub fn numbered<'a>(rt: &impl Abort, line: &'a str) -> (u16, &'a str) {
     }
 }
 
-/// The first line of a text, and the lines behind it.
+/// The first line of a text, and the lines after it.
 pub fn cut(text: &str) -> (&str, &str) {
     text.split_once('\n').unwrap_or((text, ""))
 }

@@ -1,5 +1,6 @@
 // Stubs as other software writes them, and the places of fields that have no reading. Tables are texts: what is
 // expected stands beside the stub in words, as `words` spells it. Only `wires` meets the contracts of the wires.
+mod bounds;
 mod fields;
 mod limits;
 mod lsa_calls;

@@ -129,7 +129,7 @@ fn handles_are_opened_and_closed(rt: HostRuntime) -> Result<(), Fail> {
     leaves(&rt, rt.alloc(), &[], INTERFACES, INTERFACES_LEFT)
 }
 
-/// A hundred handles of one connection, with one of another among them, and more behind the first that are closed.
+/// A hundred handles of one connection, with one of another among them, and more after the first that are closed.
 const HUNDRED: &str = "\
 <1-60:1 connect2 20 = 0 1.#
 >2 connect2 20 = 0 2.1
@@ -186,7 +186,7 @@ fn deny_before_allow(rt: HostRuntime) -> Result<(), Fail> {
     Ok(())
 }
 
-/// The keeper's third call, behind the loading and the seeding, is the first creation's. It changes nothing: the serial
+/// The keeper's third call, after the loading and the seeding, is the first creation's. It changes nothing: the serial
 /// isn't used up, and the account isn't there. The second creation's commit is the last: a fifth call would fail.
 const FAILING: &str = "\
 1 policy 10 = 0 1.1

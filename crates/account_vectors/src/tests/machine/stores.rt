@@ -86,7 +86,7 @@ fn is_opened(
     Ok(opened(alloc, config, keeper)?.as_str() == wanted)
 }
 
-/// The fourth call fails, behind two loads and the seeding: the second opening commits nothing.
+/// The fourth call fails, after two loads and the seeding: the second opening commits nothing.
 fn opened_again(
     rt: &impl Abort,
     alloc: Global,

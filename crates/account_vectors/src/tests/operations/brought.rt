@@ -7,7 +7,7 @@ use dtyp_sid::parse_text;
 use std::alloc::Global;
 use std::test::Fail;
 
-/// The names behind some fields.
+/// The names after some fields.
 pub fn names_behind(alloc: Global, fields: &str, places: usize) -> Result<Names, NoMemory> {
     let mut names = Names::new(alloc);
     for text in fields.split(',').skip(places) {
@@ -31,7 +31,7 @@ fn numbered_names(alloc: Global, count: u32, last: &str) -> Result<Names, NoMemo
     Ok(names)
 }
 
-/// The SIDs behind some fields.
+/// The SIDs after some fields.
 pub fn sids_behind(alloc: Global, fields: &str, places: usize) -> Result<Sids, Fail> {
     let mut sids = Seq::new(alloc);
     for text in fields.split(',').skip(places) {
@@ -63,7 +63,7 @@ fn privilege_of(text: &str) -> Privilege {
     }
 }
 
-/// The privileges behind the first field.
+/// The privileges after the first field.
 fn set_behind(alloc: Global, fields: &str) -> Result<PrivilegeSet, NoMemory> {
     let mut set = Seq::new(alloc);
     for text in fields.split(',').skip(1) {
@@ -99,7 +99,7 @@ fn level_of(fields: &str) -> u16 {
     field(fields, 0).parse::<u16>().ok().unwrap_or(0)
 }
 
-/// The arguments of a translation, behind their level.
+/// The arguments of a translation, after their level.
 fn looked_for(alloc: Global, kind: &str, fields: &str) -> Result<Args, Fail> {
     let level = level_of(fields);
     Ok(match kind {

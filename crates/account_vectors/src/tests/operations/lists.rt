@@ -1,6 +1,6 @@
 // Long lists, with repeat signs: as many names and RIDs as a look-up may bring, what is listed in one page or at once,
 // and pages that end at the limit.
-/// The users behind 1000, the groups and the aliases cost 20 each of a page, in all 6,000.
+/// The users after 1000, the groups and the aliases cost 20 each of a page, in all 6,000.
 pub const LISTS: &str = "\
 |SamrLookupNamesInDomain|domain,0|NameList<1-499:,Guest,domain USERS>,nobody,Guest\
     |107 RidUses [ <1-499:501 513 >0 501 ] [ <1-499:1 2 >8 1 ]

@@ -1,5 +1,5 @@
-// Values in words, as the tables spell what is wanted. A value is told by its `Debug` text without the names of fields,
-// parentheses and commas, so that no function here knows a type; the tables' words are spelled out to the same.
+// Values in words, as the tables spell what is expected. A value is told by its `Debug` text without the names of
+// fields, parentheses and commas, so that no function here knows a type; the tables' words are spelled out to the same.
 use super::parts::name_of;
 use acct_base::Seq;
 use acct_calls::{NoMemory, Outs, Places};
@@ -10,7 +10,7 @@ use std::cmp::min;
 use std::fmt::Debug;
 use std::test::Fail;
 
-/// Behind the outputs of what changes nothing.
+/// After the outputs of what changes nothing.
 const NO_CHANGE: &str = "puts [ ] removes [ ] Nothing ";
 
 /// The names of structs that their field or their list tells already.

@@ -135,7 +135,7 @@ fn ten_thousand_names_and_members_are_found(rt: HostRuntime) -> Result<(), Fail>
 
 // ---- rows that change
 
-/// Letters that fold alike: a and A; k, K and the Kelvin sign; and a pair of surrogates that folds to another pair.
+/// Letters of equal folding: a and A; k, K and the Kelvin sign; and a pair of surrogates that folds to another pair.
 const LETTERS: [u16; 8] = [0x61, 0x41, 0x6B, 0x4B, 0x212A, 0xD801, 0xDC00, 0xDC28];
 
 /// A name of at most three of these.

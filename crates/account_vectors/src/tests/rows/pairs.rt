@@ -41,7 +41,7 @@ const SEED_PAIRS: &str = "\
 /// What is done to the pairs of the seed rows, `key=value` for a pair that is put and `key` for one that goes, and the
 /// smallest broken key then; none where the pairs are those of rows. Keys and values that aren't exactly spelled: the
 /// next format, no letter, a letter that is none, a RID cut short, a third domain, a value cut short, and two with a
-/// byte behind them. An unknown kind, a name that no user may have, bits that are no control; an alias with bits, a
+/// byte after them. An unknown kind, a name that no user may have, bits that are no control; an alias with bits, a
 /// group with a primary group. An account of the policy: every right, a right that is none, a privilege that isn't
 /// known, the last one and the first one that are, and one before it, two that don't ascend.
 const SPELLINGS: &str = "\

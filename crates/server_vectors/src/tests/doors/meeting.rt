@@ -60,7 +60,7 @@ fn door_of(
     Ok(SteadyDoor::new(alloc, 0, links)?)
 }
 
-/// Puts such a door behind the others.
+/// Puts such a door after the others.
 fn push_door(
     doors: &mut Vec<SteadyDoor<MeetingLink>>,
     alloc: Global,

@@ -39,7 +39,7 @@ max_conns = 1|BIND,BIND|0|0|HistoryFull(1)|1 ACK1,0 ,|1 0 End,|opened 1 0;gone 1
 max_read = 72|BIND CONNECT|0|0|Done|1 ACK1,|1 0 ByteLimit(72),|opened 1 0;gone 1;
 |BIND|0|1|StoreFault|||";
 
-/// Puts a link that brings what the word says behind the others, where there is a word.
+/// Puts a link that brings what the word says after the others, where there is a word.
 fn push_link(links: &mut Vec<MemoryLink>, alloc: Global, word: &str) -> Result<(), Fail>
     requires { All (λ link. IsNew (told_by link)) links.old.items }
     ensures { All (λ link. IsNew (told_by link)) links.new.items }
@@ -73,7 +73,7 @@ fn door_of(alloc: Global, words: &str, failing: &str) -> Result<MemoryDoor<Memor
     Ok(MemoryDoor::new(SteadyDoor::new(alloc, 0, links)?, failing))
 }
 
-/// Puts such a door behind the others.
+/// Puts such a door after the others.
 fn push_door(
     doors: &mut Vec<MemoryDoor<MemoryLink>>,
     alloc: Global,
@@ -88,7 +88,7 @@ fn push_door(
     Ok(())
 }
 
-/// Such a door, and one behind it that brings no link.
+/// Such a door, and one after it that brings no link.
 fn doors_of(alloc: Global, words: &str, failing: &str) -> Result<Vec<MemoryDoor<MemoryLink>>, Fail>
     ensures { IfOk result (λ doors. (vec_len doors ≤ 1024) × All (λ door. door.door.listener ≡ 0) doors.items) }
 {
@@ -221,7 +221,7 @@ fn told_of<R: Threads + Wait + Sync>(
     }
 }
 
-/// What is to be told, by the columns of a row behind the one of the keeper.
+/// What is to be told, by the columns of a row after the one of the keeper.
 fn wanted(alloc: Global, columns: &str) -> Result<String, Fail> {
     let (status, rest) = column(columns);
     let (words, rest) = column(rest);

@@ -14,7 +14,7 @@ use std::test::Fail;
 /// What comes, by names: a bind of 72 bytes, an opening of 32 with a stub of 8, its handle's closing of 44 with a stub
 /// of 20; an opnum that isn't served, a stub that lacks three of its bytes, the opening in three fragments of 28, 28
 /// and 24 bytes, the first fragment of another request, a context that wasn't bound, and a bind of version 4. Then what
-/// is written, where it differs by connection with its number behind the name: the answer to the bind; those to the
+/// is written, where it differs by connection with its number after the name: the answer to the bind; those to the
 /// first and to the second opening of a connection; the first 30 bytes of the answer to the first opening; the answer
 /// to the closing; the faults of an opnum, of a stub, of a context and of a request that begins within another; those
 /// of a full history at the second and at the third request; and the refusal of the other bind. All are spelled by
@@ -51,7 +51,7 @@ BUSY2 0500032310000000200000000200000000000000000000001400011c00000000
 BUSY3 0500032310000000200000000300000000000000000000001400011c00000000
 NAK 05000d031000000018000000010000000400010500000000";
 
-/// The digits of names, one behind the other. Digits stand for themselves.
+/// The digits of names, one after the other. Digits stand for themselves.
 pub fn digits_of_all(alloc: Global, names: &str) -> Result<String, Fail> {
     let mut digits = String::new(alloc);
     for name in names.split_whitespace() {
@@ -60,7 +60,7 @@ pub fn digits_of_all(alloc: Global, names: &str) -> Result<String, Fail> {
     Ok(digits)
 }
 
-/// The bytes of names, one behind the other.
+/// The bytes of names, one after the other.
 pub fn bytes_of(alloc: Global, names: &str) -> Result<Vec<u8>, Fail> {
     let digits = digits_of_all(alloc, names)?;
     Ok(hex::decode(alloc, digits.as_str().as_bytes())?)
@@ -90,12 +90,12 @@ pub fn configured(alloc: Global, limit: &str) -> Result<Config, Fail>
     read(alloc, document.as_str())
 }
 
-/// The first word before a comma, and the words behind it.
+/// The first word before a comma, and the words after it.
 pub fn word(words: &str) -> (&str, &str) {
     words.split_once(',').unwrap_or((words, ""))
 }
 
-/// The front of a text up to a sign, and what is behind the sign.
+/// A text up to a sign, and what is after the sign.
 pub fn split(text: &str, sign: char) -> (&str, &str) {
     text.split_once(sign).unwrap_or((text, ""))
 }

@@ -1,4 +1,4 @@
-// What is said of a status behind its code and word.
+// What is said of a status after its code and word.
 use crate::tests::left::words_of;
 use crate::tests::lines::{column, number};
 use account_words::message;

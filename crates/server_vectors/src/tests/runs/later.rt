@@ -147,7 +147,7 @@ SIDS2-LEVEL data 1 0500000310000000640000002c0000004c000000010039000000000000000
 SIDS2-LEVEL-OUT out 1 05000203100000002c0000002c0000001400000001000000000000000000000000000000000000000d0000c0";
 
 /// Each row: how the run is made, the words, the configuration, the events, the lines written, the status, the history.
-/// The users and groups of the first rows are displayed, whole and in pages, and a new user behind them; the same names
+/// The users and groups of the first rows are displayed, whole and in pages, and a new user after them; the same names
 /// and SIDs are translated by the later forms.
 pub const LATER: &str =
     "|replay first.toml||OPEN BIND-BOTH TWO-CONNECT-2 TWO-DOMAIN-3 USERS-ALL USERS-38 USERS-59 USERS-NO-LENGTH \

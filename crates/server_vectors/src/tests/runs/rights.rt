@@ -1,5 +1,5 @@
-// Accounts of the policy, their privileges and their rights. The stubs of the requests are impacket's, but for sets of
-// privileges, LUIDs and classes.
+// Accounts of the policy, their privileges and their rights. The stubs of the requests are impacket's, except for sets
+// of privileges, LUIDs and classes.
 
 /// Lines of events and lines that are written, by their names.
 pub const LINES: &str =

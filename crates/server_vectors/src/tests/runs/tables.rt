@@ -103,7 +103,7 @@ pub const RUNS: &str = "|replay first.toml|||/0|Done|
 r1 s1|replay first.toml||OPEN BIND CONNECT CLOSE END|ACK CONNECTED CLOSED GONE|Done|opened 1 0;called 1 57 Ran \
     8;called 1 1 Ran 20;gone 1;";
 
-/// Calls of the policy, whose stubs are Samba's, but for a root, and on a connection with both interfaces.
+/// Calls of the policy, whose stubs are Samba's, except for a root, and on a connection with both interfaces.
 pub const POLICY: &str =
     "|replay first.toml||OPEN BIND-LSA OPEN-POLICY CLOSE-POLICY END|ACK CONNECTED CLOSED GONE|Done|opened 1 0;called \
     1 44 Ran 32;called 1 0 Ran 20;gone 1;

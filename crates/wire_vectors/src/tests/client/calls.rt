@@ -1,12 +1,11 @@
 // Calls over links in memory: the command `domains`.
 ghost use Rattle.std.specs.Prelude.{◌≤◌, IfOk, None, false, vec_len};
-ghost use Rattle.client_link.specs.Talks.{IsBegun};
+ghost use Rattle.acct_client.specs.Talks.{IsBegun};
 
 use super::digits::words_of;
-use acct_client::Asker;
+use acct_client::{Asker, Called, TalkEnd, call};
+use acct_keeper::MemorySink;
 use acct_links::{Caller, Failed, Link, MemoryCaller, MemoryLink, SteadyCaller, SteadyLink};
-use acct_streams::MemorySink;
-use client_link::{Called, TalkEnd, call};
 use std::alloc::Global;
 use std::test::Fail;
 
@@ -46,7 +45,7 @@ fn asker(alloc: Global) -> Result<Asker, Fail>
 /// Each row: what the peer sends, which call of its link fails, how the call ends and whether there was a link, and
 /// what is printed, where a slash ends a line. `ALL` stands for the answers above, and `FRONT` for their first hundred
 /// bytes. The row that begins with 48 is HTTP's. Where the second call fails it is the second write of the bind, and
-/// the ninth is a read.
+/// the ninth is a read: by these rows alone a request is sent before its answer is read.
 const ENDS: &str = "\
 ALL|0|Done true|CORP/BUILTIN/
 |0|PeerFault true|
@@ -57,7 +56,7 @@ FRONT|0|PeerFault true|
 ALL|2|PeerFault true|
 ALL|9|PeerFault true|";
 
-/// The front of a row up to a bar, and what is behind the bar.
+/// A row up to a bar, and what is after the bar.
 fn column(row: &str) -> (&str, &str) {
     row.split_once('|').unwrap_or((row, ""))
 }
@@ -143,7 +142,7 @@ fn row_is_right(alloc: Global, row: &str) -> Result<bool, Fail> {
 /// Where each request ends in what is sent, in bytes, and its answer in what is answered.
 const TURNS: [(usize, usize); 3] = [(116, 80), (148, 128), (200, 252)];
 
-// A peer that answers each request once it has it whole. A read before that, or behind the last answer, fails.
+// A peer that answers each request once it has it whole. A read before that, or after the last answer, fails.
 #[derive(Drop)]
 struct TurnTaker {
     answers: Vec<u8>,
@@ -290,7 +289,7 @@ fn sent_by_turns(alloc: Global) -> Result<(usize, u64), Fail> {
     Ok(counts)
 }
 
-// It would wait for ever on a read before its request, or behind the last answer.
+// It would wait for ever on a read before its request, or after the last answer.
 #[test]
 fn each_answer_is_read_after_its_request(rt: HostRuntime) -> Result<(), Fail> {
     assert!(rt; sent_by_turns(rt.alloc())? == (200, 0));

@@ -1,6 +1,6 @@
 // Bytes that are no answer, with the first place that is none.
 /// Zeros; HTTP; binds with one outcome, with three, and with a rejected context; PDUs that aren't awaited; a response
-/// of another call; another version; a stub that spells no reply; fragments of another call, twice the first, without
+/// of another call; another version; a stub that encodes no reply; fragments of another call, twice the first, without
 /// a first, and of a stub that is cut.
 pub const ERRORS: &str = "
 domains

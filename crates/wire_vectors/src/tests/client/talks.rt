@@ -80,7 +80,7 @@ fn heard(alloc: Global, asker: &mut Asker, answer: &[u8], cut: Cut) -> Result<bo
     }
 }
 
-/// All answers of a dialogue, one behind the other.
+/// All answers of a dialogue, one after the other.
 fn all_answers(alloc: Global, dialogue: &str) -> Result<Vec<u8>, Fail> {
     let mut bytes = Vec::new(alloc);
     for line in dialogue.lines() {
@@ -169,7 +169,7 @@ fn words_and_rows(dialogue: &str) -> (&str, &str) {
     dialogue.split_once('\n').unwrap_or((dialogue, ""))
 }
 
-/// What stands behind a mark in front of a row.
+/// What stands after a mark at the beginning of a row.
 fn behind<'a>(row: Option<&'a str>, mark: &str) -> &'a str {
     row.unwrap_or("").strip_prefix(mark).unwrap_or("")
 }
@@ -193,7 +193,7 @@ fn sends(alloc: Global, asker: &mut Asker, row: &str) -> Result<Option<bool>, Fa
     }
 }
 
-/// Takes an answer behind so many bytes, and counts its own. It tells how the dialogue ended, where it did.
+/// Takes an answer after so many bytes, and counts its own. It tells how the dialogue ended, where it did.
 fn answered(
     rt: &impl Abort,
     alloc: Global,

@@ -223,7 +223,7 @@ fn are_less(alloc: Global, side: Side, bytes: &[u8]) -> bool {
     true
 }
 
-/// Whether bytes are the whole PDU in front, whatever follows.
+/// Whether bytes begin with the whole PDU, whatever follows.
 fn are_in_front(alloc: Global, side: Side, bytes: &[u8]) -> Result<bool, Fail> {
     let mut more = bytes.to_vec(alloc)?;
     more.extend_from_slice(&[5, 0, 255])?;
@@ -307,7 +307,7 @@ client 16 6 12 1|05000c03 10000000 20000000 01000000 b810b810 01000000 01000000 
 client 16 6 15 1|05000f03 10000000 20000000 01000000 b810b810 01000000 ff000000 00000000
 client 8 4 3 2|05000303 10000000 1c000000 02000000 05000000 00006300 e4060000";
 
-/// The refusal of the PDU in front as text, or that there is none.
+/// The refusal of the first PDU as text, or that there is none.
 fn refusal_of(alloc: Global, side: Side, bytes: &[u8]) -> Result<String, Fail> {
     match read_pdu(alloc, side, bytes) {
         ReadPdu::Refused {
@@ -340,7 +340,7 @@ fn is_written_as(alloc: Global, bytes: &[u8], again: &[u8]) -> Result<bool, Fail
     Ok(write_pdu(alloc, &pdu)?.as_slice() == again)
 }
 
-/// A bind of which every byte that isn't looked at is set, and bytes behind its last element.
+/// A bind of which every byte that isn't looked at is set, and bytes after its last element.
 const FULL: [&str; 2] = [
     "05010bff 1000ffff 48000000 01000000 b810b810 00000000 01000000 00000100 78573412 3412cdab \
     ef000123 456789ac 01000000 045d888a eb1cc911 9fe80800 2b104860 02000000",

@@ -3,8 +3,8 @@ ghost use Rattle.std.specs.Prelude.{◌≡◌, ◌≤◌, length};
 
 use crate::tests::digits::bytes_of;
 use rpc_session::{
-    Act, Bytes2Acts, acts_are_of_pdus, calls_fit, fault_bytes, replies_bring_stubs, reply_bytes,
-    room_by_length, streams_are_cut_anywhere,
+    Act, Bytes2Acts, Request, acts_are_of_pdus, calls_fit, fault_bytes, replies_bring_stubs,
+    reply_bytes, room_by_length, streams_are_cut_anywhere,
 };
 use std::alloc::Global;
 use std::test::Fail;
@@ -17,7 +17,7 @@ const ACK: &str = "05000c03 10000000 38000000 01000000 b810b810 01000000 0100000
     00000000 045d888a eb1cc911 9fe80800 2b104860 02000000";
 
 /// Each case has the PDUs of a stream, an equals sign, and its acts with commas between them. `BIND`, `REST` and `ACK`
-/// stand for the bind, for what stands behind its first three words, and for its answer.
+/// stand for the bind, for what stands after its first three words, and for its answer.
 ///
 /// The first run; three transfer syntaxes; a request of three fragments, and a first one while another is partial; a
 /// second context, with a cancel of the partial request and an orphaned of another, which change nothing, and a request
@@ -79,7 +79,7 @@ const STREAMS: &str = "
     9fe80800 2b104860 02000000 ,
     call 2 0 Samr 57 1433 00000000 00000002";
 
-/// Refused binds, and what is refused behind a bind: another bind, a later fragment without a first, and an auth3 and a
+/// Refused binds, and what is refused after a bind: another bind, a later fragment without a first, and an auth3 and a
 /// shutdown, as python3-samba 4.17.12 writes them: types that a server doesn't read.
 const REFUSED: &str = "
     05000b03 10000000 48001000 REST
@@ -159,9 +159,9 @@ const IMPACKET: &str = "
 /// ones with another context and opnum, and with a cancel and an orphaned of another call between; SamrCloseHandle
 /// begins, and is dropped. The alter_context asks for other sizes; it has SAMR as context 1, LSARPC by NDR64 alone as
 /// context 0, and LSARPC as context 7. A call comes on each of these, one with an object UUID, and one on context 2;
-/// then a second bind, and a call behind it.
+/// then a second bind, and a call after it.
 ///
-/// The answers were packed by the `ncacn_packet` of python3-samba from the values that the rules give, but for the
+/// The answers were packed by the `ncacn_packet` of python3-samba from the values that the rules give, except for the
 /// secondary address of the first, the empty one with its zero byte.
 const SAMBA: &str = "
     05000b03 10000000 e0000000 ffffff7f d0160008 00000000 04000000
@@ -209,7 +209,7 @@ const SAMBA: &str = "
     answered 05000323 10000000 20000000 09000000 00000000 02000000 0300011c 00000000 ,
     closed 940 10 05000d03 10000000 18000000 0a000000 00000105 00000000";
 
-/// Hexadecimal digits, with a space behind each four bytes.
+/// Hexadecimal digits, with a space after each four bytes.
 fn hex_of(alloc: Global, bytes: &[u8]) -> Result<String, Fail> {
     let mut text = String::new(alloc);
     for (place, byte) in bytes.iter().enumerate() {
@@ -226,14 +226,16 @@ fn shown_act(alloc: Global, act: &Act) -> Result<String, Fail> {
         Act::Answered { bytes } => {
             Ok(format!(in alloc; "answered {}", hex_of(alloc, bytes.as_slice())?)?)
         }
-        Act::Call {
-            id,
-            context,
-            face,
-            opnum,
-            size,
-            stub,
-        } => {
+        Act::Call(
+            Request {
+                id,
+                context,
+                face,
+                opnum,
+                size,
+                stub,
+            },
+        ) => {
             let stub = hex_of(alloc, stub.as_slice())?;
             Ok(format!(in alloc; "call {id} {context} {face:?} {opnum} {size} {stub}")?)
         }
@@ -358,7 +360,7 @@ fn a_connection_of_samba(rt: HostRuntime) -> Result<(), Fail> {
     Ok(())
 }
 
-/// A head that offers so many contexts, with these for the account database behind it.
+/// A head that offers so many contexts, with these for the account database after it.
 fn offering(alloc: Global, head: &str, count: u8) -> Result<Vec<u8>, Fail> {
     let mut stream = bytes_of(alloc, expanded(alloc, head)?.as_str())?;
     let element = bytes_of(
@@ -379,7 +381,7 @@ fn in_short(alloc: Global, acts: &[Act]) -> Result<String, Fail> {
     for act in acts {
         match act {
             Act::Answered { .. } => text.push_str("answered;")?,
-            Act::Call { stub, .. } => write!(text, "call {};", stub.as_slice().len())?,
+            Act::Call(Request { stub, .. }) => { write!(text, "call {};", stub.as_slice().len())? }
             Act::Closed { place, cause, .. } => write!(text, "closed {place} {cause};")?,
         }
     }
@@ -575,7 +577,7 @@ fn replied(alloc: Global, size: u16, count: usize) -> Result<String, Fail> {
     responses(alloc, &reply)
 }
 
-/// A part has at most the largest multiple of 8 that fits behind 24 bytes, and no empty response follows.
+/// A part has at most the largest multiple of 8 that fits after 24 bytes, and no empty response follows.
 #[test]
 fn replies_at_their_bounds(rt: HostRuntime) -> Result<(), Fail> {
     for (size, count, text) in [

@@ -32,7 +32,7 @@ pub const TEXTS: &str = "
 02000900 00000200 05000000 00000000 01000000 6100
 ";
 
-/// As MS-DTYP 2.4.2.2 packs them, behind their maximum counts.
+/// As MS-DTYP 2.4.2.2 packs them, after their maximum counts.
 pub const SIDS: &str = "
 0 SID
 S-1-5-21-1-2-3
@@ -273,7 +273,7 @@ fn is_spelled(alloc: Global, stub: &[u8], text: &str) -> Result<bool, Fail> {
     Ok(joined(alloc, text, "")?.as_slice() == stub)
 }
 
-// An empty text and a null list take no referent: those behind them have the first.
+// An empty text and a null list take no referent: those after them have the first.
 #[test]
 fn null_pointers_take_no_referent(rt: HostRuntime) -> Result<(), Fail> {
     let stub = pointers_stub(rt.alloc())?;

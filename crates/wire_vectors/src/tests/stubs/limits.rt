@@ -22,7 +22,7 @@ fn is_taken(
 }
 
 /// Whether the stub of a line is taken. A line of a table: the opnum, the length of what is written, and the stub, of
-/// a call with a handle what stands behind it.
+/// a call with a handle what stands after it.
 fn line_is_taken(rt: &impl Abort, alloc: Global, wire: Wire, line: &str) -> Result<bool, Fail> {
     let (opnum, rest) = numbered(rt, line);
     let (length, stub) = rest.split_once(' ').unwrap_or((rest, ""));
@@ -30,7 +30,12 @@ fn line_is_taken(rt: &impl Abort, alloc: Global, wire: Wire, line: &str) -> Resu
     is_taken(alloc, wire, opnum, &stub, length)
 }
 
-fn lines_are_taken(rt: &impl Abort, alloc: Global, wire: Wire, table: &str) -> Result<(), Fail> {
+pub fn lines_are_taken(
+    rt: &impl Abort,
+    alloc: Global,
+    wire: Wire,
+    table: &str,
+) -> Result<(), Fail> {
     for line in table.trim().lines() {
         assert!(rt; line_is_taken(rt, alloc, wire, line)?, "{line}");
     }
@@ -127,7 +132,7 @@ fn policy_replies_at_their_limits_are_taken(rt: HostRuntime) -> Result<(), Fail>
 }
 
 /// Long lists as Samba writes them. A row has the opnum and the length of the stub; the value in words, where `N*WORD`
-/// stands N times and `~` is a space; and the stub, of a call what stands behind the handle, where each `#` is a
+/// stands N times and `~` is a space; and the stub, of a call what stands after the handle, where each `#` is a
 /// referent: the first is 0x00020000, and each further one is 4 more.
 ///
 /// A look-up of a thousand times `nobody`.

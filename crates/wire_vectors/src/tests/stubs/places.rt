@@ -23,7 +23,7 @@ fn is_refused(
 }
 
 /// Whether the stub of a line is bad at its place. A line of a table: the opnum, or for a list the most that it may
-/// have; `bad`, or of a shape `short` or `count`; the place; and the stub, of a call with a handle what stands behind
+/// have; `bad`, or of a shape `short` or `count`; the place; and the stub, of a call with a handle what stands after
 /// it.
 fn line_is_bad(rt: &impl Abort, alloc: Global, wire: Wire, line: &str) -> Result<bool, Fail> {
     let (opnum, rest) = numbered(rt, line);

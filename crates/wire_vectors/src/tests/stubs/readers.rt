@@ -1,4 +1,4 @@
-// The primitives of stubs, one behind the other.
+// The primitives of stubs, one after the other.
 use crate::tests::digits::joined;
 use ndr_core::{In, NdrError, Out};
 use std::alloc::{AllocError, Global};
@@ -10,7 +10,7 @@ use std::test::Fail;
 ///
 /// The reply's stub to SamrLookupNamesInDomain of two known names and an unknown one between: the RIDs, their uses, and
 /// the status. The stub of a SamrSetInformationUser of the comment `hey` from its information class on, as an
-/// independent program writes it. Numbers of several sizes, and the padding in front of each and at the end. Pointers,
+/// independent program writes it. Numbers of several sizes, and the padding before each and at the end. Pointers,
 /// of which a null one takes no referent, and any number but 0 is another.
 ///
 /// A number's place is the one after its padding, whether or not the padding is there: beginnings of the comment.

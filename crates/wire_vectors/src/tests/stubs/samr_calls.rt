@@ -5,7 +5,7 @@
 /// the name of a server or for a text it writes what is written here: referents from 0x00020000 on, zeros for padding,
 /// maximum counts of the length, or of 1,000 for a look-up. So the first stubs, which are expected of the writer, are
 /// its. IMPACKET is a request structure of impacket.dcerpc.v5.samr with getData (Debian's python3-impacket 0.10.0-4),
-/// whose referents and padding are arbitrary. Behind the handle of SamrCloseHandle it has a number of its own.
+/// whose referents and padding are arbitrary. After the handle of SamrCloseHandle it has a number of its own.
 pub const CALLS: &str = "
 1 SamrCloseHandle
 Nothing

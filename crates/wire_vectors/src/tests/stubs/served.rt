@@ -67,7 +67,7 @@ fn wants_a_class(alloc: Global, opnum: u16, stub: &[u8]) -> Result<bool, Fail> {
     is_bad(alloc, Wire::SamrCalls, opnum, stub, 20)
 }
 
-/// Whether a class isn't served, with no bytes behind it and with more and more, where its first byte stands already.
+/// Whether a class isn't served, with no bytes after it and with more and more, where its first byte stands already.
 fn stays_withheld(alloc: Global, opnum: u16, class: u8, stub: &mut Vec<u8>) -> Result<bool, Fail> {
     for byte in [0, class, 0, 0xFF] {
         stub.push(byte)?;
@@ -85,7 +85,7 @@ fn withholds(alloc: Global, opnum: u16, class: u8, stub: &mut Vec<u8>) -> Result
     Ok(bare && wants_a_class(alloc, opnum, stub)? && stays_withheld(alloc, opnum, class, stub)?)
 }
 
-/// A class that carries a password isn't served, whatever stands behind it; without its two bytes the stub is bad.
+/// A class that carries a password isn't served, whatever stands after it; without its two bytes the stub is bad.
 fn is_withheld(alloc: Global, opnum: u16, class: u8) -> Result<bool, Fail> {
     let mut stub = joined(alloc, HANDLE_WRITTEN, "")?;
     withholds(alloc, opnum, class, &mut stub)

@@ -66,7 +66,7 @@ pub fn stub_is_right(
 }
 
 /// The place of the first field that so many bytes don't hold: a digit is a field of so many bytes, a dot a byte of
-/// padding in front of a field.
+/// padding before a field.
 fn place_in(fields: &str, length: usize) -> usize {
     let mut place: usize = 0;
     for letter in fields.bytes() {
@@ -173,7 +173,7 @@ fn row_is_right(rt: &impl Abort, alloc: Global, wire: Wire, text: &str) -> Resul
 ///
 /// A row has the opnum and the operation, the value in words, the fields of the first stub (a digit for each, of so
 /// many bytes, and a dot for each byte of padding), the first stub, and others of the same value; of a call with a
-/// handle these are what stands behind it.
+/// handle these are what stands after it.
 pub fn table_is_right(
     rt: &impl Abort,
     alloc: Global,

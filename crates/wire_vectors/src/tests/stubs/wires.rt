@@ -42,7 +42,7 @@ pub enum Heard {
     Bad(usize),
     /// Of a shape, the place of the first field that isn't whole.
     Short(usize),
-    /// Of a shape, the place where a value ends with bytes behind it.
+    /// Of a shape, the place where a value ends with bytes after it.
     EndsAt(usize),
     /// A value that is longer than the writers take.
     Long,

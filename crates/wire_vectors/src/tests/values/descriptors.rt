@@ -1,5 +1,5 @@
 // Descriptors as Samba 4.17 packs them (revision 2 set on their lists), and accesses as MS-DTYP 2.5.3 decides them.
-// SIDs and entries are written as in the SDDL, but for the order of an entry's fields.
+// SIDs and entries are written as in the SDDL, except for the order of an entry's fields.
 use super::lines::{cut, tells};
 use acct_codes::Kind;
 use acct_codes::standard_rights::{

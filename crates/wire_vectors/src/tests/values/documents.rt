@@ -150,7 +150,7 @@ const RULES: &str = r#"0|[domain]|[domain
 -|[[listener]]|[descriptor.user];owner = "S-1-1-0";aces = ["deny 0xFFFFffff 255 S-1-1-0"];[[listener]]"#;
 
 /// Documents with many of the same. In each line a rule or a dash, a part of the plain document, and what stands in its
-/// place: a front, so many times a text, in which `@` stands for the number, and a back.
+/// place: a beginning, so many times a text, in which `@` stands for the number, and an end.
 const MANY: &str =
     r#"-|[[listener]]||15|[[listener]];name = "n@";address = "unix:s";token = ["S-1-1-0"];|[[listener]]
 4|[[listener]]||16|[[listener]];name = "n@";address = "unix:s";token = ["S-1-1-0"];|[[listener]]
@@ -161,7 +161,7 @@ const MANY: &str =
 9|[[listener]]|[descriptor.user];owner = "S-1-1-0";aces = [|801|"allow 0x00000010 0 S-1-1-0",|];[[listener]]
 -|[domain]||16384|# One of 16,384 lines of 64 bytes, which make a mebibyte of text.;|[domain]"#;
 
-/// Two bars cut a text into a front, a middle and a back.
+/// Two bars cut a text into a beginning, a middle and an end.
 fn cut_in_three(line: &str) -> (&str, &str, &str) {
     let (front, others) = cut(line, '|');
     let (middle, back) = cut(others, '|');
@@ -248,7 +248,7 @@ fn numbered(alloc: Global, count: u32, text: &str) -> Result<String, Fail> {
     Ok(all)
 }
 
-/// The plain document with the front, the texts and the back of a line of [`MANY`] in the place of a part.
+/// The plain document with the beginning, the texts and the end of a line of [`MANY`] in the place of a part.
 fn filled(alloc: Global, line: &str) -> Result<String, Fail> {
     let (part, front, others) = cut_in_three(line);
     let (count, text, back) = cut_in_three(others);
@@ -585,7 +585,7 @@ fn push_plain(text: &mut String) -> Result<(), Fail> {
     Ok(text.push_str(PLAIN)?)
 }
 
-/// The plain document behind other lines.
+/// The plain document after other lines.
 fn behind_lines(alloc: Global, lines: &str) -> Result<String, Fail> {
     let mut document = lines.replace(alloc, ";", "\n")?;
     push_plain(&mut document)?;

@@ -3,7 +3,7 @@ use std::alloc::Global;
 use std::fmt::Display;
 use std::test::Fail;
 
-/// What stands in front of a mark and behind it. Behind a line without it stands nothing.
+/// What stands before a mark and after it. After a line without it stands nothing.
 pub fn cut(line: &str, mark: char) -> (&str, &str) {
     line.split_once(mark).unwrap_or((line, ""))
 }

@@ -10,7 +10,7 @@ fn fold_alike(alloc: Global, left: &Name, right: &Name) -> Result<bool, NoMemory
     Ok(left == right.fold(alloc)?)
 }
 
-/// Whether two names are the same, asked both ways, and fold alike; or neither.
+/// Whether two names are equal, asked both ways, and their foldings too; or neither.
 fn agree(alloc: Global, left: &Name, right: &Name, same: bool) -> Result<bool, NoMemory> {
     let both = left.same(right) && right.same(left);
     Ok(both == same && fold_alike(alloc, left, right)? == same)

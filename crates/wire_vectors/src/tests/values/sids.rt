@@ -9,7 +9,7 @@ fn has_text(alloc: Global, sid: &Sid, text: &str) -> Result<bool, Fail> {
     Ok(sid.text(alloc)?.as_str() == text)
 }
 
-/// Whether a SID is written as these bytes, and the last byte of the room stays as it was, but for the longest.
+/// Whether a SID is written as these bytes, and the last byte of the room stays as it was, except for the longest.
 fn is_written(sid: &Sid, bytes: &[u8]) -> bool {
     let mut out = [0xEE; 68];
     let count = sid.to_bytes(&mut out);
@@ -175,7 +175,7 @@ fn bytes_without_a_sid_are_refused(rt: HostRuntime) {
     }
 }
 
-/// Bytes behind a SID are not looked at.
+/// Bytes after a SID are not looked at.
 #[test]
 fn bytes_behind_a_sid(rt: HostRuntime) -> Result<(), Fail> {
     let sid = parse_text("S-1-5-18")?;
@@ -196,7 +196,7 @@ fn parts_make_a_sid(rt: HostRuntime) {
     assert!(rt; Sid::new(1 << 48, &[0; 16]) == Err(SidError::TooMany));
 }
 
-/// Whether the last number is split off a SID, and put back behind the others.
+/// Whether the last number is split off a SID, and put back after the others.
 fn is_split(sid: &Sid, front: &Sid, last: u32) -> bool {
     match sid.split_rid() {
         Some((domain, rid)) => {

@@ -1,6 +1,0 @@
--- A dialogue whose link doesn't fail and brings all answers comes to the last of them, but for want of memory.
-use Rattle.client_link.proofs.Completing.{comes_to_its_end}
-use Rattle.client_link.proofs.laws.dialogues_come_to_their_ends.Goals as goal
-
-pub returns : goal.returns
-returns c = comes_to_its_end c.dialogues_are_cut_anywhere.ensures
