@@ -32,7 +32,7 @@ placed-has n (d ∷ h) (suc p) e at =
     let same : n + 1 + p ≡ n + suc p = omega arith in
     subst (λ m. In (placed n (d ∷ h)) m e) same (suc there.0, there.1)
 
--- a history of which a front has every entry is that front
+-- a history of which a prefix has every entry is that prefix
 no-more : (known rest : List Entry) → ((p : ℕ) (e : Entry) → At (known ++ rest) p e → At known p e) → rest ≡ []
 no-more known [] all = refl
 no-more known (e ∷ rest) all =

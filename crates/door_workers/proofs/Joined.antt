@@ -131,7 +131,7 @@ module _ {D L : Type 0} (door : Ghosts D L) (told : L → Told) where
       count = each-idle doors;
       each = λ i d e r lt. serves-as (get_or doors i d) (get_or doors i e) (get_or doors i e) (get_or doors i e)
           (get_or (map (λ _. idle) doors) i r) idle (get_or_default doors i d e lt) refl (is-idle doors i r lt)
-          (record { runs = runs-none door told (get_or doors i e); stops = tt });
+          (record { runs = runs-none door told (get_or doors i e); stops = (tt, refl) });
     }
 
     pub none-worked : (v : View Begun Entry) (doors : List D) (ends : List Ended) → IsJoined told start most v []

@@ -237,7 +237,7 @@ module _ {L : Type 0} (told : L → Told) (start : Start) (most : ℕ) where
       let same : n + 1 + p ≡ n + suc p = omega arith in
       subst (λ m. In (placed n (d ∷ h)) m e) same (suc there.0, there.1)
 
-  -- behind a front behind which the pass that owns all owns no entry of a connection, there is none
+  -- after a prefix after which the pass that owns all owns no entry of a connection, there is none
   passes-front : OthersChangeNothing → (v : View Begun Entry) (k : ℕ) (front h : List Entry) → OwnsNoneBehind v k front
       → IsFrontOf v.known h → ((p : ℕ) (e : Entry) → At h p e → In v.own p e) → KeepsConnection start k front h
   passes-front others v k front h none known mine =

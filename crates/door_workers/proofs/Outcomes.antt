@@ -19,7 +19,7 @@ behind_all-more : (so_far : Outcome) (ends : List DoorEnd) (end : DoorEnd)
 behind_all-more so_far [] end = refl
 behind_all-more so_far (e ∷ ends) end = behind_all-more (behind so_far e) ends end
 
--- where the sum isn't want of memory, neither was the one before it nor the end behind it
+-- where the sum isn't out of memory, neither was the one before it nor the end after it
 pub none-before : (so_far : Outcome) (end : DoorEnd) → behind so_far end ≢ outcome.NoMemory
     → so_far ≢ outcome.NoMemory
 none-before so_far end not same =
@@ -44,7 +44,7 @@ failed-no-want same = let other : outcome.Failed ≡ outcome.NoMemory = same in 
 full-no-want : (n : ℕ) → outcome.Full n ≢ outcome.NoMemory
 full-no-want n same = let other : outcome.Full n ≡ outcome.NoMemory = same in cc
 
--- where serving is done, or a door failed, or the history was full, memory wasn't wanted
+-- where serving is done, or a door failed, or the history was full, memory didn't run out
 pub is-no-want : (o : Outcome)
     → (o ≡ outcome.Done) ⊎ ((o ≡ outcome.Failed) ⊎ ((n : ℕ) × (o ≡ outcome.Full n))) → o ≢ outcome.NoMemory
 is-no-want o (inl is) same = done-no-want (sym is ∙ same)

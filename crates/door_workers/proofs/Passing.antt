@@ -76,7 +76,7 @@ lane-own v (entry.Opened conn listener) own = own
 lane-own v (entry.Called conn call verdict bytes) own = own
 lane-own v (entry.Gone conn) own = own
 
--- what comes behind what the pass knows is of no connection of the pass
+-- what comes after what the pass knows is of no connection of the pass
 pub finds-passes : OthersChangeNothing → (start : Start) (v : View Begun Entry) (k : ℕ) (h : List Entry) → OwnsLanes v
     → IsMine v k → Finds lane_of v h → KeepsConnection start k v.known h
 finds-passes others start v k h owns mine finds =

@@ -1,4 +1,4 @@
--- Places in lists, one list behind another.
+-- Places in lists, one list after another.
 use Rattle.std.proofs.Common.{◌≡◌, ℕ, zero, suc, ◌+◌, ◌<◌, ◌⊎◌, inl, inr, ⊎_elim, List, [], ◌∷◌, ◌++◌, length, refl}
 use Rattle.std.proofs.Common.{sym, subst, arith}
 use mathlib.Core.Option.{some, some-injective, some-ne-none}

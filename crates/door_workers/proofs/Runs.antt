@@ -8,7 +8,7 @@ use Rattle.std.proofs.lemmas.List.Concat.{flat_map-append}
 use Rattle.hist_lock.specs.declared.view.View.{View}
 use Rattle.acct_machine.specs.State.{Start}
 use Rattle.acct_machine.specs.declared.entry.Entry.{Entry}
-use Rattle.acct_streams.specs.Causes.{Rose}
+use Rattle.acct_keeper.specs.Counts.{one_more}
 use Rattle.acct_links.specs.Links.{Told}
 use Rattle.acct_links.specs.Doors.{GivesNext}
 use Rattle.acct_links.specs.declared.doors.Door.{Ghosts}
@@ -20,11 +20,17 @@ use Rattle.link_sessions.specs.declared.ends.Ended.{Ended}
 use Rattle.door_workers.specs.declared.ends.DoorEnd.{DoorEnd}
 use Rattle.door_workers.specs.declared.ends.DoorEnd.TheVariants as stop
 use Rattle.door_workers.specs.Services.{Service, Served, Serves, given_of, finished_of, IsAtListener, full_count}
-use Rattle.door_workers.specs.Services.{end_count, NoneFull, end_of}
+use Rattle.door_workers.specs.Services.{end_count, NoneFull, NoneFullBeforeLast, end_of}
 use Rattle.door_workers.specs.Working.{Has, IsWorking}
 use Rattle.door_workers.specs.Serving.{Gives, door_end, EndsLink, NotesEnd, TakesBack, HandlesLink, Runs, StopsAt}
 use Rattle.door_workers.specs.Serving.{IsServing}
 use Rattle.door_workers.proofs.Places.{has-either, has-none, only}
+
+-- where none of the links found the history full, one more may be the last
+none-before-last : {L : Type 0} (ss : List (Service L)) (s : Service L) → NoneFull ss → NoneFullBeforeLast (ss ++ s ∷ [])
+none-before-last [] s none = tt
+none-before-last (t ∷ []) s none = (none.0, tt)
+none-before-last (t ∷ u ∷ ss) s none = (none.0, none-before-last (u ∷ ss) s none.1)
 
 -- ---- links to come
 
@@ -159,14 +165,15 @@ module _ {D L : Type 0} (door : Ghosts D L) (told : L → Told) where
     }
 
   stops-more : (answer : Option DoorEnd) (place : ℕ) (before new : D) (old_ends ends : List Ended)
-      (ss : List (Service L)) (s : Service L) → NoneFull ss → EndsLink answer place s old_ends ends
-      → StopsAt door told answer before new (ss ++ s ∷ [])
-  stops-more None place before new old_ends ends ss s none more = none-more ss s none more.0
-  stops-more (Some stop.Closed) place before new old_ends ends ss s none more = absurd more
-  stops-more (Some stop.Failed) place before new old_ends ends ss s none more = absurd more
-  stops-more (Some (stop.Full n)) place before new old_ends ends ss s none more =
-      record { before = ss; last = s; is = refl; none = none; full = more.0 }
-  stops-more (Some stop.NoMemory) place before new old_ends ends ss s none more = tt
+      (ss : List (Service L)) (s : Service L) → NoneFull ss → door.faults new ≡ door.faults before
+      → EndsLink answer place s old_ends ends → StopsAt door told answer before new (ss ++ s ∷ [])
+  stops-more None place before new old_ends ends ss s none same more = (none-more ss s none more.0, same)
+  stops-more (Some stop.Closed) place before new old_ends ends ss s none same more = absurd more
+  stops-more (Some stop.Failed) place before new old_ends ends ss s none same more = absurd more
+  stops-more (Some (stop.Full n)) place before new old_ends ends ss s none same more =
+      (record { before = ss; last = s; is = refl; none = none; full = more.0 }, same)
+  stops-more (Some stop.NoMemory) place before new old_ends ends ss s none same more =
+      (none-before-last ss s none, same)
 
   noted-by : (answer : Option DoorEnd) (place : ℕ) (old_ends ends : List Ended) (ss : List (Service L))
       (s : Service L) → old_ends ≡ flat_map (end_of place) ss → EndsLink answer place s old_ends ends
@@ -189,7 +196,7 @@ module _ {D L : Type 0} (door : Ghosts D L) (told : L → Told) where
     services = [];
     runs = runs-none before;
     working = working;
-    stops = tt;
+    stops = (tt, refl);
     noted = λ _. none;
   }
 
@@ -199,30 +206,32 @@ module _ {D L : Type 0} (door : Ghosts D L) (told : L → Told) where
       (serving : IsServing door told start most place None before old v old_ends) where
     -- a link was given and taken back
     pub link-served : (answer : Option DoorEnd) (link : L)
-        → GivesNext (next.Link link) (door.coming old) (door.coming mid)
+        → GivesNext (next.Link link) (door.coming old) (door.coming mid) → door.faults mid ≡ door.faults old
         → HandlesLink door told start most place link v w mid new old_ends ends answer
         → IsServing door told start most place answer before new w ends
-    link-served answer link gives handles = record {
+    link-served answer link gives same handles = record {
       services = serving.services ++ handles.service ∷ [];
       runs = runs-more start most place before old mid new finished listener later serving.services handles.service link
           serving.runs gives handles.given handles.at handles.takes;
       working = handles.works serving.services serving.working;
-      stops = stops-more answer place before new old_ends ends serving.services handles.service serving.stops
-          handles.ends;
+      stops = stops-more answer place before new old_ends ends serving.services handles.service serving.stops.0
+          (handles.takes.faults ∙ same ∙ serving.stops.1) handles.ends;
       noted = noted-by answer place old_ends ends serving.services handles.service (serving.noted going) handles.ends;
     }
 
     -- none was given
-    pub door-closed : GivesNext next.Closed (door.coming old) (door.coming mid) → door.closed mid ≡ true
+    pub door-closed : GivesNext next.Closed (door.coming old) (door.coming mid) → door.faults mid ≡ door.faults old
+        → door.closed mid ≡ true
         → IsServing door told start most place (Some stop.Closed) before mid v old_ends
-    door-closed gives closed = record {
+    door-closed gives same closed = record {
       services = serving.services;
       runs = runs-same start most place before old mid new finished listener later serving.services serving.runs
           (gives-closed (door.coming before) (door.coming old) (door.coming mid) (map given_of serving.services)
           serving.runs.coming gives);
       working = serving.working;
       stops = (
-        serving.stops,
+        serving.stops.0,
+        same ∙ serving.stops.1,
         closed,
         closed-none (door.coming before) (door.coming old) (door.coming mid) (map given_of serving.services)
             serving.runs.coming gives,
@@ -231,15 +240,15 @@ module _ {D L : Type 0} (door : Ghosts D L) (told : L → Told) where
     }
 
     pub door-failed : GivesNext next.Failed (door.coming old) (door.coming mid)
-        → Rose (door.faults old) (door.faults mid)
+        → door.faults mid ≡ one_more (door.faults old)
         → IsServing door told start most place (Some stop.Failed) before mid v old_ends
-    door-failed gives rose = record {
+    door-failed gives more = record {
       services = serving.services;
       runs = runs-same start most place before old mid new finished listener later serving.services serving.runs
           (gives-failed (door.coming before) (door.coming old) (door.coming mid) (map given_of serving.services)
           serving.runs.coming gives);
       working = serving.working;
-      stops = (serving.stops, (let was = serving.runs.later in omega (arith, rose)));
+      stops = (serving.stops.0, more ∙ ap one_more serving.stops.1);
       noted = λ _. serving.noted going;
     }
 

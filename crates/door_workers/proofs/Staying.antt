@@ -1,4 +1,4 @@
--- What stands of a link in a history stays as it is where other connections' entries come behind it.
+-- What stands of a link in a history stays as it is where other connections' entries come after it.
 use Rattle.std.proofs.Common.{◌≡◌, ℕ, List, [], ◌∷◌, ◌++◌, ap, ◌∙◌, append_assoc}
 use Rattle.acct_machine.specs.State.{Start}
 use Rattle.acct_machine.specs.Passing.{KeepsConnection}
@@ -28,6 +28,7 @@ serves-stays start most k listener answer given back before after grows passes i
   before = is.before;
   conversation = conversation-stays start k most answer given back _ before after grows passes.calls passes.replies
       is.conversation;
+  faults = is.faults;
   gone = gone-stays k before after grows is.gone;
 }
 

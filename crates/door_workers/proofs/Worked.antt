@@ -89,6 +89,7 @@ module _ {L : Type 0} where
         conversation = subst
             (λ (l : List Entry). IsConversation start s.conn most s.end (told s.given) (told s.back) l w.known)
             opens.entered session.conversation;
+        faults = session.faults;
         gone = record { before = session.before; after = []; is = session.gone };
       })
       (λ k m. ⊎_elim (λ (same : k ≡ s.conn). inl (sym same)) (λ (was : IsMine v k). inr was)

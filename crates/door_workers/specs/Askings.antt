@@ -48,8 +48,8 @@ pub record Opens {D L : Type 0} (door : Ghosts D L) (config : Config) (count : �
   pub asked : now ≡ asked_besides (take count (askings_of config)) before
   pub doors : AreDoorsFor door (take count (askings_of config)) given
 
--- The asking for one of the listeners wasn't answered with doors, and those behind it weren't asked for: it failed, and
--- the entrance's count of faults rose, or memory was wanted. The doors of the listeners before it are there.
+-- The asking for one of the listeners wasn't answered with doors, and those after it weren't asked for: it failed, and
+-- the entrance's count of faults rose, or memory ran out. The doors of the listeners before it are there.
 pub record StopsAsking {D L : Type 0} (door : Ghosts D L) (config : Config) (asked now : Option (List Asking))
     (before after : ℕ) (doors : List D) (error : KeepError) : Type 0 where
   pub count : ℕ

@@ -40,7 +40,7 @@ pub record AreEnds {L : Type 0} (runs : List (DoorRun L)) (ends : List Ended) : 
   pub each : IsPermutation (ends_from 0 runs) ends
   pub sorted : IsNonDecreasingBy (λ end. end.conn) ends
 
--- What serving comes to, and the ends that it tells. Want of memory is free, and then it tells none.
+-- What serving comes to, and the ends that it tells. Running out of memory is free, and then it tells none.
 abbrev pub ComesTo : {L : Type 0} → List (DoorRun L) → Outcome → List Ended → Type 0
 ComesTo runs outcome.NoMemory ends = ends ≡ []
 ComesTo runs answer ends = (answer ≡ outcome_of (stops runs)) × AreEnds runs ends

@@ -16,7 +16,7 @@ pub record HasAllCalls (start : Start) (history : List Entry) (n : ℕ) : Type 0
   pub most : n ≡ start.config.limits.max_calls
   pub made : call_count history ≡ n
 
--- The bytes of the stubs of a front of the history would be so many with a stub of this size, and more than the
+-- The bytes of the stubs of a prefix of the history would be so many with a stub of this size, and more than the
 -- configuration lets a history have.
 pub record PassesBytes (start : Start) (history : List Entry) (size n : ℕ) : Type 0 where
   pub front : List Entry
@@ -24,13 +24,13 @@ pub record PassesBytes (start : Start) (history : List Entry) (size n : ℕ) : T
   pub sum : n ≡ stub_bytes front + size
   pub above : start.config.limits.max_bytes < n
 
--- a legal history of which a front took no further connection
+-- a legal history of which a prefix took no further connection
 abbrev pub FullOfConns : Type 0
 FullOfConns =
     (start : Start) (found history : List Entry) (n : ℕ) → Legal start history → IsFrontOf found history
     → conns_full start found ≡ Some n → HasAllConns start history n
 
--- a legal history of which a front took no further call with a stub of this size
+-- a legal history of which a prefix took no further call with a stub of this size
 abbrev pub FullOfCalls : Type 0
 FullOfCalls =
     (start : Start) (found history : List Entry) (size n : ℕ) → Legal start history → IsFrontOf found history

@@ -6,7 +6,7 @@ use Rattle.link_sessions.specs.declared.ends.Ended.{Ended}
 use Rattle.door_workers.specs.declared.outcome.Outcome.{Outcome}
 use Rattle.door_workers.specs.declared.outcome.Outcome.TheVariants as outcome
 
--- What the workers of some doors came to, and behind them one more: want of memory stands before a full history, of
+-- What the workers of some doors came to, and after them one more: out of memory stands before a full history, of
 -- which the first is told, that before a failed door, and that before all doors being closed.
 abbrev pub behind : Outcome → DoorEnd → Outcome
 behind outcome.NoMemory end = outcome.NoMemory
@@ -31,6 +31,6 @@ behind_all so_far (end ∷ ends) = behind_all (behind so_far end) ends
 abbrev pub outcome_of : List DoorEnd → Outcome
 outcome_of ends = behind_all outcome.Done ends
 
--- One more door, with the ends of its sessions, unless memory was wanted.
+-- One more door, with the ends of its sessions, unless memory ran out.
 abbrev pub Adds : DoorEnd → List Ended → Outcome → List Ended → Outcome → List Ended → Type 0
 Adds end ends old before new now = new ≢ outcome.NoMemory → (new ≡ behind old end) × (now ≡ before ++ ends)

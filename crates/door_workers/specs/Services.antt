@@ -6,6 +6,7 @@ use Rattle.acct_machine.specs.declared.entry.Entry.{Entry}
 use Rattle.acct_machine.specs.declared.entry.Entry.TheVariants.{Opened, Gone}
 use Rattle.acct_links.specs.Links.{Told, IsNew}
 use Rattle.link_sessions.specs.Turns.{IsFrontOf}
+use Rattle.link_sessions.specs.Faults.{Faults}
 use Rattle.link_sessions.specs.Sessions.{IsConversation}
 use Rattle.link_sessions.specs.declared.ends.SessionEnd.{SessionEnd}
 use Rattle.link_sessions.specs.declared.ends.SessionEnd.TheVariants as end
@@ -64,6 +65,12 @@ module _ {L : Type 0} where
   NoneFull [] = ⊤
   NoneFull (s ∷ ss) = (full_count s ≡ None) × NoneFull ss
 
+  -- none before the last of the links found the history full
+  abbrev pub NoneFullBeforeLast : List (Service L) → Type 0
+  NoneFullBeforeLast [] = ⊤
+  NoneFullBeforeLast (s ∷ []) = ⊤
+  NoneFullBeforeLast (s ∷ t ∷ ss) = (full_count s ≡ None) × NoneFullBeforeLast (t ∷ ss)
+
   -- the last of the links alone found the history full, with this count
   pub record LastIsFull (ss : List (Service L)) (n : ℕ) : Type 0 where
     pub before : List (Service L)
@@ -91,9 +98,10 @@ pub record ServesConn (start : Start) (most k listener : ℕ) (answer : SessionE
   pub new : IsNew given
   pub before : List Entry
   pub conversation : IsConversation start k most answer given back (before ++ Opened k listener ∷ []) history
+  pub faults : Faults answer given back
   pub gone : HasGone k history
 
--- A front of the history took no further connection, having so many.
+-- A prefix of the history took no further connection, having so many.
 pub record TakesNone (start : Start) (count : ℕ) (history : List Entry) : Type 0 where
   pub found : List Entry
   pub front : IsFrontOf found history

@@ -5,7 +5,7 @@ use Rattle.std.specs.List.{flat_map}
 use Rattle.hist_lock.specs.declared.view.View.{View}
 use Rattle.acct_machine.specs.State.{Start}
 use Rattle.acct_machine.specs.declared.entry.Entry.{Entry}
-use Rattle.acct_streams.specs.Causes.{Rose}
+use Rattle.acct_keeper.specs.Counts.{one_more}
 use Rattle.acct_links.specs.Links.{Told}
 use Rattle.acct_links.specs.declared.doors.Door.{Ghosts}
 use Rattle.link_sessions.specs.Sessions.{IsSession}
@@ -17,7 +17,7 @@ use Rattle.link_sessions.specs.declared.ends.Ended.{Ended}
 use Rattle.door_workers.specs.declared.ends.DoorEnd.{DoorEnd}
 use Rattle.door_workers.specs.declared.ends.DoorEnd.TheVariants as stop
 use Rattle.door_workers.specs.Services.{Service, given_of, finished_of, IsAtListener, full_count, NoneFull, LastIsFull}
-use Rattle.door_workers.specs.Services.{end_of}
+use Rattle.door_workers.specs.Services.{end_of, NoneFullBeforeLast}
 use Rattle.door_workers.specs.Working.{Has, IsWorking}
 
 -- The links were given in order, and are no longer to come.
@@ -26,12 +26,12 @@ Gives None links now = ⊤
 Gives (Some old) links None = ⊥
 Gives (Some old) links (Some now) = old ≡ links ++ now
 
--- why no further link is taken behind a session that ended so
+-- why no further link is taken after a session that ended so
 abbrev pub door_end : SessionEnd → Option DoorEnd
 door_end (end.Full n) = Some (stop.Full n)
 door_end _ = None
 
--- the ends that a link adds, and why no further link is taken behind it
+-- the ends that a link adds, and why no further link is taken after it
 abbrev pub EndsLink : {L : Type 0} → Option DoorEnd → ℕ → Service L → List Ended → List Ended → Type 0
 EndsLink None place s old new = (full_count s ≡ None) × (new ≡ old ++ end_of place s)
 EndsLink (Some (stop.Full n)) place s old new = (full_count s ≡ Some n) × (new ≡ old ++ end_of place s)
@@ -39,7 +39,7 @@ EndsLink (Some stop.NoMemory) place s old new = ⊤
 EndsLink (Some stop.Closed) place s old new = ⊥
 EndsLink (Some stop.Failed) place s old new = ⊥
 
--- the end of a session was noted, and no further link is taken where it found the history full; or memory was wanted
+-- the end of a session was noted, and no further link is taken where it found the history full; or memory ran out
 abbrev pub NotesEnd : Option DoorEnd → ℕ → ℕ → SessionEnd → List Ended → List Ended → Type 0
 NotesEnd answer place k end old new =
     ((answer ≡ door_end end) × (new ≡ old ++ (record { conn = k; door = place; end = end }) ∷ []))
@@ -82,18 +82,20 @@ module _ {D L : Type 0} (door : Ghosts D L) (told : L → Told) where
     pub later : door.faults before ≤ door.faults now
     pub at : (s : Service L) → Has ss s → IsAtListener (door.listener before) s
 
-  -- Why no further link is taken from the door: it is closed, and none is to come, where it tells; its count of faults
-  -- rose; the last link found the history full, and none before it did. Want of memory is free.
+  -- Why no further link is taken from the door: it is closed, and none is to come, where it tells; it failed once; the
+  -- last link found the history full, or memory ran out once it had been served. None before the last link found the
+  -- history full, and no other call of the door failed.
   abbrev pub StopsAt : Option DoorEnd → D → D → List (Service L) → Type 0
-  StopsAt None before now ss = NoneFull ss
+  StopsAt None before now ss = NoneFull ss × (door.faults now ≡ door.faults before)
   StopsAt (Some stop.Closed) before now ss =
-      NoneFull ss × (door.closed now ≡ true) × IfSome (door.coming before) (λ _. door.coming now ≡ Some [])
-  StopsAt (Some stop.Failed) before now ss = NoneFull ss × Rose (door.faults before) (door.faults now)
-  StopsAt (Some (stop.Full n)) before now ss = LastIsFull ss n
-  StopsAt (Some stop.NoMemory) before now ss = ⊤
+      NoneFull ss × (door.faults now ≡ door.faults before) × (door.closed now ≡ true)
+      × IfSome (door.coming before) (λ _. door.coming now ≡ Some [])
+  StopsAt (Some stop.Failed) before now ss = NoneFull ss × (door.faults now ≡ one_more (door.faults before))
+  StopsAt (Some (stop.Full n)) before now ss = LastIsFull ss n × (door.faults now ≡ door.faults before)
+  StopsAt (Some stop.NoMemory) before now ss = NoneFullBeforeLast ss × (door.faults now ≡ door.faults before)
 
   -- A worker so far: what became of the links that its door gave, what its pass knows of them, and their ends, which
-  -- are all noted but where memory was wanted.
+  -- are all noted, unless memory ran out.
   pub record IsServing (start : Start) (most place : ℕ) (answer : Option DoorEnd) (before now : D)
       (v : View Begun Entry) (ends : List Ended) : Type 0 where
     pub services : List (Service L)

@@ -20,7 +20,7 @@ module _ {A : Type 0} where
   abbrev pub Has : List A → A → Type 0
   Has xs x = (i : ℕ) × (get_elem? xs i ≡ some x)
 
--- Behind a front of what the pass knows, it owns no entry of the connection that the link served.
+-- After a prefix of what the pass knows, it owns no entry of the connection that the link served.
 pub record OwnsNoneBehind (v : View Begun Entry) (k : ℕ) (front : List Entry) : Type 0 where
   pub begins : IsFrontOf front v.known
   pub no_more : (p : ℕ) (e : Entry) → In v.own p e → conn_of e ≡ k → p < length front
@@ -52,7 +52,7 @@ module _ {L : Type 0} where
     pub all : (k : ℕ) → IsMine v k → IsServedOn ss k
     pub once : AreDistinct ss
 
-  -- a link stood in the history as of a front of what the pass knows, behind which the pass owns no entry of the
+  -- a link stood in the history as of a prefix of what the pass knows, after which the pass owns no entry of the
   -- connection that it served
   abbrev pub WasService : (L → Told) → Start → ℕ → View Begun Entry → Service L → Type 0
   WasService told start most v (Serves s) = IsMine v s.conn × ((front : List Entry) × OwnsNoneBehind v s.conn front

@@ -9,6 +9,6 @@ pub enum DoorEnd {
     Failed,
     /// The history was full, with the count of what it has.
     Full(u64),
-    /// Memory was wanted.
+    /// Memory ran out.
     NoMemory,
 }

@@ -73,7 +73,7 @@ pub(crate) struct Sum {
 }
 
 impl Sum {
-    // One more door. Where there is no memory for the ends of its sessions, memory was wanted.
+    // One more door. Where there is no memory for the ends of its sessions, memory ran out.
     fn add(&mut self, end: DoorEnd, mut ends: Vec<Ended>)
         ensures { Adds end ends.items self.old.outcome self.old.ends.items self.new.outcome self.new.ends.items }
     {
@@ -83,7 +83,7 @@ impl Sum {
         };
     }
 
-    // The ends by the numbers of their connections, or none where memory was wanted.
+    // The ends by the numbers of their connections, or none where memory ran out.
     pub(crate) fn sort(&mut self)
         ensures outcome { self.new.outcome ≡ self.old.outcome }
         ensures none { self.old.outcome ≡ NoMemory → self.new.ends.items ≡ [] }

@@ -5,9 +5,9 @@ ghost use Rattle.door_workers.specs.Joining.{StartsIdle, WorksAlone, JoinsLinks,
 use acct_links::Link;
 use acct_machine::{connections_are_opened_once, limits_are_kept, others_change_nothing};
 
-/// Where a connection or a call found a front of a legal history full, with a count, the history has as many
+/// Where a connection or a call found a prefix of a legal history full, with a count, the history has as many
 /// connections or calls as its configuration lets it have, and the count is their number; or the count is that of the
-/// bytes of the stubs of that front with the call's own, and more than the configuration lets a history have.
+/// bytes of the stubs of that prefix with the call's own, and more than the configuration lets a history have.
 pub fn full_counts()
     ensures conns { FullOfConns }
     ensures calls { FullOfCalls }

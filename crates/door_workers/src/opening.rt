@@ -3,6 +3,8 @@ ghost use Rattle.std.specs.Prelude.{◌≡◌, ◌+◌, ◌≤◌, ◌<◌, ℕ,
 ghost use Rattle.std.specs.Prelude.{replicate, map, slice_index_or, vec_len};
 ghost use Rattle.acct_config.specs.Right.{IsRight};
 ghost use Rattle.acct_keeper.specs.Causes.{KeepCause};
+ghost use Rattle.acct_keeper.specs.Counts.{faults_after};
+ghost use Rattle.acct_keeper.specs.Memory.{is_fault};
 ghost use Rattle.acct_links.specs.Doors.{asked_after};
 ghost use Rattle.door_workers.specs.Askings.{asking_of, asked_besides, Opens, StopsAsking, AreDoorsFor};
 
@@ -10,7 +12,7 @@ use acct_config::{Config, Listener};
 use acct_keeper::KeepError;
 use acct_links::Entrance;
 
-// Asks for the doors of one listener, and puts them behind those that are there.
+// Asks for the doors of one listener, and puts them after those that are there.
 fn ask<E: Entrance>(
     entrance: &mut E,
     number: u32,
@@ -33,6 +35,7 @@ where
     ensures kept { IfErr result (λ _. doors.new.items ≡ doors.old.items) }
     ensures cause { IfErr result (KeepCause (E.faults entrance.old) (E.faults entrance.new)) }
     ensures later { E.faults entrance.old ≤ E.faults entrance.new }
+    ensures faults { E.faults entrance.new ≡ faults_after (is_fault result) (E.faults entrance.old) }
 {
     doors.reserve(listener.workers as usize)?;
     let mut given = entrance.doors(
@@ -66,6 +69,7 @@ where
     ensures configured { (i : ℕ) (d : _) → i < vec_len doors.new
         → E.D.listener (slice_index_or doors.new.items i d) < length config.now.listeners }
     ensures later { E.faults entrance.old ≤ E.faults entrance.new }
+    ensures faults { E.faults entrance.new ≡ faults_after (is_fault result) (E.faults entrance.old) }
 {
     let mut number = 0u32;
     for listener in config.listeners.as_slice() {

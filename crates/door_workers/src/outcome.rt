@@ -14,12 +14,12 @@ pub enum Outcome {
     Failed,
     /// The history was full, with the count that the first door met that found it so.
     Full(u64),
-    /// Memory was wanted.
+    /// Memory ran out.
     NoMemory,
 }
 
 impl Outcome {
-    // With a failed door behind it.
+    // With a failed door after it.
     fn failed(self) -> Outcome
         ensures { result ≡ behind self stop.Failed }
     {
@@ -29,7 +29,7 @@ impl Outcome {
         }
     }
 
-    // With a door behind it whose worker found the history full.
+    // With a door after it whose worker found the history full.
     fn full(self, count: u64) -> Outcome
         ensures { result ≡ behind self (stop.Full count) }
     {
@@ -39,7 +39,7 @@ impl Outcome {
         }
     }
 
-    /// What it comes to with the end of one more door behind it.
+    /// What it comes to with the end of one more door after it.
     pub(crate) fn behind(self, end: DoorEnd) -> Outcome
         ensures { result ≡ behind self end }
     {

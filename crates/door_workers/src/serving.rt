@@ -30,7 +30,7 @@ pub struct DoorsServed<K: Keeper + Drop> {
     pub ends: Vec<Ended>,
 }
 
-// Nothing was served, for want of memory.
+// Nothing was served, as memory ran out.
 fn not_served<K: Keeper + Drop>(alloc: Global, machine: Machine<K>) -> DoorsServed<K>
     ensures { (result.machine ≡ machine) × (result.outcome ≡ NoMemory) × (result.ends.items ≡ []) }
 {

@@ -41,7 +41,7 @@ fn open_conn<R: Wait, K: Keeper + Drop>(gate: &mut LockGate<R, Locked<K>>, liste
     gate.open_conn(listener)
 }
 
-// Why no further link is taken behind a session that ended so, if that is so.
+// Why no further link is taken after a session that ended so, if that is so.
 fn door_end(end: SessionEnd) -> Option<DoorEnd>
     ensures { result ≡ door_end end }
 {

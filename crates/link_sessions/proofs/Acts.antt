@@ -1,4 +1,4 @@
--- An act with those before it and those behind it.
+-- An act with those before it and those after it.
 use Rattle.std.proofs.Common.{◌≡◌, ℕ, zero, suc, ◌+◌, ◌<◌, List, [], ◌∷◌, ◌++◌, length, take, Some, slice_get}
 use Rattle.std.proofs.Common.{slice_index_or, sym, ap, subst, arith}
 use Rattle.rpc_session.specs.declared.sessions.Act.{Act}

@@ -13,14 +13,14 @@ use Rattle.acct_machine.specs.Legal.{replies, calls_of}
 use Rattle.acct_machine.specs.Passing.{KeepsConnection}
 use Rattle.acct_stubs.specs.declared.errors.WireError.{WireError}
 use Rattle.rpc_session.specs.declared.sessions.Act.TheVariants as act
-use Rattle.link_sessions.specs.declared.requests.Asked.{Asked}
+use Rattle.rpc_session.specs.declared.sessions.Request.{Request}
 use Rattle.link_sessions.specs.declared.requests.Answer.{Answer}
 use Rattle.link_sessions.specs.declared.requests.Answer.TheVariants as answer
 use Rattle.link_sessions.specs.Requests.{call_on}
 use Rattle.link_sessions.specs.Transcript.{answer_bytes, undecoded_bytes}
 use Rattle.link_sessions.specs.Turns.{IsFrontOf}
 use Rattle.link_sessions.specs.Answering.{Enters, AnswersRequest, BeginsRequest}
-use Rattle.link_sessions.specs.Talking.{Answers, IsAnswered, IsWanting, request_of}
+use Rattle.link_sessions.specs.Talking.{Answers, IsAnswered, IsWanting}
 use Rattle.link_sessions.proofs.Fronts.{front-same, front-then}
 use Rattle.link_sessions.proofs.Transcripts.{request-decoded, request-answered, request-none}
 use Rattle.link_sessions.proofs.Transcripts.{request-undecoded}
@@ -48,58 +48,59 @@ module _ (start : Start) (k : ℕ) where
 
   -- ---- a request
 
-  pub answers-entered : (finds : List Entry → Type 0) (known left : List Entry) (asked : Asked) (stub : List ℕ)
+  pub answers-entered : (finds : List Entry → Type 0) (known left : List Entry) (asked : Request)
       (call : Call) → ((found : List Entry) → finds found → IsFrontOf known found × KeepsConnection start k known found)
-      → call_on asked.face asked.opnum stub ≡ Ok call → (enters : Enters start k finds left call (length stub))
-      → Answers start k (request_of asked stub ∷ []) known left
+      → call_on asked.face asked.opnum asked.stub ≡ Ok call
+      → (enters : Enters start k finds left call (length asked.stub))
+      → Answers start k (act.Call asked ∷ []) known left
       (answer_bytes asked call.face call.opnum (acted (state_at start enters.found) k call enters.verdict).1)
-  answers-entered finds known left asked stub call passes is enters =
+  answers-entered finds known left asked call passes is enters =
       let reply = (acted (state_at start enters.found) k call enters.verdict).1 in
       let front = (passes enters.found enters.finds_it).0 in
       let passed = (passes enters.found enters.finds_it).1 in
-      let decoded = request-decoded asked stub call is in record {
+      let decoded = request-decoded asked call is in record {
         grows = front-then known enters.found left front
-            (Called k call enters.verdict (length stub) ∷ [], enters.entered);
+            (Called k call enters.verdict (length asked.stub) ∷ [], enters.entered);
         given = reply ∷ [];
         calls =
             enters.more.calls k
-            ∙ ap (λ b. calls_of k enters.found ++ cond b ((call, length stub) ∷ []) []) (same-conn k)
-            ∙ ap (λ (l : List (Call × ℕ)). l ++ (call, length stub) ∷ []) passed.calls
+            ∙ ap (λ b. calls_of k enters.found ++ cond b ((call, length asked.stub) ∷ []) []) (same-conn k)
+            ∙ ap (λ (l : List (Call × ℕ)). l ++ (call, length asked.stub) ∷ []) passed.calls
             ∙ ap (λ (l : List (Call × ℕ)). calls_of k known ++ l) (sym decoded);
         replied =
             enters.more.replies k
             ∙ ap (λ b. replies start k enters.found ++ cond b (reply ∷ []) []) (same-conn k)
             ∙ ap (λ (l : List Reply). l ++ reply ∷ []) passed.replies;
         each = ap (λ (l : List (Call × ℕ)). length l) (sym decoded);
-        bytes_are = sym (request-answered asked stub call reply is);
+        bytes_are = sym (request-answered asked call reply is);
       }
 
-  answers-undecoded : (known left : List Entry) (asked : Asked) (stub : List ℕ) (e : WireError) → left ≡ known
-      → call_on asked.face asked.opnum stub ≡ Err e
-      → Answers start k (request_of asked stub ∷ []) known left (undecoded_bytes asked e)
-  answers-undecoded known left asked stub e same is =
-      let none = request-none asked stub e is in record {
+  answers-undecoded : (known left : List Entry) (asked : Request) (e : WireError) → left ≡ known
+      → call_on asked.face asked.opnum asked.stub ≡ Err e
+      → Answers start k (act.Call asked ∷ []) known left (undecoded_bytes asked e)
+  answers-undecoded known left asked e same is =
+      let none = request-none asked e is in record {
         grows = subst (λ (h : List Entry). IsFrontOf known h) (sym same) (front-same known);
         given = [];
         calls = ap (λ (h : List Entry). calls_of k h) same ∙ sym (append-nil (calls_of k known))
             ∙ ap (λ (l : List (Call × ℕ)). calls_of k known ++ l) (sym none);
         replied = ap (λ (h : List Entry). replies start k h) same ∙ sym (append-nil (replies start k known));
         each = ap (λ (l : List (Call × ℕ)). length l) (sym none);
-        bytes_are = sym (request-undecoded asked stub e is);
+        bytes_are = sym (request-undecoded asked e is);
       }
 
-  module _ (finds : List Entry → Type 0) (known left : List Entry) (asked : Asked) (stub : List ℕ)
+  module _ (finds : List Entry → Type 0) (known left : List Entry) (asked : Request)
       (passes : (found : List Entry) → finds found → IsFrontOf known found × KeepsConnection start k known found) where
-    answered-by : (r : Result Call WireError) (given : Answer) → call_on asked.face asked.opnum stub ≡ r
-        → AnswersRequest start k finds known left asked (length stub) r given
-        → IsAnswered start k asked stub known left given
+    answered-by : (r : Result Call WireError) (given : Answer) → call_on asked.face asked.opnum asked.stub ≡ r
+        → AnswersRequest start k finds known left asked (length asked.stub) r given
+        → IsAnswered start k asked known left given
     answered-by (Err e) (answer.Bytes bytes) is answers =
-        subst (λ (bs : List ℕ). Answers start k (request_of asked stub ∷ []) known left bs) (sym answers.1)
-        (answers-undecoded known left asked stub e answers.0 is)
+        subst (λ (bs : List ℕ). Answers start k (act.Call asked ∷ []) known left bs) (sym answers.1)
+        (answers-undecoded known left asked e answers.0 is)
     answered-by (Err e) (answer.Full n) is answers = absurd answers
     answered-by (Ok call) (answer.Bytes bytes) is answers =
-        subst (λ (bs : List ℕ). Answers start k (request_of asked stub ∷ []) known left bs) (sym answers.bytes_are)
-        (answers-entered finds known left asked stub call passes is answers.enters)
+        subst (λ (bs : List ℕ). Answers start k (act.Call asked ∷ []) known left bs) (sym answers.bytes_are)
+        (answers-entered finds known left asked call passes is answers.enters)
     answered-by (Ok call) (answer.Full n) is answers = record {
       call = call;
       decoded = is;
@@ -108,37 +109,39 @@ module _ (start : Start) (k : ℕ) where
     }
 
     pub request-is-answered : (given : Answer)
-        → AnswersRequest start k finds known left asked (length stub) (call_on asked.face asked.opnum stub) given
-        → IsAnswered start k asked stub known left given
-    request-is-answered given answers = answered-by (call_on asked.face asked.opnum stub) given refl answers
+        → AnswersRequest start k finds known left asked (length asked.stub)
+        (call_on asked.face asked.opnum asked.stub) given
+        → IsAnswered start k asked known left given
+    request-is-answered given answers = answered-by (call_on asked.face asked.opnum asked.stub) given refl answers
 
-    nothing-done : left ≡ known → IsWanting start k (request_of asked stub ∷ []) known left []
+    nothing-done : left ≡ known → IsWanting start k (act.Call asked ∷ []) known left []
     nothing-done same = record {
       begun = None;
-      others = request_of asked stub ∷ [];
+      others = act.Call asked ∷ [];
       first = refl;
       answer = [];
       answers = subst (λ (h : List Entry). Answers start k [] known h []) (sym same) (answers-none known);
       nothing = refl;
     }
 
-    wanting-by : (r : Result Call WireError) → call_on asked.face asked.opnum stub ≡ r
-        → BeginsRequest start k finds known left (length stub) r
-        → IsWanting start k (request_of asked stub ∷ []) known left []
+    wanting-by : (r : Result Call WireError) → call_on asked.face asked.opnum asked.stub ≡ r
+        → BeginsRequest start k finds known left (length asked.stub) r
+        → IsWanting start k (act.Call asked ∷ []) known left []
     wanting-by (Err e) is begins = nothing-done begins
     wanting-by (Ok call) is (inl same) = nothing-done same
     wanting-by (Ok call) is (inr enters) = record {
-      begun = Some (request_of asked stub);
+      begun = Some (act.Call asked);
       others = [];
       first = refl;
       answer = answer_bytes asked call.face call.opnum (acted (state_at start enters.found) k call enters.verdict).1;
-      answers = answers-entered finds known left asked stub call passes is enters;
+      answers = answers-entered finds known left asked call passes is enters;
       nothing = refl;
     }
 
-    pub request-is-wanting : BeginsRequest start k finds known left (length stub) (call_on asked.face asked.opnum stub)
-        → IsWanting start k (request_of asked stub ∷ []) known left []
-    request-is-wanting begins = wanting-by (call_on asked.face asked.opnum stub) refl begins
+    pub request-is-wanting : BeginsRequest start k finds known left (length asked.stub)
+        (call_on asked.face asked.opnum asked.stub)
+        → IsWanting start k (act.Call asked ∷ []) known left []
+    request-is-wanting begins = wanting-by (call_on asked.face asked.opnum asked.stub) refl begins
 
   -- ---- an act that is no request
 

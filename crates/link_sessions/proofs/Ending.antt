@@ -1,4 +1,4 @@
--- How a conversation ends without a piece, and that it stays as it is behind the connection's end.
+-- How a conversation ends without a piece, and that it stays as it is after the connection's end.
 use Rattle.std.proofs.Common.{◌≡◌, ℕ, suc, ◌-◌, ◌≤◌, ◌<◌, get_or, ◌||◌, Bool, true, false, List, []}
 use Rattle.std.proofs.Common.{◌∷◌, ◌++◌, length, Option, Ok, Err, refl, sym, ap, ◌∙◌}
 use Rattle.std.proofs.Common.{subst, arith}
@@ -13,7 +13,7 @@ use Rattle.acct_machine.specs.Passing.{KeepsConnection}
 use Rattle.acct_machine.specs.Shown.{Past}
 use Rattle.rpc_session.specs.declared.sessions.Act.{Act}
 use Rattle.rpc_session.specs.declared.hearing.Hearing.{Hearing}
-use Rattle.acct_streams.specs.Ends.{answers_end}
+use Rattle.acct_keeper.specs.Ends.{answers_end}
 use Rattle.acct_links.specs.Links.{Told, Reads}
 use Rattle.link_sessions.specs.Transcribed.{IsTranscribed}
 use Rattle.link_sessions.specs.Turns.{HasNoCall, IsFrontOf, Turn, MachineEnds}

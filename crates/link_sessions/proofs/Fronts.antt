@@ -1,4 +1,4 @@
--- Fronts of histories, one behind the other.
+-- Prefixes of histories, one after the other.
 use Rattle.std.proofs.Common.{List, [], ◌++◌, sym, ◌∙◌, ap, append_assoc}
 use Rattle.std.proofs.lemmas.List.{append-nil}
 use Rattle.acct_machine.specs.declared.entry.Entry.{Entry}

@@ -5,6 +5,7 @@ pub mod Fronts
 pub mod Acts
 pub mod Transcripts
 pub mod Answering
+pub mod Faults
 pub mod Talks
 pub mod Telling
 pub mod SoFar

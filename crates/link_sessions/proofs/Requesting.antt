@@ -8,7 +8,7 @@ use Rattle.acct_machine.specs.declared.machine.Acted.TheVariants as acts
 use Rattle.acct_machine.specs.Machine.{OneMoreCall}
 use Rattle.acct_machine.specs.Room.{calls_full, bytes_full, call_full, TakesCall}
 use Rattle.acct_machine.specs.Shown.{Past}
-use Rattle.link_sessions.specs.declared.requests.Asked.{Asked}
+use Rattle.rpc_session.specs.declared.sessions.Request.{Request}
 use Rattle.link_sessions.specs.Transcript.{answer_bytes}
 use Rattle.link_sessions.specs.Turns.{shown, Turn, MachineActs}
 use Rattle.link_sessions.specs.Answering.{Enters, AnswersCall, FindsFull}
@@ -34,8 +34,8 @@ call-entered start k finds left size call reply turn =
     }
 
 -- and its reply was put into bytes
-pub call-answered : (start : Start) (k : ℕ) (finds : List Entry → Type 0) (left : List Entry) (asked : Asked) (size : ℕ)
-    (call : Call) (reply : Reply) (bytes : List ℕ)
+pub call-answered : (start : Start) (k : ℕ) (finds : List Entry → Type 0) (left : List Entry) (asked : Request)
+    (size : ℕ) (call : Call) (reply : Reply) (bytes : List ℕ)
     → Turn finds (MachineActs start k call size (acts.Reply reply)) left
     → bytes ≡ answer_bytes asked call.face call.opnum reply
     → AnswersCall start k finds left asked size call bytes

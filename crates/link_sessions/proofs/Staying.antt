@@ -8,7 +8,7 @@ use Rattle.acct_machine.specs.declared.entry.Entry.{Entry}
 use Rattle.acct_machine.specs.Legal.{calls_of, replies}
 use Rattle.rpc_session.specs.declared.sessions.Act.{Act}
 use Rattle.rpc_session.specs.Acts.{acts}
-use Rattle.acct_streams.specs.Causes.{Rose}
+use Rattle.acct_keeper.specs.Causes.{Rose}
 use Rattle.acct_links.specs.Links.{Told}
 use Rattle.link_sessions.specs.Transcript.{written, transcript, busy_bytes}
 use Rattle.link_sessions.specs.Transcribed.{IsTranscribed, last_bytes}
@@ -64,7 +64,6 @@ module _ (start : Start) (k : ℕ) (known after : List Entry) (grows : IsFrontOf
   turned-still n is = record {
     done = is.done;
     asked = is.asked;
-    stub = is.stub;
     others = is.others;
     splits = is.splits;
     call = is.call;

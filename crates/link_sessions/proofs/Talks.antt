@@ -9,12 +9,12 @@ use Rattle.acct_machine.specs.declared.entry.Entry.{Entry}
 use Rattle.acct_machine.specs.Legal.{replies, calls_of}
 use Rattle.rpc_session.specs.declared.sessions.Act.{Act}
 use Rattle.rpc_session.specs.Hearings.{listed}
-use Rattle.acct_streams.specs.Causes.{Rose}
+use Rattle.acct_keeper.specs.Causes.{Rose}
 use Rattle.acct_links.specs.Links.{Told, Sends, SendsFront}
-use Rattle.link_sessions.specs.declared.requests.Asked.{Asked}
+use Rattle.rpc_session.specs.declared.sessions.Request.{Request}
 use Rattle.link_sessions.specs.Transcript.{transcript, decoded_calls, no_bytes, busy_bytes}
 use Rattle.link_sessions.specs.Talking.{Answers, Talks, Stops, Halts, IsWanting, MeetsFull, SendsSome}
-use Rattle.link_sessions.specs.Talking.{request_of}
+use Rattle.rpc_session.specs.declared.sessions.Act.TheVariants as act
 use Rattle.link_sessions.specs.Turns.{IsFrontOf}
 use Rattle.link_sessions.specs.declared.ends.Stop.{Stop}
 use Rattle.link_sessions.specs.declared.ends.Stop.TheVariants as stop
@@ -140,13 +140,12 @@ module _ (start : Start) (k : ℕ) where
     nothing = refl;
   }
 
-  pub stops-full : (n : ℕ) (asked : Asked) (stub : List ℕ) (a b : List Entry) (s t : Told)
-      → MeetsFull start k n asked stub a b → SendsSome s t (busy_bytes asked)
-      → Stops start k (request_of asked stub ∷ []) a b s t (stop.Full n)
-  stops-full n asked stub a b s t meets some =
-      stops-first (stop.Full n) (request_of asked stub ∷ []) a b some.last s t some.sends (record {
+  pub stops-full : (n : ℕ) (asked : Request) (a b : List Entry) (s t : Told)
+      → MeetsFull start k n asked a b → SendsSome s t (busy_bytes asked)
+      → Stops start k (act.Call asked ∷ []) a b s t (stop.Full n)
+  stops-full n asked a b s t meets some =
+      stops-first (stop.Full n) (act.Call asked ∷ []) a b some.last s t some.sends (record {
         asked = asked;
-        stub = stub;
         others = [];
         first = refl;
         meets = meets;
@@ -155,7 +154,7 @@ module _ (start : Start) (k : ℕ) where
         all = some.all;
       })
 
-  -- ---- behind acts that were answered, and before others
+  -- ---- after acts that were answered, and before others
 
   rose-or : {A : Type 0} (a b c : ℕ) → a ≤ b → A ⊎ Rose b c → A ⊎ Rose a c
   rose-or a b c le (inl x) = inl x
@@ -176,7 +175,6 @@ module _ (start : Start) (k : ℕ) where
   halts-later stop.NoMemory rest a b last s t u le h = h
   halts-later (stop.Full n) rest a b last s t u le h = record {
     asked = h.asked;
-    stub = h.stub;
     others = h.others;
     first = h.first;
     meets = h.meets;
@@ -231,9 +229,8 @@ module _ (start : Start) (k : ℕ) where
   }
   halts-before (stop.Full n) rest ys a b last s t h = record {
     asked = h.asked;
-    stub = h.stub;
     others = h.others ++ ys;
-    first = before-others (request_of h.asked h.stub) rest h.others ys h.first;
+    first = before-others (act.Call h.asked) rest h.others ys h.first;
     meets = h.meets;
     count = h.count;
     written = h.written;

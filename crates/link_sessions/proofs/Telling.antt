@@ -10,12 +10,13 @@ use Rattle.acct_machine.specs.Legal.{replies, calls_of}
 use Rattle.rpc_session.specs.declared.sessions.Act.{Act}
 use Rattle.rpc_session.specs.Hearings.{listed}
 use Rattle.rpc_session.specs.Acts.{acts}
-use Rattle.acct_streams.specs.Causes.{Rose}
+use Rattle.acct_keeper.specs.Causes.{Rose}
 use Rattle.acct_links.specs.Links.{Told}
 use Rattle.link_sessions.specs.Transcript.{written, transcript, decoded_calls, no_bytes, busy_bytes}
 use Rattle.link_sessions.specs.Transcribed.{IsTranscribed}
 use Rattle.link_sessions.specs.Turns.{HasNoCall}
-use Rattle.link_sessions.specs.Talking.{Answers, Halts, IsCut, IsWanting, IsFull, request_of}
+use Rattle.rpc_session.specs.declared.sessions.Act.TheVariants as act
+use Rattle.link_sessions.specs.Talking.{Answers, Halts, IsCut, IsWanting, IsFull}
 use Rattle.link_sessions.specs.Sessions.{IsCutShort, IsLeftOff, IsTurnedAway, Transcript}
 use Rattle.link_sessions.specs.SoFar.{end_of}
 use Rattle.link_sessions.specs.declared.ends.Stop.{Stop}
@@ -24,7 +25,7 @@ use Rattle.link_sessions.proofs.Transcripts.{decoded-then, written-then, transcr
 
 -- ---- the calls and replies of acts, on a connection that had none
 
--- acts, and more acts behind them
+-- acts, and more acts after them
 pub record Parted (start : Start) (k : ℕ) (after : List Entry) (done more : List Act) (x y : List ℕ) : Type 0 where
   pub calls : calls_of k after ≡ decoded_calls (done ++ more)
   pub first : x ≡ transcript done (replies start k after)
@@ -122,9 +123,8 @@ module _ (start : Start) (k : ℕ) (before : List Entry) (silent : HasNoCall sta
       is-turned-away = record {
         done = done;
         asked = full.asked;
-        stub = full.stub;
         others = full.others;
-        splits = rest-is (request_of full.asked full.stub ∷ full.others) full.first;
+        splits = rest-is (act.Call full.asked ∷ full.others) full.first;
         call = full.meets.call;
         decoded = full.meets.decoded;
         calls = calls-before;
@@ -149,12 +149,12 @@ module _ (start : Start) (k : ℕ) (before : List Entry) (silent : HasNoCall sta
 
       whole-fault : last ≡ busy_bytes full.asked → IsTranscribed start after k true came (x ++ last)
       whole-fault is =
-          let here = request_of full.asked full.stub ∷ full.others in
+          let here = act.Call full.asked ∷ full.others in
           let split = rest-is here full.first in record {
             is =
                 ap (λ (l : List ℕ). l ++ last) answers.bytes_are
                 ∙ ap (λ (l : List ℕ). transcript done answers.given ++ l)
-                (is ∙ sym (request-last full.asked full.stub busy_bytes full.others full.meets.call full.meets.decoded))
+                (is ∙ sym (request-last full.asked busy_bytes full.others full.meets.call full.meets.decoded))
                 ∙ sym (written-then busy_bytes done here answers.given [] answers.each)
                 ∙ ap (λ (l : List Reply). written busy_bytes (done ++ here) l)
                 (append-nil answers.given ∙ sym given-before)

@@ -13,7 +13,7 @@ use Rattle.acct_machine.specs.Step.{state_at, acted}
 use Rattle.acct_machine.specs.Room.{call_full}
 use Rattle.acct_machine.specs.Machine.{SameLive, OneMoreCall}
 use Rattle.acct_stubs.specs.declared.errors.WireError.{WireError}
-use Rattle.link_sessions.specs.declared.requests.Asked.{Asked}
+use Rattle.rpc_session.specs.declared.sessions.Request.{Request}
 use Rattle.link_sessions.specs.declared.requests.Answer.{Answer}
 use Rattle.link_sessions.specs.declared.requests.Answer.TheVariants as answer
 use Rattle.link_sessions.specs.Transcript.{answer_bytes, undecoded_bytes}
@@ -33,7 +33,7 @@ pub record Enters (start : Start) (k : ℕ) (finds : List Entry → Type 0) (lef
       (acted (state_at start found) k call verdict).1
 
 -- A decoded call was entered, and its answer has the reply of the state before it.
-pub record AnswersCall (start : Start) (k : ℕ) (finds : List Entry → Type 0) (left : List Entry) (asked : Asked)
+pub record AnswersCall (start : Start) (k : ℕ) (finds : List Entry → Type 0) (left : List Entry) (asked : Request)
     (size : ℕ) (call : Call) (bytes : List ℕ) : Type 0 where
   pub enters : Enters start k finds left call size
   pub bytes_are :
@@ -46,7 +46,7 @@ pub record FindsFull (start : Start) (finds : List Entry → Type 0) (left : Lis
 
 -- A request was answered, which is this call or none; one that is none is answered by a fault, and nothing else
 -- happened.
-abbrev pub AnswersRequest : Start → ℕ → (List Entry → Type 0) → List Entry → List Entry → Asked → ℕ
+abbrev pub AnswersRequest : Start → ℕ → (List Entry → Type 0) → List Entry → List Entry → Request → ℕ
     → Result Call WireError → Answer → Type 0
 AnswersRequest start k finds known left asked size (Err e) (answer.Bytes bytes) =
     (left ≡ known) × (bytes.items ≡ undecoded_bytes asked e)
@@ -55,7 +55,7 @@ AnswersRequest start k finds known left asked size (Ok call) (answer.Bytes bytes
     AnswersCall start k finds left asked size call bytes.items
 AnswersRequest start k finds known left asked size (Ok call) (answer.Full count) = FindsFull start finds left size count
 
--- After want of memory: nothing has happened, or the call was entered.
+-- Where memory ran out: nothing has happened, or the call was entered.
 abbrev pub BeginsRequest : Start → ℕ → (List Entry → Type 0) → List Entry → List Entry → ℕ → Result Call WireError
     → Type 0
 BeginsRequest start k finds known left size (Err e) = left ≡ known

@@ -7,5 +7,6 @@ pub mod Turning
 pub mod Answering
 pub mod Refusals
 pub mod Talking
+pub mod Faults
 pub mod Sessions
 pub mod SoFar

@@ -5,7 +5,7 @@ use Rattle.rpc_session.specs.declared.sessions.Act.TheVariants as act
 
 abbrev pub refusal_of : Act → Option (ℕ × ℕ)
 refusal_of (act.Answered bytes) = None
-refusal_of (act.Call id context face opnum size stub) = None
+refusal_of (act.Call asked) = None
 refusal_of (act.Closed place cause bytes) = Some (place, cause)
 
 abbrev pub later_refusal : Act → List Act → Option (ℕ × ℕ) → Option (ℕ × ℕ)

@@ -9,21 +9,22 @@ use Rattle.acct_machine.specs.declared.entry.Entry.TheVariants.{Gone}
 use Rattle.acct_machine.specs.Legal.{Legal, replies, calls_of}
 use Rattle.acct_machine.specs.Room.{call_full}
 use Rattle.rpc_session.specs.declared.sessions.Act.{Act}
+use Rattle.rpc_session.specs.declared.sessions.Request.{Request}
+use Rattle.rpc_session.specs.declared.sessions.Act.TheVariants as act
 use Rattle.rpc_session.specs.Hearings.{listed}
 use Rattle.rpc_session.specs.Acts.{acts}
-use Rattle.acct_streams.specs.Causes.{Rose}
+use Rattle.acct_keeper.specs.Causes.{Rose}
 use Rattle.acct_links.specs.Links.{Told}
-use Rattle.link_sessions.specs.declared.requests.Asked.{Asked}
 use Rattle.link_sessions.specs.Requests.{call_on}
 use Rattle.link_sessions.specs.Transcript.{transcript, decoded_calls, busy_bytes}
 use Rattle.link_sessions.specs.Transcribed.{IsTranscribed}
+use Rattle.link_sessions.specs.Faults.{Faults}
 use Rattle.link_sessions.specs.Turns.{IsFrontOf}
 use Rattle.link_sessions.specs.Refusals.{closing_of}
-use Rattle.link_sessions.specs.Talking.{request_of}
 use Rattle.link_sessions.specs.declared.ends.SessionEnd.{SessionEnd}
 use Rattle.link_sessions.specs.declared.ends.SessionEnd.TheVariants as end
 
--- A write failed: the answers to the acts up to one were written whole, and of the answer to that one a front. The
+-- A write failed: the answers to the acts up to one were written whole, and of the answer to that one a prefix. The
 -- connection's calls are the decoded calls of these acts, with that one.
 pub record IsCutShort (start : Start) (history : List Entry) (k : ℕ) (came sent : List ℕ) : Type 0 where
   pub done : List Act
@@ -37,7 +38,7 @@ pub record IsCutShort (start : Start) (history : List Entry) (k : ℕ) (came sen
   pub count : ℕ
   pub written : sent ≡ transcript done (replies start k history) ++ take count answer
 
--- Memory was wanted: the answers to the first of the acts were written whole. The connection's calls are the decoded
+-- Memory ran out: the answers to the first of the acts were written whole. The connection's calls are the decoded
 -- calls of these acts, and perhaps that of the next one.
 pub record IsLeftOff (start : Start) (history : List Entry) (k : ℕ) (came sent : List ℕ) : Type 0 where
   pub done : List Act
@@ -48,21 +49,20 @@ pub record IsLeftOff (start : Start) (history : List Entry) (k : ℕ) (came sent
   pub written : sent ≡ transcript done (replies start k history)
 
 -- The history was full for a decoded call, with this count: the answers to the acts before it were written whole, and
--- then that the server is too busy, or a front of that. The connection's calls are the decoded calls before it.
+-- then that the server is too busy, or a prefix of that. The connection's calls are the decoded calls before it.
 pub record IsTurnedAway (start : Start) (history : List Entry) (k n : ℕ) (came sent : List ℕ) : Type 0 where
   pub done : List Act
-  pub asked : Asked
-  pub stub : List ℕ
+  pub asked : Request
   pub others : List Act
-  pub splits : acts k came ≡ done ++ request_of asked stub ∷ others
+  pub splits : acts k came ≡ done ++ act.Call asked ∷ others
   pub call : Call
-  pub decoded : call_on asked.face asked.opnum stub ≡ Ok call
+  pub decoded : call_on asked.face asked.opnum asked.stub ≡ Ok call
   pub calls : calls_of k history ≡ decoded_calls done
   -- the history that the call found, which had the connection's calls
   pub found : List Entry
   pub front : IsFrontOf found history
   pub had : calls_of k found ≡ calls_of k history
-  pub full : call_full start found (length stub) ≡ Some n
+  pub full : call_full start found (length asked.stub) ≡ Some n
   pub count : ℕ
   pub written : sent ≡ transcript done (replies start k history) ++ take count (busy_bytes asked)
 
@@ -108,6 +108,7 @@ pub record IsConversation (start : Start) (k most : ℕ) (answer : SessionEnd) (
 pub record IsSession (start : Start) (k most : ℕ) (answer : SessionEnd) (old new : Told) (known history : List Entry)
     : Type 0 where
   pub conversation : IsConversation start k most answer old new known history
+  pub faults : Faults answer old new
   pub before : List Entry
   pub gone : history ≡ before ++ Gone k ∷ []
   pub legal : Legal start history

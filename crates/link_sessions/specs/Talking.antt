@@ -8,10 +8,10 @@ use Rattle.acct_machine.specs.Legal.{replies, calls_of}
 use Rattle.acct_machine.specs.Room.{call_full}
 use Rattle.rpc_session.specs.declared.sessions.Act.{Act}
 use Rattle.rpc_session.specs.declared.sessions.Act.TheVariants as act
+use Rattle.rpc_session.specs.declared.sessions.Request.{Request}
 use Rattle.rpc_session.specs.Hearings.{listed}
-use Rattle.acct_streams.specs.Causes.{Rose}
+use Rattle.acct_keeper.specs.Causes.{Rose}
 use Rattle.acct_links.specs.Links.{Told, Sends}
-use Rattle.link_sessions.specs.declared.requests.Asked.{Asked}
 use Rattle.link_sessions.specs.declared.requests.Answer.{Answer}
 use Rattle.link_sessions.specs.declared.requests.Answer.TheVariants as answer
 use Rattle.link_sessions.specs.Requests.{call_on}
@@ -36,11 +36,7 @@ pub record Talks (start : Start) (k : ℕ) (done : List Act) (before after : Lis
   pub sends : Sends old new bytes
   pub answers : Answers start k done before after bytes
 
--- the act that is this request
-abbrev pub request_of : Asked → List ℕ → Act
-request_of asked stub = act.Call asked.id asked.context asked.face asked.opnum asked.size stub
-
--- The first of the acts has an answer, of which a front was written; then a write failed.
+-- The first of the acts has an answer, of which a prefix was written; then a write failed.
 pub record IsCut (start : Start) (k : ℕ) (rest : List Act) (before after : List Entry) (last : List ℕ)
     (old new : Told) : Type 0 where
   pub begun : Act
@@ -52,7 +48,7 @@ pub record IsCut (start : Start) (k : ℕ) (rest : List Act) (before after : Lis
   pub written : last ≡ take count answer
   pub failed : Rose old.write_faults new.write_faults
 
--- Memory was wanted: the first of the acts has an answer, or none was come to, and nothing was written.
+-- Memory ran out: the first of the acts has an answer, or none was come to, and nothing was written.
 pub record IsWanting (start : Start) (k : ℕ) (rest : List Act) (before after : List Entry) (last : List ℕ) : Type 0
   where
     pub begun : Option Act
@@ -63,33 +59,32 @@ pub record IsWanting (start : Start) (k : ℕ) (rest : List Act) (before after :
     pub nothing : last ≡ []
 
 -- A request is a call that found the history full, and it isn't entered.
-pub record MeetsFull (start : Start) (k n : ℕ) (asked : Asked) (stub : List ℕ) (before after : List Entry) : Type 0
+pub record MeetsFull (start : Start) (k n : ℕ) (asked : Request) (before after : List Entry) : Type 0
   where
     pub call : Call
-    pub decoded : call_on asked.face asked.opnum stub ≡ Ok call
+    pub decoded : call_on asked.face asked.opnum asked.stub ≡ Ok call
     pub passes : Answers start k [] before after []
-    pub full : call_full start after (length stub) ≡ Some n
+    pub full : call_full start after (length asked.stub) ≡ Some n
 
 -- The first of the acts is a call that found the history full, and the fault that the server is too busy was written,
--- or a front of it where a write failed.
+-- or a prefix of it where a write failed.
 pub record IsFull (start : Start) (k n : ℕ) (rest : List Act) (before after : List Entry) (last : List ℕ)
     (old new : Told) : Type 0 where
-  pub asked : Asked
-  pub stub : List ℕ
+  pub asked : Request
   pub others : List Act
-  pub first : rest ≡ request_of asked stub ∷ others
-  pub meets : MeetsFull start k n asked stub before after
+  pub first : rest ≡ act.Call asked ∷ others
+  pub meets : MeetsFull start k n asked before after
   pub count : ℕ
   pub written : last ≡ take count (busy_bytes asked)
   pub all : (last ≡ busy_bytes asked) ⊎ Rose old.write_faults new.write_faults
 
 -- what the answer to a request says of its connection
-abbrev pub IsAnswered : Start → ℕ → Asked → List ℕ → List Entry → List Entry → Answer → Type 0
-IsAnswered start k asked stub before after (answer.Bytes bytes) =
-    Answers start k (request_of asked stub ∷ []) before after bytes.items
-IsAnswered start k asked stub before after (answer.Full n) = MeetsFull start k n asked stub before after
+abbrev pub IsAnswered : Start → ℕ → Request → List Entry → List Entry → Answer → Type 0
+IsAnswered start k asked before after (answer.Bytes bytes) =
+    Answers start k (act.Call asked ∷ []) before after bytes.items
+IsAnswered start k asked before after (answer.Full n) = MeetsFull start k n asked before after
 
--- a front of these bytes was written, and they all, unless a write failed
+-- a prefix of these bytes was written, and they all, unless a write failed
 pub record SendsSome (old new : Told) (bytes : List ℕ) : Type 0 where
   pub last : List ℕ
   pub sends : Sends old new last

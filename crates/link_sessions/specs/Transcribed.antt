@@ -4,17 +4,17 @@ use Rattle.acct_calls.specs.declared.calls.Call.{Call}
 use Rattle.acct_machine.specs.State.{Start}
 use Rattle.acct_machine.specs.declared.entry.Entry.{Entry}
 use Rattle.acct_machine.specs.Legal.{replies, calls_of}
+use Rattle.rpc_session.specs.declared.sessions.Request.{Request}
 use Rattle.rpc_session.specs.Acts.{acts}
-use Rattle.link_sessions.specs.declared.requests.Asked.{Asked}
 use Rattle.link_sessions.specs.Transcript.{written, busy_bytes, no_bytes, decoded_calls}
 
 -- what is written last: where the history was found full, that the server is too busy
-abbrev pub last_bytes : Bool → Asked → List ℕ
+abbrev pub last_bytes : Bool → Request → List ℕ
 last_bytes full asked = if full then busy_bytes asked else no_bytes asked
 
 -- What was written on a connection on which these bytes came: it is the transcript of their acts with the replies of
 -- the connection's calls in the history; where it found the history full, with the answer that the server is too busy
--- behind it. The decoded calls of the acts, in order, each with the length of its stub, are the connection's calls, and
+-- after it. The decoded calls of the acts, in order, each with the length of its stub, are the connection's calls, and
 -- where it found the history full those that stand outside it.
 pub record IsTranscribed (start : Start) (history : List Entry) (k : ℕ) (full : Bool) (came sent : List ℕ) : Type 0
   where

@@ -1,4 +1,4 @@
--- What the laws of the machine as a gate say: a history is its own front, and whatever is said of a connection is the
+-- What the laws of the machine as a gate say: a history is its own prefix, and whatever is said of a connection is the
 -- same in the same history.
 use Rattle.std.proofs.Common.{◌≡◌, ℕ, List, [], refl, sym, ◌∙◌, subst}
 use Rattle.std.proofs.lemmas.List.{append-nil}

@@ -15,7 +15,7 @@ use Rattle.acct_machine.specs.Machine.{OneLessLive}
 abbrev pub shown : Start → List Entry → Past
 shown start history = record { start = start; history = history }
 
--- what is known of a history is a front of it
+-- what is known of a history is a prefix of it
 abbrev pub IsFrontOf : List Entry → List Entry → Type 0
 IsFrontOf known history = (rest : List Entry) × (history ≡ known ++ rest)
 

@@ -15,7 +15,7 @@ pub enum SessionEnd {
     Full(u64),
     /// So many bytes were read.
     ByteLimit(u64),
-    /// Memory was wanted.
+    /// Memory ran out.
     NoMemory,
 }
 

@@ -16,7 +16,7 @@ pub trait Gate {
     /// Where the history of the machine begins.
     ghost start: { Self → Start };
 
-    /// What is known of the history: a front of it.
+    /// What is known of the history: a prefix of it.
     ghost known: { Self → List Entry };
 
     /// The histories that a turn may find.
@@ -62,7 +62,7 @@ pub trait Gate {
         ensures moves { moves self.old conn self.new }
         ensures start { start self.new ≡ start self.old };
 
-    /// What is known is a front of each history that a turn finds.
+    /// What is known is a prefix of each history that a turn finds.
     ghost fronts: { (g : Self) (found : List Entry) → finds g found → IsFrontOf (known g) found };
 
     /// Whatever is said of a connection that it serves is in a history that a turn finds as it is in what is known.

@@ -11,8 +11,8 @@
 //! and nothing else happens. And [`session`], for a connection that the gate serves and that has made no call: by the
 //! session's end ([`SessionEnd`]), each with its cause, what was written is the transcript of the acts of what was read
 //! (`Transcript`, `Transcribed`), with the replies that the connection's calls have in the history; these calls are the
-//! decoded calls of the acts, in order. After a failed write, a full history and want of memory they are those of the
-//! first acts, and what was written are the whole answers to these and a front of the next. In every case the
+//! decoded calls of the acts, in order. After a failed write, a full history and running out of memory they are those
+//! of the first acts, and what was written are the whole answers to these and a prefix of the next. In every case the
 //! connection's end is entered last.
 //!
 //! In rooms: `gate` has the trait, `machine_gate` the machine as one; `requests` takes a request to a call and its
@@ -32,5 +32,5 @@ pub use answers::answer_all;
 pub use connections::{Peer, heard, is_served, new_peer};
 pub use ends::{Ended, SessionEnd, Stop};
 pub use gate::Gate;
-pub use requests::{Answer, Asked, read_request, request};
+pub use requests::{Answer, read_request, request};
 pub use sessions::session;

@@ -1,7 +1,8 @@
 // Requests: which call each of them is, and its answer over a gate.
 ghost use Rattle.std.specs.Prelude.{◌≡◌, ◌≤◌, OnErr, OnOk, IfOk, Ok, Err, Result, length};
 ghost use Rattle.acct_calls.specs.declared.calls.Call.{Call};
-ghost use Rattle.acct_codes.specs.Limits.{least_fragment, most_fragment, most_stub};
+ghost use Rattle.acct_codes.specs.Limits.{least_fragment, most_fragment};
+ghost use Rattle.rpc_session.specs.Acts.{IsFitRequest};
 ghost use Rattle.acct_layouts.specs.ReplyShapes.{HasShape};
 ghost use Rattle.acct_machine.specs.Calls.{IsCall};
 ghost use Rattle.acct_stubs.specs.declared.errors.WireError.{WireError};
@@ -15,19 +16,8 @@ use crate::gate::Gate;
 use acct_codes::fault::{NCA_S_OP_RNG_ERROR, RPC_X_BAD_STUB_DATA};
 use acct_machine::{Acted, Call, Face, Reply, calls_have_operations};
 use acct_stubs::WireError;
-use rpc_session::{fault_bytes, reply_bytes};
+use rpc_session::{Request, fault_bytes, reply_bytes};
 use std::alloc::{AllocError, Global};
-
-/// What a request asks for, and where its answer goes: the call id and context that it answers, the size of its
-/// fragments, and the operation.
-#[derive(Clone, Copy)]
-pub struct Asked {
-    pub id: u32,
-    pub context: u16,
-    pub size: u16,
-    pub face: Face,
-    pub opnum: u16,
-}
 
 /// What comes of a request: the bytes of its answer; or it is a call that the history doesn't take, with what the
 /// history has.
@@ -37,7 +27,7 @@ pub enum Answer {
     Full(u64),
 }
 
-/// The call of a request on an interface, or why it is none. `Memory` comes only where memory is wanted.
+/// The call of a request on an interface, or why it is none. `Memory` comes only where memory runs out.
 pub fn read_request(alloc: Global, face: Face, opnum: u16, stub: &[u8]) -> Result<Call, WireError>
     ensures value { ReadsAllIfRoom result (call_on face opnum stub.now) }
     ensures call { IfOk result IsCall }
@@ -51,7 +41,7 @@ pub fn read_request(alloc: Global, face: Face, opnum: u16, stub: &[u8]) -> Resul
     }
 }
 
-/// The status of the fault that answers a request that is no decoded call. An error says that memory was wanted.
+/// The status of the fault that answers a request that is no decoded call. An error says that memory ran out.
 pub fn undecoded_status(error: WireError) -> Result<u32, AllocError>
     ensures status { IfOk result (λ status. status ≡ undecoded_status error) }
     ensures told { OnOk result ((r : Result Call WireError) → ReadsAllIfRoom (Err error) r → r ≡ Err error) }
@@ -78,15 +68,15 @@ fn reply_stub(alloc: Global, face: Face, opnum: u16, reply: &Reply) -> Result<Ve
 #[tactic(auto, unfolding(crate::specs::Transcript::answer_bytes))]
 fn answer_bytes(
     alloc: Global,
-    asked: Asked,
+    asked: &Request,
     face: Face,
     opnum: u16,
     reply: &Reply,
 ) -> Result<Vec<u8>, AllocError>
-    requires low { least_fragment ≤ asked.size }
-    requires high { asked.size ≤ most_fragment }
+    requires low { least_fragment ≤ asked.now.size }
+    requires high { asked.now.size ≤ most_fragment }
     requires shaped { IsAnswerOf face opnum reply.now }
-    ensures { IfOk result (λ bytes. bytes.items ≡ answer_bytes asked face opnum reply.now) }
+    ensures { IfOk result (λ bytes. bytes.items ≡ answer_bytes asked.now face opnum reply.now) }
 {
     match reply {
         Reply::Fault(status) => fault_bytes(asked.id, asked.context, *status).to_vec(alloc),
@@ -102,16 +92,16 @@ fn make_call<G: Gate>(
     alloc: Global,
     gate: &mut G,
     conn: u32,
-    asked: Asked,
+    asked: &Request,
     call: Call,
     stub_size: u32,
 ) -> Result<Answer, AllocError>
     requires serves { G.serves gate.old conn }
-    requires low { least_fragment ≤ asked.size }
-    requires high { asked.size ≤ most_fragment }
+    requires low { least_fragment ≤ asked.now.size }
+    requires high { asked.now.size ≤ most_fragment }
     requires spelled { IsCall call }
     ensures answers { IfOk result (AnswersRequest (G.start gate.old) conn (G.finds gate.old) (G.known gate.old)
-        (G.known gate.new) asked stub_size (Ok call)) }
+        (G.known gate.new) asked.now stub_size (Ok call)) }
     ensures begins { OnErr result (BeginsRequest (G.start gate.old) conn (G.finds gate.old) (G.known gate.old)
         (G.known gate.new) stub_size (Ok call)) }
     ensures serves { G.serves gate.new conn }
@@ -132,8 +122,8 @@ fn make_call<G: Gate>(
 }
 
 // The fault that answers a request that is no decoded call.
-fn undecoded_bytes(alloc: Global, asked: Asked, error: WireError) -> Result<Vec<u8>, AllocError>
-    ensures bytes { IfOk result (λ bytes. bytes.items ≡ undecoded_bytes asked error) }
+fn undecoded_bytes(alloc: Global, asked: &Request, error: WireError) -> Result<Vec<u8>, AllocError>
+    ensures bytes { IfOk result (λ bytes. bytes.items ≡ undecoded_bytes asked.now error) }
     ensures told { OnOk result ((r : Result Call WireError) → ReadsAllIfRoom (Err error) r → r ≡ Err error) }
 {
     let status = undecoded_status(error)?;
@@ -146,21 +136,19 @@ pub fn request<G: Gate>(
     alloc: Global,
     gate: &mut G,
     conn: u32,
-    asked: Asked,
-    stub: &[u8],
+    asked: &Request,
 ) -> Result<Answer, AllocError>
     requires serves { G.serves gate.old conn }
-    requires low { least_fragment ≤ asked.size }
-    requires high { asked.size ≤ most_fragment }
-    requires short { length stub.now ≤ most_stub }
+    requires fits { IsFitRequest asked.now }
     ensures answers { IfOk result (AnswersRequest (G.start gate.old) conn (G.finds gate.old) (G.known gate.old)
-        (G.known gate.new) asked (length stub.now) (call_on asked.face asked.opnum stub.now)) }
+        (G.known gate.new) asked.now (length asked.now.stub) (call_on asked.now.face asked.now.opnum asked.now.stub)) }
     ensures begins { OnErr result (BeginsRequest (G.start gate.old) conn (G.finds gate.old) (G.known gate.old)
-        (G.known gate.new) (length stub.now) (call_on asked.face asked.opnum stub.now)) }
+        (G.known gate.new) (length asked.now.stub) (call_on asked.now.face asked.now.opnum asked.now.stub)) }
     ensures serves { G.serves gate.new conn }
     ensures moves { G.moves gate.old conn gate.new }
     ensures start { G.start gate.new ≡ G.start gate.old }
 {
+    let stub = asked.stub.as_slice();
     match read_request(alloc, asked.face, asked.opnum, stub) {
         Ok(call) => make_call(alloc, gate, conn, asked, call, stub.len() as u32),
         Err(error) => Ok(Answer::Bytes(undecoded_bytes(alloc, asked, error)?)),

@@ -1,12 +1,13 @@
 // One connection, from its first byte to its end.
 ghost use Rattle.std.specs.Prelude.{◌≡◌, ◌≤◌, ◌<◌, ◌+◌, ◌-◌, ◌^◌, ◌++◌, ℕ, List, length, All, false, None, OnOk};
-ghost use Rattle.std.specs.Prelude.{IfOk, IfErr};
+ghost use Rattle.std.specs.Prelude.{IfOk, IfErr, MatchResult};
 ghost use Rattle.acct_machine.specs.declared.entry.Entry.{Entry};
 ghost use Rattle.rpc_session.specs.Hearings.{HasRoom, on};
 ghost use Rattle.rpc_session.specs.Acts.{IsFit};
-ghost use Rattle.acct_links.specs.Links.{Told};
+ghost use Rattle.acct_links.specs.Links.{Told, FaultsAre};
 ghost use Rattle.link_sessions.specs.Turns.{HasNoCall};
 ghost use Rattle.link_sessions.specs.Refusals.{refusal_of, closing_of};
+ghost use Rattle.link_sessions.specs.Faults.{Faults};
 ghost use Rattle.link_sessions.specs.Talking.{Talks};
 ghost use Rattle.link_sessions.specs.SoFar.{SoFar, HasHeard, PieceEnds, end_of};
 ghost use Rattle.link_sessions.specs.Sessions.{IsConversation, IsSession, Ended};
@@ -24,7 +25,7 @@ fn refusal_of(act: &Act) -> Option<(u64, u8)>
 {
     match act {
         Act::Closed { place, cause, .. } => Some((*place, *cause)),
-        Act::Answered { .. } | Act::Call { .. } => None,
+        Act::Answered { .. } | Act::Call(_) => None,
     }
 }
 
@@ -69,6 +70,8 @@ fn answer_piece<L: Link, G: Gate>(
     ensures serves { G.serves gate.new conn }
     ensures moves { G.moves gate.old conn gate.new }
     ensures start { G.start gate.new ≡ G.start gate.old }
+    ensures faults { MatchResult result (λ _. FaultsAre false false (L.told link.old) (L.told link.new))
+        (λ end. Faults end (L.told link.old) (L.told link.new)) }
 {
     match answer_all(alloc, link, gate, conn, acts) {
         Err(stop) => Err(end_of(stop)),
@@ -101,6 +104,8 @@ fn take_piece<L: Link, G: Gate>(
     ensures serves { G.serves gate.new conn }
     ensures moves { G.moves gate.old conn gate.new }
     ensures start { G.start gate.new ≡ G.start gate.old }
+    ensures faults { MatchResult result (λ _. FaultsAre false false (L.told link.old) (L.told link.new))
+        (λ end. Faults end (L.told link.old) (L.told link.new)) }
 {
     match heard(alloc, stream, piece) {
         Ok(acts) => answer_piece(alloc, link, gate, conn, &acts, piece.len()),
@@ -133,6 +138,8 @@ fn step<L: Link, G: Gate>(
     ensures serves { G.serves gate.new conn }
     ensures moves { G.moves gate.old conn gate.new }
     ensures start { G.start gate.new ≡ G.start gate.old }
+    ensures faults { MatchResult result (λ _. FaultsAre false false (L.told link.old) (L.told link.new))
+        (λ end. Faults end (L.told link.old) (L.told link.new)) }
 {
     streams_are_cut_anywhere();
     room_by_length();
@@ -158,6 +165,7 @@ fn converse<L: Link, G: Gate>(
     requires going { (L.told link.old).ended ≡ false }
     ensures conversation { IsConversation (G.start gate.old) conn max_read result (L.told link.old) (L.told link.new)
         (G.known gate.old) (G.known gate.new) }
+    ensures faults { Faults result (L.told link.old) (L.told link.new) }
     ensures serves { G.serves gate.new conn }
     ensures moves { G.moves gate.old conn gate.new }
     ensures start { G.start gate.new ≡ G.start gate.old }

@@ -1,4 +1,4 @@
--- The passes joined so far are one pass over their workers' entries, and the doors behind them are still to join.
+-- The passes joined so far are one pass over their workers' entries, and the doors after them are still to join.
 use Rattle.std.proofs.Common.{◌≡◌, ◌+◌, ◌<◌, [], Some, None, length, refl, sym, ap, ◌∙◌, subst, arith, vec_len, get_or}
 use Rattle.std.specs.Prelude.{slice_index_or}
 use Rattle.std.proofs.lemmas.List.{get_or_default}

@@ -1,5 +1,7 @@
 -- The doors got so far, with those of the listeners left, are those of all, up to the first asking that fails.
-use Rattle.std.proofs.Common.{◌≡◌, ◌≤◌, ◌<◌, ◌∷◌, ◌++◌, [], length, map, replicate, sym, ◌∙◌, ap, subst, arith, get_or}
+use Rattle.std.proofs.Common.{◌≡◌, ◌≤◌, ◌<◌, ◌∷◌, ◌++◌, [], length, map, replicate, sym, ◌∙◌, ap, subst, arith, get_or, Err}
+use Rattle.acct_keeper.specs.Counts.{faults_after}
+use Rattle.acct_keeper.specs.Memory.{is_fault}
 use Rattle.door_workers.specs.Askings.{asking_of, asked_besides}
 use Rattle.door_workers.proofs.Placing.{opens-more, workers-within}
 use Rattle.door_workers.proofs.opening.open_doors.Goals as goal
@@ -35,5 +37,10 @@ loop-listener-preserved g c =
           (e.open inv.opens.doors.going) (e.unused inv.opens.doors.unused);
       few = let count = done.count in let was = inv.few in omega arith;
       within = e.within (length ls) (omega arith) inv.within;
-      later = let was = inv.later in let more = e.later in omega arith;
+      faults = done.faults ∙ inv.faults;
     }
+
+pub returns-in-Err-clause-faults : goal.returns-in-Err-clause-faults
+returns-in-Err-clause-faults g c =
+    c.in-Err.ensures.faults
+    ∙ ap (λ n. faults_after (is_fault {T = Unit {0}} (Err c.in-Err.e)) n) c.loop-listener.invariant.faults

@@ -1,4 +1,4 @@
--- The listeners before this one were asked for, and their doors are there.
+-- The listeners before this one were asked for, none of these askings failed, and their doors are there.
 use Rattle.std.proofs.Common.{◌≡◌, ◌*◌, ◌<◌, ◌≤◌, All, length, vec_len}
 use Rattle.door_workers.specs.Askings.{Opens}
 use Rattle.door_workers.proofs.opening.open_doors.Given as goal
@@ -10,5 +10,5 @@ invariant-loop-listener g l = record {
       (g.E.Entrance.asked l.entrance) l.doors.items;
   few : vec_len l.doors ≤ 64 * l.listener-index;
   within : All (λ d. g.E.D.Door.listener d < length l.config.listeners) l.doors.items;
-  later : g.E.Entrance.faults l.initial.entrance ≤ g.E.Entrance.faults l.entrance;
+  faults : g.E.Entrance.faults l.entrance ≡ g.E.Entrance.faults l.initial.entrance;
 }

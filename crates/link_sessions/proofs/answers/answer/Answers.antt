@@ -1,4 +1,4 @@
--- Where the write of an answer or a refusal fails, a front of that act's bytes was sent.
+-- Where the write of an answer or a refusal fails, a prefix of that act's bytes was sent.
 use Rattle.std.proofs.Common.{ℕ, List, [], ◌∷◌, sym, subst}
 use Rattle.rpc_session.specs.declared.sessions.Act.{Act}
 use Rattle.rpc_session.specs.declared.sessions.Act.TheVariants as act

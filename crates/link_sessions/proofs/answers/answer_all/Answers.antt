@@ -1,9 +1,11 @@
 -- The acts so far are answered whole, and where one stops, it is the first that isn't.
-use Rattle.std.proofs.Common.{List, [], ◌∷◌, take, refl, sym, ◌∙◌, subst}
+use Rattle.std.proofs.Common.{List, [], ◌∷◌, false, take, refl, sym, ◌∙◌, subst}
 use Rattle.acct_machine.specs.State.{Start}
 use Rattle.rpc_session.specs.declared.sessions.Act.{Act}
+use Rattle.link_sessions.specs.SoFar.{end_of}
 use Rattle.link_sessions.specs.Talking.{Talks, Stops}
 use Rattle.link_sessions.proofs.Acts.{act-here, parted, one-more}
+use Rattle.link_sessions.proofs.Faults.{faults-none, faults-then, ends-then}
 use Rattle.link_sessions.proofs.Talks.{talks-none, talks-then, stops-then, stops-before}
 use Rattle.link_sessions.proofs.answers.answer_all.Goals as goal
 
@@ -16,6 +18,7 @@ loop-i-init g c =
       moves = g.met.G.Gate.stays a.gate.now a.conn;
       start = refl;
       talks = talks-none (m.start a.gate.now) a.conn (m.known a.gate.now) (g.L.Link.told a.link.now);
+      faults = faults-none (g.L.Link.told a.link.now);
     }
 
 pub loop-i-preserved : goal.loop-i-preserved
@@ -39,6 +42,8 @@ loop-i-preserved g c =
           (t.told c.answer.new.link) inv.talks
           (subst (λ (s : Start). Talks s a.conn (x ∷ []) (m.known c.loop-i.gate) (m.known c.answer.new.gate)
           (t.told c.loop-i.link) (t.told c.answer.new.link)) inv.start c.in-Ok.ensures.ok));
+      faults = faults-then false false (t.told a.link.now) (t.told c.loop-i.link) (t.told c.answer.new.link) inv.faults
+          c.in-Ok.ensures.faults;
     }
 
 pub returns-in-Err-clause-err : goal.returns-in-Err-clause-err
@@ -59,3 +64,9 @@ returns-in-Err-clause-err g c =
     (t.told c.loop-i.link) (t.told c.answer.new.link) c.in-Err.stop
     (subst (λ (s : Start). Stops s a.conn (x ∷ []) (m.known c.loop-i.gate) (m.known c.answer.new.gate)
     (t.told c.loop-i.link) (t.told c.answer.new.link) c.in-Err.stop) inv.start c.in-Err.ensures.err)))
+
+pub returns-in-Err-clause-faults : goal.returns-in-Err-clause-faults
+returns-in-Err-clause-faults g c =
+    let t = g.L.Link in
+    ends-then (end_of c.in-Err.stop) (t.told c.args.link.now) (t.told c.loop-i.link) (t.told c.answer.new.link)
+    c.loop-i.invariant.faults c.in-Err.ensures.faults

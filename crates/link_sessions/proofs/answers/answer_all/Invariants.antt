@@ -1,5 +1,6 @@
--- What `answer_all` keeps: the acts so far are answered.
-use Rattle.std.proofs.Common.{◌≡◌, take}
+-- What `answer_all` keeps: the acts so far are answered, and no call of the link failed.
+use Rattle.std.proofs.Common.{◌≡◌, take, false}
+use Rattle.acct_links.specs.Links.{FaultsAre}
 use Rattle.link_sessions.specs.Talking.{Talks}
 use Rattle.link_sessions.proofs.answers.answer_all.Given as goal
 
@@ -13,4 +14,5 @@ invariant-loop-i g l =
       start : m.start l.gate ≡ m.start l.initial.gate;
       talks : Talks (m.start l.initial.gate) l.conn (take l.i l.acts) (m.known l.initial.gate) (m.known l.gate)
           (t.told l.initial.link) (t.told l.link);
+      faults : FaultsAre false false (t.told l.initial.link) (t.told l.link);
     }

@@ -9,7 +9,7 @@ returns-clause-answers g c =
     let m = g.G.Gate in
     if-ok c.request.result
     (request-is-answered (m.start a.gate.now) a.conn (m.finds a.gate.now) (m.known a.gate.now)
-    (m.known c.request.new.gate) a.asked a.stub.now
+    (m.known c.request.new.gate) a.asked.now
     (λ found finds. (
       g.met.G.Gate.fronts a.gate.now found finds,
       g.met.G.Gate.passes a.gate.now a.conn found c.requires.serves finds,
@@ -21,7 +21,7 @@ returns-clause-wants g c =
     let m = g.G.Gate in
     on-err c.request.result
     (request-is-wanting (m.start a.gate.now) a.conn (m.finds a.gate.now) (m.known a.gate.now)
-    (m.known c.request.new.gate) a.asked a.stub.now
+    (m.known c.request.new.gate) a.asked.now
     (λ found finds. (
       g.met.G.Gate.fronts a.gate.now found finds,
       g.met.G.Gate.passes a.gate.now a.conn found c.requires.serves finds,

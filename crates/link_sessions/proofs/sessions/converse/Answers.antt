@@ -1,11 +1,12 @@
 -- What came so far is heard and answered, until a step ends it or `max_read` bytes have come.
 use Rattle.std.proofs.Common.{◌≤◌, ◌+◌, [], ◌++◌, length, drop, length-append, length-drop, refl, sym, ◌∙◌, subst}
-use Rattle.std.proofs.Common.{arith, take}
+use Rattle.std.proofs.Common.{arith, take, false}
 use Rattle.std.proofs.lemmas.List.{length-take}
 use Rattle.acct_machine.specs.State.{Start}
 use Rattle.link_sessions.specs.Turns.{HasNoCall}
 use Rattle.link_sessions.specs.SoFar.{SoFar}
 use Rattle.link_sessions.specs.Sessions.{IsConversation}
+use Rattle.link_sessions.proofs.Faults.{faults-none, faults-then, ends-then}
 use Rattle.link_sessions.proofs.SoFar.{so-far-start}
 use Rattle.link_sessions.proofs.Ending.{limit-ends}
 use Rattle.link_sessions.proofs.sessions.converse.Goals as goal
@@ -24,6 +25,7 @@ loop-room-init g c =
             c.requires.going c.new-stream.ensures,
         omega arith,
       );
+      faults = faults-none (g.L.Link.told a.link.now);
       buffer = refl;
     }
 
@@ -55,6 +57,8 @@ loop-room-preserved g c =
             (t.told c.step.new.link) c.step.new.stream (s.0 ++ r.0)) inv.start r.2,
         omega (arith, length-append s.0 r.0),
       );
+      faults = faults-then false false (t.told a.link.now) (t.told c.loop-room.link) (t.told c.step.new.link) inv.faults
+          c.in-Ok.ensures.faults;
       buffer = omega (
         arith,
         length-append c.step.new.front (drop most c.loop-room.buffer),
@@ -93,3 +97,9 @@ returns-clause-conversation g c =
     let done = c.loop-room-test.false in
     limit-ends (m.start a.gate.now) a.conn (m.known a.gate.now) (m.known c.loop-room.gate) (t.told a.link.now)
     (t.told c.loop-room.link) c.loop-room.stream s.0 a.max_read c.requires.new s.1 (omega arith)
+
+pub returns-in-Err-clause-faults : goal.returns-in-Err-clause-faults
+returns-in-Err-clause-faults g c =
+    let t = g.L.Link in
+    ends-then c.in-Err.end (t.told c.args.link.now) (t.told c.loop-room.link) (t.told c.step.new.link)
+    c.loop-room.invariant.faults c.in-Err.ensures.faults

@@ -17,6 +17,7 @@ returns-clause-session g c =
     record {
       conversation = conversation-on (m.start a.gate.now) a.conn a.max_read c.converse-end.result (t.told a.link.now)
           (t.told c.converse-end.new.link) (m.known a.gate.now) before after ended c.converse-end.ensures.conversation;
+      faults = c.converse-end.ensures.faults;
       before = ended.before;
       gone = ended.gone;
       legal = ended.legal;

@@ -2,7 +2,8 @@
 use Rattle.std.proofs.Common.{◌<◌, ◌≤◌, ◌++◌, length, take, Ok, sym, subst, arith, length-append}
 use Rattle.std.proofs.lemmas.List.{length-take}
 use Rattle.acct_links.specs.Links.{Reads}
-use Rattle.acct_streams.specs.declared.outside.Failed.{Failed}
+use Rattle.acct_keeper.specs.declared.streams.Failed.{Failed}
+use Rattle.link_sessions.proofs.Faults.{results-then}
 use Rattle.link_sessions.proofs.Results.{if-err, if-ok-2}
 use Rattle.link_sessions.proofs.SoFar.{came-some, piece-fit, so-far-more, piece-ends}
 use Rattle.link_sessions.proofs.Ending.{read-fails, read-ends}
@@ -74,3 +75,20 @@ returns-clause-err g c = λ before old came most s silent short.
     (m.known a.gate.now) old
     told mid a.stream.now came piece s comes silent most within (t.told c.take_piece.new.link)
     (m.known c.take_piece.new.gate) end ends) c.take_piece.ensures.err
+
+pub returns-in-Err-clause-faults : goal.returns-in-Err-clause-faults
+returns-in-Err-clause-faults g c =
+    let reads = c.in-Err.ensures.reads in
+    record { reads = reads.count; writes = reads.write_faults }
+
+pub returns-in-Ok-eq0-clause-faults : goal.returns-in-Ok-eq0-clause-faults
+returns-in-Ok-eq0-clause-faults g c =
+    let reads = c.in-Ok-eq0.ensures.reads in
+    record { reads = reads.count; writes = reads.write_faults }
+
+pub returns-clause-faults : goal.returns-clause-faults
+returns-clause-faults g c =
+    let t = g.L.Link in
+    let reads = c.in-Ok.ensures.reads in
+    results-then c.take_piece.result (t.told c.args.link.now) (t.told c.read.new.self) (t.told c.take_piece.new.link)
+    (record { reads = reads.count; writes = reads.write_faults }) c.take_piece.ensures.faults
