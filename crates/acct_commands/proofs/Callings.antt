@@ -3,13 +3,13 @@ use Rattle.std.proofs.Common.{◌≡◌, ◌≤◌, List, ℕ, ◌∷◌, [], Re
 use Rattle.std.proofs.Common.{Option, Some, None, refl, sym, ◌∙◌, ap, subst}
 use Rattle.std.proofs.Common.{arith, IfSome, IfNone, Bool, true, get_or, drop, option_map, if◌then◌else◌}
 use Rattle.std.specs.Option.{option_or}
-use Rattle.acct_streams.specs.declared.outside.Failed.{Failed}
-use Rattle.acct_streams.specs.Causes.{Rose, NotRisen}
+use Rattle.acct_keeper.specs.declared.streams.Failed.{Failed}
+use Rattle.acct_keeper.specs.Causes.{Rose, NotRisen}
 use Rattle.acct_links.specs.Links.{Told, IsNew}
-use Rattle.client_link.specs.Calls.{Sunk, called_with, IsSilent, IsUncalled, PrintsBy, TalksOver}
-use Rattle.client_link.specs.Talks.{ComesToItsEnd, IsDoneOrLost as IsDone}
-use Rattle.client_link.specs.declared.ends.TalkEnd.{TalkEnd}
-use Rattle.client_link.specs.declared.ends.TalkEnd.TheVariants as talk
+use Rattle.acct_client.specs.Calls.{Sunk, called_with, IsSilent, IsUncalled, PrintsBy, TalksOver}
+use Rattle.acct_client.specs.Talks.{ComesToItsEnd, IsDoneOrLost as IsDone}
+use Rattle.acct_client.specs.declared.ends.TalkEnd.{TalkEnd}
+use Rattle.acct_client.specs.declared.ends.TalkEnd.TheVariants as talk
 use Rattle.acct_world.specs.declared.part.Part.TheVariants as part
 use Rattle.acct_server.specs.declared.status.Status.{Status}
 use Rattle.acct_commands.specs.Statuses.{talk_status}
@@ -17,7 +17,7 @@ use Rattle.acct_commands.specs.Words.{Form, Replay, Generate, Serve, Call, Calli
 use Rattle.acct_commands.specs.Words.{call_form, is_call, replay_form, gen_form, serve_form, form_of}
 use Rattle.acct_client.specs.declared.dialogue.Talk.{Talk}
 use Rattle.acct_client.specs.Dialogues.{begun}
-use Rattle.client_link.specs.Talks.{IsBegun}
+use Rattle.acct_client.specs.Talks.{IsBegun}
 use Rattle.client_commands.specs.declared.command.Command.{Command}
 use Rattle.client_commands.specs.Words.{command_of}
 use Rattle.acct_world.specs.World.{Seen, TakesSink, GivesSink, TakesCaller, GivesCaller}
@@ -155,7 +155,7 @@ call-form-at words rest address is here behind =
     ap (λ (b : Bool). if b then calling_at (get_or words 1 []) (drop 2 words) else None) is
     ∙ ap (λ (a : List ℕ). calling_at a (drop 2 words)) here ∙ ap (λ (ws : List (List ℕ)). calling_at address ws) behind
 
--- what is asked for at an address is what the words behind it are
+-- what is asked for at an address is what the words after it are
 pub call-form : (words rest : List (List ℕ)) (address : List ℕ) (command : Command) → is_call words ≡ true
     → get_or words 1 [] ≡ address → drop 2 words ≡ rest → command_of rest ≡ Some command
     → call_form words ≡ Some (record { address = address; command = command })

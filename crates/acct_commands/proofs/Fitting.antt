@@ -1,4 +1,4 @@
--- The calls of the generator can be spelled.
+-- The calls of the generator can be encoded.
 use Rattle.std.proofs.Common.{◌≡◌, ℕ, ◌+◌, ◌%◌, ◌==◌, ◌^◌, ◌<◌, ◌≤◌, Bool, true, false, List, [], ◌∷◌, ◌++◌}
 use Rattle.std.proofs.Common.{if◌then◌else◌, length, codes, All, refl, arith, nat_lt}
 use Rattle.std.specs.List.{list_all}

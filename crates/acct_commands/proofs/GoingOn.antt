@@ -14,7 +14,7 @@ use Rattle.acct_rows.specs.Rows.{Lists, Shown}
 use Rattle.acct_rows.specs.Sound.{IsSoundRows}
 use Rattle.acct_server.specs.Leaves.{StoreCause}
 use Rattle.acct_server.specs.Replaying.{lists_in}
-use Rattle.acct_server.specs.Serving.{Telling, HasServed}
+use Rattle.acct_server.specs.Serving.{Telling, HasServedDoors}
 use Rattle.acct_server.specs.declared.serving.Served.{Served}
 use Rattle.acct_server.specs.declared.status.Status.{Status}
 use Rattle.acct_server.specs.declared.status.Status.TheVariants as status
@@ -79,7 +79,7 @@ as-it-ended false s full = absurd cc
 
 module _ {D F K : Type 0} (telling : Telling D F K) (config : Config) where
   both-served : (doors now later : List D) (keeper : K) (left next : Served K) → PairsAreOfOne → KeepsSound
-      → HasServed telling config doors now keeper left → HasServed telling config now later left.keeper next
+      → HasServedDoors telling config doors now keeper left → HasServedDoors telling config now later left.keeper next
       → IfSome (telling.pairs left.keeper) (λ pairs. lists_in next.opening ≡ lists_in left.rows)
   both-served doors now later keeper left next one keeps has has_next =
       with-fact (telling.pairs left.keeper) _ _

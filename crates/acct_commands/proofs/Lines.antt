@@ -1,4 +1,4 @@
--- The lines of calls, one behind another.
+-- The lines of calls, one after another.
 use Rattle.std.proofs.Common.{◌≡◌, ℕ, suc, ◌+◌, ◌<◌, ◌≤◌, List, [], ◌∷◌, ◌++◌, length, take, get_or, sym, ap}
 use Rattle.std.proofs.Common.{◌∙◌, arith, append_assoc, length-append}
 use Rattle.std.proofs.lemmas.List.{append-nil, length-take-le, take_more}
@@ -23,7 +23,7 @@ one-line : (id : ℕ) (call : Call) → call_lines id (call ∷ []) ≡ call_lin
 unfolding call_lines
 one-line id call = append-nil (call_line id call)
 
--- lines of more calls behind those of some
+-- lines of more calls after those of some
 pub lines-on : (before lines : List ℕ) (id : ℕ) (calls more : List Call) → lines ≡ before ++ call_lines id calls
     → lines ++ call_lines (id + length calls) more ≡ before ++ call_lines id (calls ++ more)
 lines-on before lines id calls more is =
@@ -67,7 +67,7 @@ started lines longer opened first is on =
     on ∙ ap (λ (bs : List ℕ). bs ++ call_lines 2 opened) first
     ∙ ap (λ (cs : List Call). beginning ++ call_lines 2 cs) (is ∙ sym so-far-starts)
 
--- more calls behind those of some users
+-- more calls after those of some users
 more-on : (lines longer : List ℕ) (k id : ℕ) (added more : List Call) → lines ≡ beginning ++ call_lines 2 (so_far k)
     → id ≡ 2 + length (so_far k) → added ≡ more → longer ≡ lines ++ call_lines id added
     → longer ≡ beginning ++ call_lines 2 (so_far k ++ more)
@@ -90,7 +90,7 @@ ended lines longer k users id added all before here is on =
     more-on lines longer k id added (closing_calls users) before here is on
     ∙ ap (λ (n : ℕ). beginning ++ call_lines 2 (so_far n ++ closing_calls users)) all
 
--- the call id behind the lines before the first user, and behind those of one user more
+-- the call id after the lines before the first user, and after those of one user more
 pub count-started : (id : ℕ) (opened : List Call) → opened ≡ opening_calls → id ≡ 2 + length opened
     → id ≡ 2 + length (so_far 0)
 count-started id opened is next = next ∙ ap (λ (cs : List Call). 2 + length cs) (is ∙ sym so-far-starts)

@@ -3,8 +3,8 @@ use Rattle.std.proofs.Common.{◌≡◌, ◌≢◌, ℕ, ◌⊎◌, inl, inr, tr
 use Rattle.std.proofs.Common.{refl, sym, ◌∙◌, subst, arith}
 use Rattle.acct_keeper.specs.declared.pairs.Pair.{Pair}
 use Rattle.acct_rows.specs.Rows.{Lists, Shown}
-use Rattle.acct_streams.specs.Memory.{SteadyInMemory}
-use Rattle.acct_streams.specs.declared.memory.SteadySink.{SteadySink}
+use Rattle.acct_keeper.specs.Memory.{SteadyInMemory}
+use Rattle.acct_keeper.specs.declared.memory_streams.SteadySink.{SteadySink}
 use Rattle.acct_server.specs.declared.replays.Replayed.{Replayed}
 use Rattle.acct_server.specs.declared.status.Status.{Status}
 use Rattle.acct_server.specs.declared.status.Status.TheVariants.{Done, NoMemory, Usage}

@@ -8,8 +8,8 @@ use Rattle.acct_server.specs.Leaves.{IsOfRun, ConfigCause, EventsCause, StoreCau
 use Rattle.acct_server.specs.Replaying.{Telling, Parts, HasNotRun, IsReplay}
 use Rattle.acct_world.specs.declared.part.Part.{Part}
 use Rattle.acct_world.specs.declared.period.Period.{Period}
-use Rattle.client_link.specs.declared.ends.TalkEnd.{TalkEnd}
-use Rattle.client_link.specs.declared.ends.TalkEnd.TheVariants as talk
+use Rattle.acct_client.specs.declared.ends.TalkEnd.{TalkEnd}
+use Rattle.acct_client.specs.declared.ends.TalkEnd.TheVariants as talk
 use Rattle.acct_commands.specs.Statuses.{talk_status}
 use Rattle.acct_world.specs.World.{Seen}
 use Rattle.acct_commands.specs.Commanded.{TakeCause, NotHandedOut, HasRun, Keeps, period_of}

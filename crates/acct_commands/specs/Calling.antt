@@ -1,11 +1,11 @@
 -- What the command `call ADDRESS WORD..` does to a world.
 use Rattle.std.specs.Prelude.{◌≡◌, ℕ, ◌≤◌, true, List, ◌∷◌, [], ◌++◌, ◌⊎◌, Option, Some, Result, IfSome, IfNone}
 use Rattle.acct_links.specs.Links.{Told, IsNew}
-use Rattle.acct_streams.specs.declared.outside.Failed.{Failed}
-use Rattle.acct_streams.specs.Causes.{NotRisen}
-use Rattle.client_link.specs.Calls.{Sunk, called_with, IsSilent, IsUncalled, TalksOver}
-use Rattle.client_link.specs.Talks.{BringsAll}
-use Rattle.client_link.specs.declared.ends.TalkEnd.{TalkEnd}
+use Rattle.acct_keeper.specs.declared.streams.Failed.{Failed}
+use Rattle.acct_keeper.specs.Causes.{NotRisen}
+use Rattle.acct_client.specs.Calls.{Sunk, called_with, IsSilent, IsUncalled, TalksOver}
+use Rattle.acct_client.specs.Talks.{BringsAll}
+use Rattle.acct_client.specs.declared.ends.TalkEnd.{TalkEnd}
 use Rattle.client_commands.specs.declared.command.Command.{Command}
 use Rattle.acct_world.specs.declared.part.Part.TheVariants.{Sink, Caller}
 use Rattle.acct_server.specs.declared.status.Status.{Status}
@@ -23,14 +23,14 @@ pub record TellingCall (T C L : Type 0) : Type 0 where
   pub call_faults : C → ℕ
   pub link : L → Told
 
--- done, but for want of memory
+-- done, unless memory runs out
 abbrev pub IsDoneOrLost : Status → Type 0
 IsDoneOrLost Done = Unit {0}
 IsDoneOrLost NoMemory = Unit {0}
 IsDoneOrLost _ = ⊥
 
 -- The dialogue of a command over a link that was new, until now, and its lines. Where the peer's bytes bring all
--- answers, and no call of the link or of the sink failed, it is done, but for want of memory.
+-- answers, and no call of the link or of the sink failed, it is done, unless memory runs out.
 pub record HasTalked {L : Type 0} (told : L → Told) (command : Command) (end : TalkEnd)
     (printing : Result (Unit {0}) Failed) (status : Status) (old new : Sunk) (now : L) : Type 0 where
   pub given : L

@@ -41,7 +41,7 @@ alias = handle_of 3
 abbrev pub user : ℕ → Handle
 user k = handle_of (3 + k)
 
--- behind so many users
+-- after so many users
 abbrev pub policy : ℕ → Handle
 policy users = handle_of (4 + users)
 

@@ -24,7 +24,7 @@ Does told (Generate users) old new status =
 Does told (Serve names) old new status = Serves told.serve names old new status
 Does told (Call calling) old new status = Calls told.call calling old new status
 
--- The status of words without a form. Memory is wanted only where they may be a command of the client, which is then
+-- The status of words without a form. Memory runs out only where they may be a command of the client, which is then
 -- read.
 abbrev pub IsFormless : List (List ℕ) → Status → Type 0
 IsFormless words Usage = Unit {0}

@@ -4,9 +4,9 @@ use Rattle.std.specs.Io.KnownBytes.{Appends}
 use Rattle.acct_keeper.specs.declared.pairs.Pair.{Pair}
 use Rattle.acct_machine.specs.declared.entry.Entry.{Entry}
 use Rattle.acct_rows.specs.Rows.{Lists, Shown}
-use Rattle.acct_streams.specs.Causes.{Rose}
-use Rattle.acct_streams.specs.Memory.{SteadyInMemory}
-use Rattle.acct_streams.specs.declared.memory.SteadySink.{SteadySink}
+use Rattle.acct_keeper.specs.Causes.{Rose}
+use Rattle.acct_keeper.specs.Memory.{SteadyInMemory}
+use Rattle.acct_keeper.specs.declared.memory_streams.SteadySink.{SteadySink}
 use Rattle.acct_server.specs.declared.replays.Replayed.{Replayed}
 use Rattle.acct_server.specs.declared.status.Status.{Status}
 use Rattle.acct_server.specs.declared.status.Status.TheVariants.{Done, WriteFault, NoMemory}
@@ -49,8 +49,8 @@ pub record LeftByReplay (users : ℕ) (left : Replayed (List Pair)) : Type 0 whe
   pub replayed : IsReplay steady
       (record { config = source configuration; events = source (generated users); out = out; keeper = [] }) after left
 
--- How the writing of a text ended: it was written; or the sink's count rose, and a front of it was written; or memory
--- was wanted, and none of it was written.
+-- How the writing of a text ended: it was written; or the sink's count rose, and a prefix of it was written; or memory
+-- ran out, and none of it was written.
 abbrev pub IsWritten : List ℕ → Option (List ℕ) → Option (List ℕ) → ℕ → ℕ → Status → Type 0
 IsWritten text held now before after Done = Appends held now text
 IsWritten text held now before after WriteFault = ((n : ℕ) × Appends held now (take n text)) × Rose before after

@@ -6,7 +6,7 @@ use Rattle.acct_config.specs.declared.config.Config.{Config}
 use Rattle.acct_keeper.specs.declared.keeper.KeepError.{KeepError}
 use Rattle.acct_keeper.specs.declared.keeper.KeepError.TheVariants as keep
 use Rattle.acct_links.specs.declared.asking.Asking.{Asking}
-use Rattle.acct_streams.specs.Whole.{most_bytes}
+use Rattle.acct_keeper.specs.Whole.{most_bytes}
 use Rattle.door_workers.specs.Askings.{Opens, StopsAsking}
 use Rattle.acct_server.specs.Configured.{IsConfigured}
 use Rattle.acct_server.specs.Leaves.{ConfigCause}
@@ -59,7 +59,7 @@ module _ {D K : Type 0} where
   abbrev pub kept_in : Round D K → List Period
   kept_in round = if round.kept then option_to_list (period_in round) else []
 
-  -- how it ends: as serving did, or for want of memory to keep what that left
+  -- how it ends: as serving did, or out of memory to keep what that left
   abbrev pub ending : Round D K → Status
   ending round = if round.kept then round.left.status else NoMemory
 
@@ -68,7 +68,7 @@ is_full (HistoryFull count) = true
 is_full _ = false
 
 module _ {D F K : Type 0} (telling : Telling D F K) (config : Config) where
-  -- All doors were served over the keeper. Memory is wanted only to keep a period that is there.
+  -- All doors were served over the keeper. Memory runs out only as a period that is there is kept.
   pub record IsRound (doors : List D) (keeper : K) (round : Round D K) : Type 0 where
     pub serves : IsServe telling config doors round.doors keeper round.left
     pub kept : round.kept ≡ false → IsSome (period_in round)
@@ -78,7 +78,7 @@ module _ {D F K : Type 0} (telling : Telling D F K) (config : Config) where
   GoesOn last next = IfSome (telling.pairs last.left.keeper)
       (λ pairs. IsSome next.left.opening → lists_in next.left.opening ≡ lists_in last.left.rows)
 
-  -- The rounds behind one, at most so many: a further one comes exactly where the history was full and there may be
+  -- The rounds after one, at most so many: a further one comes exactly where the history was full and there may be
   -- more, and serves the same doors over the same keeper, as the one before it left them.
   abbrev pub Follow : ℕ → Round D K → List (Round D K) → Type 0
   Follow more last [] = is_full (ending last) ≡ true → more ≡ 0

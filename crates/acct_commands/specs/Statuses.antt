@@ -3,8 +3,8 @@ use Rattle.std.specs.Prelude.{Result, Ok, Err}
 use Rattle.acct_server.specs.declared.status.Status.{Status}
 use Rattle.acct_server.specs.declared.status.Status.TheVariants.{Done, NoMemory, WriteFault, PeerBytes, PeerFault}
 use Rattle.acct_server.specs.declared.status.Status.TheVariants.{InputTooLong, Refused}
-use Rattle.client_link.specs.declared.ends.TalkEnd.{TalkEnd}
-use Rattle.client_link.specs.declared.ends.TalkEnd.TheVariants as talk
+use Rattle.acct_client.specs.declared.ends.TalkEnd.{TalkEnd}
+use Rattle.acct_client.specs.declared.ends.TalkEnd.TheVariants as talk
 
 abbrev pub end_status : TalkEnd → Status
 end_status talk.Done = Done

@@ -2,7 +2,7 @@
 ghost use Rattle.std.specs.Prelude.{◌≡◌, ◌≢◌, ◌≤◌, Some, None, length, map, true};
 ghost use Rattle.std.specs.String.{string_bytes};
 ghost use Rattle.acct_commands.specs.Calls.{most_users};
-ghost use Rattle.client_link.specs.Talks.{IsBegun};
+ghost use Rattle.acct_client.specs.Talks.{IsBegun};
 ghost use Rattle.client_commands.specs.declared.command.Command.{Command};
 ghost use Rattle.acct_server.specs.declared.status.Status.TheVariants.{Usage};
 ghost use Rattle.acct_commands.specs.Words.{Form, Calling, form_of, is_call, call_form};
@@ -18,11 +18,10 @@ use crate::period::{parted, period_between};
 use crate::serving::run_serve;
 use crate::statuses::{link_status, read_status, store_status, talk_status, write_status};
 use acct_base::Seq;
-use acct_client::{AskError, Asker};
+use acct_client::{AskError, Asker, Called, call, dialogues_come_to_their_ends};
 use acct_links::{Door, Entrance};
 use acct_server::{Status, replay};
 use acct_world::World;
-use client_link::{Called, call, dialogues_come_to_their_ends};
 use std::alloc::Global;
 use std::sync::Wait;
 use std::thread::Threads;
@@ -189,8 +188,8 @@ fn run_client<W: World>(alloc: Global, words: &Vec<String>, world: &mut W) -> St
 
 /// Does all that the program does. The words are `replay CONFIG`; or `gen N` for the summary of a replay of events that
 /// make N users, 1 to 10,000; or `serve CONFIG STORE` for a server, which may wait for its clients; or `call ADDRESS
-/// WORD..` for a command of the client. Other words take no part of the world, and are answered by usage; or by want of
-/// memory, where they may be a command of the client.
+/// WORD..` for a command of the client. Other words take no part of the world, and are answered by usage; or, where
+/// they may be a command of the client, that memory ran out.
 pub fn account<R: Threads + Wait + Sync, W: World>(
     rt: &R,
     alloc: Global,

@@ -80,7 +80,7 @@ fn push_calls(alloc: Global, lines: &mut Vec<u8>, id: u32, calls: &[Call]) -> Re
     Ok(next)
 }
 
-/// The events with so many users: each line is written once, behind those before it.
+/// The events with so many users: each line is written once, after those before it.
 pub fn generated(alloc: Global, users: u32) -> Result<Vec<u8>, NoMemory>
     requires { users ≤ most_users }
     ensures { IfOk result (λ events. events.items ≡ generated users) }

@@ -78,7 +78,7 @@ fn has_dash(words: &[String]) -> bool
     words.iter().any(|word| begins_with_dash(word.as_str()))
 }
 
-/// The words behind the first two.
+/// The words after the first two.
 pub fn behind_two(words: &Vec<String>) -> &[String]
     requires { 2 ≤ length words.now.items }
     ensures { result.now ≡ drop 2 words.now.items }

@@ -1,7 +1,7 @@
 //! The program's commands, `replay`, `serve`, `call` and `gen`, over a world: its top call, `account`.
 //!
 //! It stands on `acct_world` for the world that hands out sources, the sink, keepers, the entrance and the caller, on
-//! `acct_server`, `door_workers` and `client_link` for what the commands do, and on `acct_client` for the bytes that
+//! `acct_server` and `door_workers` for what the commands do, and on `acct_client` for a call and for the bytes that
 //! the generator's client would send. What the program promises are the clauses of [`account`]: over a world that
 //! tells, the words without a form take no part; a replay leaves the history, the lines and the status of its events,
 //! and the world's keeper with the pairs of the rows after them; the generator writes the summary of a replay of the
@@ -29,5 +29,5 @@ mod summary;
 pub use command::account;
 pub use events::generated;
 
-/// Want of memory, which is the one fault that may come anywhere.
+/// Running out of memory, which is the one fault that may come anywhere.
 pub type NoMemory = std::alloc::AllocError;

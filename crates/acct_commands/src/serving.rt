@@ -55,7 +55,7 @@ where
     (keep(world, period, ended), back)
 }
 
-// Serves all doors, and again behind each period whose history was full, as often as the configuration says.
+// Serves all doors, and again after each period whose history was full, as often as the configuration says.
 fn serve_rounds<R: Threads + Wait + Sync, W: World>(
     rt: &R,
     alloc: Global,

@@ -4,10 +4,10 @@ ghost use Rattle.acct_commands.specs.Commanded.{read_status, write_status, link_
 ghost use Rattle.acct_commands.specs.Serving.{entrance_status};
 ghost use Rattle.acct_commands.specs.Statuses.{talk_status};
 
+use acct_client::TalkEnd;
 use acct_keeper::KeepError;
 use acct_links::TakeError;
 use acct_server::{Failed, Status};
-use client_link::TalkEnd;
 
 pub(crate) fn read_status(e: TakeError) -> Status
     ensures { result ≡ read_status e }

@@ -25,7 +25,7 @@ length-set_peer i [] peer = refl
 length-set_peer zero (p ∷ peers) peer = refl
 length-set_peer (suc i) (p ∷ peers) peer = ap suc (length-set_peer i peers peer)
 
--- the connections that come behind one that may have been ended
+-- the connections that come after one that may have been ended
 behind_same : (i : ℕ) (peers new : List Peer) → (new ≡ peers) ⊎ (new ≡ slice_set peers i Ended)
     → drop (suc i) new ≡ drop (suc i) peers
 behind_same i peers new (inl same) = ap (λ (ps : List Peer). drop (suc i) ps) same

@@ -17,10 +17,10 @@ use Rattle.acct_server.specs.declared.status.Status.TheVariants.{ReadFault, Writ
 use Rattle.acct_server.specs.declared.status.Status.TheVariants.{EventLine, DoorFault, HistoryFull, PeerBytes}
 use Rattle.acct_server.specs.declared.status.Status.TheVariants.{PeerFault}
 use Rattle.acct_server.specs.declared.status.Status.TheVariants.{InputTooLong, Refused}
-use Rattle.acct_streams.specs.declared.whole.WholeError.{WholeError}
-use Rattle.acct_streams.specs.declared.whole.WholeError.TheVariants.{Fault, TooLong, Memory}
-use Rattle.acct_streams.specs.Causes.{Rose, NotRisen}
-use Rattle.acct_streams.specs.Whole.{most_bytes, WholeCause, IsWhole}
+use Rattle.acct_keeper.specs.declared.whole.WholeError.{WholeError}
+use Rattle.acct_keeper.specs.declared.whole.WholeError.TheVariants.{Fault, TooLong, Memory}
+use Rattle.acct_keeper.specs.Causes.{Rose, NotRisen}
+use Rattle.acct_keeper.specs.Whole.{most_bytes, WholeCause, IsWhole}
 use Rattle.acct_keeper.specs.declared.pairs.Pair.{Pair}
 use Rattle.acct_machine.specs.declared.opened.OpenError.{OpenError}
 use Rattle.acct_machine.specs.declared.opened.OpenError.TheVariants as unopened
@@ -131,7 +131,7 @@ store-unopened held before now unopened.StoreFault cause = cause
 store-unopened held before now (unopened.StoredPair key) cause = cause
 store-unopened held before now unopened.Memory cause = tt
 
--- what the keeper holds where memory was wanted for the machine, once the store was opened
+-- what the keeper holds where memory ran out for the machine, once the store was opened
 pub kept-before-machine : (config : Config) (held now : Option (List Pair)) (rows : Lists)
     → IfSome held (λ pairs. OpensRows config pairs rows) → IfSome held (λ pairs. pairs ≢ [] → now ≡ Some pairs)
     → HoldsRows now rows → StoreKept config held now NoMemory

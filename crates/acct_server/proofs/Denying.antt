@@ -10,8 +10,8 @@ use Rattle.acct_machine.specs.Denial.{DeniesExactly, DeniesRan}
 use Rattle.acct_server.specs.Denied.{DeniesExactlyIn}
 
 -- an entry of a legal history may come after those before it
-may-after : (start : Start) (behind front after : List Entry) (e : Entry) → LegalAfter start behind (front ++ e ∷ after)
-    → May start (behind ++ front) e
+pub may-after : (start : Start) (behind front after : List Entry) (e : Entry)
+    → LegalAfter start behind (front ++ e ∷ after) → May start (behind ++ front) e
 may-after start behind [] after e legal = subst (λ (h : List Entry). May start h e) (sym (append-nil behind)) legal.0
 may-after start behind (x ∷ front) after e legal =
     subst (λ (h : List Entry). May start h e) (append_assoc behind (x ∷ []) front)

@@ -31,7 +31,7 @@ output-push : (done : List Effect) (e : Effect) → output_of (done ++ e ∷ [])
 output-push done e = flat_map-append lines_in done (e ∷ [])
     ∙ ap (λ (xs : List ℕ). output_of done ++ xs) (append-nil (lines_in e))
 
--- The replay of the events has come to this run, with so many lines behind it and these bytes before it, by whatever
+-- The replay of the events has come to this run, with so many lines after it and these bytes before it, by whatever
 -- entries its
 -- history goes on.
 pub record Going (start : Start) (held now : Option (List ℕ)) (events : List ℕ) (run : Running) (number : ℕ)
@@ -58,7 +58,7 @@ going-starts held events run none fresh = record {
       ap (λ (s : Standing). trace_from (verdict_in (run.machine.history ++ later)) s 1 (lines_of events)) same;
 }
 
--- what the replay does behind a line, which may have found the history full
+-- what the replay does after a line, which may have found the history full
 abbrev later_by : Option ℕ → Verdicts → Standing → ℕ → List (List ℕ) → Trace
 later_by found verdicts s n ls = unless_full found s (λ after. trace_from verdicts after n ls)
 
@@ -208,7 +208,7 @@ filled-whole : (start : Start) (held now : Option (List ℕ)) (events : List ℕ
 filled-whole start held now events old new status f history =
     ap (λ (h : List Entry). replayed start events h) history ∙ f.rest (ending (standing old)).entries
 
--- the connections that were open have been ended behind it
+-- the connections that were open have been ended after it
 pub going-fills : (start : Start) (held now then last : Option (List ℕ)) (events : List ℕ) (old mid new : Running)
     (number : ℕ) (ahead line after output : List ℕ) (count : ℕ) (answer : Status)
     → Going start held now events old number ahead → lines_of ahead ≡ line ∷ lines_of after
@@ -249,7 +249,7 @@ going-fill-breaks start held now then last events old mid new number ahead line 
       lines = Appends-then held then last (output_of f.done) (take broken.written (lines_in end)) f.lines broken.lines;
     }
 
--- memory was wanted for the lines of the end
+-- memory ran out for the lines of the end
 pub going-fill-stops : (start : Start) (held now then : Option (List ℕ)) (events : List ℕ) (old mid new : Running)
     (number : ℕ) (ahead line after output : List ℕ) (count : ℕ)
     → Going start held now events old number ahead → lines_of ahead ≡ line ∷ lines_of after
@@ -371,7 +371,7 @@ going-refused-breaks start held now then events old same new number ahead line a
     (at_refused old number ahead line after lines refuses.none)
     (subst (λ (r : Running). FinishBreaks now then r new) refuses.same broken)
 
--- memory is wanted where the entries that stand are those of the effects done
+-- memory runs out where the entries that stand are those of the effects done
 pub going-stops : (start : Start) (held now : Option (List ℕ)) (events : List ℕ) (old new : Running) (number : ℕ)
     (ahead : List ℕ) → Going start held now events old number ahead → new.machine.history ≡ old.machine.history
     → Stops start held now events new.machine.history
@@ -389,7 +389,7 @@ going-stops start held now events old new number ahead going same =
           (sym is) (front_lines held now going.done others.effects going.lines);
     }
 
--- memory is wanted at a line
+-- memory runs out at a line
 pub going-may-stop : (start : Start) (held now : Option (List ℕ)) (events : List ℕ) (old new : Running) (number : ℕ)
     (ahead line after : List ℕ)
     → Going start held now events old number ahead → lines_of ahead ≡ line ∷ lines_of after
@@ -437,7 +437,7 @@ going-may-stop start held now events old new number ahead line after going lines
           (sym all) (front_lines held now going.done (e ∷ others.effects) going.lines);
     }
 
--- memory is wanted before a line was run
+-- memory runs out before a line was run
 stops-none : (start : Start) (held : Option (List ℕ)) (events : List ℕ) (history : List Entry) → history ≡ []
     → Stops start held held events history
 stops-none start held events history none = record {

@@ -51,7 +51,7 @@ piece-heard cut most conn hearing piece heard =
       omega (arith, le, length-append stream piece),
     )
 
--- the acts that the piece completes stand behind those before
+-- the acts that the piece completes stand after those before
 acts-behind : IsCutAnywhere → (conn : ℕ) (stream piece : List ℕ) (hearing : Hearing)
     → hearing ≡ (hear conn 0 Unbound stream).leaves
     → acts conn (stream ++ piece) ≡ acts conn stream ++ (on hearing piece).acts
@@ -231,7 +231,7 @@ heard-there old mid conn bytes as' hears =
     (ap (λ (r : Running). peer_of conn r.peers) hears.left
     ∙ peer-here conn old.peers (Open leaves) (Open hears.hearing) hears.stood)
 
--- behind acts, one of which may have found the history full
+-- after acts, one of which may have found the history full
 pub all-heard-behind : (most conn : ℕ) (found : Option ℕ) (peers : List Peer) → IsSome (peer_of conn peers)
     → AllHeard most peers → AllHeard most (peers_behind found conn peers)
 all-heard-behind most conn None peers some heard = heard

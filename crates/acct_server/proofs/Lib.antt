@@ -10,3 +10,6 @@ pub mod Heard
 pub mod Transcribing
 pub mod Denying
 pub mod Opening
+pub mod Promising
+pub mod Ends
+pub mod Leaving

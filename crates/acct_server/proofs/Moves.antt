@@ -26,7 +26,7 @@ use Rattle.acct_server.specs.declared.events.Event.TheVariants as event
 use Rattle.link_sessions.specs.declared.connections.Peer.{Peer}
 use Rattle.link_sessions.specs.declared.connections.Peer.TheVariants.{Open, Ended}
 use Rattle.acct_stubs.specs.declared.errors.WireError.{WireError}
-use Rattle.link_sessions.specs.declared.requests.Asked.{Asked}
+use Rattle.rpc_session.specs.declared.sessions.Request.{Request}
 use Rattle.link_sessions.specs.declared.requests.Answer.{Answer}
 use Rattle.link_sessions.specs.declared.requests.Answer.TheVariants as answer
 use Rattle.link_sessions.specs.Transcript.{answer_bytes, undecoded_bytes, busy_bytes}
@@ -112,7 +112,7 @@ prints-act what before now lines old_lines new_lines is same printed = record {
 }
 
 -- a request that is no decoded call was answered
-undecoded-acts : (start : Start) (before now : List Entry) (conn : ℕ) (asked : Asked) (stub_size : ℕ) (e : WireError)
+undecoded-acts : (start : Start) (before now : List Entry) (conn : ℕ) (asked : Request) (stub_size : ℕ) (e : WireError)
     (old_lines new_lines : List ℕ) → now ≡ before
     → new_lines ≡ old_lines ++ line_bytes (Out conn (undecoded_bytes asked e))
     → Acts (λ verdicts. on_request start verdicts before conn asked stub_size (Err e)) before now old_lines new_lines
@@ -137,7 +137,7 @@ pub none-done : (start : Start) (conn : ℕ) (before : List Entry) (lines : List
 none-done start conn before lines none =
     record { doing = prints_only []; full = refl; is = λ later. refl; history = sym (append-nil before); prints = none }
 
--- memory was wanted before any entry
+-- memory ran out before any entry
 pub begins-none : (what : Verdicts → Doing) (before now : List Entry) → now ≡ before → Began what before now
 begins-none what before now same = record {
   front = [];
@@ -153,7 +153,7 @@ slice_get-here [] later e = refl
 slice_get-here (a ∷ history) later e = slice_get-here history later e
 
 -- what a call does that was entered
-call-is : (start : Start) (before now later : List Entry) (conn : ℕ) (asked : Asked) (stub_size : ℕ) (call : Call)
+call-is : (start : Start) (before now later : List Entry) (conn : ℕ) (asked : Request) (stub_size : ℕ) (call : Call)
     (verdict : Verdict) → call_full start before stub_size ≡ None → now ≡ before ++ Called conn call verdict
     stub_size ∷ []
     → on_request start (verdict_in (now ++ later)) before conn asked stub_size (Ok call)
@@ -182,7 +182,7 @@ taken-here : (start : Start) (before now : List Entry) (conn : ℕ) (call : Call
 taken-here start before now conn call stub_size enters =
     subst (λ (h : List Entry). call_full start h stub_size ≡ None) enters.finds_it enters.taken
 
-call-began : (start : Start) (before now : List Entry) (conn : ℕ) (asked : Asked) (stub_size : ℕ) (call : Call)
+call-began : (start : Start) (before now : List Entry) (conn : ℕ) (asked : Request) (stub_size : ℕ) (call : Call)
     → Enters start conn (Only before) now call stub_size
     → Began (λ verdicts. on_request start verdicts before conn asked stub_size (Ok call)) before now
 call-began start before now conn asked stub_size call enters =
@@ -196,7 +196,7 @@ call-began start before now conn asked stub_size call enters =
     }
 
 -- a request was begun on the machine
-pub request-began : (start : Start) (before now : List Entry) (conn : ℕ) (asked : Asked) (stub_size : ℕ)
+pub request-began : (start : Start) (before now : List Entry) (conn : ℕ) (asked : Request) (stub_size : ℕ)
     (r : Result Call WireError) → BeginsRequest start conn (Only before) before now stub_size r
     → Began (λ verdicts. on_request start verdicts before conn asked stub_size r) before now
 request-began start before now conn asked stub_size (Err e) same =
@@ -207,7 +207,7 @@ request-began start before now conn asked stub_size (Ok call) (inr enters) =
     call-began start before now conn asked stub_size call enters
 
 -- one that was answered has begun
-pub answered-began : (start : Start) (before now : List Entry) (conn : ℕ) (asked : Asked) (stub_size : ℕ)
+pub answered-began : (start : Start) (before now : List Entry) (conn : ℕ) (asked : Request) (stub_size : ℕ)
     (r : Result Call WireError) (a : Answer)
     → AnswersRequest start conn (Only before) before now asked stub_size r a
     → BeginsRequest start conn (Only before) before now stub_size r
@@ -217,7 +217,7 @@ answered-began start before now conn asked stub_size (Ok call) (answer.Bytes byt
 answered-began start before now conn asked stub_size (Ok call) (answer.Full count) answers = inl answers.finds_it
 
 -- a call was answered
-call-acts : (start : Start) (before now : List Entry) (conn : ℕ) (asked : Asked) (stub_size : ℕ) (call : Call)
+call-acts : (start : Start) (before now : List Entry) (conn : ℕ) (asked : Request) (stub_size : ℕ) (call : Call)
     (bytes old_lines new_lines : List ℕ) → AnswersCall start conn (Only before) now asked stub_size call bytes
     → new_lines ≡ old_lines ++ line_bytes (Out conn bytes)
     → Acts (λ verdicts. on_request start verdicts before conn asked stub_size (Ok call)) before now old_lines new_lines
@@ -239,7 +239,7 @@ call-acts start before now conn asked stub_size call bytes old_lines new_lines a
     }
 
 -- a request was answered on the machine
-pub request-acts : (start : Start) (before now : List Entry) (conn : ℕ) (asked : Asked) (stub_size : ℕ)
+pub request-acts : (start : Start) (before now : List Entry) (conn : ℕ) (asked : Request) (stub_size : ℕ)
     (r : Result Call WireError) (bytes : Vec ℕ) (old_lines new_lines : List ℕ)
     → AnswersRequest start conn (Only before) before now asked stub_size r (answer.Bytes bytes)
     → new_lines ≡ old_lines ++ line_bytes (Out conn bytes.items)
@@ -251,7 +251,7 @@ request-acts start before now conn asked stub_size (Ok call) bytes old_lines new
     call-acts start before now conn asked stub_size call bytes.items old_lines new_lines answers printed
 
 -- a call found the history full, and its connection is gone
-pub request-fills : (old now : Past) (mid : List Entry) (conn : ℕ) (asked : Asked) (stub_size : ℕ)
+pub request-fills : (old now : Past) (mid : List Entry) (conn : ℕ) (asked : Request) (stub_size : ℕ)
     (r : Result Call WireError) (count : ℕ) (old_lines new_lines : List ℕ)
     → AnswersRequest old.start conn (Only old.history) old.history mid asked stub_size r (answer.Full count)
     → now.history ≡ mid ++ Gone conn ∷ []
@@ -367,7 +367,7 @@ acts-go-on start conn first a before mid now old_lines mid_lines new_lines found
       ∙ ap (λ (bs : List ℕ). old_lines ++ bs) (sym (flat_map-append line_bytes done.doing.prints next.doing.prints));
 }
 
--- the acts behind one that found the history full aren't done
+-- the acts after one that found the history full aren't done
 pub acts-fill : (start : Start) (conn : ℕ) (first rest : List Act) (before now : List Entry)
     (old_lines new_lines : List ℕ) (count : ℕ)
     → Acts (λ verdicts. on_acts start verdicts before conn first) before now old_lines new_lines (Some count)
@@ -385,7 +385,7 @@ acts-fill start conn first rest before now old_lines new_lines count done = reco
   prints = done.prints;
 }
 
--- memory was wanted at an act behind others, and more acts come behind it
+-- memory ran out at an act after others, and more acts come after it
 pub acts-stop : (start : Start) (conn : ℕ) (first : List Act) (a : Act) (rest : List Act) (before mid now : List Entry)
     (old_lines mid_lines : List ℕ) → Acts (λ verdicts. on_acts start verdicts before conn first) before mid old_lines
     mid_lines None
@@ -424,7 +424,7 @@ acts-stop start conn first a rest before mid now old_lines mid_lines done began 
 -- ---- lines
 
 -- the move of bytes that were heard, once their acts were done
--- the connections behind bytes that were heard
+-- the connections after bytes that were heard
 behind-heard : (found : Option ℕ) (conn : ℕ) (leaves : Hearing) (peers : List Peer)
     → peers_behind found conn (with_peer conn (Open leaves) peers) ≡ with_peer conn (peer_behind found leaves) peers
 behind-heard None conn leaves peers = refl

@@ -110,7 +110,7 @@ act-here i [] x d lt is = absurd (omega arith)
 act-here zero (y ∷ acts) x d lt is = ap (λ (z : Act). Some z) (sym is)
 act-here (suc i) (y ∷ acts) x d lt is = act-here i acts x d (omega arith) is
 
--- an act with those before it and those behind it
+-- an act with those before it and those after it
 pub record IsParted (i : ℕ) (acts : List Act) (x : Act) : Type 0 where
   pub rest : List Act
   pub whole : acts ≡ take i acts ++ x ∷ rest
@@ -133,11 +133,11 @@ pub one-more : (i : ℕ) (acts : List Act) (x : Act) → slice_get acts i ≡ So
 one-more i acts x is = let next : suc i ≡ i + 1 =
     omega arith in subst (λ (n : ℕ). take n acts ≡ take i acts ++ x ∷ []) next (parted i acts x is).more
 
--- what holds behind an act that is no refusal holds where another act follows
+-- what holds after an act that is no refusal holds where another act follows
 pub not-last : (x : Act) (i count : ℕ) (served : Bool) (P : Type 0) → (is_refusal x ≡ false → P)
     → IsClosing served i count (Some x) → i + 1 < count → P
 not-last (act.Answered bytes) i count served P holds closing lt = holds refl
-not-last (act.Call id context face opnum size stub) i count served P holds closing lt = holds refl
+not-last (act.Call asked) i count served P holds closing lt = holds refl
 not-last (act.Closed place cause bytes) i count served P holds closing lt = let last =
     (closing refl).0 in absurd (omega (arith, last, lt))
 

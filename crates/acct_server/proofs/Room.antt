@@ -31,7 +31,7 @@ both-assoc None x y z = λ i. record {
 }
 both-assoc (Some count) x y z = refl
 
--- one act, those behind it, and what comes behind these
+-- one act, those after it, and what comes after these
 pub both-behind : (f : Option ℕ) (one others : Doing) (last : List Entry → Doing) (history : List Entry) → one.full ≡ f
     → both_by f one (both others (last ((history ++ one.entries) ++ others.entries)))
     ≡ both (both_by f one others) (last (history ++ (both_by f one others).entries))

@@ -28,9 +28,9 @@ use Rattle.link_sessions.specs.declared.connections.Peer.TheVariants.{Open, Ende
 use Rattle.acct_server.specs.declared.status.Status.{Status}
 use Rattle.acct_server.specs.declared.status.Status.TheVariants.{Done, EventLine, HistoryFull}
 use Rattle.acct_stubs.specs.declared.errors.WireError.{WireError}
-use Rattle.link_sessions.specs.declared.requests.Asked.{Asked}
+use Rattle.rpc_session.specs.declared.sessions.Request.{Request}
 use Rattle.link_sessions.specs.Requests.{call_on}
-use Rattle.link_sessions.specs.Transcript.{written, answered, answer_bytes, undecoded_bytes, busy_bytes, asked_by}
+use Rattle.link_sessions.specs.Transcript.{written, answered, answer_bytes, undecoded_bytes, busy_bytes}
 use Rattle.link_sessions.specs.Transcript.{decoded_calls}
 use Rattle.link_sessions.specs.Transcript.{with_call}
 use Rattle.acct_server.specs.Events.{event_of, lines_of}
@@ -119,7 +119,7 @@ state-append st [] ys = refl
 state-append st (x ∷ xs) ys = state-append (step st x) xs ys
 
 -- what a connection sends last
-abbrev last_of : ℕ → List Effect → Asked → List ℕ
+abbrev last_of : ℕ → List Effect → Request → List ℕ
 last_of k effects = last_bytes (found_full k effects)
 
 record LawAt (k : ℕ) (s : Standing) (effects : List Effect) : Type 0 where
@@ -147,7 +147,7 @@ full-behind : (k : ℕ) (e : Effect) (effects : List Effect) → full_in k e ≡
     → found_full k (e ∷ effects) ≡ found_full k effects
 full-behind k e effects lines = ap (λ (b : Bool). b || found_full k effects) lines
 
--- the same acts are heard before it and behind it
+-- the same acts are heard before it and after it
 hears-same : (k : ℕ) (s : Standing) (m : Move) (effects : List Effect) → Quiet (hearing_of k s.peers) → Silent k s m
     → LawAt k (moved s m) effects
     → (on (hearing_of k s.peers) (received k effects)).acts ≡ (on (hearing_of k m.peers) (received k effects)).acts
@@ -202,13 +202,13 @@ record Speaks (k : ℕ) (s : Standing) (m : Move) : Type 0 where
   stands_after : peer_of k m.peers ≡ Some (Open (on hearing bytes).leaves)
   brings : brought k m.effect ≡ bytes
   lines : full_in k m.effect ≡ false
-  tells : (last : Asked → List ℕ) (later : List Act) (more : List Entry)
+  tells : (last : Request → List ℕ) (later : List Act) (more : List Entry)
       → written last ((on hearing bytes).acts ++ later) (replies_from (state_of s) k (m.effect.entries ++ more))
       ≡ sent_in k m.effect ++ written last later (replies_from (state_after (state_of s) m.effect.entries) k more)
   counts : (later : List Act)
       → decoded_calls ((on hearing bytes).acts ++ later) ≡ calls_of k m.effect.entries ++ decoded_calls later
 
--- one element more in front, where it is of the connection
+-- one element more at the beginning, where it is of the connection
 one-more-call : {A : Type 0} (mine : Bool) (x : A) (all xs ys : List A) → all ≡ xs ++ ys
     → cond mine (x ∷ all) all ≡ cond mine (x ∷ xs) xs ++ ys
 one-more-call true x all xs ys is = ap (λ zs. x ∷ zs) is
@@ -261,7 +261,7 @@ speaks-law cut k s m effects speaks law =
     }
 
 -- A move that finds the history full on the connection: what it sends is that of the acts up to the call that isn't
--- taken, with the answer that the server is too busy. Behind it connections are ended.
+-- taken, with the answer that the server is too busy. After it connections are ended.
 record Fills (k : ℕ) (s : Standing) (m : Move) : Type 0 where
   acts : List Act
   hears : Quiet (hearing_of k s.peers) → (on (hearing_of k s.peers) (brought k m.effect)).acts ≡ acts
@@ -364,7 +364,7 @@ after start history = state_at start history
 
 -- what is sent is the transcript of the acts, and the entries are their calls
 record Says (start : Start) (k : ℕ) (history : List Entry) (acts : List Act) (d : Doing) : Type 0 where
-  tells : (last : Asked → List ℕ) (later : List Act) (more : List Entry)
+  tells : (last : Request → List ℕ) (later : List Act) (more : List Entry)
       → written last (acts ++ later) (replies_from (after start history) k (d.entries ++ more))
       ≡ lines_on k d.prints ++ written last later (replies_from (state_after (after start history) d.entries) k more)
   counts : (later : List Act) → decoded_calls (acts ++ later) ≡ calls_of k d.entries ++ decoded_calls later
@@ -388,36 +388,34 @@ Says_or_busies start k history acts d = Says start k history acts d ⊎ Busies s
 sent-here : (k : ℕ) (bytes : List ℕ) → lines_on k (Out k bytes ∷ []) ≡ bytes
 sent-here k bytes = rw (here k) (append-nil bytes)
 
-call-says : (start : Start) (k id context opnum size : ℕ) (history : List Entry)
-    (stub : List ℕ) (face : Face) (call : Call) (verdict : Verdict) → call_on face opnum stub ≡ Ok call
-    → Says start k history (act.Call id context face opnum size stub ∷ [])
-    (on_call start history k (asked_by id context face opnum size) (length stub) call verdict)
-call-says start k id context opnum size history stub face call verdict is =
-    let entry = Called k call verdict (length stub) in
+call-says : (start : Start) (k : ℕ) (asked : Request) (history : List Entry) (call : Call) (verdict : Verdict) → call_on asked.face asked.opnum asked.stub ≡ Ok call
+    → Says start k history (act.Call asked ∷ [])
+    (on_call start history k asked (length asked.stub) call verdict)
+call-says start k asked history call verdict is =
+    let entry = Called k call verdict (length asked.stub) in
     let reply = (acted (after start history) k call verdict).1 in
     record {
       tells = λ last later more.
           let others = replies_from (state_after (after start history) (entry ∷ [])) k more in
           let mine : replies_from (after start history) k ((entry ∷ []) ++ more) ≡ reply ∷ others = rw (here k) refl in
-          ap (λ (rs : List Reply). written last (act.Call id context face opnum size stub ∷ later) rs) mine
-          ∙ ap (λ (r : Result Call WireError). answered last (asked_by id context face opnum size) r (reply ∷ others)
+          ap (λ (rs : List Reply). written last (act.Call asked ∷ later) rs) mine
+          ∙ ap (λ (r : Result Call WireError). answered last asked r (reply ∷ others)
           (λ rs. written last later rs)) is
           ∙ ap (λ (bs : List ℕ). bs ++ written last later others)
-          (sym (sent-here k (answer_bytes (asked_by id context face opnum size) call.face call.opnum reply)));
+          (sym (sent-here k (answer_bytes asked call.face call.opnum reply)));
       counts = λ later.
-          let mine : calls_of k (entry ∷ []) ≡ (call, length stub) ∷ [] = rw (here k) refl in
-          ap (λ (r : Result Call WireError). with_call r (length stub) (decoded_calls later)) is
+          let mine : calls_of k (entry ∷ []) ≡ (call, length asked.stub) ∷ [] = rw (here k) refl in
+          ap (λ (r : Result Call WireError). with_call r (length asked.stub) (decoded_calls later)) is
           ∙ ap (λ (cs : List (Call × ℕ)). cs ++ decoded_calls later) (sym mine);
       lines = refl;
       room = refl;
     }
 
-call-busies : (start : Start) (k id context opnum size : ℕ) (history : List Entry)
-    (stub : List ℕ) (face : Face) (call : Call) (count : ℕ) → call_on face opnum stub ≡ Ok call
-    → Busies start k history (act.Call id context face opnum size stub ∷ [])
-    (on_full k (asked_by id context face opnum size) count)
-call-busies start k id context opnum size history stub face call count is =
-    let asked = asked_by id context face opnum size in record {
+call-busies : (start : Start) (k : ℕ) (asked : Request) (history : List Entry) (call : Call) (count : ℕ) → call_on asked.face asked.opnum asked.stub ≡ Ok call
+    → Busies start k history (act.Call asked ∷ [])
+    (on_full k asked count)
+call-busies start k asked history call count is =
+    record {
       tells = λ later conns.
           let rs = replies_from (after start history) k ((Gone k ∷ []) ++ map (λ conn. Gone conn) conns) in
           let none : rs ≡ [] =
@@ -429,42 +427,40 @@ call-busies start k id context opnum size history stub face call count is =
           mine
           ∙ sym (ap (λ (r : Result Call WireError). answered busy_bytes asked r [] (λ rs. written busy_bytes later rs))
           is)
-          ∙ ap (λ (xs : List Reply). answered busy_bytes asked (call_on face opnum stub) xs
+          ∙ ap (λ (xs : List Reply). answered busy_bytes asked (call_on asked.face asked.opnum asked.stub) xs
           (λ rs. written busy_bytes later rs)) (sym none);
-      outside = λ later. (call, length stub) ∷ decoded_calls later;
-      counts = λ later. ap (λ (r : Result Call WireError). with_call r (length stub) (decoded_calls later)) is;
+      outside = λ later. (call, length asked.stub) ∷ decoded_calls later;
+      counts = λ later. ap (λ (r : Result Call WireError). with_call r (length asked.stub) (decoded_calls later)) is;
       lines = rw (here k) refl;
       count = count;
       full = refl;
     }
 
-decoded-does : (start : Start) (k id context opnum size : ℕ) (verdicts : Verdicts) (history : List Entry)
-    (stub : List ℕ) (face : Face) (call : Call) (full : Option ℕ) → call_on face opnum stub ≡ Ok call
-    → Says_or_busies start k history (act.Call id context face opnum size stub ∷ [])
-    (on_decoded start verdicts history k (asked_by id context face opnum size) (length stub) call full)
-decoded-does start k id context opnum size verdicts history stub face call None is =
-    inl (call-says start k id context opnum size history stub face call (verdicts (length history)) is)
-decoded-does start k id context opnum size verdicts history stub face call (Some count) is =
-    inr (call-busies start k id context opnum size history stub face call count is)
+decoded-does : (start : Start) (k : ℕ) (asked : Request) (verdicts : Verdicts) (history : List Entry) (call : Call) (full : Option ℕ) → call_on asked.face asked.opnum asked.stub ≡ Ok call
+    → Says_or_busies start k history (act.Call asked ∷ [])
+    (on_decoded start verdicts history k asked (length asked.stub) call full)
+decoded-does start k asked verdicts history call None is =
+    inl (call-says start k asked history call (verdicts (length history)) is)
+decoded-does start k asked verdicts history call (Some count) is =
+    inr (call-busies start k asked history call count is)
 
-request-does : (start : Start) (k id context opnum size : ℕ) (verdicts : Verdicts) (history : List Entry)
-    (stub : List ℕ) (face : Face) (r : Result Call WireError) → call_on face opnum stub ≡ r
-    → Says_or_busies start k history (act.Call id context face opnum size stub ∷ [])
-    (on_request start verdicts history k (asked_by id context face opnum size) (length stub) r)
-request-does start k id context opnum size verdicts history stub face (Err e) is = inl (record {
+request-does : (start : Start) (k : ℕ) (asked : Request) (verdicts : Verdicts) (history : List Entry) (r : Result Call WireError) → call_on asked.face asked.opnum asked.stub ≡ r
+    → Says_or_busies start k history (act.Call asked ∷ [])
+    (on_request start verdicts history k asked (length asked.stub) r)
+request-does start k asked verdicts history (Err e) is = inl (record {
   tells = λ last later more.
       let rs = replies_from (after start history) k more in
-      ap (λ (r : Result Call WireError). answered last (asked_by id context face opnum size) r rs
+      ap (λ (r : Result Call WireError). answered last asked r rs
       (λ others. written last later others)) is
       ∙ ap (λ (bs : List ℕ). bs ++ written last later rs)
-      (sym (sent-here k (undecoded_bytes (asked_by id context face opnum size) e)));
-  counts = λ later. ap (λ (r : Result Call WireError). with_call r (length stub) (decoded_calls later)) is;
+      (sym (sent-here k (undecoded_bytes asked e)));
+  counts = λ later. ap (λ (r : Result Call WireError). with_call r (length asked.stub) (decoded_calls later)) is;
   lines = refl;
   room = refl;
 })
-request-does start k id context opnum size verdicts history stub face (Ok call) is =
-    decoded-does start k id context opnum size verdicts history stub face call
-    (call_full start history (length stub)) is
+request-does start k asked verdicts history (Ok call) is =
+    decoded-does start k asked verdicts history call
+    (call_full start history (length asked.stub)) is
 
 act-does : (start : Start) (k : ℕ) (verdicts : Verdicts) (history : List Entry) (a : Act)
     → Says_or_busies start k history (a ∷ []) (on_act start verdicts history k a)
@@ -475,8 +471,8 @@ act-does start k verdicts history (act.Answered bytes) = inl (record {
   lines = refl;
   room = refl;
 })
-act-does start k verdicts history (act.Call id context face opnum size stub) =
-    request-does start k id context opnum size verdicts history stub face (call_on face opnum stub) refl
+act-does start k verdicts history (act.Call asked) =
+    request-does start k asked verdicts history (call_on asked.face asked.opnum asked.stub) refl
 act-does start k verdicts history (act.Closed place cause bytes) = inl (record {
   tells = λ last later more.
       let rs = replies_from (state_after (after start history) (Gone k ∷ [])) k more in
@@ -487,7 +483,7 @@ act-does start k verdicts history (act.Closed place cause bytes) = inl (record {
   room = refl;
 })
 
--- one act, and the others behind it
+-- one act, and the others after it
 both-say : (start : Start) (k : ℕ) (history : List Entry) (a : Act) (as' : List Act) (first others : Doing)
     → Says start k history (a ∷ []) first → Says start k (history ++ first.entries) as' others
     → Says start k history (a ∷ as') (both_by None first others)
@@ -595,7 +591,7 @@ record Passes (k : ℕ) (d : Doing) : Type 0 where
       → replies_from st k (d.entries ++ more) ≡ replies_from (state_after st d.entries) k more
   called : (more : List Entry) → calls_of k (d.entries ++ more) ≡ calls_of k more
 
-decoded-passes : (start : Start) (k c n : ℕ) (asked : Asked) (verdicts : Verdicts) (history : List Entry)
+decoded-passes : (start : Start) (k c n : ℕ) (asked : Request) (verdicts : Verdicts) (history : List Entry)
     (call : Call) (full : Option ℕ) → c ≢ k → Passes k (on_decoded start verdicts history c asked n call full)
 decoded-passes start k c n asked verdicts history call None other = record {
   prints = rw (there c k other) refl;
@@ -610,7 +606,7 @@ decoded-passes start k c n asked verdicts history call (Some count) other = reco
   called = λ more. refl;
 }
 
-request-passes : (start : Start) (k c n : ℕ) (asked : Asked) (verdicts : Verdicts) (history : List Entry)
+request-passes : (start : Start) (k c n : ℕ) (asked : Request) (verdicts : Verdicts) (history : List Entry)
     (r : Result Call WireError) → c ≢ k → Passes k (on_request start verdicts history c asked n r)
 request-passes start k c n asked verdicts history (Err e) other =
     record { prints = rw (there c k other) refl; lines = refl; replied = λ st more. refl; called = λ more. refl }
@@ -621,9 +617,9 @@ act-passes : (start : Start) (k c : ℕ) (verdicts : Verdicts) (history : List E
     → Passes k (on_act start verdicts history c a)
 act-passes start k c verdicts history (act.Answered bytes) other =
     record { prints = rw (there c k other) refl; lines = refl; replied = λ st more. refl; called = λ more. refl }
-act-passes start k c verdicts history (act.Call id context face opnum size stub) other =
-    request-passes start k c (length stub) (asked_by id context face opnum size) verdicts history
-    (call_on face opnum stub) other
+act-passes start k c verdicts history (act.Call asked) other =
+    request-passes start k c (length asked.stub) asked verdicts history
+    (call_on asked.face asked.opnum asked.stub) other
 act-passes start k c verdicts history (act.Closed place cause bytes) other =
     record { prints = rw (there c k other) refl; lines = refl; replied = λ st more. refl; called = λ more. refl }
 
@@ -847,7 +843,7 @@ ending-law k s status waits =
       ended = λ is. refl;
     }
 
--- what was heard of a connection before a move that doesn't fill, stays quiet behind it
+-- what was heard of a connection before a move that doesn't fill, stays quiet after it
 silent-quiet : (k : ℕ) (s : Standing) (m : Move) → Quiet (hearing_of k s.peers) → Silent k s m
     → Quiet (hearing_of k m.peers)
 silent-quiet k s m waits silent =
@@ -862,7 +858,7 @@ speaks-quiet cut k s m speaks =
     subst (λ (p : Option Peer). Quiet (hearing_in k p)) (sym speaks.stands_after)
     (quiet-left cut speaks.hearing speaks.bytes)
 
--- what comes behind a line, whether it found the history full or not
+-- what comes after a line, whether it found the history full or not
 later-law : (k : ℕ) (s : Standing) (full : Option ℕ) (later : Standing → Trace) → Quiet (hearing_of k s.peers)
     → ((next : Standing) → Quiet (hearing_of k next.peers) → LawAt k next (later next).effects)
     → LawAt k s (unless_full full s later).effects

@@ -14,7 +14,7 @@ use Rattle.acct_machine.specs.Access.{access}
 use Rattle.acct_machine.specs.Denial.{HasStatus, IsDenied}
 use Rattle.acct_machine.specs.Step.{acted, state_at}
 
--- A call of an operation stands in the history behind these entries.
+-- A call of an operation stands in the history after these entries.
 pub record StandsBehind (before history : List Entry) (conn : ℕ) (call : Call) (verdict : Verdict)
     (o : Operation) : Type 0 where
   pub bytes : ℕ

@@ -52,7 +52,7 @@ abbrev pub ends : Option ℕ → Option Event
 ends None = None
 ends (Some conn) = Some (End conn)
 
--- an opening or data, behind the command
+-- an opening or data, after the command
 abbrev pub of_two : List ℕ → Option (List ℕ × List ℕ) → Option Event
 of_two command None = None
 of_two command (Some (word, rest)) =
@@ -64,7 +64,7 @@ of_command None = None
 of_command (Some (command, rest)) =
     if bytes_eq command (codes "end") then ends (number_of rest) else of_two command (parted 32 rest)
 
--- what a line says: `open N LISTENER`, `data N HEX`, `end N`, or nothing in an empty line and behind a `#`
+-- what a line says: `open N LISTENER`, `data N HEX`, `end N`, or nothing in an empty line and after a `#`
 unfoldable pub event_of : List ℕ → Option Event
 event_of [] = Some Nothing
 event_of (b ∷ line) = if b == 35 then Some Nothing else of_command (parted 32 (b ∷ line))

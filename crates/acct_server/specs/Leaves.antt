@@ -10,10 +10,10 @@ use Rattle.acct_server.specs.declared.status.Status.TheVariants.{Done, NoMemory,
 use Rattle.acct_server.specs.declared.status.Status.TheVariants.{WriteFault, StoreFault, StoredPair, EventLine}
 use Rattle.acct_server.specs.declared.status.Status.TheVariants.{HistoryFull}
 use Rattle.acct_server.specs.declared.status.Status.TheVariants.{InputTooLong}
-use Rattle.acct_streams.specs.declared.whole.WholeError.{WholeError}
-use Rattle.acct_streams.specs.declared.whole.WholeError.TheVariants.{Fault, TooLong, Memory}
-use Rattle.acct_streams.specs.Causes.{Rose}
-use Rattle.acct_streams.specs.Whole.{most_bytes}
+use Rattle.acct_keeper.specs.declared.whole.WholeError.{WholeError}
+use Rattle.acct_keeper.specs.declared.whole.WholeError.TheVariants.{Fault, TooLong, Memory}
+use Rattle.acct_keeper.specs.Causes.{Rose}
+use Rattle.acct_keeper.specs.Whole.{most_bytes}
 use Rattle.acct_keeper.specs.declared.pairs.Pair.{Pair}
 use Rattle.acct_machine.specs.declared.opened.OpenError.{OpenError}
 use Rattle.acct_machine.specs.declared.opened.OpenError.TheVariants as unopened
@@ -52,7 +52,7 @@ pub record Leaves (start : Start) (held now : Option (List ℕ)) (events : List 
 
 -- The sink failed at the lines of an event or of the end: the history has the entries up to this one's, the lines of
 -- the events
--- before are written whole, and of its own a front.
+-- before are written whole, and of its own a prefix.
 pub record Breaks (start : Start) (held now : Option (List ℕ)) (events : List ℕ) (history : List Entry) : Type 0 where
   pub done : List Effect
   pub met : Effect
@@ -62,7 +62,7 @@ pub record Breaks (start : Start) (held now : Option (List ℕ)) (events : List 
   pub entries : history ≡ entries_of done ++ met.entries
   pub lines : Appends held now (output_of done ++ take written (flat_map line_bytes met.prints))
 
--- Memory was wanted: the history is a front of the entries, and what is written a front of the lines.
+-- Memory ran out: the history is a prefix of the entries, and what is written a prefix of the lines.
 pub record Stops (start : Start) (held now : Option (List ℕ)) (events : List ℕ) (history : List Entry) : Type 0 where
   pub later : List Entry
   pub written : ℕ
@@ -109,7 +109,7 @@ StoreCause held before now (StoredPair key) = IfSome held (λ pairs. (pairs ≢ 
 StoreCause held before now NoMemory = Unit {0}
 StoreCause held before now _ = ⊥
 
--- What the keeper holds where no machine was made: what it held. Only where that was no pair and memory was wanted, it
+-- What the keeper holds where no machine was made: what it held. Only where that was no pair and memory ran out, it
 -- may have the pairs of the seed rows.
 abbrev pub StoreKept : Config → Option (List Pair) → Option (List Pair) → Status → Type 0
 StoreKept config held now status =
@@ -141,7 +141,7 @@ pub record AsksRun (document events : List ℕ) (pairs : List Pair) (history : L
     pub begun : IsBegun (spelled document) (Some pairs) 0 start
     pub is : status ≡ (replayed start events history).status
 
--- The status that a configuration, events and stored pairs ask for, or memory was wanted.
+-- The status that a configuration, events and stored pairs ask for, or memory ran out.
 abbrev pub IsAsked : List ℕ → List ℕ → List Pair → List Entry → Status → Type 0
 IsAsked document events pairs history status =
     (asked_before document events ≡ Some status)

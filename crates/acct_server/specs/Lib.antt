@@ -8,3 +8,6 @@ pub mod Denied
 pub mod Connections
 pub mod Replaying
 pub mod Serving
+pub mod Headline
+pub mod Headlines
+pub mod Completing

@@ -16,6 +16,7 @@ use Rattle.acct_machine.specs.Step.{state_at, acted}
 use Rattle.acct_machine.specs.Room.{conns_full, call_full}
 use Rattle.rpc_session.specs.declared.sessions.Act.{Act}
 use Rattle.rpc_session.specs.declared.sessions.Act.TheVariants as act
+use Rattle.rpc_session.specs.declared.sessions.Request.{Request}
 use Rattle.rpc_session.specs.declared.hearing.Hearing.{Hearing}
 use Rattle.rpc_session.specs.Hearings.{Heard, on}
 use Rattle.acct_stubs.specs.declared.errors.WireError.{WireError}
@@ -28,8 +29,7 @@ use Rattle.acct_server.specs.declared.status.Status.TheVariants.{Done, EventLine
 use Rattle.acct_server.specs.Events.{event_of, lines_of}
 use Rattle.link_sessions.specs.Connections.{nothing_heard, is_served}
 use Rattle.link_sessions.specs.Requests.{call_on}
-use Rattle.link_sessions.specs.declared.requests.Asked.{Asked}
-use Rattle.link_sessions.specs.Transcript.{answer_bytes, undecoded_bytes, busy_bytes, asked_by}
+use Rattle.link_sessions.specs.Transcript.{answer_bytes, undecoded_bytes, busy_bytes}
 
 -- ---- lines that are printed
 
@@ -147,7 +147,7 @@ abbrev pub both : Doing → Doing → Doing
 both first second = both_by first.full first second
 
 -- a call, with its verdict
-abbrev pub on_call : Start → List Entry → ℕ → Asked → ℕ → Call → Verdict → Doing
+abbrev pub on_call : Start → List Entry → ℕ → Request → ℕ → Call → Verdict → Doing
 on_call start history conn asked stub_size call verdict =
     let reply = (acted (state_at start history) conn call verdict).1 in record {
       entries = Called conn call verdict stub_size ∷ [];
@@ -156,7 +156,7 @@ on_call start history conn asked stub_size call verdict =
     }
 
 -- A call that finds the history full is answered that the server is too busy, and its connection is gone.
-abbrev pub on_full : ℕ → Asked → ℕ → Doing
+abbrev pub on_full : ℕ → Request → ℕ → Doing
 on_full conn asked count = record {
   entries = Gone conn ∷ [];
   prints = Out conn (busy_bytes asked) ∷ FoundFull conn ∷ [];
@@ -164,13 +164,13 @@ on_full conn asked count = record {
 }
 
 -- a decoded call, by what the history has where it is full
-abbrev pub on_decoded : Start → Verdicts → List Entry → ℕ → Asked → ℕ → Call → Option ℕ → Doing
+abbrev pub on_decoded : Start → Verdicts → List Entry → ℕ → Request → ℕ → Call → Option ℕ → Doing
 on_decoded start verdicts history conn asked stub_size call None =
     on_call start history conn asked stub_size call (verdicts (length history))
 on_decoded start verdicts history conn asked stub_size call (Some count) = on_full conn asked count
 
 -- a request that is no decoded call is answered outside the history
-abbrev pub on_request : Start → Verdicts → List Entry → ℕ → Asked → ℕ → Result Call WireError → Doing
+abbrev pub on_request : Start → Verdicts → List Entry → ℕ → Request → ℕ → Result Call WireError → Doing
 on_request start verdicts history conn asked stub_size (Err e) = prints_only (Out conn (undecoded_bytes asked e) ∷ [])
 on_request start verdicts history conn asked stub_size (Ok call) =
     on_decoded start verdicts history conn asked stub_size call (call_full start history stub_size)
@@ -178,9 +178,8 @@ on_request start verdicts history conn asked stub_size (Ok call) =
 -- after a refusal the connection is gone
 abbrev pub on_act : Start → Verdicts → List Entry → ℕ → Act → Doing
 on_act start verdicts history conn (act.Answered bytes) = prints_only (Out conn bytes ∷ [])
-on_act start verdicts history conn (act.Call id context face opnum size stub) =
-    let asked = asked_by id context face opnum size in
-    on_request start verdicts history conn asked (length stub) (call_on face opnum stub)
+on_act start verdicts history conn (act.Call asked) =
+    on_request start verdicts history conn asked (length asked.stub) (call_on asked.face asked.opnum asked.stub)
 on_act start verdicts history conn (act.Closed place cause bytes) =
     record { entries = Gone conn ∷ []; prints = Out conn bytes ∷ IsClosed conn place cause ∷ []; full = None }
 
@@ -191,7 +190,7 @@ on_acts start verdicts history conn (a ∷ acts) =
     let first = on_act start verdicts history conn a in
     both first (on_acts start verdicts (history ++ first.entries) conn acts)
 
--- how a connection stands behind its acts: it is ended where they found the history full
+-- how a connection stands after its acts: it is ended where they found the history full
 abbrev pub peer_behind : Option ℕ → Hearing → Peer
 peer_behind None leaves = Open leaves
 peer_behind (Some count) leaves = Ended
@@ -267,7 +266,7 @@ behind effects t = record { effects = effects ++ t.effects; status = t.status }
 abbrev pub ends : Standing → Status → Trace
 ends s status = record { effects = ending s ∷ []; status = status }
 
--- behind a line that found the history full nothing is run
+-- after a line that found the history full nothing is run
 abbrev pub unless_full : Option ℕ → Standing → (Standing → Trace) → Trace
 unless_full None s later = later s
 unless_full (Some count) s later = ends s (HistoryFull count)

@@ -12,8 +12,8 @@ use Rattle.acct_rows.specs.Rows.{Lists, Shown}
 use Rattle.acct_server.specs.declared.replays.Replayed.{Replayed}
 use Rattle.acct_server.specs.declared.status.Status.{Status}
 use Rattle.acct_server.specs.declared.status.Status.TheVariants.{WriteFault, NoMemory}
-use Rattle.acct_streams.specs.Causes.{Rose, NotRisen}
-use Rattle.acct_streams.specs.Whole.{most_bytes, IsWhole}
+use Rattle.acct_keeper.specs.Causes.{Rose, NotRisen}
+use Rattle.acct_keeper.specs.Whole.{most_bytes, IsWhole}
 use Rattle.acct_keeper.specs.declared.pairs.Pair.{Pair}
 use Rattle.acct_machine.specs.Storing.{HoldsRows, AreUpTo}
 use Rattle.acct_server.specs.Begun.{IsBegun}
@@ -60,7 +60,7 @@ pub record StopsAtEvents {S T K : Type 0} (told : Telling S T K) (old new : Part
     pub cause : EventsCause (told.left old.events) (told.read_faults old.events) (told.read_faults new.events) status
     pub keeper : new.keeper ≡ old.keeper
 
--- Both were, and the store wasn't opened: the keeper holds what it held, but for the seed rows where memory was wanted.
+-- Both were, and the store wasn't opened: the keeper holds what it held, except the seed rows where memory ran out.
 pub record StopsAtStore {S T K : Type 0} (told : Telling S T K) (old new : Parts S T K) (status : Status) : Type 0
   where
     pub taken : BreaksNone (told.left old.config)
@@ -94,11 +94,11 @@ pub record RunsLines {K : Type 0} (start : Start) (events : List ℕ) (held now 
   pub transcribes : IsRunThrough left.status → (k : ℕ)
       → let effects = (replayed start events left.history).effects in
       IsTranscribed start left.history k (found_full k effects) (received k effects) (sent k effects)
-  -- after a fault of the sink, whose count rose: the entries up to the event whose lines met it, and a front of its
+  -- after a fault of the sink, whose count rose: the entries up to the event whose lines met it, and a prefix of its
   -- lines
   pub breaks : left.status ≡ WriteFault → Breaks start held now events left.history
   pub write : left.status ≡ WriteFault → Rose before after
-  -- after want of memory: a front of the entries, and a front of the lines
+  -- where memory ran out: a prefix of the entries, and a prefix of the lines
   pub stops : left.status ≡ NoMemory → Stops start held now events left.history
   -- the history is legal, and access is denied there exactly where a grant or an opening's check lacks a bit
   pub legal : Legal start left.history
@@ -137,7 +137,7 @@ AsksFor document events held history status =
 
 pub record IsReplay {S T K : Type 0} (told : Telling S T K) (old new : Parts S T K) (left : Replayed K) : Type 0 where
   pub leaves : HasNotRun told old new left ⊎ HasRunLines told old new left
-  -- where no count rose, the status is the one that is asked for, or memory was wanted
+  -- where no count rose, the status is the one that is asked for, or memory ran out
   pub complete : AllQuiet told old new
       → AsksFor (told.left old.config) (told.left old.events) (told.pairs old.keeper) left.history left.status
   pub config_later : told.read_faults old.config ≤ told.read_faults new.config

@@ -50,12 +50,12 @@ pub record Acts (what : Verdicts → Doing) (before now : List Entry) (old_lines
   pub history : now ≡ before ++ doing.entries
   pub prints : new_lines ≡ old_lines ++ flat_map line_bytes doing.prints
 
--- the connections behind acts: the one that found the history full was ended
+-- the connections after acts: the one that found the history full was ended
 abbrev pub peers_behind : Option ℕ → ℕ → List Peer → List Peer
 peers_behind None conn peers = peers
 peers_behind (Some count) conn peers = with_peer conn Ended peers
 
--- after want of memory the first of their entries stand
+-- where memory ran out the first of their entries stand
 pub record Began (what : Verdicts → Doing) (before now : List Entry) : Type 0 where
   pub front : List Entry
   pub history : now ≡ before ++ front
@@ -100,7 +100,7 @@ pub record Enters (what : Verdicts → Option Move) (old new : Running) : Type 0
   pub others : List Entry → List Entry
   pub begins : (later : List Entry) → (move later).effect.entries ≡ front ++ others later
 
--- after want of memory the first of the entries of a line stand, or none does
+-- where memory ran out the first of the entries of a line stand, or none does
 abbrev pub MayStop : (Verdicts → Option Move) → Running → Running → Type 0
 MayStop what old new = (new.machine.history ≡ old.machine.history) ⊎ Enters what old new
 

@@ -33,7 +33,7 @@ pub record Telling (D L K : Type 0) : Type 1 where
   pub faults : K → ℕ
 
 -- The store wasn't opened, or no machine was made: no link was taken, nothing has happened, and the keeper holds what
--- it held, but for the seed rows where memory was wanted.
+-- it held, except the seed rows where memory ran out.
 pub record HasNotServed {D L K : Type 0} (telling : Telling D L K) (config : Config) (before now : List D) (keeper : K)
     (left : Served K) : Type 0 where
   pub opening : left.opening ≡ None
@@ -48,8 +48,8 @@ pub record HasNotServed {D L K : Type 0} (telling : Telling D L K) (config : Con
 -- rows where it held none. The history is legal, and access is denied there exactly where a grant or an opening's check
 -- lacks a bit. The keeper holds the pairs of the rows after it, and no count at a commit that failed lies above its
 -- count.
-pub record HasServed {D L K : Type 0} (telling : Telling D L K) (config : Config) (before now : List D) (keeper : K)
-    (left : Served K) : Type 0 where
+pub record HasServedDoors {D L K : Type 0} (telling : Telling D L K) (config : Config) (before now : List D)
+    (keeper : K) (left : Served K) : Type 0 where
   pub start : Start
   pub begun : IsBegun config (telling.pairs keeper) (telling.faults keeper) start
   pub outcome : Outcome
@@ -65,5 +65,5 @@ pub record HasServed {D L K : Type 0} (telling : Telling D L K) (config : Config
 pub record IsServe {D L K : Type 0} (telling : Telling D L K) (config : Config) (before now : List D) (keeper : K)
     (left : Served K) : Type 0 where
   pub leaves : HasNotServed telling config before now keeper left
-      ⊎ HasServed telling config before now keeper left
+      ⊎ HasServedDoors telling config before now keeper left
   pub later : telling.faults keeper ≤ telling.faults left.keeper

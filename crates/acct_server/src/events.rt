@@ -80,7 +80,7 @@ fn data_of(alloc: Global, conn: u32, digits: &[u8]) -> Result<Event, LineError>
     })
 }
 
-// An opening or data, behind the command.
+// An opening or data, after the command.
 fn of_two(alloc: Global, command: &[u8], word: &[u8], rest: &[u8]) -> Result<Event, LineError>
     ensures found { IfOk result (λ event. of_two command.now (Some (word.now, rest.now)) ≡ Some event) }
     ensures short { IfOk result (DataFits (length rest.now)) }

@@ -3,7 +3,7 @@
 //!
 //! It stands on `acct_machine` for the history and the rows to begin with, on `link_sessions` for the connections and
 //! for requests over a gate, on `door_workers` for all doors, on `rpc_session` for the acts of a stream, on
-//! `acct_streams` and on the kit's `hex`; what a connection is answered, and sources and sinks, it hands out again.
+//! `acct_keeper` and on the kit's `hex`; what a connection is answered, and sources and sinks, it hands out again.
 //!
 //! The layer above uses [`replay`], whose contract is one definition, `IsReplay`: under the one configuration that the
 //! document spells, whatever bytes came and however the lines cut them, what was sent on each connection is the
@@ -15,7 +15,12 @@
 //! transcript of the acts of what was read, with the replies of its calls in the one history; each link goes back to
 //! its door; and every end and status has its cause. The configuration of either is read by [`read_configuration`].
 //!
-//! In rooms: `beginning` opens the store, `running` does what a line says, `replays` a whole replay, `serving` serves.
+//! What both promise of a connection is one record, `Headline`, which their contracts give: the laws
+//! [`replay_gives_headline`] and [`serve_gives_headline`]. Where nothing fails outside, serving comes to its end
+//! ([`serving_is_complete`]).
+//!
+//! In rooms: `beginning` opens the store, `running` does what a line says, `replays` a whole replay, `serving` serves;
+//! `headline` and `laws` state what follows of these contracts.
 //!
 //! The way of a line: [`Event`] says what it asks for, the connection's stream which acts its bytes complete, the
 //! stubs which call a request is, the machine enters it and replies, the replies are cut into responses and printed.
@@ -23,6 +28,7 @@
 
 mod beginning;
 mod events;
+mod headline;
 mod laws;
 mod lines;
 mod printing;
@@ -31,15 +37,14 @@ mod running;
 mod serving;
 mod status;
 
-pub use acct_streams::{
+pub use acct_keeper::{
     Failed, MemorySink, MemorySource, Sink, Source, SteadySink, SteadySource, WholeError,
     read_whole, write_all,
 };
 pub use events::{Event, LineError};
+pub use headline::{replay_gives_headline, serve_gives_headline, serving_is_complete};
 pub use laws::cuts_change_nothing;
-pub use link_sessions::{
-    Answer, Asked, Ended, Gate, Peer, SessionEnd, read_request, request, session,
-};
+pub use link_sessions::{Answer, Ended, Gate, Peer, SessionEnd, read_request, request, session};
 pub use replays::{Replayed, read_configuration, replay};
 pub use serving::{Served, serve};
 pub use status::Status;

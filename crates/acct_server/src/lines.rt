@@ -4,7 +4,7 @@ ghost use Rattle.acct_server.specs.Events.{lines_of};
 
 use acct_base::rest_of;
 
-/// The first line without its end, and the bytes behind its end.
+/// The first line without its end, and the bytes after its end.
 pub fn next_line(bytes: &[u8]) -> (&[u8], &[u8])
     requires { 0 < length bytes.now }
     ensures lines { lines_of bytes.now ≡ result.0.now ∷ lines_of result.1.now }

@@ -14,7 +14,7 @@ fn push_number(line: &mut Vec<u8>, alloc: Global, number: u64) -> Result<(), All
     Ok(())
 }
 
-/// Adds the line that brings bytes sent on a connection behind the lines that are there.
+/// Adds the line that brings bytes sent on a connection after the lines that are there.
 #[tactic(auto, unfolding(crate::specs::Replayed::out_line))]
 pub fn push_out(
     lines: &mut Vec<u8>,

@@ -1,8 +1,8 @@
 // A replay of event lines.
 ghost use Rattle.std.specs.Prelude.{◌≡◌, ◌<◌, ◌≤◌, ◌^◌, [], None, length, IfSome, IfOk, IfErr, OnOk};
 ghost use Rattle.acct_server.specs.declared.status.Status.TheVariants.{NoMemory, WriteFault};
-ghost use Rattle.acct_streams.specs.Causes.{Rose};
-ghost use Rattle.acct_streams.specs.Whole.{most_bytes};
+ghost use Rattle.acct_keeper.specs.Causes.{Rose};
+ghost use Rattle.acct_keeper.specs.Whole.{most_bytes};
 ghost use Rattle.acct_machine.specs.Step.{state_at};
 ghost use Rattle.acct_machine.specs.Storing.{HoldsRows, AreUpTo};
 ghost use Rattle.acct_server.specs.Configured.{IsConfigured};

@@ -3,7 +3,6 @@ ghost use Rattle.std.specs.Prelude.{◌≡◌, ◌≢◌, ◌⊎◌, ◌+◌, �
 ghost use Rattle.std.specs.Prelude.{length, take, Some, None, Ok, Err, OnOk, OnErr, IfOk, IfErr, IfSome, IsSome};
 ghost use Rattle.std.specs.Prelude.{slice_get, slice_set, map, All, option_map};
 ghost use Rattle.std.specs.List.{flat_map};
-ghost use Rattle.acct_codes.specs.Limits.{least_fragment, most_fragment, most_stub};
 ghost use Rattle.acct_machine.specs.Storing.{HoldsRows, AreUpTo};
 ghost use Rattle.acct_machine.specs.State.{is_live};
 ghost use Rattle.acct_machine.specs.Machine.{state_of, with_entry};
@@ -11,7 +10,7 @@ ghost use Rattle.acct_machine.specs.Legal.{Legal};
 ghost use Rattle.acct_machine.specs.declared.entry.Entry.TheVariants.{Gone};
 ghost use Rattle.rpc_session.specs.declared.hearing.Hearing.{Hearing};
 ghost use Rattle.rpc_session.specs.Hearings.{HasRoom, on, is_going};
-ghost use Rattle.rpc_session.specs.Acts.{IsFit, is_refusal};
+ghost use Rattle.rpc_session.specs.Acts.{IsFit, IsFitRequest, is_refusal};
 ghost use Rattle.acct_server.specs.declared.events.LineError.TheVariants.{NoMemory, Refused};
 ghost use Rattle.link_sessions.specs.declared.connections.Peer.TheVariants as peer;
 ghost use Rattle.link_sessions.specs.Requests.{call_on};
@@ -30,9 +29,10 @@ use crate::printing::{closed_line, full_line, gone_line, push_out};
 use acct_base::is_same;
 use acct_codes::fault::NCA_S_SERVER_TOO_BUSY;
 use acct_machine::{Entry, Keeper, Listener, Machine, Opened, Rows};
-use link_sessions::{Answer, Asked, Gate, Peer, heard, is_served, new_peer, request};
+use link_sessions::{Answer, Gate, Peer, heard, is_served, new_peer, request};
 use rpc_session::{
-    Act, calls_fit, fault_bytes, refusals_are_last, room_by_length, streams_are_cut_anywhere,
+    Act, Request, calls_fit, fault_bytes, refusals_are_last, room_by_length,
+    streams_are_cut_anywhere,
 };
 use std::alloc::{AllocError, Global};
 use std::marker::Model;
@@ -220,7 +220,7 @@ impl<K: Keeper + Drop> Run<K> {
         &mut self,
         alloc: Global,
         conn: u32,
-        asked: Asked,
+        asked: &Request,
         lines: &mut Vec<u8>,
     ) -> Result<(), AllocError>
         requires live { is_live conn (state_of self.old.machine).conns ≡ true }
@@ -228,7 +228,7 @@ impl<K: Keeper + Drop> Run<K> {
         ensures machine { OnOk result (self.new.machine ≡ with_entry self.old.machine (Gone conn)) }
         ensures peers { OnOk result (self.new.peers ≡ with_peer conn peer.Ended self.old.peers) }
         ensures lines { OnOk result (lines.new.items
-            ≡ lines.old.items ++ (line_bytes (Out conn (busy_bytes asked)) ++ line_bytes (FoundFull conn))) }
+            ≡ lines.old.items ++ (line_bytes (Out conn (busy_bytes asked.now)) ++ line_bytes (FoundFull conn))) }
         ensures err { OnErr result (self.new ≡ self.old) }
     {
         let busy = fault_bytes(asked.id, asked.context, NCA_S_SERVER_TOO_BUSY);
@@ -242,28 +242,25 @@ impl<K: Keeper + Drop> Run<K> {
         &mut self,
         alloc: Global,
         conn: u32,
-        asked: Asked,
-        stub: &[u8],
+        asked: &Request,
         lines: &mut Vec<u8>,
     ) -> Result<Option<u64>, AllocError>
         requires live { is_live conn (state_of self.old.machine).conns ≡ true }
         requires there { IsSome (peer_of conn self.old.peers) }
-        requires low { least_fragment ≤ asked.size }
-        requires high { asked.size ≤ most_fragment }
-        requires short { length stub.now ≤ most_stub }
+        requires fits { IsFitRequest asked.now }
         ensures acts { IfOk result (Acts
-            (λ verdicts. on_request self.old.machine.start verdicts self.old.machine.history conn asked
-            (length stub.now) (call_on asked.face asked.opnum stub.now)) self.old.machine.history
+            (λ verdicts. on_request self.old.machine.start verdicts self.old.machine.history conn asked.now
+            (length asked.now.stub) (call_on asked.now.face asked.now.opnum asked.now.stub)) self.old.machine.history
             self.new.machine.history lines.old.items lines.new.items) }
         ensures began { OnErr result (Began
-            (λ verdicts. on_request self.old.machine.start verdicts self.old.machine.history conn asked
-            (length stub.now) (call_on asked.face asked.opnum stub.now)) self.old.machine.history
+            (λ verdicts. on_request self.old.machine.start verdicts self.old.machine.history conn asked.now
+            (length asked.now.stub) (call_on asked.now.face asked.now.opnum asked.now.stub)) self.old.machine.history
             self.new.machine.history) }
         ensures live { IfOk result (λ full. full ≡ None → is_live conn (state_of self.new.machine).conns ≡ true) }
         ensures peers { IfOk result (λ full. self.new.peers ≡ peers_behind full conn self.old.peers) }
         ensures start { self.new.machine.start ≡ self.old.machine.start }
     {
-        match request(alloc, &mut self.machine, conn, asked, stub)? {
+        match request(alloc, &mut self.machine, conn, asked)? {
             Answer::Bytes(bytes) => {
                 push_out(lines, alloc, conn, &bytes)?;
                 Ok(None)
@@ -326,23 +323,7 @@ impl<K: Keeper + Drop> Run<K> {
                 push_out(lines, alloc, conn, bytes.as_slice())?;
                 Ok(None)
             }
-            Act::Call {
-                id,
-                context,
-                face,
-                opnum,
-                size,
-                stub,
-            } => {
-                let asked = Asked {
-                    id: *id,
-                    context: *context,
-                    size: *size,
-                    face: *face,
-                    opnum: *opnum,
-                };
-                self.request(alloc, conn, asked, stub.as_slice(), lines)
-            }
+            Act::Call(asked) => self.request(alloc, conn, asked, lines),
             Act::Closed {
                 place,
                 cause,

@@ -32,7 +32,7 @@ pub enum Status {
     DoorFault,
     /// The history was full, with the count of what it has.
     HistoryFull(u64),
-    /// The peer's bytes spell no answer, at this place of its stream.
+    /// The peer's bytes encode no answer, at this place of its stream.
     PeerBytes(u64),
     /// A call of the caller or of the link failed, the caller wasn't handed out, or the link ended before the answer.
     PeerFault,

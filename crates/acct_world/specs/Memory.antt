@@ -3,7 +3,8 @@
 use Rattle.std.specs.Prelude.{◌≡◌, ◌≢◌, ℕ, ◌≤◌, List, [], ◌∷◌, ◌++◌, Bool, true, ◌||◌, codes, Option, Some, None}
 use Rattle.std.specs.Prelude.{Result, Err, IfOk, OnOk, OnErr, is_err, is_none, if◌then◌else◌}
 use Rattle.std.specs.Str.{bytes_eq}
-use Rattle.acct_streams.specs.Memory.{one_more, is_among}
+use Rattle.acct_keeper.specs.Counts.{one_more}
+use Rattle.acct_keeper.specs.Memory.{is_among}
 use Rattle.acct_world.specs.declared.part.Part.{Part}
 use Rattle.acct_world.specs.declared.period.Period.{Period}
 use Rattle.acct_links.specs.declared.callers.TakeError.{TakeError}
@@ -68,7 +69,7 @@ shown world = record {
   caller_faults = world.caller_faults;
 }
 
--- The part is noted behind those that were asked for, and the number of handings out is one higher. It answers whether
+-- The part is noted after those that were asked for, and the number of handings out is one higher. It answers whether
 -- that is one of those that fail.
 pub record Notes {E : Type 0} (failing : List ℕ) (part : Part) (old new : List Part) (takes counted : ℕ)
     (answer : Result Bool E) : Type 0 where
@@ -89,7 +90,7 @@ pub record Hands {P : Type 0} (to_fail : Bool) (old new : Option P) (faults coun
   pub later : faults ≤ counted
 
 -- A handing out from a place has the next number. It fails exactly where that is one of those that fail or nothing is
--- there, unless memory is wanted.
+-- there, unless memory runs out.
 pub record TakesInMemory {S T K E D C L P : Type 0} (old new : WorldInMemory S T K E D C L) (place : Option P)
     (answer : Result P TakeError) : Type 0 where
   pub fails : answer ≢ Err NoMemory → is_err answer ≡ (is_among old.failing (one_more old.takes) || is_none place)

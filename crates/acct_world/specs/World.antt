@@ -4,7 +4,7 @@ use Rattle.std.specs.Prelude.{OnErr}
 use Rattle.std.specs.declared.option.Option.{Option}
 use Rattle.std.specs.declared.result.Result.{Result}
 use Rattle.acct_keeper.specs.declared.pairs.Pair.{Pair}
-use Rattle.acct_streams.specs.Causes.{Rose}
+use Rattle.acct_keeper.specs.Causes.{Rose}
 use Rattle.acct_world.specs.declared.period.Period.{Period}
 use Rattle.acct_links.specs.declared.callers.TakeError.{TakeError}
 use Rattle.acct_links.specs.declared.callers.TakeError.TheVariants.{Failed, NoMemory}
@@ -35,7 +35,7 @@ pub record Seen (S T K E D C L : Type 0) : Type 0 where
   pub entrance_faults : ℕ
   pub caller_faults : ℕ
 
--- The part is the last that was asked for; where memory was wanted, it may be left out.
+-- The part is the last that was asked for; where memory ran out, it may be left out.
 abbrev pub Asks : {P : Type 0} → Part → List Part → List Part → Result P TakeError → Type 0
 Asks part old new answer = (new ≡ old ++ part ∷ []) ⊎ ((answer ≡ Err NoMemory) × (new ≡ old))
 

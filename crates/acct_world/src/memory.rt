@@ -8,9 +8,8 @@ use crate::part::Part;
 use crate::period::Period;
 use crate::world::World;
 use acct_base::{Seq, is_same};
-use acct_keeper::Keeper;
+use acct_keeper::{Keeper, Sink, Source};
 use acct_links::{Caller, Entrance, TakeError};
-use acct_streams::{Sink, Source};
 use std::alloc::{AllocError, Global};
 use std::marker::Model;
 

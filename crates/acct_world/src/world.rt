@@ -4,9 +4,8 @@ ghost use Rattle.acct_world.specs.World.{GivesKeeper};
 ghost use Rattle.acct_world.specs.World.{TakesEntrance, GivesEntrance, TakesCaller, GivesCaller, KeepsPeriod};
 
 use crate::period::Period;
-use acct_keeper::Keeper;
+use acct_keeper::{Keeper, Sink, Source};
 use acct_links::{Caller, Entrance, TakeError};
-use acct_streams::{Sink, Source};
 use std::alloc::AllocError;
 
 /// What the program meets: sources and keepers by name, the sink, the entrance, the caller, and a place for the periods

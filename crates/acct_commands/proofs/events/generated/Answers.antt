@@ -7,7 +7,7 @@ use Rattle.acct_commands.proofs.Fitting.{opening-fits, user-fits, closings-fit}
 use Rattle.acct_commands.proofs.Lines.{started, went-on, ended, count-started, count-went-on}
 use Rattle.acct_commands.proofs.events.generated.Goals as goal
 
--- calls that are others that can be spelled
+-- calls that are others that can be encoded
 fit-as : (calls others : List Call) → calls ≡ others → All CanBeSpelled others → All CanBeSpelled calls
 fit-as calls others is fits = subst (λ (cs : List Call). All CanBeSpelled cs) (sym is) fits
 

@@ -1,4 +1,4 @@
--- A replay with no opening, history or rows and a new keeper is what want of memory for its sources leaves.
+-- A replay with no opening, history or rows and a new keeper is what running out of memory for its sources leaves.
 use Rattle.std.proofs.Common.{ℕ, refl}
 use Rattle.acct_commands.proofs.Summarizing.{without-sources}
 use Rattle.acct_commands.proofs.generating.without_sources.Goals as goal

@@ -1,6 +1,6 @@
 -- What `replay` leaves without a configuration, without events, without an opened store, and with its lines run.
 use Rattle.std.proofs.Common.{refl, ◌≤◌, ◌∙◌, sym, subst, List, ℕ}
-use Rattle.acct_streams.specs.Whole.{IsWhole}
+use Rattle.acct_keeper.specs.Whole.{IsWhole}
 use Rattle.acct_server.specs.declared.status.Status.{Status}
 use Rattle.acct_server.specs.Begun.{IsBegun}
 use Rattle.acct_server.specs.Running.{Running}

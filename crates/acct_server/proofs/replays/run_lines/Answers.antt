@@ -1,4 +1,5 @@
--- `run_lines` leaves the entries and output of the lines; a failed write or want of memory leaves a front of them.
+-- `run_lines` leaves the entries and output of the lines; a failed write or running out of memory leaves a prefix of
+-- them.
 use Rattle.std.proofs.Common.{Option, List, ℕ, ◌≡◌, ◌+◌, ◌-◌, ◌^◌, length, [], sym, ap, ◌∙◌, subst, take, arith, Err}
 use Rattle.std.specs.Io.KnownBytes.{Appends}
 use Rattle.acct_server.specs.declared.events.LineError.{LineError}

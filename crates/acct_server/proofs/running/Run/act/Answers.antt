@@ -1,4 +1,4 @@
--- An answer or a refusal adds its entries and lines; after want of memory it has added no entry.
+-- An answer or a refusal adds its entries and lines; where memory ran out it has added no entry.
 use Rattle.std.proofs.Common.{◌≡◌, List, ℕ, None, ap, sym, ◌∙◌, refl, subst}
 use Rattle.rpc_session.specs.declared.sessions.Act.{Act}
 use Rattle.rpc_session.specs.declared.sessions.Act.TheVariants as act

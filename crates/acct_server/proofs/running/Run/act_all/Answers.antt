@@ -1,4 +1,4 @@
--- One act after the other does what they all do, up to one that finds the history full or wants memory.
+-- One act after the other does what they all do, up to one that finds the history full or runs out of memory.
 use Rattle.std.proofs.Common.{◌≡◌, ℕ, true, false, List, [], ◌∷◌, ◌++◌, Option, Some, None, length, take, refl, sym, ap}
 use Rattle.std.proofs.Common.{subst, ◌∙◌, append_assoc, arith}
 use Rattle.std.proofs.lemmas.List.{take_all}

@@ -1,4 +1,4 @@
--- The caller is handed out, or stays and the count of failures rises; but for what was asked all else stays.
+-- The caller is handed out, or stays and the count of failures rises; all else stays, except what was asked.
 use Rattle.acct_world.specs.Memory.{WorldInMemory}
 use Rattle.acct_world.proofs.Holding.{caller-taken, seen-caller}
 use Rattle.acct_world.proofs.memory.MemoryWorldWorld.take_caller.Goals as goal

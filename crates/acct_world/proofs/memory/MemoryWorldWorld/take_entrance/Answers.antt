@@ -1,4 +1,4 @@
--- The entrance is handed out, or stays and the count of failures rises; but for what was asked all else stays.
+-- The entrance is handed out, or stays and the count of failures rises; all else stays, except what was asked.
 use Rattle.acct_world.specs.Memory.{WorldInMemory}
 use Rattle.acct_world.proofs.Holding.{entrance-taken, seen-entrance}
 use Rattle.acct_world.proofs.memory.MemoryWorldWorld.take_entrance.Goals as goal

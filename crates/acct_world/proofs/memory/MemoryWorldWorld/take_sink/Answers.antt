@@ -1,4 +1,4 @@
--- The sink is handed out, or stays and the count of failures rises; but for what was asked all else stays.
+-- The sink is handed out, or stays and the count of failures rises; all else stays, except what was asked.
 use Rattle.acct_world.specs.Memory.{WorldInMemory}
 use Rattle.acct_world.proofs.Holding.{sink-taken, seen-sink}
 use Rattle.acct_world.proofs.memory.MemoryWorldWorld.take_sink.Goals as goal
