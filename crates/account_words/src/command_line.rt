@@ -19,7 +19,7 @@ pub fn text_of(alloc: Global, word: &[u8]) -> Result<String, AllocError>
     }
 }
 
-// A front of a word, and a NUL behind it.
+// A prefix of a word, and a NUL after it.
 fn cut_text(alloc: Global, front: &[u8]) -> Result<String, AllocError>
     requires { IsUtf8 front.now }
     ensures { IfOk result (λ text. string_bytes text ≡ front.now ++ nul ∷ []) }
@@ -45,7 +45,7 @@ fn word_at<R: Env>(rt: &R, alloc: Global, place: usize) -> Result<Option<String>
     Err(AllocError)
 }
 
-/// The words behind the program's name.
+/// The words after the program's name.
 pub fn words<R: Env>(rt: &R, alloc: Global) -> Result<Vec<String>, AllocError> {
     let mut words = Vec::new(alloc);
     for place in 1..usize::MAX {

@@ -1,4 +1,4 @@
-// What is said of a status behind its code and word: what happened, with what the status carries, and what to do. The
+// What is said of a status after its code and word: what happened, with what the status carries, and what to do. The
 // words are those of the command line.
 ghost use Rattle.std.specs.Prelude.{◌≡◌, IfOk, is_some};
 ghost use Rattle.account_words.specs.Statuses.{has_message};

@@ -27,7 +27,7 @@ pub fn code_of(status: &Status) -> u8
     }
 }
 
-/// The word of a status, which stands behind its code.
+/// The word of a status, which stands after its code.
 pub fn word_of(status: &Status) -> &'static str
     ensures { result.now ≡ word_of status.now }
 {

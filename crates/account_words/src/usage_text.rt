@@ -39,7 +39,7 @@ Examples:
   account call tcp:127.0.0.1:4045 users CORP
   account gen 100";
 
-/// Want of memory, which is the only fault here.
+/// Running out of memory, which is the only fault here.
 pub type NoMemory = AllocError;
 
 fn named<'a>(alloc: Global, name: &'a str, about: &'a str) -> Command<'a> {

@@ -57,7 +57,7 @@ fn tell(rt: &HostRuntime, status: &Status) {
     }
 }
 
-/// Says behind that what happened, with what the status carries, and what to do about it.
+/// Says after that what happened, with what the status carries, and what to do about it.
 fn tell_more(rt: &HostRuntime, status: &Status, words: &[String], world: &HostWorld) {
     if let Ok(Some(text)) = message(rt.alloc(), status, words, world.unread()) {
         let _ = eprintln!(rt; "account: {text}");

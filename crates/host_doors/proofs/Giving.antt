@@ -6,7 +6,8 @@ use Rattle.acct_keeper.specs.declared.keeper.KeepError.{KeepError}
 use Rattle.acct_links.specs.declared.asking.Asking.{Asking}
 use Rattle.acct_links.specs.Doors.{asked_after}
 use Rattle.std.specs.declared.io.Error.{Error}
-use Rattle.host_doors.specs.Troubles.{answered}
+use Rattle.host_doors.specs.declared.troubles.ListenError.{ListenError}
+use Rattle.host_doors.specs.Troubles.{listened}
 
 -- what follows for one door follows for each
 pub each-weaker : {V D E : Type 0} (items : V → List D) (P Q : D → Type 0) → ((door : D) → P door → Q door)
@@ -18,8 +19,8 @@ pub untold : {V : Type 0} (asking : Asking) (result : Result V KeepError) → No
 untold asking (Ok doors) = refl
 untold asking (Err e) = refl
 
--- what holds of the doors that were opened holds of those that are answered
-pub of-answered : {P V : Type 0} (Q : V → Type 0) (opened : Result (P × V) Error) (result : Result V KeepError)
-    → result ≡ answered opened → IfOk opened (λ given. Q given.1) → IfOk result Q
-of-answered Q (Ok given) result same holds = rw same holds
-of-answered Q (Err e) result same holds = rw same tt
+-- what holds of the doors that were opened holds of those that are given
+pub of-listened : {P V : Type 0} (Q : V → Type 0) (opened : Result (P × V) Error) (result : Result V ListenError)
+    → result ≡ listened opened → IfOk opened (λ given. Q given.1) → IfOk result Q
+of-listened Q (Ok given) result same holds = rw same holds
+of-listened Q (Err e) result same holds = rw same tt

@@ -2,7 +2,7 @@
 -- keeps for later.
 use Rattle.std.specs.Prelude.{ℕ, ◌-◌, ◌==◌, Bool, true, false, not, ◌&&◌, Option, Some, None, option_map, if◌then◌else◌}
 use Rattle.std.specs.Prelude.{is_none}
-use Rattle.acct_streams.specs.Memory.{one_more}
+use Rattle.acct_keeper.specs.Counts.{one_more}
 use Rattle.acct_links.specs.Links.{Told}
 use Rattle.acct_links.specs.declared.doors.Next.{Next}
 use Rattle.acct_links.specs.declared.doors.Next.TheVariants.{Link, Closed, Failed}
@@ -44,8 +44,8 @@ abbrev pub is_over : {S : Type 0} → Channel S → Bool
 is_over Ended = true
 is_over _ = false
 
--- A link is given back unused: with the number 0, and nothing of it was read or written, to a door that isn't closed and
--- keeps none. It isn't counted among those that the door gave: one more is left, where they are counted.
+-- A link is given back unused: with the number 0, and nothing of it was read or written, to a door that isn't closed
+-- and keeps none. It isn't counted among those that the door gave: one more is left, where they are counted.
 abbrev pub is_unused : {L : Type 0} → ℕ → Bool → Bool → Option L → Bool
 is_unused conn used closed kept = ((conn == 0) && not used) && (not closed && is_none kept)
 

@@ -40,8 +40,8 @@ fn bind_path<R: Files + Net>(rt: &R, path: &str) -> io::Result<UnixListener> {
     }
 }
 
-// Lets one accept wait so long, where the system takes that limit: it is one of the socket, which a second descriptor of
-// it shares, whatever its kind.
+// Lets one accept wait so long, where the system takes that limit: it is one of the socket, which a second descriptor
+// of it shares, whatever its kind.
 fn limit_accepts<F: AsFd>(socket: &F) {
     if let Ok(second) = socket.as_fd().try_clone_to_owned() {
         let _ = UnixStream::from(second).set_read_timeout(Some(Duration::from_secs(LOOK)));

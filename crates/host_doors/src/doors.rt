@@ -3,8 +3,8 @@ ghost use Rattle.std.specs.Prelude.{◌≡◌, ◌-◌, ◌≤◌, ◌||◌, Non
 ghost use Rattle.std.specs.Prelude.{IfErr, MatchResult, option_map, if◌then◌else◌, ◌&&◌, not};
 ghost use Rattle.std.specs.IoError.{raw_os_error};
 ghost use Rattle.std.proofs.Props.{props};
+ghost use Rattle.acct_keeper.specs.Counts.{faults_after};
 ghost use Rattle.acct_links.specs.Doors.{IfLink, is_closed, is_failed};
-ghost use Rattle.acct_links.specs.Memory.{faults_after};
 ghost use Rattle.acct_links.specs.declared.doors.Next.TheVariants as next;
 ghost use Rattle.host_doors.specs.Counts.{is_spent, left_after, left_of, is_unused, is_over, left_with};
 ghost use Rattle.host_doors.specs.Troubles.{is_lost};
@@ -28,7 +28,7 @@ const PAUSE: u64 = 100;
 const REST: u64 = 1;
 
 /// A door at a socket, which it shares with the other doors of its listener. It tells nothing of its links, and keeps
-/// how many are left to be given, none where any number is, one that was given back unused for want of room in a
+/// how many are left to be given, none where any number is, one that was given back unused for lack of room in a
 /// history, and what went wrong last.
 #[derive(Drop)]
 pub struct HostDoor<R, T, S> {
@@ -78,7 +78,7 @@ fn come_back<R>(hall: &Arc<Hall<R>, Global>, away: &mut Option<u64>) {
     }
 }
 
-// Waits a moment behind an accept that failed, and says so where it is the first.
+// Waits a moment after an accept that failed, and says so where it is the first.
 fn wait<R: Clock + Eprint>(
     hall: &Arc<Hall<R>, Global>,
     listener: u32,

@@ -3,16 +3,16 @@ ghost use Rattle.std.specs.Prelude.{◌≡◌, ◌≤◌, None, true, All, IsSom
 ghost use Rattle.std.specs.Prelude.{string_bytes};
 ghost use Rattle.std.specs.IoError.{error_kind, raw_os_error};
 ghost use Rattle.acct_keeper.specs.Causes.{KeepCause};
+ghost use Rattle.acct_keeper.specs.Counts.{faults_after};
 ghost use Rattle.acct_keeper.specs.Memory.{is_fault};
-ghost use Rattle.acct_links.specs.Memory.{faults_after};
 ghost use Rattle.host_doors.specs.Doors.{IsDoor};
-ghost use Rattle.host_doors.specs.Troubles.{advice_of, answered, keep_error_of};
+ghost use Rattle.host_doors.specs.Troubles.{advice_of, is_refused, listened};
 
 use crate::binding::listen;
 use crate::doors::HostDoor;
 use crate::halls::{Hall, LIMITS, Limits};
 use crate::sockets::Socket;
-use crate::troubles::{DoorTrouble, advice_of};
+use crate::troubles::{DoorTrouble, ListenError, advice_of};
 use acct_keeper::KeepError;
 use acct_links::Entrance;
 use std::alloc::Global;
@@ -138,28 +138,18 @@ where
     Ok((place, doors))
 }
 
-fn keep_error_of(error: io::Error) -> KeepError
-    ensures { result ≡ keep_error_of (error_kind error) }
-{
-    match error.kind() {
-        io::ErrorKind::OutOfMemory => KeepError::NoMemory,
-        _ => KeepError::Failed,
-    }
-}
-
 impl<'a, R: Net + Files + Drop> HostEntrance<'a, R> {
-    // What is answered where a listener has its doors, or none by the system's reason.
-    fn answer(
+    // What comes of opening a listener that has its doors, or none by the system's reason.
+    fn settle(
         &mut self,
         address: String,
         opened: io::Result<(String, Vec<HostDoor<R, R::Listener, R::Stream>>)>,
-    ) -> Result<Vec<HostDoor<R, R::Listener, R::Stream>>, KeepError>
-        ensures doors { result ≡ answered opened }
+    ) -> Result<Vec<HostDoor<R, R::Listener, R::Stream>>, ListenError>
+        ensures doors { result ≡ listened opened }
         ensures place { IfOk opened (λ given. self.new.place ≡ Some given.0) }
-        ensures count { self.new.fault_count ≡ faults_after (is_fault result) self.old.fault_count }
-        ensures cause { IfErr result (KeepCause self.old.fault_count self.new.fault_count) }
+        ensures count { self.new.fault_count ≡ faults_after (is_refused result) self.old.fault_count }
         ensures later { self.old.fault_count ≤ self.new.fault_count }
-        ensures trouble { IfErr opened (λ error. is_fault result ≡ true → self.new.trouble
+        ensures trouble { IfErr opened (λ error. is_refused result ≡ true → self.new.trouble
             ≡ Some (DoorTrouble.NotBound address error (advice_of (error_kind error) (raw_os_error error)))) }
     {
         match opened {
@@ -167,19 +157,47 @@ impl<'a, R: Net + Files + Drop> HostEntrance<'a, R> {
                 self.place = Some(place);
                 Ok(doors)
             }
-            Err(error) => match keep_error_of(error) {
-                KeepError::NoMemory => Err(KeepError::NoMemory),
-                KeepError::Failed => {
+            Err(error) => match ListenError::from(error) {
+                ListenError::NoMemory => Err(ListenError::NoMemory),
+                ListenError::Refused => {
                     self.fault_count = self.fault_count.saturating_add(1);
                     self.trouble = Some(DoorTrouble::NotBound {
                         address,
                         error,
                         advice: advice_of(error),
                     });
-                    Err(KeepError::Failed)
+                    Err(ListenError::Refused)
                 }
             },
         }
+    }
+}
+
+impl<'a, R: Net + Files + Clock + Eprint + Copy + Drop> HostEntrance<'a, R>
+where
+    R::Listener: AsFd,
+{
+    /// Opens a listener at an address `tcp:HOST:PORT` or `unix:PATH`, and gives as many doors of it as workers, each of
+    /// which gives so many links, any number where that is 0. Where the system refuses it, the count of faults rises by
+    /// one, and the reason is kept.
+    pub fn listen(
+        &mut self,
+        listener: u32,
+        address: &str,
+        workers: u32,
+        links: u64,
+    ) -> Result<Vec<HostDoor<R, R::Listener, R::Stream>>, ListenError>
+        ensures count { IfOk result (λ doors. length doors.items ≡ workers) }
+        ensures doors { IfOk result (λ doors. All (λ door. IsDoor listener links door) doors.items) }
+        ensures place { IfOk result (λ doors. IsSome self.new.place) }
+        ensures faults { self.new.fault_count ≡ faults_after (is_refused result) self.old.fault_count }
+        ensures later { self.old.fault_count ≤ self.new.fault_count }
+        ensures trouble { is_refused result ≡ true → IsSome self.new.trouble }
+    {
+        let asked = String::from_str(self.alloc, address)?;
+        let hall = self.hall();
+        let opened = open(self.rt, self.alloc, hall, listener, address, workers, links);
+        self.settle(asked, opened)
     }
 }
 
@@ -208,9 +226,6 @@ where
         ensures later { self.old.fault_count ≤ self.new.fault_count }
         ensures trouble { is_fault result ≡ true → IsSome self.new.trouble }
     {
-        let asked = String::from_str(self.alloc, address)?;
-        let hall = self.hall();
-        let opened = open(self.rt, self.alloc, hall, listener, address, workers, links);
-        self.answer(asked, opened)
+        Ok(self.listen(listener, address, workers, links)?)
     }
 }

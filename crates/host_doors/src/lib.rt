@@ -26,4 +26,4 @@ pub use entrances::HostEntrance;
 pub use halls::{Hall, LIMITS, Limits};
 pub use links::{HostLink, LinkTrouble};
 pub use sockets::Socket;
-pub use troubles::{Advice, DoorTrouble};
+pub use troubles::{Advice, DoorTrouble, ListenError};

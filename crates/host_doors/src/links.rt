@@ -21,8 +21,8 @@ pub enum LinkTrouble {
     NotWritten(io::Error),
 }
 
-/// A connection. It tells nothing of its bytes, and keeps whether anything of it was read or written, whether a read has
-/// answered the end, and what went wrong last.
+/// A connection. It tells nothing of its bytes, and keeps whether anything of it was read or written, whether a read
+/// has answered the end, and what went wrong last.
 #[derive(Drop)]
 pub struct HostLink<R, S> {
     channel: Channel<S>,
@@ -95,7 +95,7 @@ fn is_silence(got: &io::Result<usize>) -> bool {
     }
 }
 
-// Why no more is waited for, behind so many reads of the system, if that is so.
+// Why no more is waited for, after so many reads of the system, if that is so.
 fn silence<R: Clock>(hall: &Option<Arc<Hall<R>, Global>>, reads: u64) -> Option<io::Error> {
     let limits = match hall {
         Some(hall) => hall.limits(),

@@ -1,12 +1,15 @@
 // What went wrong with a listener, and what to do about it.
 ghost use Rattle.std.specs.Prelude.{◌≡◌};
 ghost use Rattle.std.specs.IoError.{error_kind, raw_os_error};
-ghost use Rattle.host_doors.specs.Troubles.{advice_of, is_lost};
+ghost use Rattle.host_doors.specs.Troubles.{advice_of, is_lost, keep_error_of, listen_error_of};
+ghost use Rattle.host_doors.specs.declared.troubles.ListenError.TheVariants.{NoMemory};
 
+use acct_keeper::KeepError;
+use std::alloc::AllocError;
 use std::io;
 use thiserror::Error;
 
-// The system's numbers of errors behind which no connection comes at a socket.
+// The system's numbers of errors after which no connection comes at a socket.
 const EBADF: i32 = 9;
 
 const EINVAL: i32 = 22;
@@ -57,6 +60,48 @@ pub(crate) fn is_lost(error: io::Error) -> bool
     match error.raw_os_error() {
         Some(number) => number == EBADF || number == EINVAL || number == ENOTSOCK,
         None => false,
+    }
+}
+
+/// Why no listener was opened.
+#[derive(Clone, Copy, Debug, PartialEq, Eq, Error)]
+pub enum ListenError {
+    /// The system refused it, and the entrance's count of faults rose.
+    #[error("the listener can't be opened")]
+    Refused,
+    /// Memory ran out.
+    #[error("there is no memory for the listener")]
+    NoMemory,
+}
+
+impl From<AllocError> for ListenError {
+    ghost from_gives = { λ _ e. e ≡ NoMemory };
+
+    fn from(_: AllocError) -> Self {
+        ListenError::NoMemory
+    }
+}
+
+impl From<io::Error> for ListenError {
+    ghost from_gives = { λ error e. e ≡ listen_error_of (error_kind error) };
+
+    fn from(error: io::Error) -> Self {
+        match error.kind() {
+            io::ErrorKind::OutOfMemory => ListenError::NoMemory,
+            _ => ListenError::Refused,
+        }
+    }
+}
+
+// An entrance answers by the error of keepers, as its trait has it.
+impl From<ListenError> for KeepError {
+    ghost from_gives = { λ error e. e ≡ keep_error_of error };
+
+    fn from(error: ListenError) -> Self {
+        match error {
+            ListenError::Refused => KeepError::Failed,
+            ListenError::NoMemory => KeepError::NoMemory,
+        }
     }
 }
 

@@ -1,18 +1,20 @@
-// So many lines a minute.
+// Lines on the standard error, as far as their tally lets them.
+use crate::tally::{Tally, Turn};
 use std::fmt::Display;
 use std::io::Eprint;
+use std::sync::Mutex;
 use std::sync::atomic::{AtomicU64, Ordering};
 use std::time::Clock;
 
-/// How many lines are written within one minute, beside those that say how many were left out.
-pub const LINES_A_MINUTE: u64 = 30;
+// How often a thread looks whether another one still counts its line.
+const LOOKS: u64 = 1_000;
 
-/// What was written in the minute that runs, and how many lines were left out and aren't told yet. It may be shared.
+/// Lines that threads write, and the tally of them. It may be shared.
 #[derive(Drop)]
 pub struct Lines {
-    minute: AtomicU64,
-    said: AtomicU64,
-    left_out: AtomicU64,
+    tally: Mutex<Tally>,
+    // Lines that were left out since the tally was another thread's for long.
+    missed: AtomicU64,
 }
 
 // The minute that runs. A clock that can't be read stands still, so that fewer lines are written.
@@ -23,43 +25,50 @@ fn minute_of<R: Clock>(rt: &R) -> u64 {
     }
 }
 
+fn tell_left_out<R: Eprint>(rt: &R, count: u64) {
+    if count != 0 {
+        let _ = eprintln!(rt; "account: {count} lines were left out");
+    }
+}
+
 impl Lines {
     /// Nothing was said.
     pub fn new() -> Lines {
         Lines {
-            minute: AtomicU64::new(0),
-            said: AtomicU64::new(0),
-            left_out: AtomicU64::new(0),
+            tally: Mutex::new(Tally::new()),
+            missed: AtomicU64::new(0),
         }
     }
 
-    // Begins the minute that runs, if it has not begun, and says how many lines were left out before it.
-    fn turn<R: Clock + Eprint>(&self, rt: &R) {
-        let minute = minute_of(rt);
-        if self.minute.swap(minute, Ordering::SeqCst) == minute {
-            return;
+    // What the tally says of a line, unless another thread has it for long.
+    fn turn(&self, minute: u64) -> Option<Turn> {
+        for _ in 0..LOOKS {
+            if let Some(mut tally) = self.tally.try_lock() {
+                tally.miss(self.missed.swap(0, Ordering::SeqCst));
+                return Some(tally.ask(minute));
+            }
         }
-        self.said.store(0, Ordering::SeqCst);
-        let left_out = self.left_out.swap(0, Ordering::SeqCst);
-        if left_out != 0 {
-            let _ = eprintln!(rt; "account: {left_out} lines were left out");
-        }
+        None
     }
 
-    /// Writes a line behind the program's name, unless the minute has had its lines: then it is left out and counted.
+    /// Writes a line after the program's name, unless the minute has had its lines: then it is left out and counted.
     pub fn say<R: Clock + Eprint, D: Display + Drop>(&self, rt: &R, line: D) {
-        self.turn(rt);
-        if self.said.fetch_add(1, Ordering::SeqCst) < LINES_A_MINUTE {
+        let Some(turn) = self.turn(minute_of(rt)) else {
+            self.missed.fetch_add(1, Ordering::SeqCst);
+            return;
+        };
+        tell_left_out(rt, turn.told);
+        if turn.is_written {
             let _ = eprintln!(rt; "account: {line}");
-        } else {
-            self.left_out.fetch_add(1, Ordering::SeqCst);
         }
     }
 
     /// Says how many lines were left out in the minutes before this one, if any were and it isn't said yet.
     pub fn settle<R: Clock + Eprint>(&self, rt: &R) {
-        if self.left_out.load(Ordering::SeqCst) != 0 {
-            self.turn(rt);
+        if let Some(mut tally) = self.tally.try_lock() {
+            let told = tally.settle(minute_of(rt));
+            drop(tally);
+            tell_left_out(rt, told);
         }
     }
 }

@@ -5,8 +5,8 @@ use std::os::fd::AsRawFd;
 const NOTHING: &str = "/dev/null";
 
 /// Files that have the numbers of the standard streams that were closed. While they are there, no store and no socket
-/// gets such a number, and what is meant for a standard stream goes nowhere. The input can't be read and the others can't
-/// be written, as if they were closed.
+/// gets such a number, and what is meant for a standard stream goes nowhere. The input can't be read and the others
+/// can't be written, as if they were closed.
 #[derive(Drop)]
 pub struct HeldStreams {
     first: Option<File>,

@@ -32,6 +32,13 @@ impl<'a, R: Net + Files + Eprint + Copy + Drop> SpokenEntrance<'a, R> {
         }
     }
 
+    // Says where the last listener listens.
+    fn say_place(&self) {
+        if let Some(place) = self.entrance.place() {
+            let _ = eprintln!(self.rt; "account: listening at {place}");
+        }
+    }
+
     /// Why the last listener that has no doors has none.
     pub fn into_trouble(self) -> Option<DoorTrouble>
         ensures { result ≡ self.entry.entrance.trouble }
@@ -57,11 +64,11 @@ where
         workers: u32,
         links: u64,
     ) -> Result<Vec<HostDoor<R, R::Listener, R::Stream>>, KeepError> {
-        let doors = self.entrance.doors(listener, address, workers, links)?;
-        if let Some(place) = self.entrance.place() {
-            let _ = eprintln!(self.rt; "account: listening at {place}");
+        let doors = self.entrance.doors(listener, address, workers, links);
+        if doors.is_ok() {
+            self.say_place();
         }
-        Ok(doors)
+        doors
     }
 }
 

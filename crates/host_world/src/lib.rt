@@ -1,11 +1,11 @@
 //! The real world of the program: files and the standard streams, keepers in memory and in files, the entrance of the
 //! system, and calls by TCP and by Unix sockets.
 //!
-//! It stands on `acct_world` for the trait of a world, on `acct_streams`, `acct_keeper` and `acct_links` for those of
+//! It stands on `acct_world` for the trait of a world, on `acct_keeper` and `acct_links` for those of
 //! its parts, and on `host_doors` and `keeper_sqlite` for the system's doors and stores. The layer above uses
 //! [`HostWorld`] by the contract of `World`: a part is refused, and a call of a part answers a fault, only where that
 //! object's count of faults rose. It uses as well that the world keeps what went wrong with a part that was given back,
-//! which is told behind a status: [`Trouble`] and [`Stranger`] of a link, [`Unread`] of a source, and that of a door.
+//! which is told after a status: [`Trouble`] and [`Stranger`] of a link, [`Unread`] of a source, and that of a door.
 //! What a file, a stream, a store or a socket gives or takes is told by no clause.
 //!
 //! In rooms: `host` has the world with its sources and its sink, `opened` what a source reads from, `unread` why one

@@ -118,7 +118,7 @@ impl SqliteKeeper {
         made
     }
 
-    // Opens the file again behind a commit that failed. Where that fails, the next call tries it.
+    // Opens the file again after a commit that failed. Where that fails, the next call tries it.
     fn recover(&mut self)
         ensures { self.new ≡ self.old }
     {
@@ -154,7 +154,7 @@ impl SqliteKeeper {
         }
     }
 
-    // Counts a call that failed otherwise than for want of memory.
+    // Counts a call that failed, unless memory ran out.
     fn cause(&mut self, error: Error) -> KeepError
         ensures cause { KeepCause self.old self.new result }
         ensures later { self.old ≤ self.new }

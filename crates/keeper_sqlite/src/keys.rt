@@ -2,7 +2,7 @@
 use acct_keeper::Change;
 use std::fmt::{self, Display, Formatter};
 
-/// The keys of changes as hexadecimal digits, each behind a space.
+/// The keys of changes as hexadecimal digits, each after a space.
 #[derive(Drop)]
 pub(crate) struct Keys<'a> {
     changes: &'a [Change],

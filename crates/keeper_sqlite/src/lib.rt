@@ -9,7 +9,7 @@
 //! ```
 //!
 //! A commit that failed may have left its changes in the file. So the keeper reads the old values of its keys first,
-//! and behind such a commit opens the file anew and puts them back, before it answers; where that fails too, each later
+//! and after such a commit opens the file anew and puts them back, before it answers; where that fails too, each later
 //! call tries it first.
 //!
 //! In rooms: `files` makes the file for its owner alone, `requests` has the statements over an open file, `keeper` the

@@ -21,4 +21,5 @@ doors-tells g x c = record {
   }) c.result;
   cause = c.ensures.cause;
   later = c.ensures.later;
+  faults = c.ensures.faults;
 }
