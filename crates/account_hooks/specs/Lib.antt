@@ -1,0 +1,5 @@
+pub mod Runs
+pub mod Gates
+pub mod Drains
+pub mod Memory
+pub mod Laws
