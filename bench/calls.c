@@ -12,7 +12,7 @@
 //         none:N      the same of N names that aren't there
 //         ids:N       SamrLookupIdsInDomain of N users
 //         users       SamrEnumerateUsersInDomain, a page a call, as large as the server gives them
-//         lsanames:N  LsarLookupNames of N users, with the domain's name in front
+//         lsanames:N  LsarLookupNames of N users, with the domain's name before it
 //         lsasids:N   LsarLookupSids of N users
 //         create      SamrCreateUser2InDomain and SamrDeleteUser, counted as one call
 //         fill        SamrCreateUser2InDomain and SamrCloseHandle: makes the users u000001 to as many as CALLS says

@@ -53,7 +53,7 @@ def run(program, kind, error, when, sign, number):
         why.append(f"answers {answers}, users {sorted(found)}")
         why.append("the line on the refused change is there" if "may be in the store" in said else "nothing was said")
     elif not carol and not (bob and alice):
-        why.append(f"refused again behind the failure: {answers}")
+        why.append(f"refused again after the failure: {answers}")
     for path in (f"{number}.db", f"{number}.db-wal", traced, f"errors{number}", f"again{number}"):
         if os.path.exists(path) and not why:
             os.remove(path)
