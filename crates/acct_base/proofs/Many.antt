@@ -15,7 +15,7 @@ regroup : {A : Type 0} (front : List A) (x : A) (read : Option (List A × List �
 regroup {A = A} front x (Some y) = ap (λ (xs : List A). Some (xs, y.1)) (sym (append_assoc front (x ∷ []) y.0))
 regroup front x None = refl
 
--- what is left to read after i of so many, put behind those, is what was to be read
+-- what is left to read after i of so many, put after those, is what was to be read
 abbrev pub SoFar : {A : Type 0} → Reader A → List A → ℕ → ℕ → List ℕ → List ℕ → Type 0
 SoFar one front count i bytes rest = with_front front (many one (count - i) rest) ≡ many one count bytes
 

@@ -34,11 +34,11 @@ abbrev pub ReadsNothing : {Y : Type 0} → Unread → Option Y → Type 0
 ReadsNothing Memory read = Unit {0}
 ReadsNothing Misspelled read = read ≡ None
 
--- Where nothing was read, the bytes spell nothing: what takes no memory wants none.
+-- Where nothing was read, the bytes spell nothing: what takes no memory runs out of none.
 abbrev pub NeverMemory : {Y : Type 0} → Result Y Unread → Type 0
 NeverMemory result = IfErr result (λ e. e ≡ Misspelled)
 
--- What code reads, as it is seen, is the value that stands in front, and the bytes after it are left.
+-- What code reads, as it is seen, is the value that stands at the beginning, and the bytes after it are left.
 abbrev pub ReadsBy : {X A : Type 0} → (X → A) → Result X Unread → List ℕ → Option (A × List ℕ) → Type 0
 ReadsBy view (Ok x) after read = read ≡ Some (view x, after)
 ReadsBy view (Err e) after read = ReadsNothing e read

@@ -7,14 +7,14 @@ use Rattle.std.specs.List.{before_first, after_first, position_or_len}
 abbrev pub is_within : ℕ → ℕ → ℕ → Bool
 is_within low high number = nat_le low number && nat_le number high
 
--- what stands before the first separator, and what stands behind it
+-- what stands before the first separator, and what stands after it
 abbrev pub parted : ℕ → List ℕ → Option (List ℕ × List ℕ)
 parted separator text =
     if nat_lt (position_or_len (λ b. b == separator) text) (length text)
     then Some (before_first (λ b. b == separator) text, after_first (λ b. b == separator) text)
     else None
 
--- the number that decimal digits spell, behind those of a number
+-- the number that decimal digits spell, after those of a number
 abbrev pub decimal_from : ℕ → List ℕ → Option ℕ
 decimal_from number [] = Some number
 decimal_from number (b ∷ text) = if is_within 48 57 b then decimal_from (10 * number + (b - 48)) text else None

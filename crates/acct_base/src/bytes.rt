@@ -21,7 +21,7 @@ pub fn rest_of(bytes: &[u8], place: usize) -> &[u8]
     &bytes[place..]
 }
 
-/// So many bytes at the front.
+/// So many bytes at the beginning.
 pub fn front_of(bytes: &[u8], count: usize) -> &[u8]
     requires { count ≤ length bytes.now }
     ensures value { result.now ≡ take count bytes.now }
@@ -31,7 +31,7 @@ pub fn front_of(bytes: &[u8], count: usize) -> &[u8]
     front
 }
 
-/// The number of the two bytes at the front, the lowest first.
+/// The number of the two bytes at the beginning, the lowest first.
 pub fn front_u16(bytes: &[u8]) -> u16
     requires { 2 ≤ length bytes.now }
     ensures { result ≡ from_le_bytes w16 bytes.now }
@@ -39,7 +39,7 @@ pub fn front_u16(bytes: &[u8]) -> u16
     u16::from_le_bytes([bytes[0], bytes[1]])
 }
 
-/// The number of the four bytes at the front, the lowest first.
+/// The number of the four bytes at the beginning, the lowest first.
 pub fn front_u32(bytes: &[u8]) -> u32
     requires { 4 ≤ length bytes.now }
     ensures { result ≡ from_le_bytes w32 bytes.now }

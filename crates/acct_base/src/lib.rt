@@ -2,7 +2,7 @@
 //!
 //! It stands on nothing of ours. The layers above use that a contract sees a `Seq` as the list of its values, however
 //! the heap holds them, so that a struct with such a field is plain data; and the readers of stored rows and of PDUs
-//! that [`Fields`] gives what stands in front of the bytes, or [`Unread`] where they spell nothing.
+//! that [`Fields`] gives what stands at the beginning of the bytes, or [`Unread`] where they spell nothing.
 #![tactic(auto)]
 
 mod bytes;

@@ -50,7 +50,7 @@ impl<T: Drop> Seq<T> {
         &self.values
     }
 
-    /// Adds a value at the end. After want of memory the list is as it was.
+    /// Adds a value at the end. Where memory ran out the list is as it was.
     pub fn push(&mut self, value: T) -> Result<(), AllocError>
         ensures ok { OnOk result (self.new ≡ self.old ++ value ∷ []) }
         ensures err { OnErr result (self.new ≡ self.old) }
@@ -93,8 +93,8 @@ pub fn extended(bytes: Seq<u8>, more: &[u8]) -> Result<Seq<u8>, AllocError>
     Ok(Seq::from_vec(bytes))
 }
 
-/// The bytes from a place on. They are copied where some in front are left out, so that no more memory is kept than
-/// they take; where none are, or all, no memory is taken.
+/// The bytes from a place on. They are copied where some at the beginning are left out, so that no more memory is kept
+/// than they take; where none are, or all, no memory is taken.
 pub fn kept(alloc: Global, bytes: Seq<u8>, place: usize) -> Result<Seq<u8>, AllocError>
     requires { place ≤ length bytes }
     ensures rest { IfOk result (λ rest. rest ≡ drop place bytes) }

@@ -5,7 +5,7 @@ ghost use Rattle.acct_base.specs.Words.{parted, decimal_from, decimal_of};
 
 use crate::bytes::rest_of;
 
-/// What stands before the first separator, and what stands behind it.
+/// What stands before the first separator, and what stands after it.
 pub fn parted(bytes: &[u8], separator: u8) -> Option<(&[u8], &[u8])>
     ensures value { option_map (λ parts. (parts.0.now, parts.1.now)) result ≡ parted separator bytes.now }
     ensures shorter { IfSome result (λ parts. length parts.1.now < length bytes.now) }

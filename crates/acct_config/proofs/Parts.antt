@@ -11,7 +11,7 @@ use Rattle.std.specs.List.{list_any, before_first, after_first, position_or_len}
 use Rattle.std.specs.Str.Parse.{AllDigits}
 use Rattle.acct_base.specs.Words.{parted}
 
--- the separator stands behind what has none
+-- the separator stands after what has none
 position_behind : (p : ℕ → Bool) (front : List ℕ) (c : ℕ) (rest : List ℕ) → list_any p front ≡ false → p c ≡ true →
     position_or_len p (front ++ c ∷ rest) ≡ length front
 position_behind p [] c rest none is = rw is refl

@@ -9,7 +9,7 @@ use Rattle.acct_base.specs.Words.{is_within, parted, decimal_of}
 unfoldable pub is_port : List ℕ → Bool
 is_port text = option_map_or (is_within 1 65535) (decimal_of 5 text) false
 
--- a host that isn't empty and has no colon, and a port behind a colon
+-- a host that isn't empty and has no colon, and a port after a colon
 abbrev pub is_parted_host_port : Option (List ℕ × List ℕ) → Bool
 is_parted_host_port None = false
 is_parted_host_port (Some (host, port)) = not (length host == 0) && is_port port

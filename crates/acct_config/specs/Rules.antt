@@ -1,5 +1,5 @@
 -- The rules of a configuration, each a test of the parsed document, and the first that is broken.
--- Their numbers are those of the answers: a list of rules has the first of them at its front.
+-- Their numbers are those of the answers: a list of rules begins with the first of them.
 use Rattle.std.specs.Prelude.{ℕ, suc, ℤ, pos, negsuc, Bool, true, false, ◌&&◌, is_some, if◌then◌else◌, codes, List, []}
 use Rattle.std.specs.Prelude.{◌∷◌, length, map, Option, Some, None}
 use Rattle.std.specs.List.{list_all}
@@ -135,7 +135,7 @@ kept d =
 abbrev pub rules : List ℕ → List Bool
 rules bytes = is_some (document bytes) ∷ kept (whole bytes)
 
--- the number of the first rule that is broken, where the front of the list is the rule of this number
+-- the number of the first rule that is broken, where the first of the list is the rule of this number
 abbrev pub first_broken_from : ℕ → List Bool → Option ℕ
 first_broken_from number [] = None
 first_broken_from number (is_kept ∷ later) = if is_kept then first_broken_from (suc number) later else Some number

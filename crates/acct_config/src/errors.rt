@@ -9,7 +9,7 @@ pub enum ConfigError {
     /// The number of the first rule that they break.
     #[error("the configuration breaks rule {0}")]
     Rule(u32),
-    /// Memory was wanted.
+    /// Memory ran out.
     #[error("there is no memory for the configuration")]
     Memory,
 }

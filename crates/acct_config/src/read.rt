@@ -32,7 +32,7 @@ fn checked(alloc: Global, document: &Value) -> Result<Config, ConfigError>
     }
 }
 
-/// The configuration that a document spells, or the first rule that it breaks. Where memory is wanted, nothing is said
+/// The configuration that a document spells, or the first rule that it breaks. Where memory runs out, nothing is said
 /// of the bytes.
 pub fn read_config(alloc: Global, bytes: &[u8]) -> Result<Config, ConfigError>
     ensures spelled { IfOk result (IsSpelledBy bytes.now) }

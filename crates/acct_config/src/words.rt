@@ -3,7 +3,7 @@ ghost use Rattle.std.specs.Prelude.{◌≡◌, ◌<◌, ◌≤◌, length, optio
 ghost use Rattle.acct_base.specs.Words.{parted};
 ghost use Rattle.acct_config.specs.Words.{hexadecimal_from};
 
-/// What stands before the first separator, and what stands behind it.
+/// What stands before the first separator, and what stands after it.
 pub fn parted(text: &str, separator: char) -> Option<(&str, &str)>
     requires { separator < 128 }
     ensures { option_map (λ parts. (parts.0.now, parts.1.now)) result ≡ parted separator text.now }

@@ -17,7 +17,7 @@ take-more (suc i) n [] = take_all (suc i + n) [] (omega arith) ∙ sym (take_all
 take-more (suc i) n (b ∷ bytes) = let up : suc i + n ≡ suc (i + n) =
     omega arith in rw up (ap (λ (bs : List ℕ). b ∷ bs) (take-more i n bytes))
 
--- what is read from a place on, and what is left behind it
+-- what is read from a place on, and what is left after it
 pub read-splits : (place n : ℕ) (bytes rest : List ℕ) → rest ≡ drop place bytes
     → drop place bytes ≡ take n rest ++ drop (place + n) bytes
 read-splits place n bytes rest is =

@@ -17,7 +17,7 @@ pub record HasCause {T E : Type 0} (before now : ℕ) (answer : Result T E) : Ty
   pub later : before ≤ now
   pub failed : OnErr answer (Rose before now)
 
--- of a keeper: a fault comes only where the count of faults rose; want of memory is free
+-- of a keeper: a fault comes only where the count of faults rose; running out of memory is free
 abbrev pub KeepCause : ℕ → ℕ → KeepError → Type 0
 KeepCause before now Failed = Rose before now
 KeepCause before now NoMemory = Unit {0}

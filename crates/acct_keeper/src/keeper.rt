@@ -17,7 +17,7 @@ pub enum KeepError {
     /// The keeper failed, and its count of faults rose.
     #[error("the store failed")]
     Failed,
-    /// Memory was wanted.
+    /// Memory ran out.
     #[error("there is no memory for the store")]
     NoMemory,
 }

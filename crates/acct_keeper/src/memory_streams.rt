@@ -19,7 +19,7 @@ pub fn one_more(count: u64) -> u64
     count.saturating_add(1)
 }
 
-/// Copies bytes from the front: as many as fit, at most `most`, which is above 0. It answers how many these are.
+/// Copies bytes from the beginning: as many as fit, at most `most`, which is above 0. It answers how many these are.
 pub fn copy_front(from: &[u8], most: usize, into: &mut [u8]) -> usize
     requires { 0 < most }
     ensures count { result ≡ min (min (length into.old) most) (length from.now) }

@@ -25,7 +25,7 @@ pub trait Source {
     /// How many reads have failed. The count stops at 2^64 - 1.
     ghost faults: { Self → ℕ };
 
-    /// Reads some bytes into the front of a buffer, and answers how many; none into a buffer with room is the end. A
+    /// Reads some bytes into the start of a buffer, and answers how many; none into a buffer with room is the end. A
     /// read that fails moves nothing.
     fn read(&mut self, buf: &mut [u8]) -> Result<usize, Failed>
         ensures bound { ReadsAtMost result buf.new }
@@ -43,8 +43,8 @@ pub trait Sink {
     /// How many writes have failed. The count stops at 2^64 - 1.
     ghost faults: { Self → ℕ };
 
-    /// Takes some bytes from the front of a piece, at least one where there is one, and answers how many. A write that
-    /// fails takes nothing.
+    /// Takes some bytes from the beginning of a piece, at least one where there is one, and answers how many. A write
+    /// that fails takes nothing.
     fn write(&mut self, bytes: &[u8]) -> Result<usize, Failed>
         ensures bound { WritesAtMost result bytes.now }
         ensures some { IfOk result (λ n. 0 < length bytes.now → 0 < n) }

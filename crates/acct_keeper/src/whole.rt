@@ -18,7 +18,7 @@ pub enum WholeError {
     /// There are more than 67,108,864 bytes.
     #[error("there are more than {most} bytes", most = MOST_BYTES)]
     TooLong,
-    /// Memory was wanted.
+    /// Memory ran out.
     #[error("there is no memory for the bytes")]
     Memory,
 }

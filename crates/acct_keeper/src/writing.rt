@@ -7,7 +7,7 @@ ghost use Rattle.acct_keeper.specs.Counts.{faults_after};
 use crate::{Failed, Sink};
 use acct_base::rest_of;
 
-/// Writes all the bytes. After a fault the sink has taken a front of them.
+/// Writes all the bytes. After a fault the sink has taken a prefix of them.
 pub fn write_all<T: Sink>(out: &mut T, bytes: &[u8]) -> Result<(), Failed>
     ensures ok { OnOk result (Appends (T.held out.old) (T.held out.new) bytes.now) }
     ensures err { OnErr result ((n : ℕ) × Appends (T.held out.old) (T.held out.new) (take n bytes.now)) }

@@ -7,7 +7,7 @@ use Rattle.dtyp_access.specs.declared.errors.DescError.TheVariants.{Short, Revis
 use Rattle.dtyp_access.specs.declared.errors.DescError.TheVariants.{Memory}
 use Rattle.dtyp_access.specs.Reading.{then_read, ReadsAllIfRoom, aces_at, ace_at, next_ace}
 
--- a refusal that is the wanted one is an answer
+-- a refusal that is the expected one is an answer
 pub answer_err : {X : Type 0} (refusal : DescError) (wanted : Result X DescError) → wanted ≡ Err refusal →
     ReadsAllIfRoom (Err refusal) wanted
 answer_err (Short place) wanted is = is
@@ -17,7 +17,7 @@ answer_err (AceType place) wanted is = is
 answer_err (NoSid place) wanted is = is
 answer_err Memory wanted is = tt
 
--- entries behind those that are read
+-- entries after those that are read
 abbrev pub behind : List Ace → Result (List Ace) DescError → Result (List Ace) DescError
 behind read rest = then_read rest (λ aces. Ok (read ++ aces))
 

@@ -24,12 +24,12 @@ pub length-ace_bytes : (ace : Ace) → length (ace_bytes ace) ≡ 8 + length (by
 unfolding ace_bytes
 length-ace_bytes ace = omega arith
 
--- more bytes behind those that are added
+-- more bytes after those that are added
 pub pushed_more : (old done more before after : List ℕ) → before ≡ old ++ done → after ≡ before ++ more → after ≡ old
     ++ (done ++ more)
 pushed_more old done more before after is push = push ∙ ap (λ bytes. bytes ++ more) is ∙ append_assoc old done more
 
--- six parts, one behind the other
+-- six parts, one after the other
 pub six_pushed : (old a b c d e f n₁ n₂ n₃ n₄ n₅ n₆ : List ℕ) → n₁ ≡ old ++ a → n₂ ≡ n₁ ++ b → n₃ ≡ n₂ ++ c → n₄ ≡ n₃
     ++ d → n₅ ≡ n₄ ++ e → n₆ ≡ n₅ ++ f
     → n₆ ≡ old ++ (a ++ b ++ c ++ d ++ e ++ f)

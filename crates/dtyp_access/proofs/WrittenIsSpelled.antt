@@ -41,7 +41,7 @@ byte_stands place byte bytes rest stands =
     ap (λ n. get_or bytes n 0) (sym here) ∙ sym (get_or-drop place bytes 0 0)
     ∙ ap (λ (left : List ℕ). get_or left 0 0) stands
 
--- what stands behind a part
+-- what stands after a part
 behind_part : (place : ℕ) (bytes part rest : List ℕ) → StandAt place bytes part rest → drop (place + length part) bytes
     ≡ rest
 behind_part place bytes part rest stands =
@@ -199,7 +199,7 @@ unfolding shares
 control_relative None = refl
 control_relative (Some aces) = refl
 
--- where the parts behind the owner begin
+-- where the parts after the owner begin
 abbrev behind_owner : Parts → ℕ
 behind_owner p = 20 + length (sid_bytes p.owner)
 

@@ -34,7 +34,7 @@ u16_at place bytes = from_le_bytes w16 (drop place bytes)
 unfoldable pub u32_at : ℕ → List ℕ → ℕ
 u32_at place bytes = from_le_bytes w32 (drop place bytes)
 
--- the SID at the front of bytes that begin at a place
+-- the SID at the beginning of bytes that begin at a place
 abbrev pub or_no_sid : ℕ → Result SidValue BytesError → Result SidValue DescError
 or_no_sid place (Ok sid) = Ok sid
 or_no_sid place (Err why) = Err (NoSid place)
@@ -69,7 +69,7 @@ kind_of place type =
     if type == access_allowed_ace_type then Ok Allow
     else (if type == access_denied_ace_type then Ok Deny else Err (AceType place))
 
--- where the entry behind the one at a place begins
+-- where the entry after the one at a place begins
 unfoldable pub next_ace : ℕ → List ℕ → ℕ
 next_ace place bytes = place + u16_at (place + 2) bytes
 
@@ -83,7 +83,7 @@ ace_at place end bytes =
     (λ sid.
     Ok (record { kind = kind; flags = slice_index bytes (place + 1); mask = u32_at (place + 4) bytes; sid = sid })))
 
--- so many entries, one behind the other
+-- so many entries, one after the other
 unfoldable pub aces_at : ℕ → ℕ → ℕ → List ℕ → Result (List Ace) DescError
 aces_at zero place end bytes = Ok []
 aces_at (suc count) place end bytes =
@@ -129,13 +129,13 @@ with_owner (Some owner) group acl = Ok (record { owner = owner; group = group; a
 unfoldable pub descriptor_of_bytes : List ℕ → Result Descriptor DescError
 descriptor_of_bytes bytes = then_read (parts_if true bytes) (λ parts. with_owner parts.owner parts.group parts.acl)
 
--- an answer is the one that is wanted, or memory was
+-- an answer is the one that is expected, or memory ran out
 abbrev pub ReadsAllIfRoom : {X : Type 0} → Result X DescError → Result X DescError → Type 0
 ReadsAllIfRoom (Ok x) wanted = wanted ≡ Ok x
 ReadsAllIfRoom (Err Memory) wanted = Unit {0}
 ReadsAllIfRoom (Err refusal) wanted = wanted ≡ Err refusal
 
--- whether bytes have a list: control says so, and its offset isn't 0 and points behind the header and not past the end
+-- whether bytes have a list: control says so, and its offset isn't 0 and points after the header and not past the end
 unfoldable pub has_list : List ℕ → Bool
 has_list bytes = shares (u16_at 2 bytes) se_dacl_present
     && (not (u32_at 16 bytes == 0) && not (is_outside (u32_at 16 bytes) bytes))

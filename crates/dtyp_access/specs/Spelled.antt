@@ -42,7 +42,7 @@ pub record SpellAce (place end : ℕ) (bytes : List ℕ) (ace : Ace) : Type 0 wh
   pub mask : u32_at (place + 4) bytes ≡ ace.mask
   pub sid : SpellSid (take (u16_at (place + 2) bytes - 8) (drop (place + 8) bytes)) ace.sid
 
--- entries, one behind the other
+-- entries, one after the other
 abbrev pub SpellAces : ℕ → ℕ → List ℕ → List Ace → Type 0
 SpellAces place end bytes [] = Unit {0}
 SpellAces place end bytes (ace ∷ aces) = SpellAce place end bytes ace × SpellAces (next_ace place bytes) end bytes aces

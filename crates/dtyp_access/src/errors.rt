@@ -21,7 +21,7 @@ pub enum DescError {
     /// No SID stands at the place.
     #[error("no SID stands at byte {0}")]
     Sid(usize),
-    /// Memory was wanted.
+    /// Memory ran out.
     #[error("there is no memory for the descriptor")]
     Memory,
 }

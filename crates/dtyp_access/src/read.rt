@@ -96,7 +96,7 @@ fn sid_of_field(bytes: &[u8], field: usize) -> Result<Sid, DescError>
     sid_at_front(rest_of(bytes, offset), offset)
 }
 
-/// The SID at the front of bytes that begin at a place.
+/// The SID at the beginning of bytes that begin at a place.
 fn sid_at_front(bytes: &[u8], place: usize) -> Result<Sid, DescError>
     ensures value { result ≡ or_no_sid place (sid_of_bytes bytes.now) }
     ensures wants { NeverMemory result }
@@ -167,7 +167,7 @@ fn acl_at(alloc: Global, bytes: &[u8], place: usize) -> Result<Acl, DescError>
     aces_at(alloc, bytes, u16_at(bytes, place + 4), place + 8, end)
 }
 
-/// So many entries from a place on, one behind the other, of a list that ends at another place.
+/// So many entries from a place on, one after the other, of a list that ends at another place.
 fn aces_at(
     alloc: Global,
     bytes: &[u8],

@@ -111,7 +111,7 @@ pub record ReadsTo (stage : Stage) (text : List ℕ) (sid : SidValue) : Type 0 w
   pub read : read_on stage text ≡ Some last
   pub ends : EndsWith last sid
 
--- the SID with more sub-authorities behind
+-- the SID with more sub-authorities at its end
 abbrev pub with_more : SidValue → List ℕ → SidValue
 with_more sid subs = record { authority = sid.authority; subs = sid.subs ++ subs }
 

@@ -1,4 +1,4 @@
--- What text stands behind each stage of the reader
+-- What text stands after each stage of the reader
 use Rattle.std.proofs.Common.{◌≡◌, ℕ, ◌+◌, ◌-◌, ◌*◌, ◌/◌, ◌%◌, ◌^◌, ◌<◌, ◌≤◌, ◌⊎◌, inl, inr, ⊎_elim, List, [], ◌∷◌}
 use Rattle.std.proofs.Common.{◌++◌, length, take, arith, refl, sym, ap, ◌∙◌, Option, Some, None, codes, append_assoc}
 use Rattle.std.proofs.Common.{subst, Bool, true, false}
@@ -40,7 +40,7 @@ pub record ShowsSub (sid : SidValue) (number : ℕ) (text : List ℕ) : Type 0 w
   pub fits : number < 2 ^ 32
   pub spelled : text ≡ front ++ (codes "-" ++ decimal number)
 
--- the text that stands behind a stage
+-- the text that stands after a stage
 abbrev pub Shows : Stage → List ℕ → Type 0
 Shows (Opening count) text = (count ≤ 4) × (text ≡ take count (codes "S-1-"))
 Shows (Decimal number) text = (number < 2 ^ 32) × (text ≡ codes "S-1-" ++ decimal number)

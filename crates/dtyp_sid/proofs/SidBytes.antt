@@ -20,7 +20,7 @@ use Rattle.dtyp_sid.specs.declared.errors.BytesError.TheVariants.{Short, Revisio
 use Rattle.dtyp_sid.specs.Bytes.{header_of, sub_bytes, bytes_of, authority_at_front, subs_at_front, sid_of_bytes}
 use Rattle.dtyp_sid.specs.Bytes.{BeginWithSid}
 
--- one number more at the front
+-- one number more at the beginning
 pub subs_at_front-more : (count : ℕ) (bytes : List ℕ) → subs_at_front (suc count) bytes ≡ subs_at_front count bytes
     ++ from_le_bytes w32 (drop (4 * count) bytes) ∷ []
 unfolding subs_at_front
@@ -138,7 +138,7 @@ sub_bytes_spelled (suc count) bytes there below =
     ∙ ap (λ behind. to_le_bytes w32 (from_le_bytes w32 bytes) ++ behind) others
     ∙ front_number bytes (omega arith) below
 
--- more bytes are put behind those that are written
+-- more bytes are put after those that are written
 pub put_behind : (written more old before after : List ℕ) (place : ℕ) → length written ≡ place → before ≡ written
     ++ drop place old
     → after ≡ take place before ++ more ++ drop (place + length more) before → after ≡ (written ++ more)
@@ -194,7 +194,7 @@ eight_bytes a b c d e f p q r s t u (suc (suc (suc (suc (suc (suc zero)))))) = t
 eight_bytes a b c d e f p q r s t u (suc (suc (suc (suc (suc (suc (suc zero))))))) = u
 eight_bytes a b c d e f p q r s t u (suc (suc (suc (suc (suc (suc (suc (suc i)))))))) = omega arith
 
--- what is read at the front of the bytes is written so
+-- what is read at the beginning of the bytes is written so
 pub spelled : (bytes : List ℕ) → 8 ≤ length bytes → slice_index bytes 0 ≡ 1 → 8 + 4 * slice_index bytes 1 ≤ length bytes
     → ((i : ℕ) → get_or bytes i 0 < 256)
     → BeginWithSid bytes (record {

@@ -48,7 +48,7 @@ begins_none text read (rest, (sid, is)) =
     let a = reads.read in
     cc
 
--- what begins a longer front begins a text
+-- what begins a longer prefix begins a text
 begins_shorter : (front more : List ℕ) → BeginsText (front ++ more) → BeginsText front
 begins_shorter front more (rest, (sid, is)) =
     (more ++ rest, (sid, subst (λ (text : List ℕ). IsText text sid) (append_assoc front more rest) is))

@@ -22,16 +22,16 @@ sub_bytes subs = flat_map (to_le_bytes w32) subs
 unfoldable pub bytes_of : SidValue → List ℕ
 bytes_of sid = header_of sid ++ sub_bytes sid.subs
 
--- the number of the six bytes at the front, the highest first
+-- the number of the six bytes at the beginning, the highest first
 unfoldable pub authority_at_front : List ℕ → ℕ
 authority_at_front bytes = from_be_bytes w64 (0 ∷ 0 ∷ bytes)
 
--- the numbers at the front, so many, of four bytes each
+-- the numbers at the beginning, so many, of four bytes each
 unfoldable pub subs_at_front : ℕ → List ℕ → List ℕ
 subs_at_front zero bytes = []
 subs_at_front (suc count) bytes = from_le_bytes w32 bytes ∷ subs_at_front count (drop 4 bytes)
 
--- the SID at the front of the bytes, or the first reason that there is none
+-- the SID at the beginning of the bytes, or the first reason that there is none
 unfoldable pub sid_of_bytes : List ℕ → Result SidValue BytesError
 sid_of_bytes bytes =
     if nat_lt (length bytes) 8 then Err Short

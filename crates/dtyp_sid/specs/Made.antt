@@ -13,7 +13,7 @@ sid_of authority subs =
     if nat_lt sid_max_sub_authorities (length subs) then Err TooMany
     else (if nat_le (2 ^ 48) authority then Err AuthorityRange else Ok (record { authority = authority; subs = subs }))
 
--- the SID with one more sub-authority behind
+-- the SID with one more sub-authority at its end
 abbrev pub with_last : SidValue → ℕ → SidValue
 with_last sid rid = record { authority = sid.authority; subs = sid.subs ++ rid ∷ [] }
 

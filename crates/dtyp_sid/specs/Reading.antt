@@ -14,7 +14,7 @@ use Rattle.dtyp_sid.specs.declared.reading.Stage.TheVariants.{Opening, Decimal, 
 abbrev pub first_digit : ℕ → Option ℕ
 first_digit byte = if is_ascii_digit byte then Some (byte - 48) else None
 
--- a number of 32 bits with one more digit, which none has behind a leading zero
+-- a number of 32 bits with one more digit, which none has after a leading zero
 abbrev pub more_digits : ℕ → ℕ → Option ℕ
 more_digits number byte =
     if is_ascii_digit byte && (not (number == 0) && nat_lt (number * 10 + (byte - 48)) (2 ^ 32)) then

@@ -1,4 +1,4 @@
--- How the sub-authorities lie in slots, as many as a SID may have: from the front, with zeros behind them
+-- How the sub-authorities lie in slots, as many as a SID may have: from the beginning, with zeros after them
 use Rattle.std.specs.Prelude.{◌≡◌, ℕ, suc, ◌+◌, ◌-◌, ◌<◌, ◌≤◌, List, ◌∷◌, ◌++◌, length, replicate, take, drop}
 use Rattle.std.proofs.Common.{ap, ◌∙◌, sym, arith, set}
 use Rattle.std.proofs.lemmas.List.{length-take-le, take-append-drop, drop-set-lt, drop-drop, drop-replicate, drop-set}
@@ -9,7 +9,7 @@ use Rattle.dtyp_sid.specs.Value.{sid_max_sub_authorities}
 abbrev pub slots_of : List ℕ → List ℕ
 slots_of subs = subs ++ replicate (sid_max_sub_authorities - length subs) 0
 
--- a count of slots, of which those behind it are zero
+-- a count of slots, of which those after it are zero
 pub record AreSlots (count : ℕ) (slots : List ℕ) : Type 0 where
   pub count_fits : count ≤ sid_max_sub_authorities
   pub all_there : length slots ≡ sid_max_sub_authorities

@@ -1,4 +1,4 @@
--- The text of a SID: S-1-, the authority, and each sub-authority behind a dash (after MS-DTYP 2.4.2.1)
+-- The text of a SID: S-1-, the authority, and each sub-authority after a dash (after MS-DTYP 2.4.2.1)
 use Rattle.std.specs.Prelude.{◌≡◌, ℕ, zero, suc, ◌/◌, ◌%◌, ◌^◌, ◌<◌, ◌≤◌, ◌⊎◌, List, [], ◌∷◌, ◌++◌, length, take}
 use Rattle.std.specs.Prelude.{nat_lt, if◌then◌else◌, codes}
 use Rattle.std.specs.Char.{digit_char}
@@ -17,7 +17,7 @@ unfoldable pub authority_text : ℕ → List ℕ
 authority_text authority =
     if nat_lt authority (2 ^ 32) then decimal authority else codes "0x" ++ hexadecimal 12 authority
 
--- each sub-authority in decimal behind a dash
+-- each sub-authority in decimal after a dash
 unfoldable pub subs_text : List ℕ → List ℕ
 subs_text subs = flat_map (λ sub. codes "-" ++ decimal sub) subs
 
@@ -53,7 +53,7 @@ IsSidText text = (sid : SidValue) × IsText text sid
 abbrev pub BeginsText : List ℕ → Type 0
 BeginsText front = (rest : List ℕ) × IsSidText (front ++ rest)
 
--- where a text that is no SID's breaks: the length of its longest front that begins the text of some SID
+-- where a text that is no SID's breaks: the length of its longest prefix that begins the text of some SID
 pub record IsBadPlace (text : List ℕ) (place : ℕ) : Type 0 where
   pub no_text : ¬ (IsSidText text)
   pub within : place ≤ length text

@@ -6,7 +6,7 @@ use crate::{BytesError, SID_MAX_SUB_AUTHORITIES, SID_REVISION, Sid};
 use acct_base::rest_of;
 
 impl Sid {
-    /// The SID at the front of the bytes. It takes no memory.
+    /// The SID at the beginning of the bytes. It takes no memory.
     #[tactic(auto, unfolding(crate::specs::Bytes::sid_of_bytes))]
     pub fn from_bytes(bytes: &[u8]) -> Result<Sid, BytesError>
         ensures value { result ≡ sid_of_bytes bytes.now }
@@ -29,7 +29,7 @@ impl Sid {
         Ok(Sid::from_front(authority, rest_of(bytes, 8), count))
     }
 
-    /// Writes the bytes of the SID at the front and gives their number. The bytes behind stay as they were.
+    /// Writes the bytes of the SID at the beginning and gives their number. The bytes after stay as they were.
     #[tactic(auto, unfolding(crate::specs::Bytes::bytes_of, crate::specs::Bytes::header_of))]
     pub fn to_bytes(&self, out: &mut [u8; 68]) -> usize
         ensures written { out.new ≡ bytes_of self.now ++ drop result out.old }
@@ -56,7 +56,7 @@ fn put(out: &mut [u8; 68], place: usize, bytes: &[u8])
     out[place..place + bytes.len()].copy_from_slice(bytes);
 }
 
-/// The number of the six bytes at the front, the highest first.
+/// The number of the six bytes at the beginning, the highest first.
 #[tactic(auto, unfolding(crate::specs::Bytes::authority_at_front))]
 fn authority_at_front(bytes: &[u8]) -> u64
     requires { 6 ≤ length bytes.now }

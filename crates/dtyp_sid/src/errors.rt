@@ -16,7 +16,7 @@ pub enum SidError {
 #[derive(Clone, Copy, Debug, PartialEq, Eq, Error)]
 #[error("no text of a SID goes on as this one does from byte {place} on")]
 pub struct BadText {
-    /// The length of the longest front of the text that begins the text of some SID.
+    /// The length of the longest prefix of the text that begins the text of some SID.
     pub place: usize,
 }
 

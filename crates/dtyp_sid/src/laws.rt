@@ -44,7 +44,7 @@ pub fn written_bytes_have_lengths()
     ensures { WrittenBytesHaveLengths }
 {}
 
-/// What is read at the front of bytes is a SID, and the bytes begin with its written ones.
+/// What is read at the beginning of bytes is a SID, and the bytes begin with its written ones.
 pub fn read_bytes_are_written()
     ensures { ReadBytesAreWritten }
 {}

@@ -23,7 +23,7 @@ enum Stage {
 }
 
 /// The SID that a text spells: `S-1-`, the authority in decimal below 2^32 or as `0x` and 12 hexadecimal digits, and
-/// each sub-authority in decimal behind a dash, at most 15 of them. No decimal has leading zeros. It takes no memory.
+/// each sub-authority in decimal after a dash, at most 15 of them. No decimal has leading zeros. It takes no memory.
 pub fn parse_text(text: &str) -> Result<Sid, BadText>
     ensures ok { IfOk result (IsText text.now) }
     ensures refused { IfErr result (λ bad. IsBadPlace text.now bad.place) }
@@ -136,7 +136,7 @@ fn first_digit(byte: u8) -> Option<u32>
     }
 }
 
-/// A number with one more digit, which none has behind a leading zero, where it is one of 32 bits.
+/// A number with one more digit, which none has after a leading zero, where it is one of 32 bits.
 fn more_digits(number: u32, byte: u8) -> Option<u32>
     ensures { result ≡ more_digits number byte }
 {

@@ -20,7 +20,7 @@ pub struct Sid {
     authority: u64,
     // at most SID_MAX_SUB_AUTHORITIES
     count: usize,
-    // those behind the count are 0
+    // those after the count are 0
     slots: [u32; SID_MAX_SUB_AUTHORITIES],
 }
 
@@ -138,7 +138,7 @@ impl Sid {
         Some((domain, rid))
     }
 
-    /// The SID with one more sub-authority behind. There is none where the SID has 15.
+    /// The SID with one more sub-authority at its end. There is none where the SID has 15.
     pub fn with_rid(&self, rid: u32) -> Option<Sid>
         ensures { MatchOption result (length self.now.subs ≡ sid_max_sub_authorities)
             (λ sid. (length self.now.subs < sid_max_sub_authorities) × (sid ≡ with_last self.now rid)) }

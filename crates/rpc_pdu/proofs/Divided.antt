@@ -11,7 +11,7 @@ use Rattle.rpc_pdu.specs.Laws.{IsEnd, IsDivided, AllDivideOnce}
 use Rattle.rpc_pdu.proofs.Whole.{front_has}
 use Rattle.rpc_pdu.proofs.Exact.{exact_to, exact_from}
 
--- a PDU and what follows it, in front
+-- a PDU and what follows it, at the beginning
 part_front : (side : Side) (pdu : Pdu) (bytes rest : List ℕ) → IsPdu side pdu bytes
     → front side (bytes ++ rest) ≡ Whole pdu (length bytes)
 part_front side pdu bytes rest is =

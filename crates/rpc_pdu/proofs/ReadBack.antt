@@ -1,4 +1,4 @@
--- A written PDU in front of a stream.
+-- A written PDU at the beginning of a stream.
 use Rattle.std.proofs.Common.{◌≡◌, ℕ, ◌+◌, ◌≤◌, false, ltb, List, [], ◌++◌, length, take, Some, refl, sym, ap, ◌∙◌}
 use Rattle.std.proofs.Common.{arith, length-append, All}
 use Rattle.std.specs.List.{flat_map}

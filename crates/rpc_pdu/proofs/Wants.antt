@@ -1,4 +1,4 @@
--- Where reading runs out of memory, something was there to take it: bytes behind a place, or a part that is counted.
+-- Where reading runs out of memory, something was there to take it: bytes after a place, or a part that is counted.
 use Rattle.std.proofs.Common.{◌≡◌, ℕ, ◌<◌, Bool, true, false, nat_lt, List, [], length, drop, Result, Ok, Err}
 use Rattle.std.proofs.Common.{inl, inr, ◌∙◌, arith}
 use Rattle.std.proofs.lemmas.Bool.{cases_lt, lt-ltb}
@@ -16,7 +16,7 @@ wants (Err Memory) is = is
 pub counted : {A : Type 0} (r : Result A Unread) (done count : ℕ) → done < count → WantsOnlyIf (nat_lt 0 count) r
 counted r done count lt = wants r (lt-ltb 0 count (omega (arith, lt)))
 
--- bytes behind a place couldn't be copied, so there are some
+-- bytes after a place couldn't be copied, so there are some
 pub behind : (place : ℕ) (bytes rest : List ℕ) → rest ≡ drop place bytes → (rest ≡ [] → false ≡ true)
     → nat_lt place (length bytes) ≡ true
 behind place bytes rest is some =

@@ -1,4 +1,4 @@
--- A whole PDU in front, by its parts, and what is decided of a longer stream.
+-- A whole PDU at the beginning, by its parts, and what is decided of a longer stream.
 use Rattle.std.proofs.Common.{◌≡◌, ℕ, ◌+◌, ◌*◌, ◌^◌, ◌≤◌, ◌<◌, Bool, true, false, cond, ltb, List, ◌++◌, length, get_or}
 use Rattle.std.proofs.Common.{take, Option, Some, None, refl, sym, ap, ◌∙◌, arith, inl, inr, length-append}
 use Rattle.std.proofs.lemmas.Bool.{ltb-false, le-ltb}
@@ -15,7 +15,7 @@ use Rattle.rpc_pdu.specs.Laws.{Stays, IsStable}
 use Rattle.rpc_pdu.specs.Numbers.{u32_at}
 use Rattle.rpc_pdu.proofs.HeaderFacts.{chosen, long_16, bad_early}
 
--- the parts of a whole PDU in front
+-- the parts of a whole PDU at the beginning
 pub record HasWhole (side : Side) (bytes : List ℕ) (pdu : Pdu) (size : ℕ) : Type 0 where
   pub kind : Kind
   pub header : header_of side (take 16 bytes) ≡ Long kind size

@@ -24,7 +24,7 @@ alter_of bytes = do
   elements ← many element_at (slice_index bytes 24) (drop 28 bytes)
   Some (Alter (u32_at bytes 12) (u16_at bytes 16) (u16_at bytes 18) (u32_at bytes 20) elements.0)
 
--- where the number of outcomes stands: at the first multiple of 4 behind the secondary address, whose length stands at
+-- where the number of outcomes stands: at the first multiple of 4 after the secondary address, whose length stands at
 -- 24
 abbrev pub outcomes_place : List ℕ → ℕ
 outcomes_place bytes = (u16_at bytes 24 + 29) / 4 * 4

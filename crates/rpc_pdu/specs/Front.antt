@@ -1,5 +1,5 @@
--- What stands in front of a stream: a whole PDU with its length, a refusal by the first cause that holds of it, or
--- less than that.
+-- What stands at the beginning of a stream: a whole PDU with its length, a refusal by the first cause that holds of it,
+-- or less than that.
 use Rattle.std.specs.Prelude.{ℕ, List, length, take, Option, Some, None, if◌then◌else◌, nat_lt, slice_index}
 use Rattle.acct_codes.specs.Causes.{cause_body}
 use Rattle.rpc_pdu.specs.declared.pdus.Side.{Side}
@@ -19,7 +19,7 @@ pub data Front : Type 0 where
 abbrev pub refusal : List ℕ → ℕ → ℕ → Front
 refusal head place cause = Refused place cause (slice_index head 2) (u32_at head 12)
 
--- a body without a reading is refused behind the header
+-- a body without a reading is refused after the header
 abbrev pub front_of_body : List ℕ → ℕ → Option Pdu → Front
 front_of_body head size None = refusal head 16 cause_body
 front_of_body head size (Some pdu) = Whole pdu size

@@ -60,14 +60,14 @@ pub record HasSizes (bytes : List ℕ) (xmit recv group : ℕ) : Type 0 where
   pub recv_frag : u16_at bytes 18 ≡ recv
   pub group_id : u32_at bytes 20 ≡ group
 
--- bind and alter_context. Bytes 25 to 27 aren't looked at, nor is what stands behind the last element
+-- bind and alter_context. Bytes 25 to 27 aren't looked at, nor is what stands after the last element
 pub record IsBinding (bytes : List ℕ) (xmit recv group : ℕ) (elements : List Element) : Type 0 where
   pub long : 28 ≤ length bytes
   pub sizes : HasSizes bytes xmit recv group
   pub count : slice_index bytes 24 ≡ length elements
   pub elements_there : EachAt ElementAt element_size bytes 28 elements
 
--- bind_ack and alter_context_resp, the number of whose outcomes stands behind the secondary address, at a multiple of 4
+-- bind_ack and alter_context_resp, the number of whose outcomes stands after the secondary address, at a multiple of 4
 pub record IsBindingAnswer (bytes : List ℕ) (xmit recv group : ℕ) (outcomes : List Outcome) : Type 0 where
   pub long : 32 ≤ length bytes
   pub sizes : HasSizes bytes xmit recv group
@@ -79,7 +79,7 @@ pub record IsBindingAnswer (bytes : List ℕ) (xmit recv group : ℕ) (outcomes 
   pub count : slice_index bytes place ≡ length outcomes
   pub outcomes_there : EachAt OutcomeAt (λ outcome. 24) bytes (place + 4) outcomes
 
--- a request, its stub behind an object UUID where its flags say that there is one
+-- a request, its stub after an object UUID where its flags say that there is one
 pub record IsRequest (bytes : List ℕ) (flags context opnum : ℕ) (stub : List ℕ) : Type 0 where
   pub flagged : slice_index bytes 3 ≡ flags
   pub context_id : u16_at bytes 20 ≡ context
@@ -100,7 +100,7 @@ pub record IsFault (bytes : List ℕ) (context status : ℕ) : Type 0 where
   pub context_id : u16_at bytes 20 ≡ context
   pub code : u32_at bytes 24 ≡ status
 
--- a bind_nak. The versions behind the reason aren't looked at
+-- a bind_nak. The versions after the reason aren't looked at
 pub record IsBindNak (bytes : List ℕ) (reason : ℕ) : Type 0 where
   pub long : 18 ≤ length bytes
   pub reason_is : u16_at bytes 16 ≡ reason

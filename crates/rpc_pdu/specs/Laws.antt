@@ -18,7 +18,7 @@ Stays Rest side bytes more = Unit {0}
 abbrev pub IsStable : Type 0
 IsStable = (side : Side) (bytes more : List ℕ) → Stays (front side bytes) side bytes more
 
--- a whole PDU in front is exactly a PDU of the grammar
+-- a whole PDU at the beginning is exactly a PDU of the grammar
 abbrev pub IsExact : Type 0
 IsExact = (side : Side) (pdu : Pdu) (size : ℕ) (bytes : List ℕ)
     → (front side bytes ≡ Whole pdu size) ↔ ((size ≤ length bytes) × IsPdu side pdu (take size bytes))
@@ -32,7 +32,7 @@ pub record IsReadBack (pdu : Pdu) : Type 0 where
 abbrev pub AreReadBack : Type 0
 AreReadBack = (pdu : Pdu) → HasWholeIds pdu → IsReadBack pdu
 
--- what no whole PDU stands in front of
+-- what no whole PDU stands at the beginning of
 abbrev pub IsEnd : Front → Type 0
 IsEnd (Whole pdu size) = ⊥
 IsEnd Rest = Unit {0}

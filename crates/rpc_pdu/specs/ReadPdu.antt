@@ -22,7 +22,7 @@ pub record MayWant (side : Side) (bytes : List ℕ) : Type 0 where
   pub there : size ≤ length bytes
   pub taken : takes_memory kind (take size bytes) ≡ true
 
--- what is read is the front, with the type byte and the call id of a whole PDU, unless memory ran out
+-- what is read is the prefix, with the type byte and the call id of a whole PDU, unless memory ran out
 abbrev pub IsRead : ReadPdu → Side → List ℕ → Type 0
 IsRead (read.Got pdu ptype id used) side bytes = (front side bytes ≡ Whole pdu used) × (16 ≤ used)
     × (used ≤ length bytes) × (ptype ≡ type_of pdu) × (id ≡ call_id pdu)

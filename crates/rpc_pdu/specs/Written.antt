@@ -101,7 +101,7 @@ elements_bytes elements = length elements ∷ 0 ∷ 0 ∷ 0 ∷ flat_map element
 abbrev pub outcomes_bytes : List Outcome → List ℕ
 outcomes_bytes outcomes = length outcomes ∷ 0 ∷ 0 ∷ 0 ∷ flat_map outcome_bytes outcomes
 
--- what stands behind the header. The secondary address of a bind_ack is the empty text with its zero byte, and is
+-- what stands after the header. The secondary address of a bind_ack is the empty text with its zero byte, and is
 -- padded to 4;
 -- that of an alter_context_resp is left out. A bind_nak says that version 5.0 is served
 unfoldable pub body_bytes : Pdu → List ℕ

@@ -1,4 +1,4 @@
-// What stands in front of a stream.
+// What stands at the beginning of a stream.
 ghost use Rattle.rpc_pdu.specs.ReadPdu.{IsRead, IsWithin};
 
 use crate::bodies::body_of;
@@ -9,7 +9,7 @@ use acct_base::Unread;
 use acct_codes::cause::CAUSE_BODY;
 use std::alloc::Global;
 
-/// What stands in front of a stream.
+/// What stands at the beginning of a stream.
 #[derive(Debug, Drop)]
 pub enum ReadPdu {
     /// A whole PDU, its type byte and its call id, and the number of its bytes.
@@ -43,9 +43,9 @@ pub enum ReadPdu {
     NoMemory,
 }
 
-/// Reads the PDU in front of bytes (C706, section 12.6). Version, representation, type, length and verifier are looked
-/// at as soon as there are 16 bytes, the body only once the whole PDU is there. Bytes after a body's last field are
-/// taken.
+/// Reads the PDU at the beginning of bytes (C706, section 12.6). Version, representation, type, length and verifier are
+/// looked at as soon as there are 16 bytes, the body only once the whole PDU is there. Bytes after a body's last field
+/// are taken.
 #[tactic(auto, unfolding(crate::specs::Front::front))]
 pub fn read_pdu(alloc: Global, side: Side, bytes: &[u8]) -> ReadPdu
     ensures front { IsRead result side bytes.now }

@@ -59,7 +59,7 @@ fn kind_of(side: Side, ptype: u8) -> Option<Kind>
     }
 }
 
-/// Whether a request has an object UUID in front of its stub.
+/// Whether a request has an object UUID before its stub.
 pub fn has_object(flags: u8) -> bool
     ensures { result ≡ has_object flags }
 {

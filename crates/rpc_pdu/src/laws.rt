@@ -6,7 +6,7 @@ pub fn front_is_stable()
     ensures { IsStable }
 {}
 
-/// A whole PDU in front of a stream is exactly a PDU of the grammar.
+/// A whole PDU at the beginning of a stream is exactly a PDU of the grammar.
 pub fn whole_is_exactly_a_pdu()
     ensures { IsExact }
 {}

@@ -1,5 +1,5 @@
-//! The PDUs of connection-oriented DCE/RPC (C706, chapter 12; MS-RPCE): what stands in front of a stream, for a server
-//! and for a client, and the bytes of a PDU.
+//! The PDUs of connection-oriented DCE/RPC (C706, chapter 12; MS-RPCE): what stands at the beginning of a stream, for a
+//! server and for a client, and the bytes of a PDU.
 //!
 //! It stands on `acct_base` for lists and on `uuid`. The layer above uses that [`read_pdu`] gives the `front` of the
 //! stream, that a longer stream changes no decision ([`front_is_stable`]), that the bytes of a written PDU are

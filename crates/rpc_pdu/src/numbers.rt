@@ -39,7 +39,7 @@ pub fn u32_bytes(number: u32) -> [u8; 4]
     ]
 }
 
-/// Bytes, behind those that are there.
+/// Bytes, after those that are there.
 pub fn push_bytes(out: &mut Vec<u8>, bytes: &[u8]) -> Result<(), AllocError>
     ensures { OnOk result (out.new.items ≡ out.old.items ++ bytes.now) }
 {

@@ -53,7 +53,7 @@ pub enum Pdu {
         group: u32,
         elements: Seq<Element>,
     },
-    /// Type 0. Of the flags, 0x01 marks a call's first fragment, 0x02 its last, and 0x80 an object UUID in front of the
+    /// Type 0. Of the flags, 0x01 marks a call's first fragment, 0x02 its last, and 0x80 an object UUID before the
     /// stub, which is read and dropped.
     Request {
         id: u32,

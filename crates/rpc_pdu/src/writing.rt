@@ -238,7 +238,7 @@ fn push_fault(out: &mut Vec<u8>, context: u16, status: u32) -> Result<(), AllocE
     push_u32(out, 0)
 }
 
-/// What stands behind the header of a bind and of an alter_context.
+/// What stands after the header of a bind and of an alter_context.
 fn push_binding(
     out: &mut Vec<u8>,
     xmit: u16,
@@ -256,7 +256,7 @@ fn push_binding(
     push_element_list(out, elements)
 }
 
-/// What stands behind the header of their answers. `address` is the length of the secondary address: 1 for the empty
+/// What stands after the header of their answers. `address` is the length of the secondary address: 1 for the empty
 /// text with its zero byte, 0 where it is left out.
 fn push_answer(
     out: &mut Vec<u8>,
@@ -276,7 +276,7 @@ fn push_answer(
     push_outcome_list(out, outcomes)
 }
 
-/// What stands behind the header of a bind_nak.
+/// What stands after the header of a bind_nak.
 fn push_nak(out: &mut Vec<u8>, reason: u16) -> Result<(), AllocError>
     ensures { OnOk result
         (out.new.items ≡ out.old.items ++ (u16_bytes reason ++ 1 ∷ rpc_vers ∷ rpc_vers_minor ∷ 0 ∷ 0 ∷ 0 ∷ [])) }
@@ -285,7 +285,7 @@ fn push_nak(out: &mut Vec<u8>, reason: u16) -> Result<(), AllocError>
     push_bytes(out, &[1, RPC_VERS, RPC_VERS_MINOR, 0, 0, 0])
 }
 
-/// What stands behind the header.
+/// What stands after the header.
 #[tactic(auto, unfolding(crate::specs::Written::body_bytes))]
 fn push_body(out: &mut Vec<u8>, pdu: &Pdu) -> Result<(), AllocError>
     requires parts { HasFewParts pdu.now }

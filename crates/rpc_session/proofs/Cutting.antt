@@ -20,7 +20,7 @@ use Rattle.rpc_session.specs.Acts.{IsCutAnywhere}
 abbrev Later : Type 0
 Later = ℕ → Session → List ℕ → Heard
 
--- ---- what stands in front stays, whatever follows
+-- ---- what stands at the beginning stays, whatever follows
 
 abbrev pub NextStays : ℕ → ℕ → Session → List ℕ → List ℕ → Next → Type 0
 NextStays conn place s a b (next.Waits t) = t ≡ s
@@ -47,7 +47,7 @@ pub next_stays : IsStable → (conn place : ℕ) (s : Session) (a b : List ℕ)
 unfolding heard_next
 next_stays stable conn place s a b = stays_front conn place s a b (front Server a) (stable Server a b)
 
--- a whole PDU in front
+-- a whole PDU at the beginning
 pub record IsWhole (bytes : List ℕ) (size : ℕ) : Type 0 where
   pub low : 16 ≤ size
   pub there : size ≤ length bytes

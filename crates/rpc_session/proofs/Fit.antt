@@ -150,7 +150,7 @@ all_fit conn stream = hear_fits (length stream) conn 0 Unbound stream tt
 abbrev IsLast : Heard → Type 0
 IsLast h = (i : ℕ) → IsLastOf h i (slice_get h.acts i)
 
--- one act more in front, which is no refusal
+-- one act more at the beginning, which is no refusal
 last_behind : (act : Act) (h : Heard) → is_refusal act ≡ false → IsLast h → IsLast (joined (act ∷ []) h)
 last_behind act h none last zero = λ is. let clash : true ≡ false = sym is ∙ none in absurd cc
 last_behind act h none last (suc i) = later (slice_get h.acts i) (last i)

@@ -19,7 +19,7 @@ use Rattle.rpc_session.proofs.Cutting.{hear_next}
 abbrev Part : Type 0
 Part = Pdu × List ℕ
 
--- what is heard in front, for what stands there
+-- what is heard at the beginning, for what stands there
 hear_front : IsStable → (conn place : ℕ) (s : Session) (bytes : List ℕ) (f : Front) → front Server bytes ≡ f
     → hear conn place s bytes ≡ on_next conn place bytes (next_of conn place s f) (λ p t rest. hear conn p t rest)
 unfolding heard_next

@@ -1,4 +1,4 @@
--- Where no PDU and no refusal stands in front, reading takes no memory; and so it is behind all that was heard.
+-- Where no PDU and no refusal stands at the beginning, reading takes no memory; and so it is after all that was heard.
 use Rattle.std.proofs.Common.{◌≡◌, ℕ, zero, suc, ◌+◌, ◌≤◌, false, nat_lt, List, [], ◌∷◌, length, take, drop, Option}
 use Rattle.std.proofs.Common.{Some, None, refl, sym, ap, ◌∙◌, arith, length-drop}
 use Rattle.std.proofs.lemmas.Bool.{le-ltb}
@@ -23,7 +23,7 @@ use Rattle.rpc_session.specs.Hearings.{Heard, stepped, next_of, heard_next, on_n
 use Rattle.rpc_session.specs.Acts.{IsSoFar}
 use Rattle.rpc_session.proofs.Cutting.{whole_next}
 
--- ---- want of memory
+-- ---- running out of memory
 
 body_isnt_rest : (head : List ℕ) (size : ℕ) (o : Option Pdu) → front_of_body head size o ≡ Rest → ⊥
 body_isnt_rest head size None e = absurd cc
@@ -40,7 +40,7 @@ wants_isnt_rest side bytes may e =
     rw (long, may.header, whole) refl in
     body_isnt_rest (take 16 bytes) may.size (body_of may.kind (take may.size bytes)) (sym is ∙ e)
 
--- ---- what stands in front
+-- ---- what stands at the beginning
 
 pub waits_at_rest : (conn place : ℕ) (s : Session) (bytes : List ℕ) (n : Next) → front Server bytes ≡ Rest
     → heard_next conn place s bytes ≡ n → n ≡ next.Waits s
@@ -79,7 +79,7 @@ pub first_isnt_whole : (conn place : ℕ) (s : Session) (all bytes : List ℕ) (
 first_isnt_whole conn place s all bytes at act t size same first rest e =
     let no = first_at_rest conn place s all bytes at (next.Goes act t size) same first rest e in absurd cc
 
--- ---- behind all that was heard
+-- ---- after all that was heard
 
 nothing_is_rest : front Server [] ≡ Rest
 unfolding front

@@ -21,7 +21,7 @@ use Rattle.rpc_session.specs.Sessions.{taken}
 use Rattle.rpc_session.specs.Hearings.{Heard, listed, hear, joined, on, HasRoom}
 
 -- The acts of whole PDUs one after the other, each with its own bytes, the first of which begins at a place, and of the
--- end behind them. Nothing behind a refusal is an act.
+-- end after them. Nothing after a refusal is an act.
 abbrev pub acts_of_step : ℕ → Pdu → Step → (Session → List Act) → List Act
 acts_of_step place pdu (Refuses cause) later = closing place cause (type_of pdu) (call_id pdu) ∷ []
 acts_of_step place pdu (Goes act session) later = listed act ++ later session

@@ -6,7 +6,7 @@ use Rattle.rpc_pdu.specs.Numbers.{u16_bytes, u32_bytes}
 use Rattle.rpc_pdu.specs.Written.{header_bytes}
 use Rattle.rpc_session.specs.declared.fragments.FragmentHead.{FragmentHead}
 
--- the largest multiple of 8 that fits a fragment's size behind its first 24 bytes
+-- the largest multiple of 8 that fits a fragment's size after its first 24 bytes
 abbrev pub most_of : ℕ → ℕ
 most_of size = 8 * ((size - 24) / 8)
 

@@ -27,7 +27,7 @@ abbrev pub stepped : ℕ → Pdu → ℕ → Step → Next
 stepped place pdu size (Refuses cause) = next.Ends (closing place cause (type_of pdu) (call_id pdu))
 stepped place pdu size (Goes act session) = next.Goes act session size
 
--- what stands in front of the bytes from a place on
+-- what stands at the beginning of the bytes from a place on
 abbrev pub next_of : ℕ → ℕ → Session → Front → Next
 next_of conn place session (Whole pdu size) = stepped place pdu size (taken conn session pdu)
 next_of conn place session Rest = next.Waits session
@@ -88,7 +88,7 @@ HasRoom (Going conn place session rest) piece = place + (length rest + length pi
 HasRoom Ended piece = Unit {0}
 HasRoom Lost piece = Unit {0}
 
--- no whole PDU and no refusal stands in front of the bytes that are left, and memory never ran out
+-- no whole PDU and no refusal stands at the beginning of the bytes that are left, and memory never ran out
 abbrev pub IsStill : Hearing → Type 0
 IsStill (Going conn place session rest) = front Server rest ≡ Rest
 IsStill Ended = Unit {0}

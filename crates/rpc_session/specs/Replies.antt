@@ -28,7 +28,7 @@ responses id context first (part ∷ next ∷ parts) =
     response id context (first_flag first) (length (concat (part ∷ next ∷ parts))) part
     ++ responses id context false (next ∷ parts)
 
--- each part but the last has as many bytes as fit, and something is left behind it; the last has at most as many
+-- each part but the last has as many bytes as fit, and something is left after it; the last has at most as many
 abbrev pub AreParts : ℕ → List (List ℕ) → Type 0
 AreParts most [] = ⊥
 AreParts most (last ∷ []) = length last ≤ most

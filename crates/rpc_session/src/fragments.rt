@@ -20,7 +20,7 @@ pub struct FragmentHead {
     pub opnum: u16,
 }
 
-/// A fragment with a part of the stub, written behind what is there. `left` is the number of stub bytes that are left
+/// A fragment with a part of the stub, written after what is there. `left` is the number of stub bytes that are left
 /// with this part.
 #[tactic(auto, unfolding(crate::specs::Fragments::fragment))]
 fn push_fragment(

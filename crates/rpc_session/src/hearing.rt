@@ -19,7 +19,7 @@ use std::alloc::{AllocError, Global};
 use std::marker::Model;
 use std::mem;
 
-/// What stands in front of the bytes that are left.
+/// What stands at the beginning of the bytes that are left.
 #[derive(Drop)]
 pub enum Next {
     /// No whole PDU, and no refusal.
@@ -58,7 +58,7 @@ fn refused(alloc: Global, place: u64, cause: u8, ptype: u8, id: u32) -> Result<N
     Ok(Next::Ends(closing(alloc, place, cause, ptype, id)?))
 }
 
-/// What stands in front of the bytes that are left, the first of which has this place in the stream.
+/// What stands at the beginning of the bytes that are left, the first of which has this place in the stream.
 #[tactic(auto, unfolding(crate::specs::Hearings::heard_next))]
 fn heard_next(
     alloc: Global,
@@ -225,7 +225,7 @@ impl Bytes2Acts {
     }
 
     /// Adds the acts that a piece completes. The pieces have fewer than 2^64 bytes in all (see [`room_by_length`]).
-    /// After a refusal nothing is added. After want of memory the acts that were added stay, and every later call
+    /// After a refusal nothing is added. Where memory ran out the acts that were added stay, and every later call
     /// answers it.
     pub fn feed(&mut self, alloc: Global, piece: &[u8], acts: &mut Vec<Act>) -> Result<(), NoMemory>
         requires { HasRoom self.old piece.now }

@@ -23,7 +23,7 @@ pub fn calls_fit()
     ensures { AllFit }
 {}
 
-/// A refusal is the last act of a stream, and nothing behind it is heard.
+/// A refusal is the last act of a stream, and nothing after it is heard.
 pub fn refusals_are_last()
     ensures { AreRefusalsLast }
 {}
@@ -39,7 +39,7 @@ pub fn acts_are_of_pdus()
     bytes_divide_once();
 }
 
-/// The responses of a reply bring its stub: each part but the last has as many bytes as fit, and there is none behind
+/// The responses of a reply bring its stub: each part but the last has as many bytes as fit, and there is none after
 /// a stub's end.
 pub fn replies_bring_stubs()
     ensures { RepliesBringStubs }

@@ -1,4 +1,4 @@
--- What `parted` splits at the first separator are the parts before and behind it, or none where there is none.
+-- What `parted` splits at the first separator are the parts before and after it, or none where there is none.
 use Rattle.std.proofs.Common.{◌≡◌, ℕ, ◌<◌, List, Option, Some, None, Bor, option_map, arith}
 use Rattle.std.proofs.lemmas.Bool.Decides.{nat_tests}
 use Rattle.std.proofs.lemmas.Str.Pattern.{IsSplitOnceResult, split_once_first}

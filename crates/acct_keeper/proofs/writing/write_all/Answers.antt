@@ -1,4 +1,4 @@
--- What the sink took so far is the front of the bytes up to the place reached, one piece behind the other.
+-- What the sink took so far is the prefix of the bytes up to the place reached, one piece after the other.
 use Rattle.std.proofs.Common.{◌≡◌, ◌∙◌, take, drop, List, ℕ, arith, subst}
 use Rattle.std.specs.Io.KnownBytes.{Appends}
 use Rattle.acct_keeper.proofs.Bytes.{Appends-then, take-more}

@@ -1,4 +1,4 @@
--- The entries read so far stand in front of those still to read, and the first that can't be read gives the error.
+-- The entries read so far stand before those still to read, and the first that can't be read gives the error.
 use Rattle.std.proofs.Common.{◌≡◌, ◌+◌, ◌-◌, suc, arith, ap, sym, ◌∙◌, Ok, List, Result}
 use Rattle.std.proofs.lemmas.Result.{err_from_is_err_and}
 use Rattle.dtyp_access.specs.declared.errors.DescError.{DescError}

@@ -1,4 +1,4 @@
--- Reading the entries left from the place on, behind those so far, gives what reading all of them gives.
+-- Reading the entries left from the place on, after those so far, gives what reading all of them gives.
 use Rattle.std.proofs.Common.{◌≡◌, ◌≤◌, ◌-◌, ◌++◌, length, Ok}
 use Rattle.dtyp_access.specs.Reading.{aces_at, then_read}
 use Rattle.dtyp_access.proofs.read.aces_at.Given as goal

@@ -1,4 +1,4 @@
--- After each entry `out` has the bytes of the entries so far behind what it had.
+-- After each entry `out` has the bytes of the entries so far after what it had.
 use Rattle.std.proofs.Common.{◌≡◌, ◌+◌, ◌++◌, ◌∷◌, [], take, ap, ◌∙◌, sym}
 use Rattle.std.proofs.lemmas.List.{take_more, append-nil}
 use Rattle.dtyp_access.specs.declared.ace.Ace.{Ace}

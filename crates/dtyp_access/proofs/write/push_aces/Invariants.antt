@@ -1,4 +1,4 @@
--- The bytes of the first so many entries were added behind what was there.
+-- The bytes of the first so many entries were added after what was there.
 use Rattle.std.proofs.Common.{◌≡◌, ◌++◌, take}
 use Rattle.dtyp_access.specs.Written.{aces_bytes}
 use Rattle.dtyp_access.proofs.write.push_aces.Given as goal

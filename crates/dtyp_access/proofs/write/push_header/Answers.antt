@@ -1,4 +1,4 @@
--- The six fields pushed one behind the other are the bytes of the header.
+-- The six fields pushed one after the other are the bytes of the header.
 use Rattle.std.proofs.Common.{◌≡◌, ℕ, List, ◌++◌, ◌+◌, ◌∷◌, [], length, ap, ◌∙◌, refl}
 use Rattle.std.specs.Prelude.{is_some}
 use Rattle.std.specs.Int.{w16, w32, to_le_bytes}

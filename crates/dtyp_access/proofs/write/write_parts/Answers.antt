@@ -1,4 +1,4 @@
--- The bytes that are written are read as the same parts, no other bytes behind them.
+-- The bytes that are written are read as the same parts, no other bytes after them.
 use Rattle.std.proofs.Common.{◌≡◌, ◌∙◌, [], ap, sym, Ok}
 use Rattle.std.proofs.lemmas.List.{append-nil}
 use Rattle.std.proofs.lemmas.Result.{IfOk-weaker}

@@ -1,4 +1,4 @@
--- A bad header is refused, a whole PDU has its type, id and bounds, and only a body that takes memory may want it.
+-- A bad header is refused, a whole PDU has its type, id and bounds, and only a body that takes memory may run out.
 use Rattle.std.proofs.Common.{◌≡◌, ◌≤◌, true, List, ℕ, length, get_or, take, Err, subst, sym, ap, ◌∙◌, arith, rules, w8}
 use Rattle.std.proofs.Math.Facts.{Fits-lt-pow}
 use Rattle.std.proofs.lemmas.List.{get_or-take, length-take-le}

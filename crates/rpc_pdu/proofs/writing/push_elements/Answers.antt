@@ -1,4 +1,4 @@
--- After each element `out` has the bytes of the elements so far behind what it had, and each of these is whole.
+-- After each element `out` has the bytes of the elements so far after what it had, and each of these is whole.
 use Rattle.rpc_pdu.specs.Written.{element_bytes}
 use Rattle.rpc_pdu.specs.Written.{IsWholeElement}
 use Rattle.rpc_pdu.proofs.Pushes.{pushed_none, pushed_more, pushed_all}

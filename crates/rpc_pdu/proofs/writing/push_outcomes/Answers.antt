@@ -1,4 +1,4 @@
--- After each outcome `out` has the bytes of the outcomes so far behind what it had, and each of these is whole.
+-- After each outcome `out` has the bytes of the outcomes so far after what it had, and each of these is whole.
 use Rattle.rpc_pdu.specs.Written.{outcome_bytes}
 use Rattle.rpc_pdu.specs.Written.{IsWholeOutcome}
 use Rattle.rpc_pdu.proofs.Pushes.{pushed_none, pushed_more, pushed_all}

@@ -1,4 +1,4 @@
--- The UUID's bytes, and behind them the version's, are the bytes of the syntax.
+-- The UUID's bytes, and after them the version's, are the bytes of the syntax.
 use Rattle.std.proofs.Common.{◌∙◌, ◌++◌, List, ℕ, ap, append_assoc}
 use Rattle.std.proofs.lemmas.Result.{on_ok_weaker}
 use Rattle.uuid.specs.Parts.{swap_fields}

@@ -1,4 +1,4 @@
--- The acts so far and those of the bytes ahead are all acts; after want of memory the first of them stand.
+-- The acts so far and those of the bytes ahead are all acts; where memory ran out the first of them stand.
 use Rattle.std.proofs.Common.{◌≡◌, ◌∙◌, sym, ap, arith, drop, length, List, ℕ, ◌+◌}
 use Rattle.rpc_session.specs.declared.sessions.Act.{Act}
 use Rattle.rpc_session.specs.declared.hearing.Next.TheVariants as next

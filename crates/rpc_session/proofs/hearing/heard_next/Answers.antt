@@ -1,4 +1,4 @@
--- Where bytes are missing in front, no PDU is read, so none wants memory.
+-- Where bytes are missing at the beginning, no PDU is read, so none runs out of memory.
 use Rattle.rpc_pdu.specs.declared.pdus.Side.TheVariants.{Server}
 use Rattle.rpc_session.proofs.Still.{wants_isnt_rest}
 use Rattle.rpc_session.proofs.hearing.heard_next.Goals as goal

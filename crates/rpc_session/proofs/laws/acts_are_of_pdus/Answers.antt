@@ -1,4 +1,4 @@
--- The acts of a stream are exactly those of the PDUs that it's divided into and of the end behind them.
+-- The acts of a stream are exactly those of the PDUs that it's divided into and of the end after them.
 use Rattle.rpc_session.proofs.Pdus.{are_of_pdus, are_acts}
 use Rattle.rpc_session.proofs.laws.acts_are_of_pdus.Goals as goal
 

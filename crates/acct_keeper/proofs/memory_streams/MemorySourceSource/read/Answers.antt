@@ -1,4 +1,4 @@
--- A read that doesn't fail takes a front of the bytes left; 0 bytes into a buffer with room mean that none were left.
+-- A read that doesn't fail takes a prefix of the bytes left; 0 bytes into a buffer with room mean that none were left.
 use Rattle.std.proofs.Common.{◌≡◌, List, ℕ, drop, sym, ap, ◌∙◌, ◌++◌, ◌+◌}
 use Rattle.acct_keeper.specs.Memory.{SourceInMemory}
 use Rattle.acct_keeper.proofs.Bytes.{read-splits, none-behind}

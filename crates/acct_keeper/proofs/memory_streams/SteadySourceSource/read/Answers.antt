@@ -1,4 +1,4 @@
--- Each read takes a front of the bytes left; 0 bytes into a buffer with room mean that none were left.
+-- Each read takes a prefix of the bytes left; 0 bytes into a buffer with room mean that none were left.
 use Rattle.std.proofs.Common.{◌≡◌, List, ℕ, drop, sym, ap, ◌∙◌, ◌++◌, ◌+◌}
 use Rattle.acct_keeper.specs.Memory.{SteadyInMemory}
 use Rattle.acct_keeper.proofs.Bytes.{read-splits, none-behind}

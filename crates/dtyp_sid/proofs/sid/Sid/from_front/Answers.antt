@@ -1,4 +1,4 @@
--- The slots filled so far have the sub-authorities of as many four bytes each, and the slots behind are zeros.
+-- The slots filled so far have the sub-authorities of as many four bytes each, and the slots after are zeros.
 use Rattle.std.proofs.Common.{◌≡◌, ◌<◌, ◌∷◌, ◌++◌, [], refl, arith, ap, ◌∙◌, sym, length, add-one, take, drop, ◌*◌, ◌+◌}
 use Rattle.std.specs.Int.{w32, from_le_bytes}
 use Rattle.std.proofs.lemmas.List.{take_more_set}

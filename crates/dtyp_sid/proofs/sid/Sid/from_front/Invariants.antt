@@ -1,4 +1,4 @@
--- The first so many slots have the sub-authorities at the front of the bytes, and those behind them are zero.
+-- The first so many slots have the sub-authorities at the beginning of the bytes, and those after them are zero.
 use Rattle.std.proofs.Common.{◌≡◌, take}
 use Rattle.dtyp_sid.specs.Slots.{AreSlots}
 use Rattle.dtyp_sid.specs.Bytes.{subs_at_front}

@@ -1,4 +1,4 @@
--- So far the header and the sub-authorities up to here are written, and the bytes behind are as they were.
+-- So far the header and the sub-authorities up to here are written, and the bytes after are as they were.
 use Rattle.std.proofs.Common.{◌≡◌, ℕ, List, ◌+◌, ◌++◌, ◌<◌, ◌≤◌, get_or, arith, ap, sym, ◌∙◌, length, take, drop}
 use Rattle.std.proofs.Common.{append_assoc, refl, subst}
 use Rattle.std.specs.Int.{w32, to_le_bytes}

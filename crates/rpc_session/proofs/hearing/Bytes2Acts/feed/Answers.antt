@@ -1,4 +1,4 @@
--- A piece fed behind a stream gives the acts of the stream and the piece as one; behind a stream nothing waits to be
+-- A piece fed after a stream gives the acts of the stream and the piece as one; after a stream nothing waits to be
 -- heard, so that a piece of no byte takes no memory.
 use Rattle.std.proofs.Common.{◌∙◌, ap, sym, subst}
 use Rattle.std.proofs.lemmas.Result.{on_ok_weaker}
