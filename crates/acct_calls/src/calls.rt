@@ -2,7 +2,7 @@
 ghost use Rattle.std.specs.Prelude.{◌≡◌};
 ghost use Rattle.acct_calls.specs.Calls.{samr_call, lsa_call};
 
-use crate::{Handle, Info, Name, Names, PrivilegeSet, Rids, Sids};
+use crate::{Bytes, Handle, Info, Name, Names, PrivilegeSet, Rids, Sids};
 use dtyp_sid::Sid;
 
 /// The interface that a call belongs to.
@@ -23,7 +23,7 @@ pub struct Call {
     pub args: Args,
 }
 
-/// What a call brings behind its handle.
+/// What a call brings after its handle.
 #[derive(Debug, Drop)]
 pub enum Args {
     Nothing,
@@ -109,6 +109,12 @@ pub enum Args {
     Policy {
         rooted: bool,
         access: u32,
+    },
+    /// Which parts of a security descriptor are set (SECURITY_INFORMATION, MS-DTYP 2.4.7), and the bytes of one that
+    /// has them.
+    Security {
+        info: u32,
+        bytes: Bytes,
     },
 }
 

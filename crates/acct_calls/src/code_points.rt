@@ -1,11 +1,11 @@
-// Code points off the front of UTF-16 units, and their units at the end of a list.
+// Code points off the beginning of UTF-16 units, and their units at the end of a list.
 ghost use Rattle.std.specs.Prelude.{◌≡◌, ◌<◌, ◌≤◌, [], ◌∷◌, ◌++◌, length, MatchOption, IfSome, OnOk};
 ghost use Rattle.std.specs.Char.Escape.{encode_utf16};
 ghost use Rattle.acct_calls.specs.CodePoints.{code_points};
 
 use std::alloc::AllocError;
 
-/// The first code point of some UTF-16 units, and the units behind it.
+/// The first code point of some UTF-16 units, and the units after it.
 #[derive(Clone, Copy)]
 pub struct FirstPoint<'a> {
     pub point: u32,

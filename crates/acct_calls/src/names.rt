@@ -57,7 +57,7 @@ impl Names {
         self.names.as_slice()
     }
 
-    /// Adds a name at the end. After want of memory the list is as it was.
+    /// Adds a name at the end. Where memory ran out the list is as it was.
     pub fn push(&mut self, name: Name) -> Result<(), NoMemory>
         ensures ok { OnOk result (self.new ≡ self.old ++ name ∷ []) }
         ensures err { OnErr result (self.new ≡ self.old) }

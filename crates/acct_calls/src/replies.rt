@@ -1,7 +1,7 @@
 // Replies of the two interfaces, and what they bring.
 use crate::{
-    DisplayRows, Handle, Info, Name, NamedList, Names, Places, PrivilegeSet, RidBitsList, RidNames,
-    Rids, SidRefs, Sids, Translated,
+    Bytes, DisplayRows, Handle, Info, Name, NamedList, Names, Places, PrivilegeSet, RidBitsList,
+    RidNames, Rids, SidRefs, Sids, Translated,
 };
 use dtyp_sid::Sid;
 
@@ -90,4 +90,6 @@ pub enum Outs {
         returned: u32,
         entries: DisplayRows,
     },
+    /// The bytes of a security descriptor.
+    Security(Option<Bytes>),
 }

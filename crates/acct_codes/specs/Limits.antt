@@ -60,3 +60,7 @@ most_translated_names = 1_000
 -- the most SIDs that are translated at once (MS-LSAT 2.2.17)
 abbrev pub most_translated_sids : ℕ
 most_translated_sids = 20_480
+
+-- the most bytes of a security descriptor that is set (MS-SAMR 2.2.3.11, MS-LSAD 2.2.2.5)
+abbrev pub most_descriptor : ℕ
+most_descriptor = 262_144

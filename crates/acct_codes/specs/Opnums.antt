@@ -7,6 +7,12 @@ use Rattle.std.specs.Prelude.{ℕ}
 abbrev pub samr_close_handle : ℕ
 samr_close_handle = 1
 
+abbrev pub samr_set_security_object : ℕ
+samr_set_security_object = 2
+
+abbrev pub samr_query_security_object : ℕ
+samr_query_security_object = 3
+
 abbrev pub samr_lookup_domain_in_sam_server : ℕ
 samr_lookup_domain_in_sam_server = 5
 
@@ -140,6 +146,12 @@ lsar_close = 0
 
 abbrev pub lsar_enumerate_privileges : ℕ
 lsar_enumerate_privileges = 2
+
+abbrev pub lsar_query_security_object : ℕ
+lsar_query_security_object = 3
+
+abbrev pub lsar_set_security_object : ℕ
+lsar_set_security_object = 4
 
 abbrev pub lsar_query_information_policy : ℕ
 lsar_query_information_policy = 7

@@ -25,7 +25,7 @@ pfc_last_frag = 0x02
 abbrev pub pfc_did_not_execute : ℕ
 pfc_did_not_execute = 0x20
 
--- an object UUID stands in front of the stub
+-- an object UUID stands before the stub
 abbrev pub pfc_object_uuid : ℕ
 pfc_object_uuid = 0x80
 

@@ -25,7 +25,7 @@ status_invalid_info_class = 0xC000_0003
 abbrev pub status_invalid_parameter : ℕ
 status_invalid_parameter = 0xC000_000D
 
--- memory was wanted
+-- memory ran out
 abbrev pub status_no_memory : ℕ
 status_no_memory = 0xC000_0017
 

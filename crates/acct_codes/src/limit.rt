@@ -3,7 +3,7 @@ ghost use Rattle.std.specs.Prelude.{◌≡◌};
 ghost use Rattle.acct_codes.specs.Limits.{least_fragment, most_fragment, most_stub, most_contexts};
 ghost use Rattle.acct_codes.specs.Limits.{most_domain_name, most_text, most_domain_subs, page_entry_cost, most_page};
 ghost use Rattle.acct_codes.specs.Limits.{most_searched, most_member_sids, most_rights, most_privileges};
-ghost use Rattle.acct_codes.specs.Limits.{most_translated_names, most_translated_sids};
+ghost use Rattle.acct_codes.specs.Limits.{most_translated_names, most_translated_sids, most_descriptor};
 
 /// MUST_RECV_FRAG_SIZE: the size of fragment that every receiver takes (C706 12.6.3.1).
 pub const LEAST_FRAGMENT: u16 = 1_432;
@@ -35,6 +35,8 @@ pub const MOST_PRIVILEGES: u32 = 1_000;
 pub const MOST_TRANSLATED_NAMES: u32 = 1_000;
 /// The most SIDs that are translated at once (MS-LSAT 2.2.17).
 pub const MOST_TRANSLATED_SIDS: u32 = 20_480;
+/// The most bytes of a security descriptor that is set (MS-SAMR 2.2.3.11, MS-LSAD 2.2.2.5).
+pub const MOST_DESCRIPTOR: u32 = 262_144;
 
 /// Each limit has its number.
 pub fn limits_are_set()
@@ -53,4 +55,5 @@ pub fn limits_are_set()
     ensures most_privileges { MOST_PRIVILEGES ≡ most_privileges }
     ensures most_translated_names { MOST_TRANSLATED_NAMES ≡ most_translated_names }
     ensures most_translated_sids { MOST_TRANSLATED_SIDS ≡ most_translated_sids }
+    ensures most_descriptor { MOST_DESCRIPTOR ≡ most_descriptor }
 {}

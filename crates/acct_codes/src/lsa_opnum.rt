@@ -10,12 +10,16 @@ ghost use Rattle.acct_codes.specs.Opnums.{lsar_delete_object, lsar_enumerate_acc
 ghost use Rattle.acct_codes.specs.Opnums.{lsar_enumerate_account_rights, lsar_add_account_rights};
 ghost use Rattle.acct_codes.specs.Opnums.{lsar_remove_account_rights, lsar_open_policy2};
 ghost use Rattle.acct_codes.specs.Opnums.{lsar_query_information_policy2, lsar_lookup_sids2, lsar_lookup_names2};
-ghost use Rattle.acct_codes.specs.Opnums.{lsar_lookup_names3};
+ghost use Rattle.acct_codes.specs.Opnums.{lsar_lookup_names3, lsar_query_security_object, lsar_set_security_object};
 
 /// LsarClose.
 pub const LSAR_CLOSE: u16 = 0;
 /// LsarEnumeratePrivileges.
 pub const LSAR_ENUMERATE_PRIVILEGES: u16 = 2;
+/// LsarQuerySecurityObject.
+pub const LSAR_QUERY_SECURITY_OBJECT: u16 = 3;
+/// LsarSetSecurityObject.
+pub const LSAR_SET_SECURITY_OBJECT: u16 = 4;
 /// LsarQueryInformationPolicy.
 pub const LSAR_QUERY_INFORMATION_POLICY: u16 = 7;
 /// LsarCreateAccount.
@@ -67,6 +71,8 @@ pub const LSAR_LOOKUP_NAMES3: u16 = 68;
 pub fn lsa_opnums_are_the_standards()
     ensures close { LSAR_CLOSE ≡ lsar_close }
     ensures enumerate_privileges { LSAR_ENUMERATE_PRIVILEGES ≡ lsar_enumerate_privileges }
+    ensures query_security_object { LSAR_QUERY_SECURITY_OBJECT ≡ lsar_query_security_object }
+    ensures set_security_object { LSAR_SET_SECURITY_OBJECT ≡ lsar_set_security_object }
     ensures query_information_policy { LSAR_QUERY_INFORMATION_POLICY ≡ lsar_query_information_policy }
     ensures create_account { LSAR_CREATE_ACCOUNT ≡ lsar_create_account }
     ensures enumerate_accounts { LSAR_ENUMERATE_ACCOUNTS ≡ lsar_enumerate_accounts }

@@ -16,7 +16,7 @@ pub const PFC_FIRST_FRAG: u8 = 0x01;
 pub const PFC_LAST_FRAG: u8 = 0x02;
 /// The call was not carried out.
 pub const PFC_DID_NOT_EXECUTE: u8 = 0x20;
-/// An object UUID stands in front of the stub.
+/// An object UUID stands before the stub.
 pub const PFC_OBJECT_UUID: u8 = 0x80;
 /// Integers with the low byte first, characters in ASCII.
 pub const DREP_LITTLE_ENDIAN_ASCII: u8 = 0x10;

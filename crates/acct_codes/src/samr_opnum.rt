@@ -17,10 +17,15 @@ ghost use Rattle.acct_codes.specs.Opnums.{samr_query_information_user, samr_set_
 ghost use Rattle.acct_codes.specs.Opnums.{samr_get_groups_for_user, samr_query_information_domain2};
 ghost use Rattle.acct_codes.specs.Opnums.{samr_query_information_user2, samr_create_user2_in_domain, samr_connect2};
 ghost use Rattle.acct_codes.specs.Opnums.{samr_set_information_user2, samr_connect4, samr_connect5, samr_rid_to_sid};
-ghost use Rattle.acct_codes.specs.Opnums.{samr_query_display_information};
+ghost use Rattle.acct_codes.specs.Opnums.{samr_query_display_information, samr_set_security_object};
+ghost use Rattle.acct_codes.specs.Opnums.{samr_query_security_object};
 
 /// SamrCloseHandle.
 pub const SAMR_CLOSE_HANDLE: u16 = 1;
+/// SamrSetSecurityObject.
+pub const SAMR_SET_SECURITY_OBJECT: u16 = 2;
+/// SamrQuerySecurityObject.
+pub const SAMR_QUERY_SECURITY_OBJECT: u16 = 3;
 /// SamrLookupDomainInSamServer.
 pub const SAMR_LOOKUP_DOMAIN_IN_SAM_SERVER: u16 = 5;
 /// SamrEnumerateDomainsInSamServer.
@@ -109,6 +114,8 @@ pub const SAMR_RID_TO_SID: u16 = 65;
 /// Each operation number of the account database is the one of the standard (MS-SAMR 3.1.5).
 pub fn samr_opnums_are_the_standards()
     ensures close_handle { SAMR_CLOSE_HANDLE ≡ samr_close_handle }
+    ensures set_security_object { SAMR_SET_SECURITY_OBJECT ≡ samr_set_security_object }
+    ensures query_security_object { SAMR_QUERY_SECURITY_OBJECT ≡ samr_query_security_object }
     ensures lookup_domain { SAMR_LOOKUP_DOMAIN_IN_SAM_SERVER ≡ samr_lookup_domain_in_sam_server }
     ensures enumerate_domains { SAMR_ENUMERATE_DOMAINS_IN_SAM_SERVER ≡ samr_enumerate_domains_in_sam_server }
     ensures open_domain { SAMR_OPEN_DOMAIN ≡ samr_open_domain }

@@ -26,7 +26,7 @@ pub const STATUS_NO_MORE_ENTRIES: u32 = 0x8000_001A;
 pub const STATUS_INVALID_INFO_CLASS: u32 = 0xC000_0003;
 /// An argument is refused.
 pub const STATUS_INVALID_PARAMETER: u32 = 0xC000_000D;
-/// Memory was wanted.
+/// Memory ran out.
 pub const STATUS_NO_MEMORY: u32 = 0xC000_0017;
 /// The access is not granted.
 pub const STATUS_ACCESS_DENIED: u32 = 0xC000_0022;

@@ -10,7 +10,7 @@ use Rattle.acct_layouts.specs.Bounds.{IsDomain, IsHandle, IsAccount, IsListed, I
 use Rattle.acct_layouts.specs.Bounds.{IsDisplayedGroup, IsDisplayedUser}
 use Rattle.acct_layouts.specs.Bounds.{IsTranslatedName, IsTranslatedSid, IsSidRef}
 use Rattle.acct_layouts.specs.CallShapes.{AreArguments, AreConnectArgs, ArePlainArgs, ArePolicyArgs, AreSearchArgs}
-use Rattle.acct_layouts.specs.CallShapes.{AreTranslationArgs, HasArguments, IsHandleOf, CanBeSpelled}
+use Rattle.acct_layouts.specs.CallShapes.{AreSecurityArgs, AreTranslationArgs, HasArguments, IsHandleOf, CanBeSpelled}
 use Rattle.acct_layouts.specs.Laws.{RefusalsHaveShape}
 use Rattle.acct_layouts.specs.Classes.{display_arm}
 use Rattle.acct_layouts.specs.Refusals.{context_of, display_class_of, refused_outs}
@@ -27,6 +27,8 @@ use Rattle.acct_layouts.specs.declared.fields.PolicyFields.{PolicyFields}
 use Rattle.acct_layouts.specs.declared.fields.PolicyFields.TheVariants as policies
 use Rattle.acct_layouts.specs.declared.fields.Search.{Search}
 use Rattle.acct_layouts.specs.declared.fields.Search.TheVariants as search
+use Rattle.acct_layouts.specs.declared.fields.SecurityFields.{SecurityFields}
+use Rattle.acct_layouts.specs.declared.fields.SecurityFields.TheVariants as security
 use Rattle.acct_layouts.specs.declared.fields.Translation.{Translation}
 use Rattle.acct_layouts.specs.declared.fields.Translation.TheVariants as translation
 use Rattle.acct_layouts.specs.declared.outputs.Listed.TheVariants as listed
@@ -61,6 +63,11 @@ no_translation translation.Names2 context filter preferred h = h
 no_translation translation.Sids2 context filter preferred h = h
 no_translation translation.Names3 context filter preferred h = h
 
+no_security : (s : SecurityFields) (context filter preferred : ℕ)
+    → AreSecurityArgs s (args.Page context filter preferred) → ⊥
+no_security security.Query context filter preferred h = h
+no_security security.Set context filter preferred h = h
+
 searched_context : (s : Search) (context filter preferred : ℕ) → AreSearchArgs s (args.Page context filter preferred)
     → IsLong context
 searched_context search.Page context filter preferred h = h.0
@@ -74,6 +81,7 @@ page_context (fields.Scalar p) context filter preferred h = absurd (no_plain p c
 page_context (fields.Search s) context filter preferred h = searched_context s context filter preferred h
 page_context (fields.Policy p) context filter preferred h = absurd (no_policy p context filter preferred h)
 page_context (fields.Translation t) context filter preferred h = absurd (no_translation t context filter preferred h)
+page_context (fields.Security s) context filter preferred h = absurd (no_security s context filter preferred h)
 page_context _ context filter preferred h = absurd h
 
 context_is_long : (f : Fields) (a : Args) → AreArguments f a → IsLong (context_of a)
@@ -103,6 +111,11 @@ no_translation_of translation.Names2 class index count preferred h = h
 no_translation_of translation.Sids2 class index count preferred h = h
 no_translation_of translation.Names3 class index count preferred h = h
 
+no_security_of : (s : SecurityFields) (class index count preferred : ℕ)
+    → AreSecurityArgs s (args.Display class index count preferred) → ⊥
+no_security_of security.Query class index count preferred h = h
+no_security_of security.Set class index count preferred h = h
+
 searched_class : (s : Search) (class index count preferred : ℕ)
     → AreSearchArgs s (args.Display class index count preferred) → class < 2 ^ 16
 searched_class search.Display class index count preferred h = h.0
@@ -116,6 +129,7 @@ asked_class (fields.Search s) class index count preferred h = searched_class s c
 asked_class (fields.Policy p) class index count preferred h = absurd (no_policy_of p class index count preferred h)
 asked_class (fields.Translation t) class index count preferred h =
     absurd (no_translation_of t class index count preferred h)
+asked_class (fields.Security s) class index count preferred h = absurd (no_security_of s class index count preferred h)
 asked_class _ class index count preferred h = absurd h
 
 class_is_short : (f : Fields) (a : Args) → AreArguments f a → display_class_of a < 2 ^ 16
@@ -172,6 +186,7 @@ are_outputs (outputs.Translation translation.Sids2) a h long short fits =
     (no_elements IsDomain, no_elements IsTranslatedName, lit< tt)
 are_outputs (outputs.Translation translation.Names3) a h long short fits =
     (no_elements IsDomain, no_elements IsSidRef, lit< tt)
+are_outputs outputs.Security a h long short fits = tt
 
 no_domains : (o : Outputs) (a : Args) (h : Handle) → domains_of (refused_outs o a h) ≡ []
 no_domains (outputs.Scalar scalar.Nothing) a h = refl
@@ -202,6 +217,7 @@ no_domains (outputs.Translation translation.Sids) a h = refl
 no_domains (outputs.Translation translation.Names2) a h = refl
 no_domains (outputs.Translation translation.Sids2) a h = refl
 no_domains (outputs.Translation translation.Names3) a h = refl
+no_domains outputs.Security a h = refl
 
 -- ---- whole replies
 

@@ -21,6 +21,10 @@ IsHandle handle = handle.number < 2 ^ 128
 abbrev pub IsLong : ℕ → Type 0
 IsLong n = n < 2 ^ 32
 
+-- a byte
+abbrev pub IsSmall : ℕ → Type 0
+IsSmall n = n < 2 ^ 8
+
 -- A text's length in bytes has 16 bits and is even.
 abbrev pub IsText : List ℕ → Type 0
 IsText units = (length units ≤ 32767) × All (λ unit. unit < 2 ^ 16) units

@@ -8,10 +8,10 @@ use Rattle.acct_calls.specs.declared.calls.Call.{Call}
 use Rattle.acct_calls.specs.declared.handle.Handle.{Handle}
 use Rattle.acct_calls.specs.declared.info.Info.{Info}
 use Rattle.acct_calls.specs.declared.info.Info.TheVariants as info
-use Rattle.acct_codes.specs.Limits.{most_searched, most_member_sids, most_rights}
+use Rattle.acct_codes.specs.Limits.{most_descriptor, most_searched, most_member_sids, most_rights}
 use Rattle.acct_codes.specs.Limits.{most_translated_names, most_translated_sids}
 use Rattle.acct_codes.specs.UserControl.{user_normal_account}
-use Rattle.acct_layouts.specs.Bounds.{IsHandle, IsLong, IsText, IsPrivilegeSet, IfThere}
+use Rattle.acct_layouts.specs.Bounds.{IsHandle, IsLong, IsSmall, IsText, IsPrivilegeSet, IfThere}
 use Rattle.acct_layouts.specs.Classes.{set_arm, is_password_class}
 use Rattle.acct_layouts.specs.InfoShapes.{IsValue}
 use Rattle.acct_layouts.specs.Table.{layout_of}
@@ -29,6 +29,8 @@ use Rattle.acct_layouts.specs.declared.fields.PolicyFields.{PolicyFields}
 use Rattle.acct_layouts.specs.declared.fields.PolicyFields.TheVariants as policy
 use Rattle.acct_layouts.specs.declared.fields.Search.{Search}
 use Rattle.acct_layouts.specs.declared.fields.Search.TheVariants as search
+use Rattle.acct_layouts.specs.declared.fields.SecurityFields.{SecurityFields}
+use Rattle.acct_layouts.specs.declared.fields.SecurityFields.TheVariants as security
 use Rattle.acct_layouts.specs.declared.fields.Translation.{Translation}
 use Rattle.acct_layouts.specs.declared.fields.Translation.TheVariants as translation
 use Rattle.acct_layouts.specs.declared.table.Layout.{Layout}
@@ -103,6 +105,13 @@ AreTranslationArgs translation.Names2 a = AreNamesAsked a
 AreTranslationArgs translation.Sids2 a = AreSidsAsked a
 AreTranslationArgs translation.Names3 a = AreNamesAsked a
 
+-- A descriptor that is set has at most 262,144 bytes.
+abbrev pub AreSecurityArgs : SecurityFields → Args → Type 0
+AreSecurityArgs security.Query (args.Bits info) = IsLong info
+AreSecurityArgs security.Set (args.Security info bytes) =
+    IsLong info × (length bytes ≤ most_descriptor) × All IsSmall bytes
+AreSecurityArgs _ _ = ⊥
+
 -- A class has 16 bits, and none that carries a password is served.
 abbrev pub IsClass : Subject → ℕ → Type 0
 IsClass s class = (class < 2 ^ 16) × (is_password_class s class ≡ false)
@@ -121,6 +130,7 @@ AreArguments (fields.Class s) (args.Class class) = IsClass s class
 AreArguments (fields.Put s) (args.Put class value) = IsClass s class × IsPut (set_arm s class) value
 AreArguments (fields.Policy p) a = ArePolicyArgs p a
 AreArguments (fields.Translation t) a = AreTranslationArgs t a
+AreArguments (fields.Security s) a = AreSecurityArgs s a
 AreArguments _ _ = ⊥
 
 -- An opening of the server or of the policy brings the zero handle.

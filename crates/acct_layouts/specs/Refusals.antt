@@ -77,3 +77,4 @@ refused_outs (outputs.Listed l) a h = refused_lists l a
 refused_outs (outputs.Shown s) a h = outs.Shown 0 None
 refused_outs (outputs.Policy p) a h = refused_policy p a
 refused_outs (outputs.Translation t) a h = refused_translation t
+refused_outs outputs.Security a h = outs.Security None

@@ -10,7 +10,7 @@ use Rattle.acct_calls.specs.declared.replies.Outs.{Outs}
 use Rattle.acct_calls.specs.declared.replies.Outs.TheVariants as outs
 use Rattle.acct_calls.specs.declared.replies.Reply.{Reply}
 use Rattle.acct_calls.specs.declared.replies.Reply.TheVariants as reply
-use Rattle.acct_layouts.specs.Bounds.{IsAccount, IsDomain, IsHandle, IsLong, IsMember, IsPrivilegeSet, IsText}
+use Rattle.acct_layouts.specs.Bounds.{IsAccount, IsDomain, IsHandle, IsLong, IsMember, IsPrivilegeSet, IsSmall, IsText}
 use Rattle.acct_layouts.specs.Bounds.{IsTranslatedName, IsTranslatedSid, IsSidRef, IsDisplayedUser, IsDisplayedGroup}
 use Rattle.acct_layouts.specs.Bounds.{IfThere, IsListed}
 use Rattle.acct_layouts.specs.Classes.{display_arm, shown_arm}
@@ -32,9 +32,9 @@ use Rattle.acct_layouts.specs.declared.outputs.PolicyOutputs.{PolicyOutputs}
 use Rattle.acct_layouts.specs.declared.outputs.PolicyOutputs.TheVariants as policy
 use Rattle.acct_layouts.specs.declared.table.Layout.{Layout}
 
--- A handle's number is below 2^128 (IsHandle), other numbers are below 2^32 (IsLong). A text has at most 32,767 units,
--- each below 2^16 (IsText), a list fewer than 2^32 elements of a kind (IsListed). What a pointer may leave out is of
--- its kind where it is there (IfThere).
+-- A handle's number is below 2^128 (IsHandle), a byte below 2^8 (IsSmall), other numbers are below 2^32 (IsLong). A
+-- text has at most 32,767 units, each below 2^16 (IsText), a list fewer than 2^32 elements of a kind (IsListed). What a
+-- pointer may leave out is of its kind where it is there (IfThere).
 
 abbrev pub ArePlain : ScalarOutputs → Outs → Type 0
 ArePlain scalar.Nothing outs.Nothing = Unit {0}
@@ -108,12 +108,18 @@ AreTranslated translation.Names2 o = AreNamesTranslated o
 AreTranslated translation.Sids2 o = AreSidsTranslated o
 AreTranslated translation.Names3 o = AreNamesWithSids o
 
+-- the bytes of a descriptor
+abbrev pub AreSecurity : Outs → Type 0
+AreSecurity (outs.Security bytes) = IfThere (IsListed IsSmall) bytes
+AreSecurity _ = ⊥
+
 abbrev pub AreOutputs : Outputs → Outs → Type 0
 AreOutputs (outputs.Scalar p) o = ArePlain p o
 AreOutputs (outputs.Listed l) o = AreLists l o
 AreOutputs (outputs.Shown s) o = AreShown s o
 AreOutputs (outputs.Policy p) o = ArePolicyOuts p o
 AreOutputs (outputs.Translation t) o = AreTranslated t o
+AreOutputs outputs.Security o = AreSecurity o
 
 -- the domains that a translation refers to
 abbrev pub domains_of : Outs → List ReferencedDomain

@@ -1,4 +1,4 @@
-// What a call brings behind its handle: the layouts of its fields.
+// What a call brings after its handle: the layouts of its fields.
 use crate::classes::Subject;
 
 /// The fields of an opening of the server or of the policy, which takes no handle.
@@ -69,7 +69,16 @@ pub enum Translation {
     Names3,
 }
 
-/// The fields of a call behind its handle.
+/// Fields that speak of the security descriptor of an object.
+#[derive(Clone, Copy, Debug, PartialEq, Eq)]
+pub enum SecurityFields {
+    /// Which of its parts are asked for.
+    Query,
+    /// Which of its parts are set, and a descriptor that has them.
+    Set,
+}
+
+/// The fields of a call after its handle.
 #[derive(Clone, Copy, Debug, PartialEq, Eq)]
 pub enum Fields {
     Connect(Connect),
@@ -82,4 +91,5 @@ pub enum Fields {
     Put(Subject),
     Policy(PolicyFields),
     Translation(Translation),
+    Security(SecurityFields),
 }

@@ -10,7 +10,7 @@ pub enum ScalarOutputs {
     Handle,
     /// The handle that the call brought, which is sent in and out.
     HandleBack,
-    /// The handle that a connection opens, behind what the server is.
+    /// The handle that a connection opens, after what the server is.
     Connected,
     /// The handle of a new account, and its relative identifier.
     Created,
@@ -55,4 +55,6 @@ pub enum Outputs {
     Shown(Subject),
     Policy(PolicyOutputs),
     Translation(Translation),
+    /// A security descriptor.
+    Security,
 }

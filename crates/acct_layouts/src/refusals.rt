@@ -138,5 +138,6 @@ pub fn refused_outs(alloc: Global, outputs: Outputs, args: &Args, handle: Handle
         },
         Outputs::Policy(policy) => refused_policy(alloc, policy, args),
         Outputs::Translation(translation) => refused_translation(alloc, translation),
+        Outputs::Security => Outs::Security(None),
     }
 }

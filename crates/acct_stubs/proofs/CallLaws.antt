@@ -159,6 +159,8 @@ class_read w (fields.Policy p) h a stub end s =
     nothing_withheld (fields.Policy p) (λ class. refl) (class_behind.read (start stub))
 class_read w (fields.Translation t) h a stub end s =
     nothing_withheld (fields.Translation t) (λ class. refl) (class_behind.read (start stub))
+class_read w (fields.Security p) h a stub end s =
+    nothing_withheld (fields.Security p) (λ class. refl) (class_behind.read (start stub))
 class_read w (fields.Class k) h a stub end s =
     let there = class_there (fields.Class k) h s.2.0 stub s.0 end s.1 s.2.1 in
     subst (λ (b : Args). TellsClass (fields.Class k) stub b) s.2.2 there

@@ -1,4 +1,4 @@
--- The calls that can be spelled are those that the codecs of their operations can write, and whose class carries no
+-- The calls that can be encoded are those that the codecs of their operations can write, and whose class carries no
 -- password.
 use Rattle.std.proofs.Common.{◌≡◌, ℕ, ◌^◌, ◌<◌, ◌≤◌, true, false, ◌||◌, All, List, length, Option, Some, None, refl}
 use Rattle.std.proofs.Common.{sym, ap, subst, ◌∙◌, arith, lit<}
@@ -33,6 +33,7 @@ use Rattle.ndr_types.specs.Sids.{sid_pointer}
 use Rattle.ndr_types.specs.Texts.{text}
 use Rattle.acct_stubs.proofs.Asked.{sought_count}
 use Rattle.acct_stubs.proofs.InfoValues.{set_fits, set_kind}
+use Rattle.acct_stubs.proofs.SecurityValues.{security_fits, security_kind}
 use Rattle.acct_stubs.proofs.Shared.{layouts_of_their_face}
 use Rattle.acct_stubs.specs.Arguments.{arguments, plain_args, searched, sought}
 use Rattle.acct_stubs.specs.Calls.{IsCallOf, carries_password, stub_of}
@@ -116,7 +117,7 @@ search_fits search.Rids (args.RidList rids) is = (sought_fits (flat u32) long_ha
 search_fits search.Display (args.Display class index count preferred) is = ((is.0, (is.1, (is.2, is.3))), refl)
 search_fits _ _ is = absurd is
 
--- ---- what stands behind the handle
+-- ---- what stands after the handle
 
 -- the class that arguments bring
 abbrev pub class_of : Args → ℕ
@@ -128,7 +129,7 @@ class_of _ = 0
 abbrev pub IsFree : Fields → Args → Type 0
 IsFree f a = carries_password f (class_of a) ≡ false
 
--- Arguments that can be spelled bring no such class.
+-- Arguments that can be encoded bring no such class.
 are_free : (f : Fields) (a : Args) → AreArguments f a → IsFree f a
 are_free (fields.Connect c) a is = refl
 are_free (fields.Scalar p) a is = refl
@@ -136,6 +137,7 @@ are_free (fields.Search s) a is = refl
 are_free (fields.Creation c) a is = refl
 are_free (fields.Policy p) a is = refl
 are_free (fields.Translation t) a is = refl
+are_free (fields.Security s) a is = refl
 are_free (fields.Class s) (args.Class class) is = is.1
 are_free (fields.Put s) (args.Put class value) is = is.0.1
 are_free _ _ is = absurd is
@@ -152,6 +154,7 @@ arguments_kind w l (fields.Put s) (args.Put class value) fits free =
     ((fits.0.0, free), set_kind class (set_arm s class) value fits.0.1)
 arguments_kind w l (fields.Policy p) a fits free = l.kind (fields.Policy p) a fits
 arguments_kind w l (fields.Translation t) a fits free = l.kind (fields.Translation t) a fits
+arguments_kind w l (fields.Security s) a fits free = security_kind s a fits
 arguments_kind w l _ _ fits free = absurd (cc fits.1)
 
 abbrev IsFieldsOf : Wire → Fields → Type 0
@@ -169,6 +172,7 @@ arguments_fit w l (fields.Put s) (args.Put class value) own is =
     ((is.0.0, set_fits class (set_arm s class) value is.0.0 is.1), refl)
 arguments_fit w l (fields.Policy p) a own is = l.fits (fields.Policy p) a own is
 arguments_fit w l (fields.Translation t) a own is = l.fits (fields.Translation t) a own is
+arguments_fit w l (fields.Security s) a own is = security_fits s a is
 arguments_fit w l _ _ own is = absurd is
 
 -- ---- whole calls
@@ -192,6 +196,8 @@ stub_kind w l (fields.Policy p) h a fits free =
     ((handle_values h).0 fits.0, arguments_kind w l (fields.Policy p) a fits.1 free)
 stub_kind w l (fields.Translation t) h a fits free =
     ((handle_values h).0 fits.0, arguments_kind w l (fields.Translation t) a fits.1 free)
+stub_kind w l (fields.Security s) h a fits free =
+    ((handle_values h).0 fits.0, arguments_kind w l (fields.Security s) a fits.1 free)
 
 stub_fits : (w : Wire) (f : Fields) (h : Handle) (a : Args) → IsHandleOf f h → (arguments w f).Fits a
     → (stub_of w f).Fits (h, a)
@@ -204,6 +210,7 @@ stub_fits w (fields.Class s) h a is fits = ((handle_values h).1 is, fits)
 stub_fits w (fields.Put s) h a is fits = ((handle_values h).1 is, fits)
 stub_fits w (fields.Policy p) h a is fits = ((handle_values h).1 is, fits)
 stub_fits w (fields.Translation t) h a is fits = ((handle_values h).1 is, fits)
+stub_fits w (fields.Security s) h a is fits = ((handle_values h).1 is, fits)
 
 -- what the layout's codec can write
 abbrev pub FieldsFit : Wire → Option Layout → Call → Type 0

@@ -33,6 +33,7 @@ use Rattle.ndr_types.proofs.Texts.{text_has}
 use Rattle.ndr_types.specs.Handles.{handle}
 use Rattle.ndr_types.specs.Sids.{sid_pointer}
 use Rattle.ndr_types.specs.Texts.{text, text_tail}
+use Rattle.acct_stubs.proofs.SecurityValues.{security_complete}
 use Rattle.acct_stubs.specs.Arguments.{access_rid_in, access_sid_in, arguments, class_in, filtered_page_in, name_in}
 use Rattle.acct_stubs.specs.Arguments.{names_in, page_in, plain_args, put_in, rid_bits_in, rid_in, rids_in, searched}
 use Rattle.acct_stubs.specs.Arguments.{display_in, sid_in, sids_in, sought}
@@ -72,7 +73,7 @@ plain_complete plain.OpenAccount =
 
 -- ---- lists
 
--- what stands behind the count
+-- what stands after the count
 abbrev after_count : {S A : Type 0} → Part S A → ℕ → Codec (List A)
 after_count p count =
     ignored most_searched (u32_such (λ maximum. nat_le count maximum))
@@ -228,6 +229,7 @@ arguments_complete w l (fields.Put s) =
     made_complete (λ x. args.Put x.0 x.1) put_in (class_set_complete s) (λ x h. (h, refl))
 arguments_complete w l (fields.Policy p) = own_complete w l (fields.Policy p)
 arguments_complete w l (fields.Translation t) = own_complete w l (fields.Translation t)
+arguments_complete w l (fields.Security s) = security_complete s
 
 behind_handle : (w : Wire) → IsLawful w → (f : Fields) → IsComplete (chain handle (λ _. arguments w f))
 behind_handle w l f = chain_complete handle_complete (λ x h. arguments_complete w l f)
@@ -243,3 +245,4 @@ stub_complete w l (fields.Class s) = behind_handle w l (fields.Class s)
 stub_complete w l (fields.Put s) = behind_handle w l (fields.Put s)
 stub_complete w l (fields.Policy p) = behind_handle w l (fields.Policy p)
 stub_complete w l (fields.Translation t) = behind_handle w l (fields.Translation t)
+stub_complete w l (fields.Security s) = behind_handle w l (fields.Security s)

@@ -40,6 +40,7 @@ use Rattle.ndr_types.specs.Texts.{text}
 use Rattle.acct_stubs.proofs.Complete.{value_complete}
 use Rattle.acct_stubs.proofs.DisplayValues.{displayed_complete}
 use Rattle.acct_stubs.proofs.MemberLists.{members_complete}
+use Rattle.acct_stubs.proofs.SecurityValues.{outs_complete}
 use Rattle.acct_stubs.specs.Calls.{start}
 use Rattle.acct_stubs.specs.Infos.{class_shown, is_named, named_value, shown_of, shown_parts}
 use Rattle.acct_stubs.specs.Lawful.{IsLawful}
@@ -143,7 +144,7 @@ status_complete : {o : Codec Outs} → IsComplete o → IsComplete (with_status 
 unfolding with_status
 status_complete p = made_complete done_of parts_of_reply (chain_complete p (λ x h. u32_complete)) (λ x h. (h, refl))
 
--- What a stub spells can be written, but for a refusal that refers to a domain.
+-- What a stub spells can be written, except a refusal that refers to a domain.
 pub reply_writable : (w : Wire) → IsLawful w → (o : Outputs) (r : Reply) (start end : Cursor) → IsBytes start.stub
     → (reply_stub w o).Spells r start end → RefersRightly r → (reply_stub w o).Fits r
 unfolding reply_stub
@@ -157,6 +158,8 @@ reply_writable w l (outputs.Policy p) r start end bytes s refers =
     l.writable_reply (outputs.Policy p) r start end bytes s refers
 reply_writable w l (outputs.Translation t) r start end bytes s refers =
     l.writable_reply (outputs.Translation t) r start end bytes s refers
+reply_writable w l outputs.Security r start end bytes s refers =
+    (status_complete outs_complete).fits r start end bytes s
 
 -- What a stub spells can be written, where both interfaces have the outputs.
 pub shared_writable : (w : Wire) (o : Outputs) → shared_outputs o ≡ true → IsComplete (reply_stub w o)
@@ -164,4 +167,5 @@ unfolding reply_stub
 shared_writable w (outputs.Scalar p) e = status_complete (scalar_complete p)
 shared_writable w (outputs.Listed l) e = status_complete (listed_complete l)
 shared_writable w (outputs.Shown s) e = status_complete (shown_complete s)
+shared_writable w outputs.Security e = status_complete outs_complete
 shared_writable w _ e = absurd cc

@@ -9,4 +9,5 @@ pub mod MemberLists
 pub mod Onward
 pub mod ReplyLaws
 pub mod ReplyValues
+pub mod SecurityValues
 pub mod Shared

@@ -1,4 +1,4 @@
--- Reading a stub goes onward, and so wants no memory: of each layout, from the shapes that it is made of.
+-- Reading a stub goes onward, and so takes no memory: of each layout, from the shapes that it is made of.
 use Rattle.std.proofs.Common.{◌≡◌, ℕ, Bool, true, false, cond, List, [], length, Option, Some, None, Result, Ok, Err}
 use Rattle.std.proofs.Common.{arith}
 use Rattle.ndr_core.specs.Codec.{Codec}
@@ -50,6 +50,7 @@ use Rattle.ndr_types.specs.Sids.{sid, sid_pointer}
 use Rattle.ndr_types.specs.Texts.{text, text_tail}
 use Rattle.acct_stubs.specs.Arguments.{arguments, plain_args, searched, sought}
 use Rattle.acct_stubs.proofs.DisplayValues.{displayed_onward}
+use Rattle.acct_stubs.proofs.SecurityValues.{outs_onward, security_onward}
 use Rattle.acct_stubs.specs.Calls.{NoCallWantsMemory, call_at, call_in, call_read, is_withheld, start, stub_of}
 use Rattle.acct_stubs.specs.Infos.{class_set, class_shown, empty_text, named_value, set_value, value_of}
 use Rattle.acct_stubs.specs.Lawful.{IsLawful}
@@ -248,6 +249,7 @@ arguments_onward w l (fields.Class s) = takes_made 0 _ _ short
 arguments_onward w l (fields.Put s) = takes_made 0 _ _ (class_set_onward s)
 arguments_onward w l (fields.Policy p) = own_onward w l (fields.Policy p)
 arguments_onward w l (fields.Translation t) = own_onward w l (fields.Translation t)
+arguments_onward w l (fields.Security s) = security_onward s
 
 behind_handle : (w : Wire) → IsLawful w → (f : Fields) → Takes 0 (chain handle (λ _. arguments w f))
 behind_handle w l f = takes_chain 0 handle_onward (λ x. arguments_onward w l f)
@@ -262,6 +264,7 @@ stub_onward w l (fields.Class s) = behind_handle w l (fields.Class s)
 stub_onward w l (fields.Put s) = behind_handle w l (fields.Put s)
 stub_onward w l (fields.Policy p) = behind_handle w l (fields.Policy p)
 stub_onward w l (fields.Translation t) = behind_handle w l (fields.Translation t)
+stub_onward w l (fields.Security s) = behind_handle w l (fields.Security s)
 
 pub reply_onward : (w : Wire) → IsLawful w → (o : Outputs) → Takes 0 (reply_stub w o)
 unfolding reply_stub
@@ -270,8 +273,9 @@ reply_onward w l (outputs.Listed k) = status_onward (listed_onward k)
 reply_onward w l (outputs.Shown s) = status_onward (shown_onward s)
 reply_onward w l (outputs.Policy p) = own_reply w l (outputs.Policy p)
 reply_onward w l (outputs.Translation t) = own_reply w l (outputs.Translation t)
+reply_onward w l outputs.Security = status_onward outs_onward
 
--- ---- no want of memory
+-- ---- memory doesn't run out
 
 calls_want_none : (face : Face) (opnum : ℕ) (r : Result ((Handle × Args) × Cursor) NdrError) → Onward 0 0 r
     → call_read face opnum r ≡ Err Memory → ⊥

@@ -13,7 +13,7 @@ use Rattle.acct_calls.specs.declared.replies.Reply.{Reply}
 use Rattle.acct_calls.specs.declared.replies.Reply.TheVariants as reply
 use Rattle.acct_layouts.specs.Bounds.{IfThere, IsAccount, IsListed, IsLong, IsMember}
 use Rattle.acct_layouts.specs.ReplyShapes.{AreLists, AreOutputs, ArePlain, AreShown, HasOutputs, HasShape, IsReplyOf}
-use Rattle.acct_layouts.specs.ReplyShapes.{RefersRightly, domains_of}
+use Rattle.acct_layouts.specs.ReplyShapes.{AreSecurity, RefersRightly, domains_of}
 use Rattle.acct_layouts.specs.Table.{layout_of}
 use Rattle.acct_layouts.specs.declared.classes.Subject.{Subject}
 use Rattle.acct_layouts.specs.declared.outputs.Listed.{Listed}
@@ -40,6 +40,7 @@ use Rattle.acct_stubs.proofs.InfoValues.{class_fits, class_kind}
 use Rattle.acct_layouts.specs.Classes.{display_arm}
 use Rattle.acct_stubs.specs.Displayed.{displayed}
 use Rattle.acct_stubs.proofs.MemberLists.{members_values}
+use Rattle.acct_stubs.proofs.SecurityValues.{outs_fit, outs_kind, outs_refer}
 use Rattle.acct_stubs.proofs.Shared.{layouts_of_their_face}
 use Rattle.acct_stubs.specs.Lawful.{IsLawful}
 use Rattle.acct_stubs.specs.Members.{members}
@@ -219,6 +220,8 @@ reply_kind w l (outputs.Shown s) r f =
     is_reply (outputs.Shown s) (shown_refers s) r (status_kind _ {P = AreShown s} (shown_kind s) r f)
 reply_kind w l (outputs.Policy p) r f = l.reply_kind (outputs.Policy p) r f
 reply_kind w l (outputs.Translation t) r f = l.reply_kind (outputs.Translation t) r f
+reply_kind w l outputs.Security r f =
+    is_reply outputs.Security outs_refer r (status_kind _ {P = AreSecurity} outs_kind r f)
 
 abbrev AreOutputsOf : Wire → Outputs → Type 0
 AreOutputsOf w o = shared_outputs o || own_outputs w.face o ≡ true
@@ -234,6 +237,8 @@ reply_fits w l (outputs.Shown s) r own is =
     status_fits _ {P = AreShown s} (shown_fits s) r (has_status (outputs.Shown s) r is)
 reply_fits w l (outputs.Policy p) r own is = l.reply_fits (outputs.Policy p) r own is
 reply_fits w l (outputs.Translation t) r own is = l.reply_fits (outputs.Translation t) r own is
+reply_fits w l outputs.Security r own is =
+    status_fits _ {P = AreSecurity} outs_fit r (has_status outputs.Security r is)
 
 -- what the layout's codec can write
 abbrev pub OutputsFit : Wire → Option Layout → Reply → Type 0

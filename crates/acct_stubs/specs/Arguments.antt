@@ -1,4 +1,4 @@
--- What stands behind the handle in the stubs of calls: the fields of each layout that both interfaces have, as they
+-- What stands after the handle in the stubs of calls: the fields of each layout that both interfaces have, as they
 -- stand in the IDL, and the arguments that they make.
 use Rattle.std.specs.Prelude.{ℕ, Some, List, [], length, ◌==◌, nat_le}
 use Rattle.ndr_core.specs.Codec.{Codec}
@@ -21,6 +21,7 @@ use Rattle.ndr_types.specs.Lists.{sid_list}
 use Rattle.ndr_types.specs.Sids.{sid}
 use Rattle.ndr_types.specs.Texts.{text}
 use Rattle.acct_stubs.specs.Infos.{class_set, no_sid}
+use Rattle.acct_stubs.specs.Security.{security_args}
 use Rattle.acct_stubs.specs.Wire.{Wire}
 
 -- ---- what is written for arguments: their parts, in the fields' order
@@ -124,12 +125,13 @@ searched search.Display =
     made (λ (class, (index, (count, preferred))). args.Display class index count preferred) display_in
     (chain u16 (λ _. chain u32 (λ _. chain u32 (λ _. u32))))
 
--- behind the handle, if the operation takes one
+-- after the handle, if the operation takes one
 unfoldable pub arguments : Wire → Fields → Codec Args
 arguments w (fields.Scalar p) = plain_args p
 arguments w (fields.Search s) = searched s
 arguments w (fields.Class s) = made args.Class class_in u16
 arguments w (fields.Put s) = made (λ (class, value). args.Put class value) put_in (class_set s)
+arguments w (fields.Security s) = security_args s
 -- what the interface has alone
 arguments w (fields.Connect c) = w.fields (fields.Connect c)
 arguments w (fields.Creation c) = w.fields (fields.Creation c)

@@ -31,7 +31,7 @@ use Rattle.acct_stubs.specs.declared.errors.WireError.TheVariants.{BadStub, Memo
 abbrev pub without_handle : Args → Handle × Args
 without_handle a = (handle_of 0, a)
 
--- the handle, but for an opening of the server, and what stands behind it
+-- the handle, except an opening of the server, and what stands after it
 unfoldable pub stub_of : Wire → Fields → Codec (Handle × Args)
 stub_of w (fields.Connect c) = made without_handle second (arguments w (fields.Connect c))
 stub_of w f = chain handle (λ _. arguments w f)
@@ -52,7 +52,7 @@ carries_password (fields.Class s) class = is_password_class s class
 carries_password (fields.Put s) class = is_password_class s class
 carries_password _ class = false
 
--- The class stands behind the handle, in bytes 20 and 21.
+-- The class stands after the handle, in bytes 20 and 21.
 unfoldable pub class_behind : Codec (Handle × ℕ)
 class_behind = chain handle (λ _. u16)
 
@@ -92,8 +92,8 @@ call_in w opnum (Some layout) stub =
 unfoldable pub call_at : Wire → ℕ → List ℕ → Result Call WireError
 call_at w opnum stub = call_in w opnum (layout_of w.face opnum) stub
 
--- ReadsAllIfRoom, of the family of Reads, of a whole stub, which has no cursor: value and refusal are this, and want of
--- memory may come anywhere.
+-- ReadsAllIfRoom, of the family of Reads, of a whole stub, which has no cursor: value and refusal are this, and
+-- memory may run out anywhere.
 abbrev pub ReadsAllIfRoom : {A : Type 0} → Result A WireError → Result A WireError → Type 0
 ReadsAllIfRoom (Err Memory) right = Unit {0}
 ReadsAllIfRoom result right = result ≡ right
@@ -116,7 +116,7 @@ spell w call = spelled_in w (layout_of w.face call.opnum) call
 abbrev pub IsSpelled : Wire → Call → Type 0
 IsSpelled w call = (stub : List ℕ) × IsBytes stub × IsServed w call.opnum stub × Spells w call stub
 
--- The call is of the interface, and can be spelled.
+-- The call is of the interface, and can be encoded.
 abbrev pub IsCallOf : Wire → Call → Type 0
 IsCallOf w call = (call.face ≡ w.face) × CanBeSpelled call
 
@@ -128,7 +128,7 @@ IsReadWhereSpelled w =
     (opnum : ℕ) (stub : List ℕ) (call : Call)
     → (call_at w opnum stub ≡ Ok call) ↔ ((call.opnum ≡ opnum) × IsServed w opnum stub × Spells w call stub)
 
--- No stub is read as a want of memory, which is the code's alone.
+-- No stub is read as out of memory, which the code alone may be.
 abbrev pub NoCallWantsMemory : Wire → Type 0
 NoCallWantsMemory w = (opnum : ℕ) (stub : List ℕ) → call_at w opnum stub ≢ Err Memory
 
@@ -138,7 +138,7 @@ HasOneCall w =
     (left right : Call) (stub : List ℕ) → left.opnum ≡ right.opnum → Spells w left stub → Spells w right stub
     → left ≡ right
 
--- The calls of the interface that can be spelled are exactly those that some served stub spells.
+-- The calls of the interface that can be encoded are exactly those that some served stub spells.
 abbrev pub AreTheSpelledCalls : Wire → Type 0
 AreTheSpelledCalls w = (call : Call) → IsCallOf w call ↔ IsSpelled w call
 

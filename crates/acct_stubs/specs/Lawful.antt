@@ -13,7 +13,7 @@ use Rattle.acct_stubs.specs.Shared.{are_own, own_outputs}
 use Rattle.acct_stubs.specs.Wire.{Wire}
 
 -- What some bytes spell can be written, and is of the layout's kind. What is of the kind can be written, where the
--- interface has the layout. Reading goes onward, and wants no memory. A refusal that refers to a domain may be spelled,
+-- interface has the layout. Reading goes onward, and takes no memory. A refusal that refers to a domain may be spelled,
 -- and isn't written.
 pub record IsLawful (w : Wire) : Type 0 where
   pub writable : (f : Fields) → IsWritable (w.fields f)

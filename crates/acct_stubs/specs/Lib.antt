@@ -1,6 +1,7 @@
 pub mod ServerNames
 pub mod Infos
 pub mod Displayed
+pub mod Security
 pub mod Members
 pub mod Wire
 pub mod Arguments

@@ -23,7 +23,7 @@ parted list = (map rid_of list, map bits_of list)
 abbrev pub pointer_for : ℕ → Codec Bool
 pointer_for count = pointer_such (λ there. there || (count == 0))
 
--- so many numbers behind the same count, where their pointer isn't null
+-- so many numbers after the same count, where their pointer isn't null
 abbrev pub numbers : ℕ → Bool → Codec (List ℕ)
 numbers count true = ignored count (u32_such (λ maximum. maximum == count)) (times count u32)
 numbers count false = given []
@@ -35,7 +35,7 @@ members_head = chain u32 (λ count. chain (pointer_for count) (λ _. pointer_for
 abbrev pub both_numbers : ℕ × (Bool × Bool) → Codec (List ℕ × List ℕ)
 both_numbers head = chain (numbers head.0 head.1.0) (λ _. numbers head.0 head.1.1)
 
--- The two arrays stand behind the structure, in the pointers' order. Where there is no member, both pointers are
+-- The two arrays stand after the structure, in the pointers' order. Where there is no member, both pointers are
 -- written as null.
 unfoldable pub members_buffer : Part (ℕ × (Bool × Bool)) (List RidBits)
 members_buffer = record {

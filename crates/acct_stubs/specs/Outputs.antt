@@ -30,6 +30,7 @@ use Rattle.ndr_types.specs.Sids.{sid}
 use Rattle.acct_stubs.specs.Displayed.{displayed}
 use Rattle.acct_stubs.specs.Infos.{class_shown}
 use Rattle.acct_stubs.specs.Members.{members}
+use Rattle.acct_stubs.specs.Security.{security_outs}
 use Rattle.acct_stubs.specs.Wire.{Wire}
 
 -- ---- what is written for outputs: their parts, in the fields' order
@@ -161,6 +162,7 @@ unfoldable pub reply_stub : Wire → Outputs → Codec Reply
 reply_stub w (outputs.Scalar p) = with_status (plain_outs p)
 reply_stub w (outputs.Listed l) = with_status (listed_outs l)
 reply_stub w (outputs.Shown s) = with_status (shown_outs s)
+reply_stub w outputs.Security = with_status security_outs
 -- what the interface has alone
 reply_stub w (outputs.Policy p) = w.replies (outputs.Policy p)
 reply_stub w (outputs.Translation t) = w.replies (outputs.Translation t)

@@ -51,7 +51,7 @@ abbrev pub IsReplyReadWhereSpelled : Wire → Type 0
 IsReplyReadWhereSpelled w =
     (opnum : ℕ) (stub : List ℕ) (r : Reply) → (reply_at w opnum stub ≡ Ok r) ↔ SpellsReply w opnum r stub
 
--- No stub is read as a want of memory, which is the code's alone.
+-- No stub is read as out of memory, which the code alone may be.
 abbrev pub NoReplyWantsMemory : Wire → Type 0
 NoReplyWantsMemory w = (opnum : ℕ) (stub : List ℕ) → reply_at w opnum stub ≢ Err Memory
 

@@ -18,8 +18,8 @@ no_name name = tt
 unfoldable pub server_name : Codec (Unit {0})
 server_name = made no_name (λ u. None) (whole (pointer_to string))
 
--- ReadsPast, of the family of Reads: of the value nothing is kept but the cursor behind it; refusal as of Reads, and
--- memory is never wanted.
+-- ReadsPast, of the family of Reads: of the value nothing is kept but the cursor after it; refusal as of Reads, and
+-- memory never runs out.
 abbrev pub ReadsPast : {A : Type 0} → Result (Unit {0}) NdrError → Cursor → Result (A × Cursor) NdrError → Type 0
 ReadsPast {A = A} (Ok u) after read = (x : A) × (read ≡ Ok (x, after))
 ReadsPast (Err e) after read = read ≡ Err e

@@ -17,6 +17,7 @@ are_shared (fields.Scalar p) = true
 are_shared (fields.Search s) = true
 are_shared (fields.Class s) = true
 are_shared (fields.Put s) = true
+are_shared (fields.Security s) = true
 are_shared _ = false
 
 abbrev pub opens_policy : Connect → Bool
@@ -46,6 +47,7 @@ abbrev pub shared_outputs : Outputs → Bool
 shared_outputs (outputs.Scalar p) = true
 shared_outputs (outputs.Listed l) = true
 shared_outputs (outputs.Shown s) = true
+shared_outputs outputs.Security = true
 shared_outputs _ = false
 
 -- a layout whose fields and outputs are shared or the interface's own

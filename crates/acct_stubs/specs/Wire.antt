@@ -6,7 +6,7 @@ use Rattle.acct_calls.specs.declared.replies.Reply.{Reply}
 use Rattle.acct_layouts.specs.declared.fields.Fields.{Fields}
 use Rattle.acct_layouts.specs.declared.outputs.Outputs.{Outputs}
 
--- An interface, what stands behind the handle in its calls, and its whole replies. Of a layout that it doesn't have
+-- An interface, what stands after the handle in its calls, and its whole replies. Of a layout that it doesn't have
 -- nothing is spelled.
 pub record Wire : Type 1 where
   pub face : Face

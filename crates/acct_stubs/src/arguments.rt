@@ -1,4 +1,4 @@
-// The fields of calls behind their handles.
+// The fields of calls after their handles.
 ghost use Rattle.std.specs.Prelude.{◌≡◌, All, OnOk};
 ghost use Rattle.acct_stubs.specs.Arguments.{arguments, plain_args, searched, sought};
 ghost use Rattle.ndr_types.specs.Outcomes.{ReadsIfRoom};
@@ -7,6 +7,7 @@ use crate::NoMemory;
 use crate::infos::{read_class_set, write_class_set};
 use crate::interface::Interface;
 use crate::numbers::read_wanted;
+use crate::security::{read_security_args, write_security_args};
 use acct_base::Seq;
 use acct_calls::{Args, Names};
 use acct_codes::limit::{MOST_MEMBER_SIDS, MOST_SEARCHED};
@@ -202,7 +203,7 @@ fn write_searched(to: &mut Out, layout: Search, args: &Args) -> Result<(), NoMem
     }
 }
 
-/// What stands in a stub behind the handle.
+/// What stands in a stub after the handle.
 #[tactic(auto, unfolding(crate::specs::Arguments::arguments))]
 pub fn read_arguments<I: Interface>(
     alloc: Global,
@@ -222,6 +223,7 @@ pub fn read_arguments<I: Interface>(
             let (class, value) = read_class_set(alloc, from, subject)?;
             Ok(Args::Put { class, value })
         }
+        Fields::Security(security) => read_security_args(alloc, from, security),
         Fields::Connect(_) => I::read_fields(alloc, from, fields),
         Fields::Creation(_) => I::read_fields(alloc, from, fields),
         Fields::Policy(_) => I::read_fields(alloc, from, fields),
@@ -229,7 +231,7 @@ pub fn read_arguments<I: Interface>(
     }
 }
 
-/// Writes what stands in a stub behind the handle.
+/// Writes what stands in a stub after the handle.
 #[tactic(auto, unfolding(crate::specs::Arguments::arguments))]
 pub fn write_arguments<I: Interface>(
     to: &mut Out,
@@ -254,6 +256,7 @@ pub fn write_arguments<I: Interface>(
             };
             write_class_set(to, subject, *class, value)
         }
+        Fields::Security(security) => write_security_args(to, security, args),
         Fields::Connect(_) => I::write_fields(to, fields, args),
         Fields::Creation(_) => I::write_fields(to, fields, args),
         Fields::Policy(_) => I::write_fields(to, fields, args),

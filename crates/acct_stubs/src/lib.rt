@@ -6,7 +6,7 @@
 //! these what `Lawful` says. The layers above use that for each such interface `read_call` gives the call exactly where
 //! the stub is served and a prefix of it spells the call, and else why there is none; that `write_call` and
 //! `write_reply` give the one written spelling; and that, by the laws, each is read again as the same value whatever
-//! bytes follow, no stub spells two calls or two replies of one opnum, and no definition wants memory.
+//! bytes follow, no stub spells two calls or two replies of one opnum, and no definition runs out of memory.
 #![tactic(auto)]
 
 mod arguments;
@@ -20,6 +20,7 @@ mod members;
 mod numbers;
 mod outputs;
 mod replies;
+mod security;
 mod server_name;
 
 pub use calls::{read_call, write_call};
@@ -28,5 +29,5 @@ pub use interface::Interface;
 pub use replies::{read_reply, write_reply};
 pub use server_name::{read_server_name, write_server_name};
 
-/// Want of memory, which is the only fault of the writers here.
+/// Running out of memory, which is the only fault of the writers here.
 pub type NoMemory = std::alloc::AllocError;

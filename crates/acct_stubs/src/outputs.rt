@@ -11,6 +11,7 @@ use crate::infos::{read_class_shown, write_class_shown};
 use crate::interface::Interface;
 use crate::members::{read_members, write_members};
 use crate::numbers::read_wanted;
+use crate::security::{read_security, write_security};
 use acct_calls::{Outs, Reply, RidBits};
 use acct_layouts::{Listed, Outputs, ScalarOutputs, Subject};
 use ndr_core::{In, NdrError, Out};
@@ -241,7 +242,7 @@ fn write_shown(to: &mut Out, subject: Subject, outs: &Outs) -> Result<(), NoMemo
     write_class_shown(to, subject, *class, value)
 }
 
-/// A value that was read, and the number behind it.
+/// A value that was read, and the number after it.
 fn with_number<T: Drop>(from: &mut In<'_>, value: T) -> Result<(T, u32), NdrError>
     ensures { Reads result from.new ((chain (given value) (λ _. u32)).read from.old) }
 {
@@ -262,6 +263,7 @@ pub fn read_done<I: Interface>(
         Outputs::Scalar(plain) => read_scalars(from, plain)?,
         Outputs::Listed(listed) => read_listed(alloc, from, listed)?,
         Outputs::Shown(subject) => read_shown(alloc, from, subject)?,
+        Outputs::Security => read_security(alloc, from)?,
         Outputs::Policy(_) => return I::read_reply(alloc, from, outputs),
         Outputs::Translation(_) => return I::read_reply(alloc, from, outputs),
     };
@@ -291,6 +293,7 @@ pub fn write_done<I: Interface>(
         Outputs::Scalar(plain) => write_scalars(to, plain, outs)?,
         Outputs::Listed(listed) => write_listed(to, listed, outs)?,
         Outputs::Shown(subject) => write_shown(to, subject, outs)?,
+        Outputs::Security => write_security(to, outs)?,
         _ => unreachable!(),
     }
     to.u32(*status)

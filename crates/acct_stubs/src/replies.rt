@@ -23,7 +23,7 @@ fn reply_in<I: Interface>(alloc: Global, opnum: u16, stub: &[u8]) -> Result<Repl
     Ok(read_done::<I>(alloc, &mut In::new(stub), layout.outputs)?)
 }
 
-/// The reply that a stub spells. Bytes behind it are taken. `NotServed` is answered exactly off the table; else
+/// The reply that a stub spells. Bytes after it are taken. `NotServed` is answered exactly off the table; else
 /// `BadStub` exactly where no prefix of the stub spells a reply, with the place of the first field that has no reading.
 pub fn read_reply<I: Interface>(alloc: Global, opnum: u16, stub: &[u8]) -> Result<Reply, WireError>
     // What is read is spelled.
@@ -32,7 +32,7 @@ pub fn read_reply<I: Interface>(alloc: Global, opnum: u16, stub: &[u8]) -> Resul
     ensures only { (reply : Reply) → SpellsReply I.wire opnum reply stub.now → ReadsAllIfRoom result (Ok reply) }
     // Why there is no reply.
     ensures exact { ReadsAllIfRoom result (reply_at I.wire opnum stub.now) }
-    // What is read can be written, but for a refusal that refers to a domain.
+    // What is read can be written, except a refusal that refers to a domain.
     ensures shaped { IfOk result (λ reply. RefersRightly reply → HasShape I.wire.face opnum reply) }
 {
     reply_in::<I>(alloc, opnum, stub)

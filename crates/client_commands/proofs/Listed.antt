@@ -7,7 +7,7 @@ use Rattle.acct_calls.specs.declared.lists.TranslatedSid.{TranslatedSid}
 use Rattle.client_commands.specs.declared.command.SidWord.{SidWord}
 use Rattle.client_commands.specs.Outcomes.{entry_or_unmapped, name_line, sid_line, name_lines, sid_lines}
 
--- the lines from a place on are the line at the place, and those behind it
+-- the lines from a place on are the line at the place, and those after it
 name_more : (names : List (List ℕ)) (entries : List TranslatedSid) (i : ℕ) (d : List ℕ) → i < length names
     → name_lines (drop i names) (drop i entries)
     ≡ name_line (get_or names i d) (entry_or_unmapped (slice_get entries i))

@@ -4,7 +4,7 @@ use Rattle.std.proofs.lemmas.List.{append-nil}
 use Rattle.client_commands.specs.declared.command.SidWord.{SidWord}
 use Rattle.client_commands.specs.Words.{before, sid_word, all_sids}
 
--- these SIDs, and others behind them where there are any
+-- these SIDs, and others after them where there are any
 abbrev pub onto : List SidWord → Option (List SidWord) → Option (List SidWord)
 onto done None = None
 onto done (Some sids) = Some (done ++ sids)

@@ -33,6 +33,7 @@ no_sid server task (outs.Sids d e m) not = refl
 no_sid server task (outs.Names d e m) not = refl
 no_sid server task (outs.SidRefs d e m) not = refl
 no_sid server task (outs.Display c t r e) not = refl
+no_sid server task (outs.Security b) not = refl
 
 pub no_uses : (domain : Handle) (task : NamedTask) (o : Outs)
     → ((rids uses : List ℕ) → o ≡ outs.RidUses rids uses → ⊥) → Unfit ≡ after_look_up domain task o
@@ -58,3 +59,4 @@ no_uses domain task (outs.Sids d e m) not = refl
 no_uses domain task (outs.Names d e m) not = refl
 no_uses domain task (outs.SidRefs d e m) not = refl
 no_uses domain task (outs.Display c t r e) not = refl
+no_uses domain task (outs.Security b) not = refl

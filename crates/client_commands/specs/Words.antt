@@ -65,7 +65,7 @@ all_sids (word ∷ words) = before (sid_word word) (all_sids words)
 unfoldable pub sids_of : List (List ℕ) → Option (List SidWord)
 sids_of words = if nat_le (length words) most_translated_names then all_sids words else None
 
--- ---- what stands behind the first word
+-- ---- what stands after the first word
 
 abbrev pub in_domain : Option (List ℕ) → Option Task → Option Command
 in_domain None task = None
@@ -82,7 +82,7 @@ granting None rights = None
 granting (Some sid) None = None
 granting (Some sid) (Some rights) = Some (AtPolicy (Grant sid rights))
 
--- the words behind each first word
+-- the words after each first word
 abbrev pub domains_form : List (List ℕ) → Option Command
 domains_form [] = Some Domains
 domains_form _ = None
@@ -124,7 +124,7 @@ abbrev pub grant_form : List (List ℕ) → Option Command
 grant_form (sid ∷ right ∷ rights) = granting (sid_of_text sid) (names_of most_rights (right ∷ rights))
 grant_form _ = None
 
--- the command of a first word and those behind it
+-- the command of a first word and those after it
 unfoldable pub verb_form : List ℕ → List (List ℕ) → Option Command
 verb_form verb words =
     if bytes_eq verb (codes "domains") then domains_form words

@@ -19,5 +19,5 @@ pub use steps::{GroupTask, Step, call_of, fit_steps_are_spelled, operation_of};
 pub use text::Text;
 pub use words::{WordError, command_of};
 
-/// Want of memory, which is the one fault that may come anywhere.
+/// Running out of memory, which is the one fault that may come anywhere.
 pub type NoMemory = std::alloc::AllocError;

@@ -64,7 +64,7 @@ fn end_with_name(lines: &mut Text, name: &Name) -> Result<(), NoMemory>
     lines.push("\n")
 }
 
-/// Adds a number with a space behind it.
+/// Adds a number with a space after it.
 fn push_column(lines: &mut Text, number: u32) -> Result<(), NoMemory>
     ensures { OnOk result (lines.new ≡ lines.old ++ decimal number ++ 32 ∷ []) }
 {
@@ -169,7 +169,7 @@ fn push_use(lines: &mut Text, usage: u32) -> Result<(), NoMemory>
     push_column(lines, usage)
 }
 
-/// Adds the index of a domain behind a space, which ends a line.
+/// Adds the index of a domain after a space, which ends a line.
 fn end_with_index(lines: &mut Text, index: i32) -> Result<(), NoMemory>
     ensures { OnOk result (lines.new ≡ lines.old ++ 32 ∷ signed_decimal index ++ 10 ∷ []) }
 {
@@ -198,7 +198,7 @@ fn name_lines(alloc: Global, names: &[Name], entries: &[TranslatedSid]) -> Resul
     Ok(lines)
 }
 
-/// Adds what stands behind the SID that was translated to an entry.
+/// Adds what stands after the SID that was translated to an entry.
 fn end_translated(lines: &mut Text, entry: &TranslatedName) -> Result<(), NoMemory>
     ensures { OnOk result (lines.new ≡ lines.old ++ 32 ∷ decimal entry.now.usage ++ 32 ∷ []
         ++ name_text entry.now.name ++ 32 ∷ [] ++ signed_decimal entry.now.index ++ 10 ∷ []) }
@@ -208,7 +208,7 @@ fn end_translated(lines: &mut Text, entry: &TranslatedName) -> Result<(), NoMemo
     end_with_index(lines, entry.index)
 }
 
-/// Adds what stands behind a SID that wasn't translated.
+/// Adds what stands after a SID that wasn't translated.
 fn end_untranslated(alloc: Global, lines: &mut Text, sid: &Sid) -> Result<(), NoMemory>
     ensures { OnOk result (lines.new ≡ lines.old ++ 32 ∷ decimal sid_type_unknown ++ 32 ∷ []
         ++ text_of sid.now ++ 32 ∷ [] ++ signed_decimal (negsuc 0) ++ 10 ∷ []) }

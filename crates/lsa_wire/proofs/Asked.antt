@@ -89,7 +89,7 @@ pub domains_listed : (domains : Option (List ReferencedDomain)) → referenced.F
     → IfThere (IsListed IsShortPlace) domains
 domains_listed domains h = short_places domains ((referenced_values domains).0 h)
 
--- ---- arrays behind their counts
+-- ---- arrays after their counts
 
 pub names_counted : (names : List (List ℕ)) → (counted most_translated_names text).Fits names → length names < 2 ^ 32
 names_counted names h = omega (arith, counted_few most_translated_names text names h)

@@ -1,4 +1,4 @@
--- What stands behind the handle in the calls that this interface has alone: the fields of each layout, as they stand in
+-- What stands after the handle in the calls that this interface has alone: the fields of each layout, as they stand in
 -- the IDL, and the arguments that they make.
 use Rattle.std.specs.Prelude.{ℕ, Bool, true, false, Option, Some, None, List, [], length, nat_le, ◌==◌}
 use Rattle.ndr_core.specs.Codec.{Codec}
@@ -146,7 +146,7 @@ translation_args translation.Names2 = names_asked (flagged_sids most_translated_
 translation_args translation.Sids2 = sids_asked (flagged_names most_translated_sids) later_level_asked
 translation_args translation.Names3 = names_asked (sid_refs most_translated_names) later_level_asked
 
--- behind the handle, if the operation takes one
+-- after the handle, if the operation takes one
 unfoldable pub own_fields : Fields → Codec Args
 own_fields (fields.Connect c) = connect_args c
 own_fields (fields.Policy p) = policy_args p

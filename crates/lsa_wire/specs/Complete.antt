@@ -115,7 +115,7 @@ policy_complete policy.RemoveRights =
 
 -- ---- translations
 
--- what stands behind the count
+-- what stands after the count
 abbrev counted_rest : {S A : Type 0} → Part S A → ℕ → Codec (List A)
 counted_rest p n = ignored n (u32_such (λ maximum. maximum == n)) (whole (array n p))
 
@@ -180,3 +180,4 @@ fields_complete (fields.Search s) = unspelled_complete
 fields_complete (fields.Creation c) = unspelled_complete
 fields_complete (fields.Class s) = unspelled_complete
 fields_complete (fields.Put s) = unspelled_complete
+fields_complete (fields.Security s) = unspelled_complete

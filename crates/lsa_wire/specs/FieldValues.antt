@@ -193,7 +193,7 @@ translation_fits translation.Names3 a is =
     names_fit (sid_refs most_translated_names) later_level_asked
     (none_fit most_translated_names (flagged sid_ref) flagged_ref_has) asks_later_levels a is
 
--- ---- what stands behind the handle
+-- ---- what stands after the handle
 
 pub fields_kind : (f : Fields) (a : Args) → (own_fields f).Fits a → AreArguments f a
 unfolding own_fields
@@ -205,6 +205,7 @@ fields_kind (fields.Search s) a f = absurd f
 fields_kind (fields.Creation c) a f = absurd f
 fields_kind (fields.Class s) a f = absurd f
 fields_kind (fields.Put s) a f = absurd f
+fields_kind (fields.Security s) a f = absurd f
 
 pub fields_fit : (f : Fields) (a : Args) → are_own Lsa f ≡ true → AreArguments f a → (own_fields f).Fits a
 unfolding own_fields

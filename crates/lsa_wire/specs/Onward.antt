@@ -136,6 +136,7 @@ fields_onward (fields.Search s) = takes_unspelled
 fields_onward (fields.Creation c) = takes_unspelled
 fields_onward (fields.Class s) = takes_unspelled
 fields_onward (fields.Put s) = takes_unspelled
+fields_onward (fields.Security s) = takes_unspelled
 
 -- ---- replies
 
@@ -173,3 +174,4 @@ replies_onward (outputs.Translation t) = translated_onward t
 replies_onward (outputs.Scalar p) = takes_unspelled
 replies_onward (outputs.Listed l) = takes_unspelled
 replies_onward (outputs.Shown s) = takes_unspelled
+replies_onward outputs.Security = takes_unspelled

@@ -283,6 +283,7 @@ reply_kind (outputs.Translation t) r f = translated_kind t r f
 reply_kind (outputs.Scalar p) r f = absurd f
 reply_kind (outputs.Listed l) r f = absurd f
 reply_kind (outputs.Shown s) r f = absurd f
+reply_kind outputs.Security r f = absurd f
 
 pub reply_fits : (o : Outputs) (r : Reply) → own_outputs Lsa o ≡ true → IsReplyOf o r → (own_replies o).Fits r
 unfolding own_replies
@@ -298,3 +299,4 @@ reply_writable (outputs.Translation t) r start end bytes s rightly = translated_
 reply_writable (outputs.Scalar p) r start end bytes s rightly = absurd s
 reply_writable (outputs.Listed l) r start end bytes s rightly = absurd s
 reply_writable (outputs.Shown p) r start end bytes s rightly = absurd s
+reply_writable outputs.Security r start end bytes s rightly = absurd s

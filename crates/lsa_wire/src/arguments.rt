@@ -1,4 +1,4 @@
-// The fields of calls behind their handles.
+// The fields of calls after their handles.
 ghost use Rattle.std.specs.Prelude.{◌≡◌, ◌<◌, ◌^◌, ℕ, [], All, OnOk, length};
 ghost use Rattle.ndr_core.specs.Cursor.{Reads};
 ghost use Rattle.acct_codes.specs.Limits.{most_translated_names};
@@ -174,7 +174,7 @@ fn write_level(to: &mut Out, level: u16) -> Result<(), NoMemory>
     to.u32(0)
 }
 
-/// The level of a translation, and behind the number of mapped entries the options and the client's revision, of which
+/// The level of a translation, and after the number of mapped entries the options and the client's revision, of which
 /// nothing is kept.
 fn read_later_level(from: &mut In<'_>) -> Result<u16, NdrError>
     ensures { Reads result from.new (later_level_asked.read from.old) }
@@ -288,7 +288,7 @@ fn write_sought(to: &mut Out, row: Translation, args: &Args) -> Result<(), NoMem
     }
 }
 
-/// What stands in a stub behind the handle.
+/// What stands in a stub after the handle.
 #[tactic(auto, unfolding(crate::specs::Arguments::own_fields))]
 pub fn read_fields(alloc: Global, from: &mut In<'_>, fields: Fields) -> Result<Args, NdrError>
     ensures { ReadsIfRoom result from.new ((own_fields fields).read from.old) }
@@ -301,7 +301,7 @@ pub fn read_fields(alloc: Global, from: &mut In<'_>, fields: Fields) -> Result<A
     }
 }
 
-/// Writes what stands in a stub behind the handle.
+/// Writes what stands in a stub after the handle.
 #[tactic(auto, unfolding(crate::specs::Arguments::own_fields))]
 pub fn write_fields(to: &mut Out, fields: Fields, args: &Args) -> Result<(), NoMemory>
     requires { (own_fields fields).Fits args.now }

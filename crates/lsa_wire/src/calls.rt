@@ -10,7 +10,7 @@ use acct_calls::Call;
 use acct_stubs::WireError;
 use std::alloc::Global;
 
-/// The call that a stub spells. Bytes behind it are taken. `NotServed` is answered exactly off the table; else
+/// The call that a stub spells. Bytes after it are taken. `NotServed` is answered exactly off the table; else
 /// `BadStub` exactly where no prefix of the stub spells a call, with the place of the first field that has no reading.
 pub fn read_call(alloc: Global, opnum: u16, stub: &[u8]) -> Result<Call, WireError>
     // What is read is of this opnum, served and spelled.

@@ -38,6 +38,7 @@ impl Interface for Lsa {
         match outputs {
             Outputs::Policy(_) | Outputs::Translation(_) => outputs::write_own(to, outputs, reply),
             Outputs::Scalar(_) | Outputs::Listed(_) | Outputs::Shown(_) => Ok(()),
+            Outputs::Security => Ok(()),
         }
     }
 

@@ -12,7 +12,7 @@ use acct_calls::Reply;
 use acct_stubs::WireError;
 use std::alloc::Global;
 
-/// The reply that a stub spells. Bytes behind it are taken. `NotServed` is answered exactly off the table; else
+/// The reply that a stub spells. Bytes after it are taken. `NotServed` is answered exactly off the table; else
 /// `BadStub` exactly where no prefix of the stub spells a reply, with the place of the first field that has no reading.
 pub fn read_reply(alloc: Global, opnum: u16, stub: &[u8]) -> Result<Reply, WireError>
     // What is read is spelled.
@@ -21,7 +21,7 @@ pub fn read_reply(alloc: Global, opnum: u16, stub: &[u8]) -> Result<Reply, WireE
     ensures only { (reply : Reply) → SpellsReply lsa opnum reply stub.now → ReadsAllIfRoom result (Ok reply) }
     // Why there is no reply.
     ensures exact { ReadsAllIfRoom result (reply_at lsa opnum stub.now) }
-    // What is read can be written, but for a refusal that refers to a domain.
+    // What is read can be written, except a refusal that refers to a domain.
     ensures shaped { IfOk result (λ reply. RefersRightly reply → HasShape lsa.face opnum reply) }
 {
     acct_stubs::read_reply::<Lsa>(alloc, opnum, stub)

@@ -17,7 +17,7 @@ use Rattle.ndr_core.specs.Parts.{cons, times}
 pub record IsComplete {A : Type 0} (a : Codec A) : Type 0 where
   pub fits : (x : A) (c d : Cursor) → IsBytes c.stub → a.Spells x c d → a.Fits x
 
--- a byte, or 0 behind the end
+-- a byte, or 0 after the end
 below : (bytes : List ℕ) (i : ℕ) → IsBytes bytes → get_or bytes i 0 < 256
 below bytes i h =
     elim (cases_lt i (length bytes)) [
@@ -63,7 +63,7 @@ pub such_complete : {A : Type 0} (size : ℕ) (test : A → Bool) {a : Codec A} 
     → IsComplete (such size test a)
 such_complete size test p = record { fits = λ x c d bytes h. (p.fits x c d bytes h.0, h.1) }
 
--- What comes second need be complete only behind what fits.
+-- What comes second need be complete only after what fits.
 pub chain_complete : {A B : Type 0} {a : Codec A} {b : A → Codec B} → IsComplete a
     → ((x : A) → a.Fits x → IsComplete (b x)) → IsComplete (chain a b)
 chain_complete {a = a} p q = record {

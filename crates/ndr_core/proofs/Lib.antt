@@ -1,3 +1,4 @@
 pub mod Loop
 pub mod Complete
 pub mod Again
+pub mod Bytes

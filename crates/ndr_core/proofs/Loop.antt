@@ -24,7 +24,7 @@ flat (Ok q) x = refl
 flat (Err e) x = refl
 
 -- the read of a list whose first element was read
-first_read : {A : Type 0} (a : Codec A) (m : Codec (List A)) (c d : Cursor) (x : A) → a.read c ≡ Ok (x, d)
+pub first_read : {A : Type 0} (a : Codec A) (m : Codec (List A)) (c d : Cursor) (x : A) → a.read c ≡ Ok (x, d)
     → (cons a m).read c ≡ (m.read d >>= λ r. done (x ∷ r.0) r.1)
 first_read a m c d x h = rw h (flat (m.read d) x)
 
@@ -40,7 +40,7 @@ times_last : {A : Type 0} (n i : ℕ) (a : Codec A) → n ≤ i → times (n - i
 unfolding times
 times_last n i a le = let k : n - i ≡ 0 = omega arith in rw k refl
 
--- what is left to read after i of n elements, put behind those, is what was to be read
+-- what is left to read after i of n elements, put after those, is what was to be read
 abbrev pub TimesSoFar : {A : Type 0} → List A → ℕ → ℕ → Codec A → Cursor → Cursor → Type 0
 TimesSoFar front n i a from c = with_front front ((times (n - i) a).read c) ≡ (times n a).read from
 

@@ -4,7 +4,7 @@ use Rattle.ndr_core.specs.Cursor.{Cursor}
 use Rattle.ndr_core.specs.Written.{Written}
 use Rattle.ndr_core.specs.Codec.{Codec, behind}
 
--- What is written for a value is read again as that value and no further, whatever stands before and behind it.
+-- What is written for a value is read again as that value and no further, whatever stands before and after it.
 abbrev pub IsReadAgain : {A : Type 0} → Codec A → Type 0
 IsReadAgain {A = A} shape = (value : A) (o : Written) (rest : List ℕ) → shape.Fits value
     → shape.read (behind o ((shape.write value o).bytes ++ rest))

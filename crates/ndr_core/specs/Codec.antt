@@ -4,11 +4,11 @@ use Rattle.std.specs.Prelude.{◌≡◌, ℕ, List, ◌++◌, length, Ok}
 use Rattle.ndr_core.specs.Cursor.{Cursor, Reader}
 use Rattle.ndr_core.specs.Written.{Written, IsBytes}
 
--- o with more bytes behind it
+-- o with more bytes after it
 abbrev pub Grows : Written → Written → Type 0
 Grows o p = (more : List ℕ) × (p.bytes ≡ o.bytes ++ more)
 
--- where the reading stands behind what is written so far, in this stub
+-- where the reading stands after what is written so far, in this stub
 abbrev pub behind : Written → List ℕ → Cursor
 behind o stub = record { stub = stub; place = length o.bytes }
 
@@ -31,6 +31,6 @@ pub record Codec (A : Type 0) : Type 1 where
   pub grows : (a : A) (o : Written) → Grows o (write a o)
   -- what is written is bytes
   pub bytes : (a : A) (o : Written) → IsBytes o.bytes → IsBytes (write a o).bytes
-  -- what is written is spelled, whatever stands behind it
+  -- what is written is spelled, whatever stands after it
   pub spelled : (a : A) (o : Written) (rest : List ℕ) → Fits a
       → Spells a (behind o ((write a o).bytes ++ rest)) (behind (write a o) ((write a o).bytes ++ rest))

@@ -15,11 +15,16 @@ abbrev pub Reader : Type 0 → Type 0
 Reader A = Cursor → Result (A × Cursor) NdrError
 
 -- How a reading call keeps to a reading: one family of words. Each says of a value that it is the one that stands
--- there, with the cursor behind it, and of a refusal that it is the reading's; where a refusal leaves the cursor none
--- says. Reads: memory is never wanted.
+-- there, with the cursor after it, and of a refusal that it is the reading's; where a refusal leaves the cursor none
+-- says. Reads: memory never runs out.
 abbrev pub Reads : {A : Type 0} → Result A NdrError → Cursor → Result (A × Cursor) NdrError → Type 0
 Reads (Ok x) after read = read ≡ Ok (x, after)
 Reads (Err e) after read = read ≡ Err e
+
+-- ReadsBy: as Reads, of a value that is seen by a function.
+abbrev pub ReadsBy : {A B : Type 0} → (A → B) → Result A NdrError → Cursor → Result (B × Cursor) NdrError → Type 0
+ReadsBy see (Ok x) after read = read ≡ Ok (see x, after)
+ReadsBy see (Err e) after read = read ≡ Err e
 
 -- ---- alignment, always from the stub's start
 
@@ -45,7 +50,7 @@ number_end w c = number_start w c + byte_len w
 abbrev pub after_number : Width → Cursor → Cursor
 after_number w c = record { stub = c.stub; place = number_end w c }
 
--- The little-endian number that stands behind the padding.
+-- The little-endian number that stands after the padding.
 abbrev pub number_there : Width → Cursor → ℕ
 number_there w c = from_le_bytes w (take (byte_len w) (drop (number_start w c) c.stub))
 
@@ -109,3 +114,15 @@ count_at most = testing 4 (λ n. nat_le n most) (number_at w32)
 
 abbrev pub varying_at : ℕ → Reader ℕ
 varying_at most = making second (both offset_at (λ _. count_at most))
+
+-- ---- bytes, one after the other
+
+-- what is left of the stub
+abbrev pub left : Cursor → List ℕ
+left c = drop c.place c.stub
+
+-- So many bytes; where fewer are left, the place after the last one is bad.
+abbrev pub bytes_at : ℕ → Reader (List ℕ)
+bytes_at count c =
+    if nat_lt (length (left c)) count then Err (Short (c.place + length (left c)))
+    else Ok (take count (left c), record { stub = c.stub; place = c.place + count })

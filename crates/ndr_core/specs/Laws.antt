@@ -65,7 +65,7 @@ chain_only a b c d x h = rw (a.only c h.0 x.0 h.1, (b x.0).only h.0 d x.1 h.2) r
 pub grows_on : (o p q : Written) → Grows o p → Grows p q → Grows o q
 grows_on o p q g h = (g.0 ++ h.0, h.1 ∙ ap (λ (t : List ℕ). t ++ h.0) g.1 ∙ append_assoc o.bytes g.0 h.0)
 
--- what is written is spelled, also where more is written behind it
+-- what is written is spelled, also where more is written after it
 pub spelled_before : {A : Type 0} (a : Codec A) (x : A) (o q : Written) (rest : List ℕ) → a.Fits x
     → Grows (a.write x o) q
     → a.Spells x (behind o (q.bytes ++ rest)) (behind (a.write x o) (q.bytes ++ rest))

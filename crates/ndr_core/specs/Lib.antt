@@ -7,3 +7,4 @@ pub mod Laws
 pub mod Shapes
 pub mod Parts
 pub mod Again
+pub mod Bytes

@@ -13,7 +13,7 @@ use Rattle.ndr_core.specs.Written.{Written, IsByte, IsBytes, padded, put_number}
 use Rattle.ndr_core.specs.Steps.{ok_is, reached}
 use Rattle.ndr_core.specs.Codec.{Grows, behind}
 
--- The number n stands at c, behind padding, and ends at d.
+-- The number n stands at c, after padding, and ends at d.
 pub record Number (w : Width) (n : ℕ) (c d : Cursor) : Type 0 where
   pub whole : number_end w c ≤ length c.stub
   pub is : number_there w c ≡ n

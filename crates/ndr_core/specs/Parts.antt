@@ -1,4 +1,4 @@
--- Arrays, and shapes that a structure or an array embeds. A pointer's referent is deferred: it stands behind the
+-- Arrays, and shapes that a structure or an array embeds. A pointer's referent is deferred: it stands after the
 -- outermost structure or array that embeds the pointer, in the pointers' order.
 use Rattle.std.proofs.Common.{◌≡◌, ℕ, zero, suc, Bool, true, false, nat_le, ◌==◌, ◌||◌, Option, Some, None, List, []}
 use Rattle.std.proofs.Common.{◌∷◌, ◌++◌, length, map, refl, sym}
@@ -66,7 +66,7 @@ unfoldable pub times : {A : Type 0} → ℕ → Codec A → Codec (List A)
 times zero a = given []
 times (suc n) a = cons a (times n a)
 
--- ---- a shape that a structure or an array embeds: its head there, and its tail behind what embeds it
+-- ---- a shape that a structure or an array embeds: its head there, and its tail after what embeds it
 
 pub record Part (S A : Type 0) : Type 1 where
   pub head : Codec S

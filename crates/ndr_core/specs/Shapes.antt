@@ -171,7 +171,7 @@ made make parts a = record {
   spelled = λ y o rest h. (parts y, a.spelled (parts y) o rest h.0, h.1);
 }
 
--- ---- a field of which only the shape behind it knows, as a count; `parts` says what is written for it
+-- ---- a field of which only the shape after it knows, as a count; `parts` says what is written for it
 
 abbrev pub led_by : {A B : Type 0} → (B → A) → Codec A → (A → Codec B) → Codec B
 led_by parts a f = made second (λ b. (parts b, b)) (chain a f)
@@ -180,11 +180,11 @@ led_by parts a f = made second (λ b. (parts b, b)) (chain a f)
 abbrev pub ignored : {A B : Type 0} → A → Codec A → Codec B → Codec B
 ignored w a b = led_by (λ _. w) a (λ _. b)
 
--- a value, and behind it a field that isn't kept, written as w
+-- a value, and after it a field that isn't kept, written as w
 abbrev pub followed : {A B : Type 0} → B → Codec B → Codec A → Codec A
 followed w b a = made (λ x. x.0) (λ x. (x, w)) (chain a (λ _. b))
 
--- the actual count of a varying array, behind the offset 0: at most so many
+-- the actual count of a varying array, after the offset 0: at most so many
 abbrev pub varying : ℕ → Codec ℕ
 varying most = ignored 0 (u32_such is_zero) (u32_such (λ n. nat_le n most))
 

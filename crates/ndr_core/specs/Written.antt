@@ -43,3 +43,7 @@ put_pointer true o = record
 -- The offset 0, and then the actual count.
 abbrev pub put_varying : ℕ → Written → Written
 put_varying count o = put_number w32 count (put_number w32 0 o)
+
+-- Bytes, one after the other, with no padding.
+abbrev pub put_bytes : List ℕ → Written → Written
+put_bytes bytes o = record { bytes = o.bytes ++ bytes; pointers = o.pointers }

@@ -3,7 +3,7 @@ ghost use Rattle.std.specs.Prelude.{◌≡◌, ◌<◌, ◌≤◌, ◌^◌, ◌-
 ghost use Rattle.std.specs.Int.{w8, w16, w32};
 ghost use Rattle.ndr_core.specs.declared.error.NdrError.TheVariants.{Short};
 ghost use Rattle.ndr_core.specs.Cursor.{Cursor, Reads, IsSize, aligned_cursor, broken, number_at, pointer_at};
-ghost use Rattle.ndr_core.specs.Cursor.{varying_at};
+ghost use Rattle.ndr_core.specs.Cursor.{ReadsBy, bytes_at, left, varying_at};
 
 use crate::error::NdrError;
 use std::marker::Model;
@@ -62,7 +62,7 @@ impl<'a> In<'a> {
         };
     }
 
-    /// The place behind a primitive of this size that begins at `start`, if it is whole.
+    /// The place after a primitive of this size that begins at `start`, if it is whole.
     fn end_of(&self, start: usize, size: usize) -> Result<usize, NdrError>
         requires { start + size < 2 ^ 64 }
         ensures { result ≡
@@ -107,6 +107,29 @@ impl<'a> In<'a> {
         Ok(u32::from_le_bytes([bytes[0], bytes[1], bytes[2], bytes[3]]))
     }
 
+    /// The bytes from the place on.
+    fn left(&self) -> &'a [u8]
+        ensures { result.now ≡ left self.now }
+    {
+        let (_, left) = self.stub.split_at(self.place.min(self.stub.len()));
+        left
+    }
+
+    /// So many bytes, one after the other, as they stand in the stub. Where fewer are left, the place after the last
+    /// one is bad.
+    pub fn bytes(&mut self, count: usize) -> Result<&'a [u8], NdrError>
+        ensures value { ReadsBy (λ bytes. bytes.now) result self.new (bytes_at count self.old) }
+        ensures refused { OnErr result (self.new ≡ self.old) }
+    {
+        let left = self.left();
+        if left.len() < count {
+            return Err(NdrError::Short(self.place + left.len()));
+        }
+        let (bytes, _) = left.split_at(count);
+        self.place += count;
+        Ok(bytes)
+    }
+
     /// Whether a pointer isn't null: its referent is any number but 0.
     pub fn pointer(&mut self) -> Result<bool, NdrError>
         ensures value { Reads result self.new (pointer_at self.old) }
@@ -123,7 +146,7 @@ impl<'a> In<'a> {
         self.u32()
     }
 
-    /// The offset, which is 0, and the actual count behind it.
+    /// The offset, which is 0, and the actual count after it.
     fn offset_and_count(&mut self, most: u32) -> Result<u32, NdrError>
         ensures value { Reads result self.new (varying_at most self.old) }
         ensures same { self.new.stub ≡ self.old.stub }
@@ -138,7 +161,7 @@ impl<'a> In<'a> {
         Ok(count)
     }
 
-    /// The actual count of a varying array, behind its offset. An offset other than 0 is refused at the offset, and a
+    /// The actual count of a varying array, after its offset. An offset other than 0 is refused at the offset, and a
     /// count above `most` at the count.
     pub fn varying(&mut self, most: u32) -> Result<u32, NdrError>
         ensures value { Reads result self.new (varying_at most self.old) }

@@ -2,9 +2,9 @@
 //! places. And, in specs/, what a shape is.
 //!
 //! It stands on nothing of ours. A stub is read by an `In` and written by an `Out`, which contracts see as a `Cursor`
-//! and a `Written`. Each call of an `In` says the value and the place behind it, or the bad place: `Short` exactly
+//! and a `Written`. Each call of an `In` says the value and the place after it, or the bad place: `Short` exactly
 //! where a primitive isn't whole, `Count` exactly where a number breaks its rule. Each call of an `Out` says the
-//! bytes that it appends, and wants nothing but memory.
+//! bytes that it appends, and fails for nothing but memory.
 #![tactic(auto)]
 
 mod error;
@@ -14,5 +14,5 @@ mod output;
 
 pub use error::NdrError;
 pub use input::In;
-pub use laws::{one_reading, written_is_read_again};
+pub use laws::{bytes_are_smalls, one_reading, written_is_read_again};
 pub use output::Out;

@@ -2,13 +2,14 @@
 ghost use Rattle.std.specs.Prelude.{◌≡◌, ◌≤◌, ◌^◌, ◌-◌, ◌++◌, OnOk, OnErr, []};
 ghost use Rattle.std.specs.Int.{w8, w16, w32};
 ghost use Rattle.ndr_core.specs.Cursor.{IsSize};
-ghost use Rattle.ndr_core.specs.Written.{Written, put_number, put_padding, put_pointer, put_varying, padded};
+ghost use Rattle.ndr_core.specs.Written.{Written, put_bytes, put_number, put_padding, put_pointer, put_varying};
+ghost use Rattle.ndr_core.specs.Written.{padded};
 
 use std::alloc::{AllocError, Global};
 use std::marker::Model;
 
-/// Writes a stub. Each number is appended at the next multiple of its size, behind zeros, little-endian. After want
-/// of memory the stub is as it was before the call.
+/// Writes a stub. Each number is appended at the next multiple of its size, after zeros, little-endian. Where
+/// memory ran out the stub is as it was before the call.
 #[derive(Drop)]
 pub struct Out {
     bytes: Vec<u8>,
@@ -108,6 +109,14 @@ impl Out {
         self.put(4, &value.to_le_bytes())
     }
 
+    /// Bytes, one after the other.
+    pub fn bytes(&mut self, bytes: &[u8]) -> Result<(), AllocError>
+        ensures ok { OnOk result (self.new ≡ put_bytes bytes.now self.old) }
+        ensures err { OnErr result (self.new ≡ self.old) }
+    {
+        self.bytes.extend_from_slice(bytes)
+    }
+
     /// A pointer: the next referent, or 0 for null.
     pub fn pointer(&mut self, there: bool) -> Result<(), AllocError>
         ensures ok { OnOk result (self.new ≡ put_pointer there self.old) }
@@ -129,7 +138,7 @@ impl Out {
         self.u32(count)
     }
 
-    /// The actual count of a varying array, behind the offset 0.
+    /// The actual count of a varying array, after the offset 0.
     pub fn varying(&mut self, count: u32) -> Result<(), AllocError>
         ensures ok { OnOk result (self.new ≡ put_varying count self.old) }
         ensures err { OnErr result (self.new ≡ self.old) }

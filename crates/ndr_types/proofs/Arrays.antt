@@ -23,7 +23,7 @@ yields_error Memory after read h = tt
 yields_error (Short p) after read h = h
 yields_error (Count p) after read h = h
 
--- ---- the element at an index, and those behind it
+-- ---- the element at an index, and those after it
 
 next_of : {A : Type 0} (xs : List A) (i : ℕ) (x d : A) → i < length xs → x ≡ get_or xs i d
     → drop i xs ≡ x ∷ drop (i + 1) xs
@@ -57,7 +57,7 @@ each_last : {S A : Type 0} (f : S → Codec A) (ss : List S) (i : ℕ) → lengt
 unfolding each
 each_last {S = S} f ss i le P p = subst (λ (ts : List S). P (each f ts)) (drop_all i ss le) p
 
--- what is left to read after i elements, put behind those, is what was to be read
+-- what is left to read after i elements, put after those, is what was to be read
 abbrev pub EachSoFar : {S A : Type 0} → List A → (S → Codec A) → List S → ℕ → Cursor → Cursor → Type 0
 EachSoFar front f ss i from c = with_front front ((each f (drop i ss)).read c) ≡ (each f ss).read from
 
@@ -112,7 +112,7 @@ times_last : {A : Type 0} (n i : ℕ) (a : Codec A) → n ≤ i → times (n - i
 unfolding times
 times_last n i a le = let k : n - i ≡ 0 = omega arith in rw k refl
 
--- what is left to write after i elements, written behind those, is what was to be written
+-- what is left to write after i elements, written after those, is what was to be written
 abbrev PutSoFar : {A : Type 0} → List A → ℕ → Codec A → Written → Written → Type 0
 PutSoFar xs i a from o = (times (length xs - i) a).write (drop i xs) o ≡ (times (length xs) a).write xs from
 

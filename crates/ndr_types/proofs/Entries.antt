@@ -45,7 +45,7 @@ signed_complete = made_complete (cast_signed w32) (cast_unsigned w32) u32_comple
 pub signed_has : Has (flat signed_long) (FitsSigned w32)
 signed_has = flat_has signed_long signed_fits signed_kind signed_complete
 
--- ---- padding in front
+-- ---- padding at the beginning
 
 padded_has : {S A : Type 0} {P : A → Type 0} (p : Part S A) → Has p P → Has (padded_part p) P
 padded_has p q = record {

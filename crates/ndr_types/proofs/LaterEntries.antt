@@ -17,7 +17,7 @@ use Rattle.ndr_types.proofs.Parts.{Has, join_has, part_of_has}
 use Rattle.ndr_types.proofs.Records.{pointer_has}
 use Rattle.ndr_types.proofs.Sids.{sid_complete, sid_fits, sid_kind}
 
--- ---- flags behind an entry
+-- ---- flags after an entry
 
 pub flagged_has : {S A : Type 0} {P : A → Type 0} (p : Part S A) → Has p P → Has (flagged p) P
 flagged_has p q = record {

@@ -11,3 +11,4 @@ pub mod Entries
 pub mod OnwardEntries
 pub mod LaterEntries
 pub mod DisplayRows
+pub mod ByteArrays

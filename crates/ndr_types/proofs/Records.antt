@@ -42,7 +42,7 @@ unfolding privilege
 privilege_complete = made_complete privilege_of parts_of_privilege
     (chain_complete u32_complete (λ x h. chain_complete u32_complete (λ y k. u32_complete))) (λ x h. (h, refl))
 
--- what stands behind the maximum count
+-- what stands after the maximum count
 abbrev after_maximum : ℕ → Codec (List Privilege)
 after_maximum n =
     ignored n (u32_such (λ count. (count == n) && nat_le count most_privileges)) (ignored 0 u32 (times n privilege))

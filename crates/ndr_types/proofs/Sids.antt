@@ -28,7 +28,7 @@ count_passes : (n : ℕ) → n ≤ sid_max_sub_authorities → ((n == n) && nat_
 count_passes n le =
     and_both (n == n) (nat_le n sid_max_sub_authorities) (eq-eqb n n refl) (le-leb n sid_max_sub_authorities le)
 
--- what stands behind the maximum count
+-- what stands after the maximum count
 abbrev after_count : ℕ → Codec SidValue
 after_count n = ignored sid_revision (u8_such is_revision)
     (ignored n (u8_such (λ count. (count == n) && nat_le count sid_max_sub_authorities))

@@ -18,8 +18,8 @@ abbrev pub IsReadWhereSpelled : {A : Type 0} → Codec A → Type 0
 IsReadWhereSpelled {A = A} shape =
     (value : A) (start end : Cursor) → (shape.read start ≡ Ok (value, end)) ↔ shape.Spells value start end
 
--- A value ends so many bytes at least behind the place where reading began, a bad place stands there or behind it, and
--- no reading wants memory.
+-- A value ends so many bytes at least after the place where reading began, a bad place stands there or after it, and
+-- no reading runs out of memory.
 abbrev pub Onward : {A : Type 0} → ℕ → ℕ → Result (A × Cursor) NdrError → Type 0
 Onward place size (Ok x) = place + size ≤ x.1.place
 Onward place size (Err (Short bad)) = place ≤ bad

@@ -13,4 +13,5 @@ pub mod Pointers
 pub mod PrivilegeNames
 pub mod Translations
 pub mod Displays
+pub mod Descriptors
 pub mod Laws

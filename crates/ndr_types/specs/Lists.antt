@@ -1,5 +1,5 @@
 -- The lists of SIDs, numbers and texts: a count, a pointer to an array, and the array, which begins with the same count
--- (C706 14.3.3.2). The referents of the array's elements stand behind all of them (C706 14.3.12.3).
+-- (C706 14.3.3.2). The referents of the array's elements stand after all of them (C706 14.3.12.3).
 use Rattle.std.specs.Prelude.{ℕ, List}
 use Rattle.ndr_core.specs.Codec.{Codec}
 use Rattle.ndr_core.specs.Shapes.{u32}

@@ -15,7 +15,7 @@ use Rattle.ndr_types.specs.Texts.{text}
 unfoldable pub signed_long : Codec ℤ
 signed_long = made (cast_signed w32) (cast_unsigned w32) u32
 
--- padding to four in front of what a structure embeds
+-- padding to four before what a structure embeds
 abbrev pub padded_part : {S A : Type 0} → Part S A → Part S A
 padded_part p = record { head = ignored tt padding4 p.head; tail = p.tail; head_of = p.head_of }
 
@@ -48,7 +48,7 @@ translated_name =
 abbrev pub translated_names : ℕ → Codec (List TranslatedName)
 translated_names most = list_of most translated_name
 
--- ---- the later forms: Flags behind the other fields, which aren't looked at and are written as 0
+-- ---- the later forms: Flags after the other fields, which aren't looked at and are written as 0
 
 abbrev pub flagged : {S A : Type 0} → Part S A → Part S A
 flagged p = record { head = followed 0 u32 p.head; tail = p.tail; head_of = p.head_of }

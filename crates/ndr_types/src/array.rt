@@ -1,7 +1,7 @@
 // Arrays and lists of embedded shapes.
 ghost use Rattle.std.specs.Prelude.{◌≡◌, ℕ, All, OnOk, length, map};
 ghost use Rattle.ndr_core.specs.Cursor.{Reads};
-ghost use Rattle.ndr_core.specs.Parts.{array, each, list, list_of, times, whole};
+ghost use Rattle.ndr_core.specs.Parts.{array, each, list, list_head, list_of, times, whole};
 ghost use Rattle.acct_layouts.specs.Bounds.{IsListed};
 ghost use Rattle.ndr_types.specs.Outcomes.{ReadsIfRoom};
 
@@ -77,10 +77,9 @@ pub fn read_array<X: Embedded>(
     read_tails(alloc, from, heads.as_slice())
 }
 
-/// The count of a list, of at most so many, and whether its array is there.
-#[tactic(auto, unfolding(ndr_core::specs::Parts::list))]
-pub fn read_list_head<X: Embedded>(from: &mut In<'_>, most: u32) -> Result<(u32, bool), NdrError>
-    ensures { Reads result from.new ((list most X.part).head.read from.old) }
+/// A count, of at most so many, and whether the array is there.
+pub fn read_count(from: &mut In<'_>, most: u32) -> Result<(u32, bool), NdrError>
+    ensures { Reads result from.new ((list_head most).read from.old) }
 {
     let count = from.u32()?;
     if count > most {
@@ -91,6 +90,14 @@ pub fn read_list_head<X: Embedded>(from: &mut In<'_>, most: u32) -> Result<(u32,
         return Err(from.broken(4));
     }
     Ok((count, there))
+}
+
+/// The count of a list, of at most so many, and whether its array is there.
+#[tactic(auto, unfolding(ndr_core::specs::Parts::list))]
+pub fn read_list_head<X: Embedded>(from: &mut In<'_>, most: u32) -> Result<(u32, bool), NdrError>
+    ensures { Reads result from.new ((list most X.part).head.read from.old) }
+{
+    read_count(from, most)
 }
 
 /// The array of a list, with its heads before its tails.

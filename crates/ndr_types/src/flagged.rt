@@ -1,4 +1,4 @@
-// Lists of embedded shapes behind each of which flags stand.
+// Lists of embedded shapes after each of which flags stand.
 ghost use Rattle.std.specs.Prelude.{◌≡◌, ℕ, All, OnOk, length, map};
 ghost use Rattle.ndr_core.specs.Cursor.{Reads};
 ghost use Rattle.ndr_core.specs.Parts.{list, list_of, times};

@@ -7,9 +7,10 @@ ghost use Rattle.acct_layouts.specs.Bounds.{IfThere};
 ghost use Rattle.ndr_types.specs.Domains.{referenced};
 ghost use Rattle.ndr_types.specs.Handles.{handle};
 ghost use Rattle.acct_layouts.specs.Bounds.{IsAccount, IsDomain, IsHandle, IsLong, IsPrivilegeSet, IsText};
-ghost use Rattle.acct_layouts.specs.Bounds.{IsDisplayedGroup, IsDisplayedUser, IsSidRef, IsTranslatedName};
+ghost use Rattle.acct_layouts.specs.Bounds.{IsDisplayedGroup, IsDisplayedUser, IsSidRef, IsSmall, IsTranslatedName};
 ghost use Rattle.acct_layouts.specs.Bounds.{IsTranslatedSid};
 ghost use Rattle.acct_layouts.specs.declared.classes.DisplayArm.TheVariants as display;
+ghost use Rattle.ndr_types.specs.Descriptors.{descriptor, descriptor_pointer};
 ghost use Rattle.ndr_types.specs.Displays.{display_rows};
 ghost use Rattle.ndr_types.specs.Laws.{IsLawfulShape, IsListOf};
 ghost use Rattle.ndr_types.specs.Lists.{rid_list, sid_list, text_list};
@@ -22,7 +23,7 @@ ghost use Rattle.ndr_types.specs.Translations.{flagged_names, flagged_sids, sid_
 ghost use Rattle.ndr_types.specs.Translations.{translated_sids};
 
 /// Of each shape all laws, with the kind of its values: a value is read exactly where it is spelled, with any padding
-/// and any referents but 0; what is written is read again, whatever stands before and behind it; no stub has two
+/// and any referents but 0; what is written is read again, whatever stands before and after it; no stub has two
 /// readings; what some stub spells can be written; and reading goes onward.
 pub fn shapes_are_lawful()
     ensures handles { IsLawfulShape handle IsHandle }
@@ -43,5 +44,7 @@ pub fn shapes_are_lawful()
     ensures displayed_groups { IsLawfulShape (display_rows display.Group) (IsListOf any IsDisplayedGroup) }
     ensures privilege_names { IsLawfulShape privilege_names (IsListOf any IsAccount) }
     ensures text_pointers { IsLawfulShape text_pointer (IfThere IsText) }
+    ensures descriptors { (most : ℕ) → IsLawfulShape (descriptor most) (IsListOf most IsSmall) }
+    ensures descriptor_pointers { IsLawfulShape descriptor_pointer (IfThere (IsListOf any IsSmall)) }
     ensures privilege_pointers { IsLawfulShape privilege_set_pointer (IfThere IsPrivilegeSet) }
 {}

@@ -9,7 +9,7 @@ use ndr_core::{In, NdrError, Out};
 use std::alloc::Global;
 
 /// A value whose shape may stand in a structure or an array: its head stands there, and its tail, which is what its
-/// pointers refer to, behind what embeds it.
+/// pointers refer to, after what embeds it.
 pub trait Embedded: Drop {
     /// What is read of the head.
     type Head: Drop;

@@ -25,7 +25,7 @@ fn read_authority(from: &mut In<'_>) -> Result<u64, NdrError>
     Ok(n as u64)
 }
 
-/// A SID behind its counts: the authority, and so many sub-authorities.
+/// A SID after its counts: the authority, and so many sub-authorities.
 fn read_counted(from: &mut In<'_>, count: u32) -> Result<Sid, NdrError>
     requires { count ≤ sid_max_sub_authorities }
     ensures { Reads result from.new

@@ -7,7 +7,7 @@ ghost use Rattle.ndr_types.specs.Digits.{then_small};
 use crate::NoMemory;
 use ndr_core::{In, NdrError, Out};
 
-/// The number that `high` and four smalls behind it make.
+/// The number that `high` and four smalls after it make.
 pub fn read_four_smalls(from: &mut In<'_>, high: u128) -> Result<u128, NdrError>
     requires { high < 2 ^ 96 }
     ensures gives { Reads result from.new

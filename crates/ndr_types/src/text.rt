@@ -12,7 +12,7 @@ use acct_calls::Name;
 use ndr_core::{In, NdrError, Out};
 use std::alloc::Global;
 
-/// The units of a text of so many, behind their counts.
+/// The units of a text of so many, after their counts.
 fn read_counted(alloc: Global, from: &mut In<'_>, count: u32) -> Result<Name, NdrError>
     ensures { ReadsIfRoom result from.new ((units count).read from.old) }
 {

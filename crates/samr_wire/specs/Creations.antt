@@ -1,4 +1,4 @@
--- What the openings of new accounts bring behind the handle (MS-SAMR 3.1.5.4).
+-- What the openings of new accounts bring after the handle (MS-SAMR 3.1.5.4).
 use Rattle.std.specs.Prelude.{ℕ, List, []}
 use Rattle.ndr_core.specs.Codec.{Codec}
 use Rattle.ndr_core.specs.Parts.{whole}

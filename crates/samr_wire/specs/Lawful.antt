@@ -151,6 +151,7 @@ own_complete (fields.Class s) = unspelled_complete
 own_complete (fields.Put s) = unspelled_complete
 own_complete (fields.Policy p) = unspelled_complete
 own_complete (fields.Translation t) = unspelled_complete
+own_complete (fields.Security s) = unspelled_complete
 
 own_onward : (f : Fields) → Takes 0 (own_fields f)
 unfolding own_fields
@@ -162,6 +163,7 @@ own_onward (fields.Class s) = takes_unspelled
 own_onward (fields.Put s) = takes_unspelled
 own_onward (fields.Policy p) = takes_unspelled
 own_onward (fields.Translation t) = takes_unspelled
+own_onward (fields.Security s) = takes_unspelled
 
 own_kind : (f : Fields) (a : Args) → (own_fields f).Fits a → AreArguments f a
 unfolding own_fields
@@ -173,6 +175,7 @@ own_kind (fields.Class s) a fits = absurd fits
 own_kind (fields.Put s) a fits = absurd fits
 own_kind (fields.Policy p) a fits = absurd fits
 own_kind (fields.Translation t) a fits = absurd fits
+own_kind (fields.Security s) a fits = absurd fits
 
 own_fit : (f : Fields) (a : Args) → are_own Samr f ≡ true → AreArguments f a → (own_fields f).Fits a
 unfolding own_fields
@@ -184,6 +187,7 @@ own_fit (fields.Class s) a own is = absurd cc
 own_fit (fields.Put s) a own is = absurd cc
 own_fit (fields.Policy p) a own is = absurd cc
 own_fit (fields.Translation t) a own is = absurd cc
+own_fit (fields.Security s) a own is = absurd cc
 
 pub no_outputs : (o : Outputs) → own_outputs Samr o ≡ false
 no_outputs (outputs.Scalar p) = refl
@@ -191,6 +195,7 @@ no_outputs (outputs.Listed l) = refl
 no_outputs (outputs.Shown s) = refl
 no_outputs (outputs.Policy p) = refl
 no_outputs (outputs.Translation t) = refl
+no_outputs outputs.Security = refl
 
 own_reply : (o : Outputs) (r : Reply) → own_outputs Samr o ≡ true → ⊥
 own_reply o r own = let e = sym (no_outputs o) ∙ own in absurd (let k : false ≡ true = e in cc)

@@ -10,7 +10,7 @@ use crate::{NoMemory, WireError};
 use acct_calls::{Call, Face};
 use std::alloc::Global;
 
-/// The call that a stub spells. Bytes behind it are taken. `NotServed` is answered exactly off the table, and for a
+/// The call that a stub spells. Bytes after it are taken. `NotServed` is answered exactly off the table, and for a
 /// class that carries a password; else `BadStub` exactly where no prefix of the stub spells a call, with the place of
 /// the first field that has no reading.
 pub fn read_call(alloc: Global, opnum: u16, stub: &[u8]) -> Result<Call, WireError>

@@ -31,7 +31,7 @@ pub fn replies_are_read_again()
     ensures { IsReplyReadAgain samr }
 {}
 
-/// No stub's reading wants memory by its definition: where a call answers `Memory`, a value had no room.
+/// No stub's reading runs out of memory by its definition: where a call answers `Memory`, a value had no room.
 pub fn readings_want_no_memory()
     ensures calls { NoCallWantsMemory samr }
     ensures replies { NoReplyWantsMemory samr }

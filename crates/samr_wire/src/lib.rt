@@ -7,7 +7,7 @@
 //! prefix of it spells the call, and else why there is none; that `write_call` and `write_reply` give the one written
 //! spelling of each call that some served stub spells, and of each reply that has its operation's shape; and that, by
 //! the laws, each is read again as the same value whatever bytes follow, no stub spells two calls or two replies of one
-//! opnum, and no definition wants memory.
+//! opnum, and no definition runs out of memory.
 #![tactic(auto)]
 
 mod calls;
@@ -22,5 +22,5 @@ pub use calls::{read_call, write_call};
 pub use interface::Samr;
 pub use replies::{read_reply, write_reply};
 
-/// Want of memory, which is the only fault of the writers here.
+/// Running out of memory, which is the only fault of the writers here.
 pub type NoMemory = std::alloc::AllocError;

@@ -11,7 +11,7 @@ use crate::{NoMemory, WireError};
 use acct_calls::{Face, Reply};
 use std::alloc::Global;
 
-/// The reply that a stub spells. Bytes behind it are taken. `NotServed` is answered exactly off the table; else
+/// The reply that a stub spells. Bytes after it are taken. `NotServed` is answered exactly off the table; else
 /// `BadStub` exactly where no prefix of the stub spells a reply, with the place of the first field that has no reading.
 pub fn read_reply(alloc: Global, opnum: u16, stub: &[u8]) -> Result<Reply, WireError>
     // What is read is spelled.

@@ -1,4 +1,4 @@
--- `first_point` joins a high surrogate and a low one behind it; any other first unit is a code point by itself.
+-- `first_point` joins a high surrogate and a low one after it; any other first unit is a code point by itself.
 use Rattle.std.proofs.Common.{refl, ap, ◌∙◌, ◌-◌, ◌&&◌, length, false, take, drop, arith}
 use Rattle.std.specs.Char.Utf16.{is_high_surrogate}
 use Rattle.std.proofs.lemmas.Bool.{and_right}

@@ -1,4 +1,4 @@
--- The code points passed fold alike: the two are the same exactly if what is left of them is the same.
+-- The code points passed fold to the same: the two are the same exactly if what is left of them is the same.
 use Rattle.std.proofs.Common.{◌≡◌, length}
 use Rattle.acct_calls.specs.Folding.{is_same}
 use Rattle.acct_calls.proofs.folding.same_units.Given as goal

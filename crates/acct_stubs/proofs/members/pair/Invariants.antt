@@ -1,4 +1,4 @@
--- The pairs so far have the identifiers and the attributes in front of the place.
+-- The pairs so far have the identifiers and the attributes before the place.
 use Rattle.std.proofs.Common.{◌≡◌, length, take}
 use Rattle.acct_stubs.specs.Members.{paired}
 use Rattle.acct_stubs.proofs.members.pair.Given as goal

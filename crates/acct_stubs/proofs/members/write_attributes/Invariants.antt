@@ -1,4 +1,4 @@
--- The attributes in front of the place are written.
+-- The attributes before the place are written.
 use Rattle.ndr_types.proofs.Arrays.{HeadsSoFar}
 use Rattle.acct_stubs.proofs.MemberLists.{bits_part}
 use Rattle.acct_stubs.proofs.members.write_attributes.Given as goal

@@ -1,4 +1,4 @@
--- The identifiers in front of the place are written.
+-- The identifiers before the place are written.
 use Rattle.ndr_types.proofs.Arrays.{HeadsSoFar}
 use Rattle.acct_stubs.proofs.MemberLists.{rid_part}
 use Rattle.acct_stubs.proofs.members.write_rids.Given as goal

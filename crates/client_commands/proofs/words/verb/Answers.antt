@@ -1,4 +1,4 @@
--- With each first word that is a command's, the form is that of this command over the words behind it.
+-- With each first word that is a command's, the form is that of this command over the words after it.
 use Rattle.client_commands.specs.Words.{verb_form}
 use Rattle.client_commands.proofs.words.verb.Goals as goal
 

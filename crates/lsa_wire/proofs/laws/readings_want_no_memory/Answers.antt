@@ -1,4 +1,4 @@
--- No stub of a call or a reply of LSA is read as a want of memory, as with every lawful interface.
+-- No stub of a call or a reply of LSA is read as out of memory, as with every lawful interface.
 use Rattle.acct_stubs.proofs.Onward.{no_call_wants_memory, no_reply_wants_memory}
 use Rattle.lsa_wire.specs.Lawful.{lsa_lawful}
 use Rattle.lsa_wire.specs.Interface.{lsa}

@@ -1,5 +1,6 @@
--- Integers, pointers and counts have one reading at each place of a stub, as every shape has.
+-- Integers, pointers, counts and bytes have one reading at each place of a stub, as every shape has.
 use Rattle.ndr_core.proofs.Again.{one_reading as holds}
+use Rattle.ndr_core.specs.Parts.{times}
 use Rattle.ndr_core.specs.Shapes.{u8, u16, u32, pointer, varying}
 use Rattle.ndr_core.proofs.laws.one_reading.Goals as goal
 
@@ -17,3 +18,6 @@ returns-clause-pointers c = holds pointer
 
 pub returns-clause-counts : goal.returns-clause-counts
 returns-clause-counts c = λ most. holds (varying most)
+
+pub returns-clause-bytes : goal.returns-clause-bytes
+returns-clause-bytes c = λ count. holds (times count u8)

@@ -1,4 +1,4 @@
--- The heads in front of the place are written.
+-- The heads before the place are written.
 use Rattle.ndr_types.specs.Displays.{display_row}
 use Rattle.ndr_types.proofs.Arrays.{HeadsSoFar}
 use Rattle.ndr_types.proofs.displays.write_heads.Given as goal

@@ -3,6 +3,7 @@
 use Rattle.ndr_core.specs.Parts.{flat, whole}
 use Rattle.ndr_core.specs.Shapes.{u32}
 use Rattle.ndr_types.specs.Accounts.{rid_names}
+use Rattle.ndr_types.specs.Descriptors.{descriptor, descriptor_pointer}
 use Rattle.ndr_types.specs.Displays.{display_rows}
 use Rattle.ndr_types.specs.Domains.{referenced}
 use Rattle.ndr_types.specs.Handles.{handle}
@@ -17,6 +18,8 @@ use Rattle.ndr_types.specs.Translations.{translated_names, translated_sid, trans
 use Rattle.acct_layouts.specs.declared.classes.DisplayArm.TheVariants as display
 use Rattle.ndr_types.proofs.DisplayRows.{display_rows_onward, groups_complete, groups_values}
 use Rattle.ndr_types.proofs.DisplayRows.{users_complete, users_values}
+use Rattle.ndr_types.proofs.ByteArrays.{descriptor_complete, descriptor_onward, descriptor_pointer_complete}
+use Rattle.ndr_types.proofs.ByteArrays.{descriptor_pointer_onward, descriptor_pointer_values, descriptor_values}
 use Rattle.ndr_types.proofs.Digits.{handle_complete, handle_values}
 use Rattle.ndr_types.proofs.Entries.{privilege_names_complete, privilege_names_values, privilege_set_pointer_complete}
 use Rattle.ndr_types.proofs.Entries.{privilege_set_pointer_values, text_pointer_complete, text_pointer_values}
@@ -117,3 +120,11 @@ pub returns-clause-privilege_pointers : goal.returns-clause-privilege_pointers
 returns-clause-privilege_pointers c =
     lawful privilege_set_pointer privilege_set_pointer_complete
     privilege_set_pointer_values privilege_set_pointer_onward
+
+pub returns-clause-descriptors : goal.returns-clause-descriptors
+returns-clause-descriptors c = λ most.
+    lawful (descriptor most) (descriptor_complete most) (descriptor_values most) (descriptor_onward most)
+
+pub returns-clause-descriptor_pointers : goal.returns-clause-descriptor_pointers
+returns-clause-descriptor_pointers c =
+    lawful descriptor_pointer descriptor_pointer_complete descriptor_pointer_values descriptor_pointer_onward

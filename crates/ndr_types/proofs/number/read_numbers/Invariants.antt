@@ -1,4 +1,4 @@
--- The numbers so far are those in front of the cursor.
+-- The numbers so far are those before the cursor.
 use Rattle.std.proofs.Common.{length, take}
 use Rattle.ndr_core.specs.Shapes.{u32}
 use Rattle.ndr_core.proofs.Loop.{TimesSoFar}

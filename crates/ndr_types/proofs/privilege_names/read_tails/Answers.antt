@@ -5,7 +5,7 @@ use Rattle.ndr_types.specs.PrivilegeNames.{privilege_name}
 use Rattle.ndr_types.proofs.Arrays.{each_begins, each_goes_on, each_ends, each_done}
 use Rattle.ndr_types.proofs.privilege_names.read_tails.Goals as goal
 
--- a head, for what stands behind the end
+-- a head, for what stands after the end
 abbrev no_head : (ℕ × Bool) × ℕ
 no_head = ((0, false), 0)
 
