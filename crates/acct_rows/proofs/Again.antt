@@ -9,7 +9,7 @@ use Rattle.acct_rows.specs.Spelled.{key_of, pair_of, Fits}
 use Rattle.acct_rows.specs.Stored.{row_of}
 use Rattle.acct_rows.specs.declared.row.Row.{Row}
 use Rattle.acct_rows.proofs.Fitting.{all_fit}
-use Rattle.acct_rows.proofs.Lookups.{same_Some}
+use Rattle.acct_tables.proofs.Lookups.{same_Some}
 use Rattle.acct_rows.proofs.SpelledRows.{fits_key, spelled_rows_are_read}
 use Rattle.acct_rows.proofs.Translated.{not_format}
 use Rattle.acct_rows.proofs.RowsAt.{row_fits, same_lists, sound_tables}

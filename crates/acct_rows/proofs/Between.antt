@@ -1,110 +1,26 @@
--- Rows whose keys are a range stand together: the members of an alias, and the accounts of a domain behind a RID
-use Rattle.std.proofs.Common.{◌≡◌, ℕ, suc, zero, ◌+◌, ◌-◌, ◌<◌, ◌≤◌, ◌==◌, leb, nat_lt, Bool, true, false, ◌&&◌, cond}
-use Rattle.std.proofs.Common.{List, [], ◌∷◌, length, get_or, take, drop, refl, sym, ap, ◌∙◌, inl, inr, arith}
+-- Rows whose keys are a range stand together: the members of an alias, and the accounts of a domain after a RID
+use Rattle.std.proofs.Common.{◌≡◌, ℕ, ◌-◌, ◌≤◌, ◌==◌, leb, nat_lt, Bool, true, false, ◌&&◌}
+use Rattle.std.proofs.Common.{List, [], ◌∷◌, refl, sym, ap, ◌∙◌, arith}
 use Rattle.std.specs.Prelude.{not}
-use Rattle.std.specs.List.{filter}
-use Rattle.std.specs.List.Sorted.{IsPartitionPoint, IsPartitionedBy}
-use Rattle.std.specs.Cmp.{first_so, second_so}
+use Rattle.std.specs.List.Sorted.{IsPartitionedBy}
 use Rattle.std.specs.Cmp.Lexicographic.{nat_list_cmp_total}
 use Rattle.std.specs.Ordering.{nat_cmp, is_lt, is_le, ordering_then}
 use Rattle.std.specs.declared.cmp.Ordering.{Ordering}
 use Rattle.std.specs.declared.cmp.Ordering.TheVariants.{Less, Equal, Greater}
 use Rattle.std.proofs.lemmas.Bool.Decides.{nat_tests}
 use Rattle.std.proofs.lemmas.Cmp.{ranked}
+use Rattle.acct_tables.proofs.Between.{turns, between}
+use Rattle.acct_tables.proofs.Orders.{le_then_le, le_then_lt}
 use Rattle.acct_rows.specs.Keyed.{compare, is_ascending}
 use Rattle.acct_rows.specs.Ranges.{is_behind}
 use Rattle.acct_rows.specs.Rows.{account_key, alias_key, sid_key, is_in_alias}
 use Rattle.acct_rows.specs.declared.row.AccountRow.{AccountRow}
 use Rattle.acct_rows.specs.declared.row.AliasRow.{AliasRow}
-use Rattle.acct_rows.proofs.Halving.{below_at}
-use Rattle.acct_rows.proofs.Lookups.{tested}
-use Rattle.acct_rows.proofs.Tables.{tied-is}
-
--- the place up to which a test passes, and from which on it doesn't
-abbrev pub TurnsAt : {A : Type 0} → (A → Bool) → List A → ℕ → Type 0
-TurnsAt p xs i = IsPartitionPoint (λ y. p y ≡ true) (λ y. p y ≡ false) xs i
-
--- a test that passes a row passes those with lower keys
-module _ {A : Type 0} (key : A → List ℕ) (p : A → Bool)
-    (down : (x y : A) → compare (key x) (key y) ≡ Less → p y ≡ true → p x ≡ true) where
-  pub turns : (xs : List A) → is_ascending key xs ≡ true → IsPartitionedBy p xs
-  turns [] h i j d le lt e = absurd (omega arith)
-  turns (x ∷ xs) h zero zero d le lt e = e
-  turns (x ∷ xs) h zero (suc j) d le lt e =
-      down x (get_or xs j d) (below_at key (key x) xs j d (first_so _ _ h) (omega arith)) e
-  turns (x ∷ xs) h (suc i) zero d le lt e = absurd (omega arith)
-  turns (x ∷ xs) h (suc i) (suc j) d le lt e = turns xs (second_so _ _ h) i j d (omega arith) (omega arith) e
-
-pub alike : {A : Type 0} (p q : A → Bool) → ((x : A) → p x ≡ q x) → (xs : List A) → filter p xs ≡ filter q xs
-alike p q same [] = refl
-alike p q same (x ∷ xs) =
-    ap (λ b. cond b (x ∷ filter p xs) (filter p xs)) (same x)
-    ∙ ap (λ ys. cond (q x) (x ∷ ys) ys) (alike p q same xs)
-
-and_false : (a b : Bool) → b ≡ false → (a && b) ≡ false
-and_false true b e = e
-and_false false b e = refl
+use Rattle.acct_tables.proofs.Orders.{tied-is}
 
 and_true : (b : Bool) → (b && true) ≡ b
 and_true true = refl
 and_true false = refl
-
--- rows that aren't below, and not above
-module _ {A : Type 0} (below upto : A → Bool) where
-  abbrev pub between : A → Bool
-  between x = not (below x) && upto x
-
-  parted : (xs : List A) (i m : ℕ) → i + m ≤ length xs
-      → ((k : ℕ) (d : A) → k < i → below (get_or xs k d) ≡ true)
-      → ((k : ℕ) (d : A) → i ≤ k → k < i + m → between (get_or xs k d) ≡ true)
-      → ((k : ℕ) (d : A) → i + m ≤ k → k < length xs → upto (get_or xs k d) ≡ false)
-      → take m (drop i xs) ≡ filter between xs
-  parted [] i m fits low mid high =
-      let first : i ≡ 0 = omega arith in
-      let none : m ≡ 0 = omega arith in
-      rw (first, none) refl
-  parted (x ∷ xs) (suc i) m fits low mid high =
-      let other : between x ≡ false = ap (λ b. not b && upto x) (low 0 x (omega arith)) in
-      parted xs i m (omega arith) (λ k d lt. low (suc k) d (omega arith))
-      (λ k d ge lt. mid (suc k) d (omega arith) (omega arith)) (λ k d ge lt. high (suc k) d (omega arith) (omega arith))
-      ∙ ap (λ b. cond b (x ∷ filter between xs) (filter between xs)) (sym other)
-  parted (x ∷ xs) zero (suc m) fits low mid high =
-      let here : between x ≡ true = mid 0 x (omega arith) (omega arith) in
-      ap (λ ys. x ∷ ys) (parted xs zero m (omega arith) (λ k d lt. absurd (omega arith))
-      (λ k d ge lt. mid (suc k) d (omega arith) (omega arith))
-      (λ k d ge lt. high (suc k) d (omega arith) (omega arith)))
-      ∙ ap (λ b. cond b (x ∷ filter between xs) (filter between xs)) (sym here)
-  parted (x ∷ xs) zero zero fits low mid high =
-      let other : between x ≡ false = and_false (not (below x)) (upto x) (high 0 x (omega arith) (omega arith)) in
-      parted xs zero zero (omega arith) (λ k d lt. absurd (omega arith))
-      (λ k d ge lt. absurd (omega arith)) (λ k d ge lt. high (suc k) d (omega arith) (omega arith))
-      ∙ ap (λ b. cond b (x ∷ filter between xs) (filter between xs)) (sym other)
-
-  pub in_order : ((x : A) → below x ≡ true → upto x ≡ true) → (xs : List A) (i j : ℕ) → i ≤ length xs
-      → TurnsAt below xs i → TurnsAt upto xs j → i ≤ j
-  in_order inner [] i j starts low high = omega arith
-  in_order inner (d ∷ ds) i j starts low high =
-      elim (tested (nat_lt j i)) [
-        | inl t ↦ absurd (
-            let lt : j < i = grind (arith, nat_tests) in
-            let up : upto (get_or (d ∷ ds) j d) ≡ true = inner (get_or (d ∷ ds) j d) (low.0 j d (omega arith) lt) in
-            let over : upto (get_or (d ∷ ds) j d) ≡ false = high.1 j d (omega arith) (omega arith) in
-            cc (up, over))
-        | inr t ↦ grind (arith, nat_tests)
-      ]
-
-  pub together : (p : A → Bool) → ((x : A) → between x ≡ p x) → ((x : A) → below x ≡ true → upto x ≡ true)
-      → (xs : List A) (i j : ℕ) → i ≤ length xs → j ≤ length xs → TurnsAt below xs i → TurnsAt upto xs j
-      → take (j - i) (drop i xs) ≡ filter p xs
-  together p same inner xs i j starts ends low high =
-      let le : i ≤ j = in_order inner xs i j starts low high in
-      parted xs i (j - i) (omega arith) (λ k d lt. low.0 k d (omega arith) lt)
-      (λ k d ge lt.
-      let over : below (get_or xs k d) ≡ false = low.1 k d ge (omega arith) in
-      let under : upto (get_or xs k d) ≡ true = high.0 k d (omega arith) (omega arith) in
-      ap (λ b. not b && upto (get_or xs k d)) over ∙ under)
-      (λ k d ge lt. high.1 k d (omega arith) lt)
-      ∙ alike between p same xs
 
 -- ---- keys
 
@@ -131,7 +47,7 @@ le_true m n le = grind (arith, nat_tests)
 true_le : (m n : ℕ) → leb m n ≡ true → m ≤ n
 true_le m n t = grind (arith, nat_tests)
 
--- ---- the accounts of a domain behind a RID
+-- ---- the accounts of a domain after a RID
 
 module _ (domain rid : ℕ) where
   abbrev pub not_behind : AccountRow → Bool
@@ -198,7 +114,7 @@ module _ (domain rid : ℕ) where
 abbrev pub front : AliasRow → List ℕ
 front a = a.domain ∷ a.alias ∷ []
 
--- the keys' fronts don't fall
+-- the keys' prefixes don't fall
 pub fronts : (x y : AliasRow) → compare (alias_key x) (alias_key y) ≡ Less → is_le (compare (front x) (front y)) ≡ true
 fronts x y lt = by_domain (nat_cmp x.domain y.domain) lt
   where
@@ -215,26 +131,6 @@ fronts x y lt = by_domain (nat_cmp x.domain y.domain) lt
     by_domain Less e = refl
     by_domain Equal e = by_alias (nat_cmp x.alias y.alias) e
     by_domain Greater e = cc
-
-pub le_then_le : (j k q : List ℕ) → is_le (compare j k) ≡ true → is_le (compare k q) ≡ true → is_le (compare j q) ≡ true
-le_then_le j k q le e =
-    elim (compare j k) as (λ r. compare j k ≡ r → is_le r ≡ true → is_le (compare j q) ≡ true) [
-      | Less ↦ λ is t. still_le j k q is e
-      | Equal ↦ λ is t. ap (λ i. is_le (compare i q)) (tied-is j k is) ∙ e
-      | Greater ↦ λ is t. cc
-    ] refl le
-
-pub le_then_lt : (j k q : List ℕ) → is_le (compare j k) ≡ true → is_lt (compare k q) ≡ true → is_lt (compare j q) ≡ true
-le_then_lt j k q le e =
-    elim (compare j k) as (λ r. compare j k ≡ r → is_le r ≡ true → is_lt (compare j q) ≡ true) [
-      | Less ↦ λ is t. elim (compare k q) as (λ r. compare k q ≡ r → is_lt r ≡ true → is_lt (compare j q) ≡ true) [
-        | Less ↦ λ lt u. ap is_lt (nat_list_cmp_total.trans j k q is lt)
-        | Equal ↦ λ lt u. cc
-        | Greater ↦ λ lt u. cc
-      ] refl e
-      | Equal ↦ λ is t. ap (λ i. is_lt (compare i q)) (tied-is j k is) ∙ e
-      | Greater ↦ λ is t. cc
-    ] refl le
 
 module _ (domain alias : ℕ) where
   abbrev pub below_alias : AliasRow → Bool

@@ -24,9 +24,9 @@ use Rattle.acct_rows.specs.Stored.{row_of}
 use Rattle.acct_rows.specs.declared.plan.Plan.{Plan}
 use Rattle.acct_rows.specs.declared.row.Row.{Row}
 use Rattle.acct_rows.specs.declared.row.RowKey.{RowKey}
-use Rattle.acct_rows.proofs.Tables.{same_key-is, same_key-itself, at-put, at-without, is_ascending-put}
-use Rattle.acct_rows.proofs.Tables.{is_ascending-filter}
-use Rattle.acct_rows.proofs.Lookups.{tested, same_Some, there_or_not}
+use Rattle.acct_tables.proofs.Ascending.{is_ascending-put, is_ascending-filter}
+use Rattle.acct_tables.proofs.Lookups.{at-put, at-without, same_Some, there_or_not}
+use Rattle.acct_tables.proofs.Orders.{same_key-is, same_key-itself, tested}
 use Rattle.acct_rows.proofs.Fitting.{all_fit}
 use Rattle.acct_rows.proofs.Members.{ascending-kept}
 use Rattle.acct_rows.proofs.ReadRows.{FitsKey}

@@ -27,7 +27,8 @@ use Rattle.acct_rows.specs.declared.row.MemberRow.{MemberRow}
 use Rattle.acct_rows.specs.declared.row.AliasRow.{AliasRow}
 use Rattle.acct_rows.specs.declared.row.LsaRow.{LsaRow}
 use Rattle.acct_rows.specs.declared.row.Held.{Held}
-use Rattle.acct_rows.proofs.Lookups.{tested, key_found, there_or_not}
+use Rattle.acct_tables.proofs.Lookups.{key_found, there_or_not}
+use Rattle.acct_tables.proofs.Orders.{tested}
 use Rattle.acct_rows.proofs.Keeping.{each_good, each_member_found, each_lsa_good}
 
 -- a name that a domain may have is short

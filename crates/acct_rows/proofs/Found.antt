@@ -29,10 +29,12 @@ use Rattle.acct_rows.specs.declared.row.Row.{Row}
 use Rattle.acct_rows.specs.declared.row.Row.TheVariants as rows
 use Rattle.acct_rows.specs.declared.row.RowKey.{RowKey}
 use Rattle.acct_rows.specs.declared.row.RowKey.TheVariants as keys
+use Rattle.acct_tables.proofs.Ascending.{In}
+use Rattle.acct_tables.proofs.Lookups.{there_or_not, key_found}
+use Rattle.acct_tables.proofs.Members.{at_in, in_at, any_in, in_any}
+use Rattle.acct_tables.proofs.Orders.{tested}
 use Rattle.acct_rows.proofs.FoldOrder.{alone}
 use Rattle.acct_rows.proofs.Loaded.{find_so, find_none, find_least, loaded_tables, spelled, source, read_is_row}
-use Rattle.acct_rows.proofs.Lookups.{tested, there_or_not, key_found}
-use Rattle.acct_rows.proofs.Members.{In, at_in, in_at, any_in, in_any}
 use Rattle.acct_rows.proofs.Moves.{equal_is}
 use Rattle.acct_rows.proofs.Taken.{bind_some}
 use Rattle.acct_rows.proofs.Translated.{is_row_at, at_is_row, one_key}

@@ -23,18 +23,20 @@ use Rattle.acct_rows.specs.Keyed.{compare, at, put, without, place, is_ascending
 use Rattle.acct_rows.specs.Rows.{alias_key, sid_key, has_one, each_once, each_once_after}
 use Rattle.acct_rows.specs.declared.row.AliasRow.{AliasRow}
 use Rattle.acct_rows.specs.declared.membership.Membership.{Membership}
-use Rattle.acct_rows.proofs.FoldOrder.{alone, squeezed, not_below, then_then, ended-compare, ended-parts}
-use Rattle.acct_rows.proofs.Indexed.{index_ascends, index_put, index_put_over, index_without, without_none, put_over}
-use Rattle.acct_rows.proofs.Indexed.{absent}
-use Rattle.acct_rows.proofs.Indexed.{in_index, index_in, same_members}
-use Rattle.acct_rows.proofs.Lookups.{tested, there_or_not, key_found}
-use Rattle.acct_rows.proofs.Members.{In, in_map, map_in, in_left, in_right, in_either, contains_in, in_contains}
-use Rattle.acct_rows.proofs.Members.{any_in, in_any}
+use Rattle.acct_tables.proofs.Ascending.{In, below_less}
+use Rattle.acct_tables.proofs.Ended.{then_then, ended-compare, ended-parts}
+use Rattle.acct_tables.proofs.Lookups.{there_or_not, key_found}
+use Rattle.acct_tables.proofs.Members.{in_map, map_in, contains_in, in_contains, any_in, in_any}
+use Rattle.acct_tables.proofs.Orders.{tested, tied-is}
+use Rattle.acct_tables.proofs.Sorted.{in_left, in_right, in_either}
+use Rattle.acct_rows.proofs.FoldOrder.{alone, squeezed, not_below}
+use Rattle.acct_tables.proofs.Indexed.{index_ascends, index_put, index_put_over, index_without, without_none, put_over}
+use Rattle.acct_tables.proofs.Indexed.{absent}
+use Rattle.acct_tables.proofs.Indexed.{in_index, index_in, same_members}
 use Rattle.acct_rows.proofs.Moves.{equal_is}
 use Rattle.acct_rows.proofs.Rising.{number_key, number_less, aliases_rise}
-use Rattle.acct_rows.proofs.Runs.{spot, leading, run}
-use Rattle.acct_rows.proofs.Sorts.{sorted_is}
-use Rattle.acct_rows.proofs.Tables.{tied-is, below_less}
+use Rattle.acct_tables.proofs.Runs.{spot, leading, run}
+use Rattle.acct_tables.proofs.Sorts.{sorted_is}
 
 -- ---- keys
 

@@ -9,8 +9,8 @@ use Rattle.acct_rows.specs.Rows.{domain_key, account_key, member_key, alias_key,
 use Rattle.acct_rows.specs.Rows.{member_at, alias_row_at, lsa_at}
 use Rattle.acct_rows.specs.Sound.{IsGoodDomain, IsGoodAccount, IsGoodLsa}
 use Rattle.acct_rows.proofs.Moves.{one_sid}
-use Rattle.acct_rows.proofs.Lookups.{tested, key_found}
-use Rattle.acct_rows.proofs.Tables.{same_key-is, same_key-itself, below_apart}
+use Rattle.acct_tables.proofs.Lookups.{key_found, below_apart}
+use Rattle.acct_tables.proofs.Orders.{tested, same_key-is, same_key-itself}
 
 module _ {A : Type 0} (key : A → List ℕ) where
   all_found : (P : A → Type 0) (xs : List A) → is_ascending key xs ≡ true

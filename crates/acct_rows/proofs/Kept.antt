@@ -30,7 +30,7 @@ pub record Kept (r s : Lists) : Type 0 where
 abbrev pub MembersKept : Lists → Lists → Type 0
 MembersKept r s = (g u : ℕ) → is_some (member_at r g u) ≡ true → is_some (member_at s g u) ≡ true
 
--- and the accounts of the policy, but for those that are gone
+-- and the accounts of the policy, except those that are gone
 abbrev pub LsaKept : (Object → Bool) → Lists → Lists → Type 0
 LsaKept gone r s = (sid : SidValue) → is_some (lsa_at r sid) ≡ true → gone (objects.Account sid) ≡ false
     → is_some (lsa_at s sid) ≡ true

@@ -28,12 +28,13 @@ use Rattle.acct_rows.specs.declared.row.Row.{Row}
 use Rattle.acct_rows.specs.declared.row.Row.TheVariants as rows
 use Rattle.acct_rows.specs.declared.row.RowKey.{RowKey}
 use Rattle.acct_rows.specs.declared.row.RowKey.TheVariants as keys
-use Rattle.acct_rows.proofs.Tables.{same_key-is, less}
-use Rattle.acct_rows.proofs.Lookups.{tested, same_Some}
+use Rattle.acct_tables.proofs.Ascending.{In}
+use Rattle.acct_tables.proofs.Lookups.{same_Some}
+use Rattle.acct_tables.proofs.Members.{in_map, map_in, in_permutation, at_in, in_at, one_if}
+use Rattle.acct_tables.proofs.Orders.{same_key-is, less, tested}
+use Rattle.acct_tables.proofs.Sorted.{in_left, in_right, in_either}
 use Rattle.acct_rows.proofs.Fitting.{all_fit}
 use Rattle.acct_rows.proofs.SpelledRows.{key_again, fits_key}
-use Rattle.acct_rows.proofs.Members.{In, in_map, map_in, in_left, in_right}
-use Rattle.acct_rows.proofs.Members.{in_either, in_permutation, at_in, in_at, one_if}
 use Rattle.acct_rows.proofs.Members.{count, count-append, count-permutation, precedes, sorted_ascends, ascending-kept}
 
 -- which list the row of a key is in

@@ -32,10 +32,10 @@ use Rattle.acct_rows.specs.declared.row.Row.{Row}
 use Rattle.acct_rows.specs.declared.row.Row.TheVariants as rows
 use Rattle.acct_rows.specs.declared.row.RowKey.{RowKey}
 use Rattle.acct_rows.specs.declared.row.RowKey.TheVariants as keys
-use Rattle.acct_rows.proofs.Tables.{same_key-is, same_key-itself, is_ascending-put}
-use Rattle.acct_rows.proofs.Lookups.{tested, same_Some, there_or_not, key_found}
-use Rattle.acct_rows.proofs.Places.{at-placed}
-use Rattle.acct_rows.proofs.Members.{In, at_in, in_at, below_in, map_in}
+use Rattle.acct_tables.proofs.Ascending.{is_ascending-put, In, below_in}
+use Rattle.acct_tables.proofs.Lookups.{same_Some, there_or_not, key_found, at-placed}
+use Rattle.acct_tables.proofs.Members.{at_in, in_at, map_in}
+use Rattle.acct_tables.proofs.Orders.{same_key-is, same_key-itself, tested}
 use Rattle.acct_rows.proofs.SpelledRows.{fits_key}
 use Rattle.acct_rows.proofs.Translated.{is_row_at, at_is_row, not_format}
 use Rattle.acct_rows.proofs.RowsAt.{same_itself, same_or_not, last_found, row_put_here, row_put_apart}

@@ -32,10 +32,11 @@ use Rattle.acct_rows.specs.declared.row.MemberRow.{MemberRow}
 use Rattle.acct_rows.specs.declared.row.AliasRow.{AliasRow}
 use Rattle.acct_rows.specs.declared.row.Row.TheVariants as rows
 use Rattle.acct_rows.specs.declared.row.RowKey.TheVariants as keys
-use Rattle.acct_rows.proofs.Tables.{same_key-is, same_key-itself, below_apart, is_ascending-put, is_ascending-filter}
-use Rattle.acct_rows.proofs.Lookups.{tested, same_Some, there_or_not, key_found, put_here, put_cases}
-use Rattle.acct_rows.proofs.Lookups.{put_either, find_none}
-use Rattle.acct_rows.proofs.Removals.{without_found, without_keeps}
+use Rattle.acct_tables.proofs.Ascending.{is_ascending-put, is_ascending-filter}
+use Rattle.acct_tables.proofs.Lookups.{below_apart, same_Some, there_or_not, key_found, put_here, put_cases}
+use Rattle.acct_tables.proofs.Lookups.{put_either, find_none}
+use Rattle.acct_tables.proofs.Orders.{same_key-is, same_key-itself, tested}
+use Rattle.acct_tables.proofs.Removals.{without_found, without_keeps}
 use Rattle.acct_rows.proofs.Kept.{Kept, MembersKept, good_kept, moved}
 
 pub equals : (m n : ℕ) → m ≡ n → (m == n) ≡ true

@@ -18,15 +18,17 @@ use Rattle.acct_rows.specs.Indexes.{named, name_key, by_name, pair_of, names_of,
 use Rattle.acct_rows.specs.Keyed.{compare, at, put, without, place, by_order, further, below_all, is_ascending}
 use Rattle.acct_rows.specs.Rows.{account_key, has_name}
 use Rattle.acct_rows.specs.declared.row.AccountRow.{AccountRow}
-use Rattle.acct_rows.proofs.FoldOrder.{alone, squeezed, not_below, ended-compare, ended-parts}
-use Rattle.acct_rows.proofs.Indexed.{without_none, index_ascends, index_put_over, index_without, in_index}
-use Rattle.acct_rows.proofs.Lookups.{tested}
-use Rattle.acct_rows.proofs.Members.{In, in_at, below_in, count_by, sorted_rises}
+use Rattle.acct_tables.proofs.Ascending.{In, below_in}
+use Rattle.acct_tables.proofs.Ended.{ended-compare, ended-parts}
+use Rattle.acct_tables.proofs.Lookups.{shadowed, swapped}
+use Rattle.acct_tables.proofs.Members.{in_at, count_by, sorted_rises}
+use Rattle.acct_tables.proofs.Orders.{tested, tied-is}
+use Rattle.acct_tables.proofs.Places.{put-place, put_at, without-placed, without_at}
+use Rattle.acct_rows.proofs.FoldOrder.{alone, squeezed, not_below}
+use Rattle.acct_tables.proofs.Indexed.{without_none, index_ascends, index_put_over, index_without, in_index}
 use Rattle.acct_rows.proofs.Moves.{equal_is}
-use Rattle.acct_rows.proofs.Places.{put-place, put_at, without-placed, without_at}
-use Rattle.acct_rows.proofs.Runs.{spot, first_if, first_found}
-use Rattle.acct_rows.proofs.Sorts.{moved_differ, moved_is, count-shown, ascending-shown, map_same}
-use Rattle.acct_rows.proofs.Tables.{tied-is, shadowed, swapped}
+use Rattle.acct_tables.proofs.Runs.{spot, first_if, first_found}
+use Rattle.acct_tables.proofs.Sorts.{moved_differ, moved_is, count-shown, ascending-shown, map_same}
 
 -- ---- keys
 

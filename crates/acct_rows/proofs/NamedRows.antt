@@ -21,14 +21,15 @@ use Rattle.acct_rows.specs.Rows.{member_key, alias_key, sid_key, is_in_group, is
 use Rattle.acct_rows.specs.declared.membership.Membership.{Membership}
 use Rattle.acct_rows.specs.declared.row.AliasRow.{AliasRow}
 use Rattle.acct_rows.specs.declared.row.MemberRow.{MemberRow}
-use Rattle.acct_rows.proofs.Between.{turns, alike, between, front, fronts, le_then_lt, le_then_le}
+use Rattle.acct_tables.proofs.Ascending.{In, below_in}
+use Rattle.acct_tables.proofs.Between.{turns, alike, between}
+use Rattle.acct_tables.proofs.Orders.{le_then_lt, le_then_le, tested}
+use Rattle.acct_rows.proofs.Between.{front, fronts}
 use Rattle.acct_rows.proofs.Between.{in_alias_is}
 use Rattle.acct_rows.proofs.Holding.{held_order, membership_tells}
-use Rattle.acct_rows.proofs.Indexed.{in_index}
-use Rattle.acct_rows.proofs.Lookups.{tested}
-use Rattle.acct_rows.proofs.Members.{In, below_in}
+use Rattle.acct_tables.proofs.Indexed.{in_index}
 use Rattle.acct_rows.proofs.Moves.{one_sid}
-use Rattle.acct_rows.proofs.Sides.{either}
+use Rattle.acct_tables.proofs.Sides.{either}
 use Rattle.acct_rows.proofs.Together.{group_le}
 use Rattle.acct_rows.proofs.Users.{filter_put}
 

@@ -13,11 +13,11 @@ use Rattle.acct_rows.specs.Primaries.{primary_key, by_primary, primaries_of, is_
 use Rattle.acct_rows.specs.Rows.{account_key, has_primary}
 use Rattle.acct_rows.specs.declared.primaries.ByPrimary.{ByPrimary}
 use Rattle.acct_rows.specs.declared.row.AccountRow.{AccountRow}
-use Rattle.acct_rows.proofs.Halving.{rises}
-use Rattle.acct_rows.proofs.Indexed.{index_ascends, index_put_over, index_without, without_none, absent}
-use Rattle.acct_rows.proofs.Lookups.{tested}
-use Rattle.acct_rows.proofs.Sorts.{sorted_is}
-use Rattle.acct_rows.proofs.Tables.{below_apart}
+use Rattle.acct_tables.proofs.Halving.{rises}
+use Rattle.acct_tables.proofs.Lookups.{below_apart}
+use Rattle.acct_tables.proofs.Orders.{tested}
+use Rattle.acct_tables.proofs.Indexed.{index_ascends, index_put_over, index_without, without_none, absent}
+use Rattle.acct_tables.proofs.Sorts.{sorted_is}
 
 -- ---- keys
 

@@ -21,10 +21,11 @@ use Rattle.acct_rows.specs.declared.row.MemberRow.{MemberRow}
 use Rattle.acct_rows.specs.declared.row.AliasRow.{AliasRow}
 use Rattle.acct_rows.specs.declared.row.RowKey.{RowKey}
 use Rattle.acct_rows.specs.declared.row.RowKey.TheVariants as keys
-use Rattle.acct_rows.proofs.Tables.{is_ascending-filter}
-use Rattle.acct_rows.proofs.Lookups.{tested, there_or_not, key_found}
-use Rattle.acct_rows.proofs.Removals.{without_found, without_keeps, is_ascending-without_all, purged_found}
-use Rattle.acct_rows.proofs.Removals.{purged_keeps}
+use Rattle.acct_tables.proofs.Ascending.{is_ascending-filter}
+use Rattle.acct_tables.proofs.Lookups.{there_or_not, key_found}
+use Rattle.acct_tables.proofs.Orders.{tested}
+use Rattle.acct_tables.proofs.Removals.{without_found, without_keeps, is_ascending-without_all, purged_found}
+use Rattle.acct_tables.proofs.Removals.{purged_keeps}
 use Rattle.acct_rows.proofs.Moves.{equals, user_domain}
 
 -- the rows that are left

@@ -35,15 +35,15 @@ FitsKey (keys.Member group user) = (group < 2 ^ 32) × (user < 2 ^ 32)
 FitsKey (keys.Alias domain alias member) = (domain ≤ 1) × (alias < 2 ^ 32) × IsSid member
 FitsKey (keys.Lsa sid) = IsSid sid
 
--- the letter and the bytes behind it are the key's
+-- the letter and the bytes after it are the key's
 abbrev KeyRead : ℕ → List ℕ → RowKey → Type 0
 KeyRead letter bytes key = FitsKey key × (letter ∷ bytes ≡ stored_key key)
 
--- nothing stands behind the last field
+-- nothing stands after the last field
 last : (front bytes rest : List ℕ) → bytes ≡ front ++ rest → rest ≡ [] → bytes ≡ front
 last front bytes rest parts none = parts ∙ ap (λ (r : List ℕ). front ++ r) none ∙ append-nil front
 
--- fields one behind the other, however they are grouped
+-- fields one after the other, however they are grouped
 pub four_fields : (a b c d : List ℕ) → a ++ (b ++ (c ++ d)) ≡ ((a ++ b) ++ c) ++ d
 four_fields a b c d = sym (append_assoc (a ++ b) c d ∙ append_assoc a b (c ++ d))
 
@@ -56,7 +56,7 @@ bound : {A B : Type 0} (o : Option A) (f : A → Option B) (y : B) → (o >>= f)
     → ((x : A) → o ≡ Some x → f x ≡ Some y → Goal) → Goal
 bound o f y e then = let a = bind_some o f y e in then a.0 a.1 a.2
 
--- what is read is a field, and what is read of that field and the bytes behind it
+-- what is read is a field, and what is read of that field and the bytes after it
 field : {A B : Type 0} {one : Reader A} {write : A → List ℕ} {P : A → Type 0} → Takes one write P
     → (bytes : List ℕ) → IsBytes bytes → (f : A × List ℕ → Option B) (y : B) → (one bytes >>= f) ≡ Some y
     → {Goal : Type 0} → ((x : A) (rest : List ℕ) → Taken write P bytes x rest → f (x, rest) ≡ Some y → Goal) → Goal
@@ -103,7 +103,7 @@ member_key_read bytes key fits e =
           ∙ ap (λ (r : List ℕ). rid_bytes group ++ r) (last (rid_bytes user) r1 r2 t2.parts (at_end r2 g.0))),
     )))
 
--- a field and what is read behind it
+-- a field and what is read after it
 member_read : (group user : ℕ) (value : List ℕ) (row : Row) → FitsKey (keys.Member group user) → IsBytes value
     → member_of group user value ≡ Some row
     → IsSpelled (record { key = stored_key (keys.Member group user); value = value }) row

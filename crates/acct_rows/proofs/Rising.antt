@@ -14,8 +14,8 @@ use Rattle.dtyp_sid.specs.Value.{SidValue}
 use Rattle.acct_rows.specs.Keyed.{compare, below_all, is_ascending}
 use Rattle.acct_rows.specs.Rows.{sid_key, alias_key, has_one, each_once_after, each_once}
 use Rattle.acct_rows.specs.declared.row.AliasRow.{AliasRow}
-use Rattle.acct_rows.proofs.Tables.{less, below_less, is_ascending-filter}
-use Rattle.acct_rows.proofs.Lookups.{tested}
+use Rattle.acct_tables.proofs.Ascending.{below_less, is_ascending-filter}
+use Rattle.acct_tables.proofs.Orders.{less, tested}
 
 abbrev pub number_key : ℕ → List ℕ
 number_key n = n ∷ []

@@ -1,4 +1,4 @@
--- What a plan leaves at each key, and rows that are alike at every key.
+-- What a plan leaves at each key, and rows that are equal at every key.
 use Rattle.std.proofs.Common.{◌≡◌, ◌≢◌, ℕ, ◌==◌, Bool, true, false, ◌&&◌, ◌||◌, cond, List, [], ◌∷◌}
 use Rattle.std.proofs.Common.{Option, Some, None, refl, sym, ap, subst, ◌∙◌, arith, inl, inr, ◌⊎◌}
 use Rattle.std.specs.Prelude.{option_map, not}
@@ -25,9 +25,10 @@ use Rattle.acct_rows.specs.declared.row.Row.{Row}
 use Rattle.acct_rows.specs.declared.row.Row.TheVariants as rows
 use Rattle.acct_rows.specs.declared.row.RowKey.{RowKey}
 use Rattle.acct_rows.specs.declared.row.RowKey.TheVariants as keys
-use Rattle.acct_rows.proofs.Tables.{same_key-is, same_key-itself, at-without, below_apart}
-use Rattle.acct_rows.proofs.Lookups.{tested, key_found, put_here, put_elsewhere, there_or_not}
-use Rattle.acct_rows.proofs.Members.{In, at_in, in_at, below_in}
+use Rattle.acct_tables.proofs.Ascending.{In, below_in}
+use Rattle.acct_tables.proofs.Lookups.{at-without, below_apart, key_found, put_here, put_elsewhere, there_or_not}
+use Rattle.acct_tables.proofs.Members.{at_in, in_at}
+use Rattle.acct_tables.proofs.Orders.{same_key-is, same_key-itself, tested}
 use Rattle.acct_rows.proofs.Moves.{one_sid}
 
 all_in : {A : Type 0} (P : A → Type 0) (a : A) (xs : List A) → AllByRecursion P xs → In a xs → P a
@@ -269,7 +270,7 @@ module _ (equal_sids : EqualSidsAreOne) where
       → row_at (with_puts (row ∷ later) lists) (key_of row) ≡ Some row
   last_found row later lists none = puts_elsewhere later (put_row row lists) (key_of row) none ∙ row_put_here lists row
 
--- ---- rows that are alike at every key are the same
+-- ---- rows that are equal at every key are the same
 
 module _ {A : Type 0} (key : A → List ℕ) where
   alike : (xs ys : List A) → is_ascending key xs ≡ true → is_ascending key ys ≡ true

@@ -34,8 +34,8 @@ use Rattle.acct_rows.specs.Sound.{control_is_good, IsGoodDomain}
 use Rattle.acct_rows.specs.Sound.{IsGoodAccount, IsGoodMember, IsSoundRows}
 use Rattle.acct_rows.specs.Seed.{guest_control, seed_user, seed_group, seed_alias, seed_domains, seed_accounts}
 use Rattle.acct_rows.specs.Seed.{seed_members, seed_aliases, seed_lists}
-use Rattle.acct_rows.proofs.Lookups.{key_found}
-use Rattle.acct_rows.proofs.Passing.{Each, found_is, found_passes}
+use Rattle.acct_tables.proofs.Lookups.{key_found}
+use Rattle.acct_tables.proofs.Passing.{Each, found_is, found_passes}
 
 -- lists that differ in their last number alone are ordered by it
 last_decides : (front : List ℕ) (i j : ℕ) → nat_cmp i j ≡ Less → compare (front ++ i ∷ []) (front ++ j ∷ []) ≡ Less

@@ -26,9 +26,11 @@ use Rattle.acct_rows.specs.declared.pairs.loading.PairsError.TheVariants.{BadPai
 use Rattle.acct_rows.specs.declared.row.Row.{Row}
 use Rattle.acct_rows.specs.declared.row.Row.TheVariants as rows
 use Rattle.acct_rows.specs.declared.row.RowKey.TheVariants as keys
-use Rattle.acct_rows.proofs.Tables.{same_key-is, same_key-itself, less}
-use Rattle.acct_rows.proofs.Lookups.{tested, there_or_not, key_found}
-use Rattle.acct_rows.proofs.Members.{In, at_in, in_at, in_permutation, count, count-permutation, one_if, precedes}
+use Rattle.acct_tables.proofs.Ascending.{In}
+use Rattle.acct_tables.proofs.Lookups.{there_or_not, key_found}
+use Rattle.acct_tables.proofs.Members.{at_in, in_at, in_permutation, one_if}
+use Rattle.acct_tables.proofs.Orders.{same_key-is, same_key-itself, less, tested}
+use Rattle.acct_rows.proofs.Members.{count, count-permutation, precedes}
 use Rattle.acct_rows.proofs.Members.{sorted_ascends, ascending-kept}
 
 both_parts : (a b : Bool) → (a && b) ≡ true → (a ≡ true) × (b ≡ true)

@@ -30,7 +30,7 @@ use Rattle.acct_rows.proofs.Taken.{byte_again, number_again, rid_again, text_aga
 use Rattle.acct_rows.proofs.Taken.{domain_number_again, sid_again}
 use Rattle.acct_rows.proofs.ReadRows.{FitsKey, four_fields, five_fields}
 
--- a last field is read where nothing stands behind it
+-- a last field is read where nothing stands after it
 rid_last : (n : ℕ) → n < 2 ^ 32 → rid_at (rid_bytes n) ≡ Some (n, [])
 rid_last n lt = ap rid_at (sym (append-nil (rid_bytes n))) ∙ rid_again n [] lt
 

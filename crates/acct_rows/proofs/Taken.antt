@@ -77,7 +77,7 @@ some_is x y e = cc
 pub at_end : (bytes : List ℕ) → is_end bytes ≡ true → bytes ≡ []
 at_end bytes e = nil_from_length bytes (eqb-true _ _ e)
 
--- what a reader took from the front
+-- what a reader took from the beginning
 pub record Taken {A : Type 0} (write : A → List ℕ) (P : A → Type 0) (bytes : List ℕ) (x : A) (rest : List ℕ) : Type 0
   where
     pub parts : bytes ≡ write x ++ rest
@@ -117,7 +117,7 @@ front_again n front rest len =
     ∙ drop-append_seam front rest in
     rw (there, first, after) refl
 
--- a field that is made of the front
+-- a field that is made of the beginning
 made : {A : Type 0} (n : ℕ) (make : List ℕ → A) (write : A → List ℕ) (P : A → Type 0)
     → ((front : List ℕ) → length front ≡ n → IsBytes front → (write (make front) ≡ front) × P (make front))
     → Takes (λ bytes. front_at n bytes >>= λ front. Some (make front.0, front.1)) write P

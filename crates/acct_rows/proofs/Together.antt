@@ -10,8 +10,8 @@ use Rattle.std.proofs.lemmas.Bool.Decides.{nat_tests}
 use Rattle.acct_rows.specs.Keyed.{compare, is_ascending}
 use Rattle.acct_rows.specs.Rows.{member_key}
 use Rattle.acct_rows.specs.declared.row.MemberRow.{MemberRow}
-use Rattle.acct_rows.proofs.Halving.{rises}
-use Rattle.acct_rows.proofs.Lookups.{tested}
+use Rattle.acct_tables.proofs.Halving.{rises}
+use Rattle.acct_tables.proofs.Orders.{tested}
 
 -- where the numbers below n end, and where those up to n end
 abbrev pub IsBelow : {A : Type 0} → (A → ℕ) → ℕ → List A → ℕ → Type 0

@@ -25,7 +25,7 @@ use Rattle.acct_rows.specs.declared.row.Row.{Row}
 use Rattle.acct_rows.specs.declared.row.Row.TheVariants as rows
 use Rattle.acct_rows.specs.declared.row.RowKey.{RowKey}
 use Rattle.acct_rows.specs.declared.row.RowKey.TheVariants as keys
-use Rattle.acct_rows.proofs.Lookups.{same_Some, key_found, there_or_not}
+use Rattle.acct_tables.proofs.Lookups.{same_Some, key_found, there_or_not}
 use Rattle.acct_rows.proofs.Moves.{one_sid}
 use Rattle.acct_rows.proofs.ReadRows.{FitsKey}
 use Rattle.acct_rows.proofs.SpelledRows.{key_again, fits_key, spelled_rows_are_read}

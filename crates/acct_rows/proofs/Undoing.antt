@@ -6,7 +6,7 @@ use Rattle.std.specs.Ordering.{is_eq}
 use Rattle.acct_rows.specs.Keyed.{compare, same_key, by_order, at, put, without}
 use Rattle.acct_rows.specs.Laws.{PutsAreUndone}
 use Rattle.acct_rows.specs.Rows.{member_key, alias_key}
-use Rattle.acct_rows.proofs.Tables.{same_key-itself}
+use Rattle.acct_tables.proofs.Orders.{same_key-itself}
 
 module _ {A : Type 0} (key : A → List ℕ) where
   abbrev keep : List ℕ → A → Bool

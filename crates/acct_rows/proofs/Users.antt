@@ -14,16 +14,16 @@ use Rattle.acct_rows.specs.Rows.{member_key, is_of_user}
 use Rattle.acct_rows.specs.Users.{user_key, by_user, row_of, users_of, is_for}
 use Rattle.acct_rows.specs.declared.groups.ByUser.{ByUser}
 use Rattle.acct_rows.specs.declared.row.MemberRow.{MemberRow}
+use Rattle.acct_tables.proofs.Ascending.{In, below_in}
+use Rattle.acct_tables.proofs.Halving.{rises}
+use Rattle.acct_tables.proofs.Lookups.{there_or_not, key_found}
+use Rattle.acct_tables.proofs.Orders.{tested, tied-is}
 use Rattle.acct_rows.proofs.FoldOrder.{alone}
-use Rattle.acct_rows.proofs.Halving.{rises}
-use Rattle.acct_rows.proofs.Indexed.{index_ascends, index_put, index_put_over, index_without}
-use Rattle.acct_rows.proofs.Indexed.{without_none, put_over, absent}
-use Rattle.acct_rows.proofs.Indexed.{in_index}
-use Rattle.acct_rows.proofs.Lookups.{tested, there_or_not, key_found}
-use Rattle.acct_rows.proofs.Members.{In, below_in}
+use Rattle.acct_tables.proofs.Indexed.{index_ascends, index_put, index_put_over, index_without}
+use Rattle.acct_tables.proofs.Indexed.{without_none, put_over, absent}
+use Rattle.acct_tables.proofs.Indexed.{in_index}
 use Rattle.acct_rows.proofs.Moves.{equal_is}
-use Rattle.acct_rows.proofs.Sorts.{sorted_is}
-use Rattle.acct_rows.proofs.Tables.{tied-is}
+use Rattle.acct_tables.proofs.Sorts.{sorted_is}
 
 -- ---- keys
 

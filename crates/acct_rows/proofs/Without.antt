@@ -13,11 +13,12 @@ use Rattle.acct_rows.specs.Sound.{IsSoundRows}
 use Rattle.acct_rows.specs.declared.row.AccountRow.{AccountRow}
 use Rattle.acct_rows.specs.declared.row.AliasRow.{AliasRow}
 use Rattle.acct_rows.specs.declared.row.MemberRow.{MemberRow}
-use Rattle.acct_rows.proofs.Lookups.{tested, there_or_not}
+use Rattle.acct_tables.proofs.Ascending.{is_ascending-filter}
+use Rattle.acct_tables.proofs.Lookups.{there_or_not, at-without}
+use Rattle.acct_tables.proofs.Orders.{tested, same_key-itself}
 use Rattle.acct_rows.proofs.Moves.{search_found, equal_is}
 use Rattle.acct_rows.proofs.Purges.{left, all_removed}
-use Rattle.acct_rows.proofs.Removals.{unlisted, without_found}
-use Rattle.acct_rows.proofs.Tables.{same_key-itself, at-without, is_ascending-filter}
+use Rattle.acct_tables.proofs.Removals.{unlisted, without_found}
 
 -- ---- filters
 

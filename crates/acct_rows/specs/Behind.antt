@@ -1,4 +1,4 @@
--- The rows of a domain and of an account by their first fields, with the texts that are read behind those
+-- The rows of a domain and of an account by their first fields, with the texts that are read after those
 use Rattle.std.specs.Prelude.{ℕ, ◌+◌, ◌*◌, ◌==◌, ◌&&◌, List, length, Option}
 use Rattle.acct_codes.specs.declared.kind.Kind.{Kind}
 use Rattle.dtyp_sid.specs.Value.{SidValue}

@@ -1,20 +1,15 @@
 -- What the indexes have: the accounts by domain and folded name, and the members of aliases by SID
-use Rattle.std.specs.Prelude.{ℕ, suc, Bool, ◌==◌, ◌&&◌, List, [], ◌∷◌, map, set, Option, Some, None, Result, Ok, Err}
+use Rattle.std.specs.Prelude.{ℕ, Bool, ◌==◌, ◌&&◌, List, [], ◌∷◌, map, set, Option, Some, None, Result, Ok, Err}
 use Rattle.std.specs.List.{filter, flat_map, insert}
 use Rattle.dtyp_sid.specs.Value.{SidValue}
 use Rattle.dtyp_sid.specs.Order.{sid_eq}
 use Rattle.acct_calls.specs.Folding.{folded_points}
-use Rattle.acct_rows.specs.Keyed.{at, put, place}
+pub use Rattle.acct_tables.specs.Keyed.{ended, index}
+use Rattle.acct_rows.specs.Keyed.{at, place}
 use Rattle.acct_rows.specs.Rows.{account_key}
 use Rattle.acct_rows.specs.declared.row.AccountRow.{AccountRow}
 use Rattle.acct_rows.specs.declared.row.AliasRow.{AliasRow}
 use Rattle.acct_rows.specs.declared.membership.Membership.{Membership}
-
--- A list within a key: each number stands one higher and 0 ends the list, so that keys compare as their lists do, and
--- then by what is behind these.
-abbrev pub ended : List ℕ → List ℕ → List ℕ
-ended [] rest = 0 ∷ rest
-ended (n ∷ ns) rest = suc n ∷ ended ns rest
 
 -- a domain, then a name after folding, then a RID
 abbrev pub named : ℕ → List ℕ → ℕ → List ℕ
@@ -29,11 +24,6 @@ held sid domain alias = sid.authority ∷ ended sid.subs (domain ∷ alias ∷ [
 
 abbrev pub membership_key : Membership → List ℕ
 membership_key m = held m.member m.domain m.alias
-
--- entries of rows by ascending key
-abbrev pub index : {A B : Type 0} → (A → B) → (B → List ℕ) → List A → List B
-index entry key [] = []
-index entry key (x ∷ xs) = put key (entry x) (index entry key xs)
 
 -- the accounts by domain, folded name and RID, each by its domain and RID
 abbrev pub by_name : List AccountRow → List AccountRow

@@ -26,7 +26,7 @@ use Rattle.acct_rows.specs.declared.row.Row.TheVariants as rows
 use Rattle.acct_rows.specs.declared.row.RowKey.{RowKey}
 use Rattle.acct_rows.specs.declared.row.RowKey.TheVariants as keys
 
--- the later rows are sound, and every object that was there is there, but for those that are gone
+-- the later rows are sound, and every object that was there is there, except those that are gone
 pub record Keeps (gone : Object → Bool) (lists later : Lists) : Type 0 where
   pub sound : IsSoundRows later
   pub stays : (x : Object) → exists lists x ≡ true → gone x ≡ false → exists later x ≡ true
@@ -169,7 +169,7 @@ OthersAreNoPrimary = (lists : Lists) (domain rid : ℕ) → IsSoundRows lists
     → is_of Group (account_at lists domain rid) ≡ false
     → IsNoPrimary lists domain rid
 
--- a user, a group or an alias that is there, but for the group of all users, is removed with every row that names it
+-- a user, a group or an alias that is there, except the group of all users, is removed with every row that names it
 abbrev pub RemovedAccountsStaySound : Type 0
 RemovedAccountsStaySound = (lists : Lists) (object : Object) (sid : SidValue) → IsSoundRows lists
     → is_account_kind (kind_of object) ≡ true → exists lists object ≡ true

@@ -16,7 +16,7 @@ use Rattle.acct_rows.specs.declared.row.AccountRow.{AccountRow}
 use Rattle.acct_rows.specs.declared.row.Row.{Row}
 use Rattle.acct_rows.specs.declared.row.Row.TheVariants as rows
 
--- why pairs are no rows: the smallest broken key, or want of memory, which has no cause in the pairs
+-- why pairs are no rows: the smallest broken key, or running out of memory, which has no cause in the pairs
 abbrev pub BadPairs : List Pair → PairsError → Type 0
 BadPairs pairs (BadPair key) = IsSmallestBroken pairs key
 BadPairs pairs Memory = Unit {0}

@@ -67,7 +67,7 @@ alias_pairs xs = map (λ a. pair_of (rows.Alias a)) xs
 abbrev pub lsa_pairs : List LsaRow → List Pair
 lsa_pairs xs = map (λ l. pair_of (rows.Lsa l)) xs
 
--- the pairs of all rows, list by list, behind the format's
+-- the pairs of all rows, list by list, after the format's
 abbrev pub all_pairs : Lists → List Pair
 all_pairs lists = format_pair ∷ (domain_pairs lists.domains ++ (account_pairs lists.accounts
     ++ (member_pairs lists.members ++ (alias_pairs lists.aliases ++ lsa_pairs lists.lsa))))

@@ -1,5 +1,5 @@
 -- How rows are stored: each as one pair, with its key and its value in bytes. Numbers stand with the lowest byte first,
--- but for those in keys, which stand with the highest first, so that keys ascend as they do.
+-- except those in keys, which stand with the highest first, so that keys ascend as they do.
 use Rattle.std.specs.Prelude.{◌≡◌, ℕ, ◌^◌, ◌<◌, ◌≤◌, Bool, true, List, [], ◌∷◌, ◌++◌, length, All}
 use Rattle.std.specs.Int.{w16, w32, to_le_bytes, to_be_bytes}
 use Rattle.std.specs.List.{flat_map}

@@ -111,7 +111,7 @@ impl Accounts {
         self.names.find(self.rows.rows(), domain, name)
     }
 
-    /// The accounts of a domain behind a RID.
+    /// The accounts of a domain after a RID.
     pub fn behind(&self, domain: u8, rid: u32) -> &[AccountRow]
         ensures { result.now ≡ filter (is_behind domain rid) self.now.0 }
     {

@@ -7,12 +7,13 @@ ghost use Rattle.acct_rows.specs.Laws.{is_member_of, key_of_member};
 ghost use Rattle.acct_rows.specs.Rows.{member_key, is_in_group, is_of_user};
 ghost use Rattle.acct_rows.specs.Users.{user_key, by_user, row_of, users_of, is_for};
 
-use crate::keyed::{Table, sort};
+use crate::keyed::{ByKey, Table};
 use crate::membership::members_among;
 use crate::naming::{push_groups, push_members};
 use crate::row::{ACCOUNT_DOMAIN, MemberRow, RowKey};
 use acct_base::Seq;
 use acct_calls::NoMemory;
+use acct_tables::sort;
 use std::alloc::Global;
 use std::marker::Model;
 
@@ -28,7 +29,7 @@ fn users_of(alloc: Global, rows: &[MemberRow]) -> Result<Table<ByUser>, NoMemory
     ensures { IfOk result (λ table. table.0 ≡ users_of rows.now) }
 {
     let mut users = entries_of(alloc, rows)?;
-    sort(&mut users);
+    sort::<ByUser, ByKey>(&mut users);
     Ok(Table::from_rows(users))
 }
 

@@ -1,11 +1,10 @@
 // Tables: rows by ascending key.
-ghost use Rattle.std.specs.Prelude.{◌≡◌, ◌+◌, ◌^◌, ◌<◌, ◌≤◌, true, ℕ, List, [], OnOk, OnErr, MatchResult, length};
-ghost use Rattle.std.specs.Prelude.{vec_len, vec_capacity};
-ghost use Rattle.std.specs.List.Sorted.{IsPermutation, IsSortedByKey};
+ghost use Rattle.std.specs.Prelude.{◌≡◌, ◌+◌, ◌^◌, ◌<◌, ◌≤◌, true, ℕ, List, [], OnOk, length, vec_len};
 ghost use Rattle.std.specs.Option.{option_copied};
-ghost use Rattle.acct_rows.specs.Keyed.{compare, at, put, without, place, is_ascending};
+ghost use Rattle.acct_rows.specs.Keyed.{compare, at, put, without, is_ascending};
 
 use acct_calls::NoMemory;
+use acct_tables::{Order, Whole, find_key};
 use std::alloc::{AllocError, Global};
 use std::cmp::Ordering;
 use std::marker::Model;
@@ -26,6 +25,36 @@ pub trait Keyed: Drop {
         ensures { result ≡ compare (key_of row.now) (path key.now) };
 }
 
+/// The order of rows by their own keys.
+#[derive(Clone, Copy, Debug)]
+pub struct ByKey;
+
+impl<T: Keyed> Order<T> for ByKey {
+    ghost key_of = { T.key_of };
+
+    fn order(left: &T, right: &T) -> Ordering {
+        T::order(left, &right.key())
+    }
+}
+
+impl<T: Keyed> Whole<T> for ByKey {
+    type Key = T::Key;
+
+    ghost path = { T.path };
+
+    fn order_key(value: &T, key: &T::Key) -> Ordering {
+        T::order(value, key)
+    }
+}
+
+/// The row with that key among rows that ascend.
+pub fn find<'a, T: Keyed>(rows: &'a [T], key: &T::Key) -> Option<&'a T>
+    requires { is_ascending T.key_of rows.now ≡ true }
+    ensures { option_copied result ≡ at T.key_of (T.path key.now) rows.now }
+{
+    find_key::<T, ByKey>(rows, key)
+}
+
 /// A table has fewer rows than that.
 const MOST: usize = 1 << 32;
 
@@ -33,80 +62,18 @@ const MOST: usize = 1 << 32;
 /// room; with those the table has fewer than 2^32 rows.
 #[derive(Drop)]
 pub struct Table<T: Keyed> {
-    rows: Vec<T>,
+    rows: acct_tables::Table<T, ByKey>,
     spare: usize,
 }
 
 impl<T: Keyed> Model for Table<T> {
-    ghost use Rattle.std.specs.Prelude.{◌≡◌, ◌+◌, ◌^◌, ◌<◌, ◌≤◌, ℕ, List, vec_len, vec_capacity, true};
-    ghost use Rattle.acct_rows.specs.Keyed.{is_ascending};
+    ghost use Rattle.std.specs.Prelude.{◌+◌, ◌^◌, ◌<◌, ◌≤◌, ℕ, List, length};
 
     ghost Value = { List T × ℕ };
 
-    ghost view = { λ table. (table.rows.items, table.spare) };
+    ghost view = { λ table. (table.rows.0, table.spare) };
 
-    ghost invariant = { λ table. (is_ascending T.key_of table.rows.items ≡ true)
-        × (vec_len table.rows + table.spare ≤ vec_capacity table.rows)
-        × (vec_len table.rows + table.spare < 2 ^ 32) };
-}
-
-// Where the key stands in rows that ascend, or where it would go.
-pub fn place<T: Keyed>(rows: &[T], key: &T::Key) -> Result<usize, usize>
-    requires { is_ascending T.key_of rows.now ≡ true }
-    ensures found { result ≡ place T.key_of (T.path key.now) rows.now }
-    ensures within { MatchResult result (λ i. i < length rows.now) (λ i. i ≤ length rows.now) }
-{
-    rows.binary_search_by(|row| T::order(row, key))
-}
-
-pub fn find<'a, T: Keyed>(rows: &'a [T], key: &T::Key) -> Option<&'a T>
-    requires { is_ascending T.key_of rows.now ≡ true }
-    ensures { option_copied result ≡ at T.key_of (T.path key.now) rows.now }
-{
-    match place(rows, key) {
-        Ok(i) => Some(&rows[i]),
-        Err(_) => None,
-    }
-}
-
-fn put<T: Keyed>(rows: &mut Vec<T>, row: T)
-    requires room { vec_len rows.old < vec_capacity rows.old }
-    requires ascending { is_ascending T.key_of rows.old.items ≡ true }
-    ensures rows { rows.new.items ≡ put T.key_of row rows.old.items }
-    ensures len { vec_len rows.new ≤ vec_len rows.old + 1 }
-    ensures capacity { vec_capacity rows.old ≤ vec_capacity rows.new }
-{
-    match place(rows, &row.key()) {
-        Ok(i) => rows[i] = row,
-        Err(i) => {
-            if rows.insert(i, row).is_err() {
-                unreachable!()
-            }
-        }
-    }
-}
-
-fn remove<T: Keyed>(rows: &mut Vec<T>, key: &T::Key)
-    requires { is_ascending T.key_of rows.old.items ≡ true }
-    ensures rows { rows.new.items ≡ without T.key_of (T.path key.now) rows.old.items }
-    ensures len { vec_len rows.new ≤ vec_len rows.old }
-    ensures capacity { vec_capacity rows.old ≤ vec_capacity rows.new }
-{
-    match place(rows, key) {
-        Ok(i) => {
-            rows.remove(i);
-        }
-        Err(_) => {}
-    }
-}
-
-/// Brings rows into the order of their keys.
-pub fn sort<T: Keyed>(rows: &mut Vec<T>)
-    ensures same { IsPermutation rows.old.items rows.new.items }
-    ensures sorted { IsSortedByKey T.key_of compare rows.new.items }
-    ensures len { vec_len rows.new ≡ vec_len rows.old }
-{
-    rows.sort_unstable_by(|left, right| T::order(left, &right.key()));
+    ghost invariant = { λ table. (table.spare ≤ table.rows.1) × (length table.rows.0 + table.spare < 2 ^ 32) };
 }
 
 impl<T: Keyed> Table<T> {
@@ -115,7 +82,7 @@ impl<T: Keyed> Table<T> {
         ensures { result ≡ ([], 0) }
     {
         Table {
-            rows: Vec::new(alloc),
+            rows: acct_tables::Table::new(alloc),
             spare: 0,
         }
     }
@@ -126,7 +93,10 @@ impl<T: Keyed> Table<T> {
         requires few { vec_len rows < 2 ^ 32 }
         ensures { result ≡ (rows.items, 0) }
     {
-        Table { rows, spare: 0 }
+        Table {
+            rows: acct_tables::Table::from_vec(rows),
+            spare: 0,
+        }
     }
 
     /// The rows by ascending key alone. It takes no memory.
@@ -135,7 +105,7 @@ impl<T: Keyed> Table<T> {
         ensures ascending { is_ascending T.key_of result.items ≡ true }
         ensures few { vec_len result < 2 ^ 32 }
     {
-        self.rows
+        self.rows.into_vec()
     }
 
     /// All rows by ascending key.
@@ -144,14 +114,14 @@ impl<T: Keyed> Table<T> {
         ensures ascending { is_ascending T.key_of result.now ≡ true }
         ensures few { length result.now + self.now.1 < 2 ^ 32 }
     {
-        &self.rows
+        self.rows.as_slice()
     }
 
     /// The row with that key.
     pub fn find(&self, key: &T::Key) -> Option<&T>
         ensures { option_copied result ≡ at T.key_of (T.path key.now) self.now.0 }
     {
-        find(&self.rows, key)
+        self.rows.find_key(key)
     }
 
     /// Makes room for more rows. There is none for a table of 2^32 rows.
@@ -161,7 +131,7 @@ impl<T: Keyed> Table<T> {
         ensures kept { self.old.1 ≤ self.new.1 }
     {
         if self.spare < more {
-            if more >= MOST - self.rows.len() {
+            if more >= MOST - self.rows.as_slice().len() {
                 return Err(AllocError);
             }
             self.rows.reserve(more)?;
@@ -176,7 +146,7 @@ impl<T: Keyed> Table<T> {
         ensures rows { self.new.0 ≡ put T.key_of row self.old.0 }
         ensures spare { self.new.1 + 1 ≡ self.old.1 }
     {
-        put(&mut self.rows, row);
+        self.rows.put(row);
         self.spare -= 1;
     }
 
@@ -185,6 +155,6 @@ impl<T: Keyed> Table<T> {
         ensures rows { self.new.0 ≡ without T.key_of (T.path key.now) self.old.0 }
         ensures spare { self.new.1 ≡ self.old.1 }
     {
-        remove(&mut self.rows, key);
+        self.rows.remove_key(key);
     }
 }

@@ -5,14 +5,15 @@ ghost use Rattle.acct_rows.specs.Keyed.{is_ascending};
 ghost use Rattle.acct_rows.specs.Rows.{member_key, alias_key, is_in_group};
 ghost use Rattle.acct_rows.specs.Indexes.{membership_key, membership_of, memberships_of, is_for, alias_of, held_by};
 
-use crate::keyed::{Table, place, sort};
+use crate::keyed::{ByKey, Table};
 use crate::row::{AliasRow, MemberRow};
 use acct_base::Seq;
 use acct_calls::{NoMemory, Rids};
+use acct_tables::{place_of, sort};
 use dtyp_sid::Sid;
 use std::alloc::Global;
 
-// The members of a group stand together, behind those of lower groups: halving finds the first and the last of them.
+// The members of a group stand together, after those of lower groups: halving finds the first and the last of them.
 pub fn members_among(rows: &[MemberRow], group: u32) -> &[MemberRow]
     requires { is_ascending member_key rows.now ≡ true }
     ensures { result.now ≡ filter (is_in_group group) rows.now }
@@ -47,7 +48,7 @@ pub fn memberships_of(alloc: Global, rows: &[AliasRow]) -> Result<Table<Membersh
     ensures { IfOk result (λ table. table.0 ≡ memberships_of rows.now) }
 {
     let mut memberships = entries_of(alloc, rows)?;
-    sort(&mut memberships);
+    sort::<Membership, ByKey>(&mut memberships);
     Ok(Table::from_rows(memberships))
 }
 
@@ -78,7 +79,7 @@ fn push_aliases(
     ensures { OnOk result (rids.new.items
         ≡ rids.old.items ++ map alias_of (filter (is_for domain sid.now) rows.now)) }
 {
-    let (Ok(first) | Err(first)) = place(rows, &(*sid, domain, 0));
+    let (Ok(first) | Err(first)) = place_of::<Membership, ByKey>(rows, &(*sid, domain, 0));
     for row in &rows[first..] {
         if !is_for(row, domain, sid) {
             return Ok(());

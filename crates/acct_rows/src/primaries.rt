@@ -5,10 +5,11 @@ ghost use Rattle.acct_rows.specs.Keyed.{put, without, is_ascending};
 ghost use Rattle.acct_rows.specs.Primaries.{primary_key, by_primary, primaries_of, is_for};
 ghost use Rattle.acct_rows.specs.Rows.{account_key, has_primary};
 
-use crate::keyed::{Keyed, Table, find, sort};
+use crate::keyed::{ByKey, Keyed, Table, find};
 use crate::row::AccountRow;
 use acct_calls::NoMemory;
 use acct_codes::Kind;
+use acct_tables::sort;
 use std::alloc::Global;
 
 /// An account among those with the same primary group. An account that is no user has 0 there, which says nothing.
@@ -55,7 +56,7 @@ pub fn primaries_of(alloc: Global, accounts: &[AccountRow]) -> Result<Table<ByPr
     ensures { IfOk result (λ table. table.0 ≡ primaries_of accounts.now) }
 {
     let mut entries = entries_of(alloc, accounts)?;
-    sort(&mut entries);
+    sort::<ByPrimary, ByKey>(&mut entries);
     Ok(Table::from_rows(entries))
 }
 

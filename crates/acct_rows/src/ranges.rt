@@ -21,7 +21,7 @@ fn is_up_to(row: &AccountRow, domain: u8, rid: u32) -> bool
     AccountRow::order(row, &(domain, rid)).is_le()
 }
 
-/// The accounts of a domain behind a RID.
+/// The accounts of a domain after a RID.
 pub fn accounts_behind(rows: &[AccountRow], domain: u8, rid: u32) -> &[AccountRow]
     requires { is_ascending account_key rows.now ≡ true }
     ensures { result.now ≡ filter (is_behind domain rid) rows.now }

@@ -204,7 +204,7 @@ impl Rows {
         self.accounts.is_primary(group)
     }
 
-    /// The accounts of a domain behind a RID, by ascending RID.
+    /// The accounts of a domain after a RID, by ascending RID.
     pub fn accounts_behind(&self, domain: u8, rid: u32) -> &[AccountRow]
         ensures { result.now ≡ accounts_behind self.now.lists domain rid }
     {
@@ -300,8 +300,8 @@ impl Rows {
 }
 
 impl Rows {
-    /// Makes room for as many puts. A list that would reach 2^32 rows is want of memory; where there is room it takes
-    /// none.
+    /// Makes room for as many puts. A list that would reach 2^32 rows is answered as out of memory; where there is room
+    /// it takes none.
     pub fn reserve(&mut self, puts: usize) -> Result<(), NoMemory>
         ensures lists { self.new.lists ≡ self.old.lists }
         ensures ok { OnOk result (puts ≤ self.new.spare) }

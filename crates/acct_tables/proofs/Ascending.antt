@@ -1,13 +1,12 @@
 -- Which lists ascend, and which values stand in them.
-use Rattle.std.proofs.Common.{◌≡◌, ◌≢◌, ℕ, suc, zero, ◌<◌, Bool, true, false, ◌&&◌, not, cond, List, [], ◌∷◌, ◌++◌}
+use Rattle.std.proofs.Common.{◌≡◌, ℕ, suc, zero, ◌<◌, Bool, true, false, ◌&&◌, cond, List, [], ◌∷◌, ◌++◌}
 use Rattle.std.proofs.Common.{length, get_or, refl, sym, ap, subst, ◌∙◌, inl, inr, ◌⊎◌, arith}
 use Rattle.std.specs.List.{filter}
-use Rattle.std.specs.declared.cmp.Ordering.{Ordering}
 use Rattle.std.specs.declared.cmp.Ordering.TheVariants.{Less, Equal, Greater}
-use Rattle.std.specs.Ordering.{is_lt, ordering_reverse}
+use Rattle.std.specs.Ordering.{is_lt}
 use Rattle.std.specs.Cmp.{first_so, second_so}
 use Rattle.acct_tables.specs.Keyed.{Key, compare, by_order, put, without, without_all, below_all, is_ascending, sorted}
-use Rattle.acct_tables.proofs.Orders.{total, both, less, tied-is, turned, tested}
+use Rattle.acct_tables.proofs.Orders.{total, both, less, tied-is, turned}
 
 -- a value stands in a list
 abbrev pub In : {A : Type 0} → A → List A → Type 0
@@ -88,7 +87,7 @@ module _ {A : Type 0} (key : A → Key) where
   is_ascending-without_all (a ∷ gone) xs h =
       is_ascending-without_all gone (without key (key a) xs) (is_ascending-filter _ xs h)
 
-  -- ---- a value behind all others
+  -- ---- a value after all others
 
   below_all-push : (k : Key) (xs : List A) (a : A) → below_all key k xs ≡ true → compare k (key a) ≡ Less
       → below_all key k (xs ++ a ∷ []) ≡ true

@@ -1,4 +1,4 @@
--- The values within a front stand together.
+-- The values within a prefix stand together.
 use Rattle.std.proofs.Common.{◌≡◌, ℕ, suc, zero, ◌+◌, ◌-◌, ◌<◌, ◌≤◌, nat_lt, Bool, true, false, ◌&&◌, cond, not}
 use Rattle.std.proofs.Common.{List, [], ◌∷◌, ◌++◌, length, get_or, take, drop, refl, sym, ap, ◌∙◌, inl, inr, arith}
 use Rattle.std.proofs.Common.{Option, Some, None}
@@ -21,7 +21,7 @@ use Rattle.acct_tables.proofs.Ascending.{below_at}
 -- a test that passes a value passes those with lower keys
 module _ {A : Type 0} (key : A → Key) (p : A → Bool)
     (down : (x y : A) → compare (key x) (key y) ≡ Less → p y ≡ true → p x ≡ true) where
-  turns : (xs : List A) → is_ascending key xs ≡ true → IsPartitionedBy p xs
+  pub turns : (xs : List A) → is_ascending key xs ≡ true → IsPartitionedBy p xs
   turns [] h i j d le lt e = absurd (omega arith)
   turns (x ∷ xs) h zero zero d le lt e = e
   turns (x ∷ xs) h zero (suc j) d le lt e =
@@ -29,7 +29,7 @@ module _ {A : Type 0} (key : A → Key) (p : A → Bool)
   turns (x ∷ xs) h (suc i) zero d le lt e = absurd (omega arith)
   turns (x ∷ xs) h (suc i) (suc j) d le lt e = turns xs (second_so _ _ h) i j d (omega arith) (omega arith) e
 
-alike : {A : Type 0} (p q : A → Bool) → ((x : A) → p x ≡ q x) → (xs : List A) → filter p xs ≡ filter q xs
+pub alike : {A : Type 0} (p q : A → Bool) → ((x : A) → p x ≡ q x) → (xs : List A) → filter p xs ≡ filter q xs
 alike p q same [] = refl
 alike p q same (x ∷ xs) =
     ap (λ b. cond b (x ∷ filter p xs) (filter p xs)) (same x)
@@ -73,7 +73,7 @@ module _ {A : Type 0} (below upto : A → Bool) where
       (λ k d ge lt. absurd (omega arith)) (λ k d ge lt. high (suc k) d (omega arith) (omega arith))
       ∙ ap (λ b. cond b (x ∷ filter between xs) (filter between xs)) (sym other)
 
-  in_order : ((x : A) → below x ≡ true → upto x ≡ true) → (xs : List A) (i j : ℕ) → i ≤ length xs
+  pub in_order : ((x : A) → below x ≡ true → upto x ≡ true) → (xs : List A) (i j : ℕ) → i ≤ length xs
       → TurnsAt below xs i → TurnsAt upto xs j → i ≤ j
   in_order inner [] i j starts low high = omega arith
   in_order inner (d ∷ ds) i j starts low high =
@@ -86,7 +86,7 @@ module _ {A : Type 0} (below upto : A → Bool) where
         | inr t ↦ grind (arith, nat_tests)
       ]
 
-  together : (p : A → Bool) → ((x : A) → between x ≡ p x) → ((x : A) → below x ≡ true → upto x ≡ true)
+  pub together : (p : A → Bool) → ((x : A) → between x ≡ p x) → ((x : A) → below x ≡ true → upto x ≡ true)
       → (xs : List A) (i j : ℕ) → i ≤ length xs → j ≤ length xs → TurnsAt below xs i → TurnsAt upto xs j
       → take (j - i) (drop i xs) ≡ filter p xs
   together p same inner xs i j starts ends low high =
@@ -146,7 +146,7 @@ module _ {A : Type 0} (below upto : A → Bool) where
       (λ k d ge lt. high.1 k d (omega arith) lt)
       ∙ alike (λ x. not (between x)) (λ x. not (p x)) (λ x. ap not (same x)) xs
 
--- ---- the values within a front
+-- ---- the values within a prefix
 
 -- the first value, if it passes a test
 abbrev pub first_if : {A : Type 0} → (A → Bool) → List A → Option A
@@ -214,7 +214,7 @@ module _ {A : Type 0} (key : A → Key) (front : Key) where
   front_apart =
       apart below upto (is_within key front) (λ x. neither (compare_front (key x) front)) inner
 
-  -- ---- the first value within a front
+  -- ---- the first value within a prefix
 
   not_lower : (r : Ordering) → is_lt r ≡ true → is_eq r ≡ false
   not_lower Less t = refl

@@ -22,7 +22,7 @@ index_rises a b q lt =
 
 -- a number that doesn't fall where the key rises doesn't fall in a list that ascends
 module _ {A : Type 0} (key : A → Key) (f : A → ℕ) (le : (x y : A) → compare (key x) (key y) ≡ Less → f x ≤ f y) where
-  rises : (xs : List A) → is_ascending key xs ≡ true → IsNonDecreasingBy f xs
+  pub rises : (xs : List A) → is_ascending key xs ≡ true → IsNonDecreasingBy f xs
   rises [] h i j d le lt = absurd (omega arith)
   rises (x ∷ xs) h zero zero d le lt = omega arith
   rises (x ∷ xs) h zero (suc j) d under lt =

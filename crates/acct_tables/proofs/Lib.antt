@@ -1,6 +1,15 @@
 pub mod Orders
+pub mod Ended
 pub mod Ascending
 pub mod Places
 pub mod Halving
+pub mod Lookups
+pub mod Members
+pub mod Passing
+pub mod Removals
 pub mod Between
+pub mod Runs
+pub mod Sides
 pub mod Sorted
+pub mod Indexed
+pub mod Sorts

@@ -1,16 +1,16 @@
--- The order of keys, and of their first parts.
-use Rattle.std.proofs.Common.{◌≡◌, ◌≢◌, ℕ, suc, zero, Bool, true, false, ◌&&◌, List, [], ◌∷◌, take, refl, sym, ap}
+-- The order of keys, and of their first numbers.
+use Rattle.std.proofs.Common.{◌≡◌, ◌≢◌, ℕ, suc, zero, Bool, true, false, ◌&&◌, [], ◌∷◌, take, refl, sym, ap}
 use Rattle.std.proofs.Common.{subst, ◌∙◌, inl, inr, ◌⊎◌}
 use Rattle.std.specs.declared.cmp.Ordering.{Ordering}
 use Rattle.std.specs.declared.cmp.Ordering.TheVariants.{Less, Equal, Greater}
 use Rattle.std.specs.Ordering.{nat_cmp, is_eq, is_lt, is_le, ordering_then, ordering_reverse}
 use Rattle.std.specs.Cmp.{IsTotalOrder, tied_itself}
-use Rattle.std.specs.Cmp.Lexicographic.{slice_cmp, nat_list_cmp_total, lists_total}
+use Rattle.std.specs.Cmp.Lexicographic.{nat_list_cmp_total}
 use Rattle.std.specs.FinMap.{slice_cmp-IsAntisymmetric, nat_cmp-IsAntisymmetric}
 use Rattle.acct_tables.specs.Keyed.{Key, compare, same_key}
 
 pub total : IsTotalOrder compare
-total = lists_total nat_list_cmp_total
+total = nat_list_cmp_total
 
 -- a test that holds, or doesn't
 pub tested : (b : Bool) → (b ≡ true) ⊎ (b ≡ false)
@@ -31,9 +31,9 @@ less Equal p = cc
 less Greater p = cc
 
 pub tied-is : (j k : Key) → compare j k ≡ Equal → j ≡ k
-tied-is j k e = slice_cmp-IsAntisymmetric (slice_cmp-IsAntisymmetric nat_cmp-IsAntisymmetric) j k e
+tied-is j k e = slice_cmp-IsAntisymmetric nat_cmp-IsAntisymmetric j k e
 
--- keys that compare alike are one
+-- keys that compare as equal are one
 pub same_key-is : (j k : Key) → same_key j k ≡ true → j ≡ k
 same_key-is j k e = tied-is j k (equal _ e)
 
@@ -42,6 +42,9 @@ tied k = tied_itself total k
 
 pub same_key-itself : (k : Key) → same_key k k ≡ true
 same_key-itself k = ap is_eq (tied k)
+
+pub apart : (j k : Key) → j ≡ k → compare j k ≢ Greater
+apart j k e p = subst (λ (i : Key). compare i k ≡ Greater → ⊥) (sym e) (λ g. cc (tied k, g)) p
 
 pub turned : (j k : Key) (r : Ordering) → compare j k ≡ r → compare k j ≡ ordering_reverse r
 turned j k r e = total.antisymm k j ∙ ap ordering_reverse e
@@ -78,14 +81,14 @@ le_then_lt j k q le e =
       | Greater ↦ λ is t. cc
     ] refl le
 
--- the first parts of keys that rise don't fall
+-- the first numbers of keys that rise don't fall
 pub fronts : (n : ℕ) (j k : Key) → compare j k ≡ Less → is_le (compare (take n j) (take n k)) ≡ true
 fronts zero j k lt = refl
 fronts (suc n) [] [] lt = cc
 fronts (suc n) [] (b ∷ k) lt = refl
 fronts (suc n) (a ∷ j) [] lt = cc
 fronts (suc n) (a ∷ j) (b ∷ k) lt =
-    elim (slice_cmp nat_cmp a b) as
+    elim (nat_cmp a b) as
     (λ r. ordering_then r (compare j k) ≡ Less → is_le (ordering_then r (compare (take n j) (take n k))) ≡ true) [
       | Less ↦ λ e. refl
       | Equal ↦ λ e. fronts n j k e

@@ -1,7 +1,6 @@
 -- Changes at the place of a key.
-use Rattle.std.proofs.Common.{◌≡◌, ℕ, suc, true, not, cond, List, [], ◌∷◌, Result, Ok, Err, MatchResult, ◌<◌, ◌≤◌}
-use Rattle.std.proofs.Common.{length, set, insert, remove, refl, sym, ap, subst, ◌∙◌, arith}
-use Rattle.std.specs.declared.cmp.Ordering.{Ordering}
+use Rattle.std.proofs.Common.{◌≡◌, ℕ, true, not, cond, List, [], ◌∷◌, Result, Ok, Err}
+use Rattle.std.proofs.Common.{set, insert, remove, refl, sym, ap, subst, ◌∙◌}
 use Rattle.std.specs.declared.cmp.Ordering.TheVariants.{Less, Equal, Greater}
 use Rattle.std.specs.Ordering.{is_eq}
 use Rattle.std.specs.Cmp.{first_so, second_so}
@@ -18,7 +17,7 @@ module _ {A : Type 0} (key : A → Key) where
   put_further (Ok i) a x xs = refl
   put_further (Err i) a x xs = refl
 
-  put-place : (a : A) (xs : List A) → put key a xs ≡ put_at (place key (key a) xs) a xs
+  pub put-place : (a : A) (xs : List A) → put key a xs ≡ put_at (place key (key a) xs) a xs
   put-place a [] = refl
   put-place a (x ∷ xs) =
       let rest = put-place a xs in
@@ -44,7 +43,7 @@ module _ {A : Type 0} (key : A → Key) where
       ap (λ r. cond (not (is_eq r)) (x ∷ without key q xs) (without key q xs)) (less _ (first_so _ _ h))
       ∙ ap (λ ys. x ∷ ys) (without_below q xs (second_so _ _ h))
 
-  without-place : (q : Key) (xs : List A) → is_ascending key xs ≡ true
+  pub without-place : (q : Key) (xs : List A) → is_ascending key xs ≡ true
       → without key q xs ≡ without_at (place key q xs) xs
   without-place q [] h = refl
   without-place q (x ∷ xs) h =

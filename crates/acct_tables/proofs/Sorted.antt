@@ -2,7 +2,6 @@
 use Rattle.std.proofs.Common.{◌≡◌, ◌≢◌, Bool, true, false, not, cond, List, [], ◌∷◌, ◌++◌, refl, sym, ap, subst, ◌∙◌}
 use Rattle.std.proofs.Common.{inl, inr, ◌⊎◌}
 use Rattle.std.specs.List.{filter}
-use Rattle.std.specs.declared.cmp.Ordering.{Ordering}
 use Rattle.std.specs.declared.cmp.Ordering.TheVariants.{Less, Equal, Greater}
 use Rattle.std.specs.Ordering.{is_lt}
 use Rattle.std.specs.Cmp.{first_so, second_so}
@@ -208,7 +207,7 @@ module _ {A : Type 0} (key by : A → Key) (tells : (x y : A) → by x ≡ by y 
             sorted_in b (put key a xs) up (put_keeps key b a xs (new b there) there)
       ])
 
-  -- a value behind all others by the other key
+  -- a value after all others by the other key
   pub sorted_push : (a : A) (xs : List A) → is_ascending key xs ≡ true
       → ((x : A) → In x xs → compare (by x) (by a) ≡ Less) → ((x : A) → In x xs → key x ≢ key a)
       → sorted by (put key a xs) ≡ sorted by xs ++ a ∷ []

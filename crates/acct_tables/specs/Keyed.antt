@@ -1,6 +1,6 @@
--- Values by ascending key. A key is a list of parts, each a list of numbers; the first parts that differ decide, and of
--- these the first numbers that differ.
-use Rattle.std.specs.Prelude.{ℕ, suc, Bool, true, ◌&&◌, not, List, [], ◌∷◌, Result, Ok, Err, length, take}
+-- Values by ascending key. A key is a list of numbers; the first numbers that differ decide.
+use Rattle.std.specs.Prelude.{ℕ, suc, Bool, true, ◌&&◌, not, List, [], ◌∷◌, Option, Some, None, Result, Ok, Err}
+use Rattle.std.specs.Prelude.{length, take, if◌then◌else◌}
 use Rattle.std.specs.List.{filter}
 use Rattle.std.specs.declared.cmp.Ordering.{Ordering}
 use Rattle.std.specs.declared.cmp.Ordering.TheVariants.{Less, Equal, Greater}
@@ -8,12 +8,18 @@ use Rattle.std.specs.Ordering.{nat_cmp, is_eq, is_lt}
 use Rattle.std.specs.Cmp.Lexicographic.{slice_cmp}
 
 abbrev pub Key : Type 0
-Key = List (List ℕ)
+Key = List ℕ
 
 abbrev pub compare : Key → Key → Ordering
-compare j k = slice_cmp (slice_cmp nat_cmp) j k
+compare j k = slice_cmp nat_cmp j k
 
--- as many of the first parts of a key as a front has, against that front
+-- A list within a key: each number stands one higher and 0 ends the list, so that keys compare as their lists do, and
+-- then by what is after these.
+abbrev pub ended : List ℕ → Key → Key
+ended [] rest = 0 ∷ rest
+ended (n ∷ ns) rest = suc n ∷ ended ns rest
+
+-- as many of the first numbers of a key as a prefix has, against that prefix
 abbrev pub compare_front : Key → Key → Ordering
 compare_front k front = compare (take (length front) k) front
 
@@ -31,7 +37,12 @@ further (Ok i) = Ok (suc i)
 further (Err i) = Err (suc i)
 
 module _ {A : Type 0} (key : A → Key) where
-  -- whether the key of a value begins with the front
+  -- the value with that key
+  abbrev pub at : Key → List A → Option A
+  at k [] = None
+  at k (x ∷ xs) = if same_key k (key x) then Some x else at k xs
+
+  -- whether the key of a value begins with the prefix
   abbrev pub is_within : Key → A → Bool
   is_within front x = is_eq (compare_front (key x) front)
 
@@ -48,6 +59,11 @@ module _ {A : Type 0} (key : A → Key) where
   abbrev pub without_all : List A → List A → List A
   without_all [] xs = xs
   without_all (a ∷ gone) xs = without_all gone (without (key a) xs)
+
+  -- without the values with those keys
+  abbrev pub without_keys : List Key → List A → List A
+  without_keys [] xs = xs
+  without_keys (k ∷ ks) xs = without_keys ks (without k xs)
 
   abbrev pub below_all : Key → List A → Bool
   below_all k [] = true
@@ -67,3 +83,8 @@ module _ {A : Type 0} (key : A → Key) where
   abbrev pub sorted : List A → List A
   sorted [] = []
   sorted (x ∷ xs) = put x (sorted xs)
+
+-- entries of values by ascending key
+abbrev pub index : {A B : Type 0} → (A → B) → (B → Key) → List A → List B
+index entry key [] = []
+index entry key (x ∷ xs) = put key (entry x) (index entry key xs)

@@ -40,7 +40,7 @@ pub enum PairsError {
     /// The smallest of the keys that break a rule, in the order of bytes.
     #[error("a stored pair breaks a rule")]
     BadPair(Seq<u8>),
-    /// Memory was wanted.
+    /// Memory ran out.
     #[error("there is no memory for the rows")]
     Memory,
 }

@@ -63,7 +63,7 @@ fn domain_number(fields: &mut Fields<'_>) -> Result<u8, Unread>
     Ok(number)
 }
 
-// The value, where no byte is left behind it.
+// The value, where no byte is left after it.
 fn whole<T: Drop>(value: T, fields: &Fields<'_>) -> Result<T, Unread>
     ensures value { ReadsWhole result (only_if (is_end fields.now) value) }
     ensures frugal { NeverMemory result }
@@ -165,7 +165,7 @@ fn read_domain(alloc: Global, number: u8, mut fields: Fields<'_>) -> Result<Row,
     read_named_domain(alloc, number, next_rid, size, sid, fields)
 }
 
-// The domain with its texts, which stand behind its other fields.
+// The domain with its texts, which stand after its other fields.
 #[tactic(auto, unfolding(crate::specs::Behind::named_domain))]
 fn read_named_domain(
     alloc: Global,
@@ -215,7 +215,7 @@ fn read_account(alloc: Global, domain: u8, rid: u32, mut fields: Fields<'_>) -> 
     read_named_account(alloc, domain, rid, kind, bits, primary, fields)
 }
 
-// The account with its texts, which stand behind its other fields.
+// The account with its texts, which stand after its other fields.
 #[tactic(auto, unfolding(crate::specs::Behind::named_account))]
 fn read_named_account(
     alloc: Global,

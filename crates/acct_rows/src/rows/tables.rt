@@ -17,7 +17,7 @@ use dtyp_sid::Sid;
 use std::alloc::Global;
 use std::marker::Model;
 
-/// The rows without indexes: a put behind all others shifts nothing. A contract sees their lists by ascending key, and
+/// The rows without indexes: a put after all others shifts nothing. A contract sees their lists by ascending key, and
 /// for how many more rows there is room.
 #[derive(Drop)]
 pub struct Tables {

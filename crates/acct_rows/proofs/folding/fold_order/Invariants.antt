@@ -1,4 +1,4 @@
--- The code points passed fold alike: what is left of the two decides their order.
+-- The code points passed fold to the same: what is left of the two decides their order.
 use Rattle.std.proofs.Common.{◌≡◌, length}
 use Rattle.acct_calls.specs.Folding.{folded_points}
 use Rattle.acct_rows.specs.Keyed.{compare}

@@ -2,7 +2,7 @@
 use Rattle.std.proofs.Common.{◌≡◌, ℕ, List, [], ◌∷◌}
 use Rattle.acct_rows.specs.Rows.{domain_key, account_key, member_key, alias_key, lsa_key, sid_key}
 use Rattle.acct_rows.proofs.Moves.{one_sid}
-use Rattle.acct_rows.proofs.Lookups.{put_elsewhere}
+use Rattle.acct_tables.proofs.Lookups.{put_elsewhere}
 use Rattle.acct_rows.proofs.laws.puts_leave_others.Goals as goal
 
 first : (m n : ℕ) (ms ns : List ℕ) → m ∷ ms ≡ n ∷ ns → m ≡ n

@@ -5,7 +5,7 @@ use Rattle.std.proofs.lemmas.List.{append-nil, take_rest}
 use Rattle.acct_rows.specs.Indexes.{held, membership_key, is_for, alias_of}
 use Rattle.acct_rows.specs.Keyed.{place}
 use Rattle.acct_rows.proofs.Holding.{run_of}
-use Rattle.acct_rows.proofs.Runs.{spot, leading, run_more, run_stops, run_ends}
+use Rattle.acct_tables.proofs.Runs.{spot, leading, run_more, run_stops, run_ends}
 use Rattle.acct_rows.proofs.membership.push_aliases.Goals as goal
 use Rattle.acct_rows.proofs.membership.push_aliases.Goals.{in-Ok, in-Ok-2}
 
@@ -13,18 +13,18 @@ pub loop-row-init : goal.loop-row-init
 loop-row-init c =
     let rows = c.args.rows.now in
     let p = is_for c.args.domain c.args.sid.now in
-    let at_first : spot c.place.result ≡ c.match-place.first =
-    elim c.match-place.branch [ in-Ok w ↦ search rules | in-Ok-2 w ↦ search rules ] in
-    let placed : spot (place membership_key (held c.args.sid.now c.args.domain 0) rows) ≡ c.match-place.first =
-    ap spot (sym c.place.ensures.found) ∙ at_first in
+    let at_first : spot c.place_of.result ≡ c.match-place_of.first =
+    elim c.match-place_of.branch [ in-Ok w ↦ search rules | in-Ok-2 w ↦ search rules ] in
+    let placed : spot (place membership_key (held c.args.sid.now c.args.domain 0) rows) ≡ c.match-place_of.first =
+    ap spot (sym c.place_of.ensures.found) ∙ at_first in
     ap (λ ms. c.args.rids.now.items ++ map alias_of ms)
-    (ap (leading p) (take_rest rows c.match-place.first ∙ ap (λ i. drop i rows) (sym placed))
+    (ap (leading p) (take_rest rows c.match-place_of.first ∙ ap (λ i. drop i rows) (sym placed))
     ∙ sym (run_of c.args.domain c.args.sid.now rows c.requires))
 
 pub returns-then-not-is_for : goal.returns-then-not-is_for
 returns-then-not-is_for c =
     let rows = c.args.rows.now in
-    let xs = take (length rows - c.match-place.first) (drop c.match-place.first rows) in
+    let xs = take (length rows - c.match-place_of.first) (drop c.match-place_of.first rows) in
     let p = is_for c.args.domain c.args.sid.now in
     sym (append-nil c.loop-row.rids.items)
     ∙ ap (λ ms. c.loop-row.rids.items ++ map alias_of ms)
@@ -35,7 +35,7 @@ returns-then-not-is_for c =
 pub loop-row-preserved : goal.loop-row-preserved
 loop-row-preserved c =
     let rows = c.args.rows.now in
-    let xs = take (length rows - c.match-place.first) (drop c.match-place.first rows) in
+    let xs = take (length rows - c.match-place_of.first) (drop c.match-place_of.first rows) in
     let p = is_for c.args.domain c.args.sid.now in
     let k = c.loop-row.row-index in
     let row = c.row-item.result in
@@ -50,7 +50,7 @@ loop-row-preserved c =
 pub returns : goal.returns
 returns c =
     let rows = c.args.rows.now in
-    let xs = take (length rows - c.match-place.first) (drop c.match-place.first rows) in
+    let xs = take (length rows - c.match-place_of.first) (drop c.match-place_of.first rows) in
     let p = is_for c.args.domain c.args.sid.now in
     sym (append-nil c.loop-row.rids.items)
     ∙ ap (λ ms. c.loop-row.rids.items ++ map alias_of ms)

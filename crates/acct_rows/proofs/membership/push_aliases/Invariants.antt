@@ -2,7 +2,7 @@
 use Rattle.std.proofs.Common.{◌≡◌, ◌++◌, drop, map}
 use Rattle.std.specs.List.{filter}
 use Rattle.acct_rows.specs.Indexes.{is_for, alias_of}
-use Rattle.acct_rows.proofs.Runs.{leading}
+use Rattle.acct_tables.proofs.Runs.{leading}
 use Rattle.acct_rows.proofs.membership.push_aliases.Given as goal
 
 abbrev pub invariant-loop-row : goal.invariant-loop-row

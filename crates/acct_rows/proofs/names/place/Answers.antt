@@ -3,7 +3,7 @@ use Rattle.std.proofs.Common.{rules}
 use Rattle.std.proofs.lemmas.Fn.{always_returns_same}
 use Rattle.acct_rows.specs.Indexes.{named, key_at}
 use Rattle.acct_rows.specs.Keyed.{compare}
-use Rattle.acct_rows.proofs.Halving.{searched}
+use Rattle.acct_tables.proofs.Halving.{searched}
 use Rattle.acct_rows.proofs.names.place.Goals as goal
 
 pub returns-clause-found : goal.returns-clause-found

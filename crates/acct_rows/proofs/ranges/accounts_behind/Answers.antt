@@ -1,8 +1,9 @@
--- The accounts of a domain behind a RID lie between the two places that halving finds, and there is no other there.
+-- The accounts of a domain after a RID lie between the two places that halving finds, and there is no other there.
 use Rattle.std.proofs.Common.{arith, rules}
 use Rattle.std.proofs.lemmas.List.Sorted.{IsPartitionPoint-from_clause}
 use Rattle.acct_rows.specs.Ranges.{is_behind}
-use Rattle.acct_rows.proofs.Between.{in_order, together, not_behind, up_to_domain, not_behind_turns, domain_turns}
+use Rattle.acct_tables.proofs.Between.{in_order, together}
+use Rattle.acct_rows.proofs.Between.{not_behind, up_to_domain, not_behind_turns, domain_turns}
 use Rattle.acct_rows.proofs.Between.{domain_later, behind_is}
 use Rattle.acct_rows.proofs.ranges.accounts_behind.Goals as goal
 

@@ -2,7 +2,8 @@
 use Rattle.std.proofs.Common.{arith, rules}
 use Rattle.std.proofs.lemmas.List.Sorted.{IsPartitionPoint-from_clause}
 use Rattle.acct_rows.specs.Rows.{is_in_alias}
-use Rattle.acct_rows.proofs.Between.{in_order, together, below_alias, up_to_alias, below_alias_turns, up_to_alias_turns}
+use Rattle.acct_tables.proofs.Between.{in_order, together}
+use Rattle.acct_rows.proofs.Between.{below_alias, up_to_alias, below_alias_turns, up_to_alias_turns}
 use Rattle.acct_rows.proofs.Between.{alias_later, in_alias_is}
 use Rattle.acct_rows.proofs.ranges.alias_members_among.Goals as goal
 

@@ -2,7 +2,7 @@
 use Rattle.std.proofs.Common.{arith, rules}
 use Rattle.std.proofs.lemmas.List.Sorted.{IsPartitionPoint-from_clause}
 use Rattle.acct_rows.specs.Naming.{has_sid}
-use Rattle.acct_rows.proofs.Between.{in_order, together}
+use Rattle.acct_tables.proofs.Between.{in_order, together}
 use Rattle.acct_rows.proofs.NamedRows.{below_sid, up_to_sid, below_sid_turns, up_to_sid_turns, sid_later, has_sid_is}
 use Rattle.acct_rows.proofs.ranges.memberships_among.Goals as goal
 

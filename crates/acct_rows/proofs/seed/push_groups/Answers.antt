@@ -1,8 +1,8 @@
--- The three groups pushed one after the other are the seed groups behind the rows that were there.
+-- The three groups pushed one after the other are the seed groups after the rows that were there.
 use Rattle.std.proofs.Common.{◌≡◌, List, [], ◌∷◌, ◌++◌, refl, append_assoc}
 use Rattle.acct_rows.proofs.seed.push_groups.Goals as goal
 
--- three values behind a list, one by one
+-- three values after a list, one by one
 pushed : {A : Type 0} (r s t u : List A) (a b c x y z : A) → s ≡ r ++ a ∷ [] → t ≡ s ++ b ∷ [] → u ≡ t ++ c ∷ []
     → a ≡ x → b ≡ y → c ≡ z → u ≡ r ++ x ∷ y ∷ z ∷ []
 pushed r s t u a b c x y z first second third one two three =

@@ -1,4 +1,4 @@
--- The values at or below the front stand before the place found, and those above it behind.
+-- The values at or below the prefix stand before the place found, and those above it after.
 use Rattle.std.proofs.Common.{rules}
 use Rattle.std.proofs.lemmas.List.Sorted.{IsPartitionPoint-from_clause}
 use Rattle.acct_tables.proofs.Between.{upto, upto_turns}
@@ -6,6 +6,6 @@ use Rattle.acct_tables.proofs.table.end_within.Goals as goal
 
 pub returns-clause-turns : goal.returns-clause-turns
 returns-clause-turns g c =
-    let front = g.O.Order.front_of c.args.front.now in
+    let front = g.O.Fronts.front_of c.args.front.now in
     IsPartitionPoint-from_clause (upto g.O.Order.key_of front) _ _ c.partition_point.ensures.partitioned
     (upto_turns g.O.Order.key_of front c.args.values.now c.requires) (λ a r q k. search rules)

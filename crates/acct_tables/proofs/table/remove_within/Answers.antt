@@ -1,4 +1,4 @@
--- Copying the tail over the values within the front, and cutting the length, leaves all other values.
+-- Copying the tail over the values within the prefix, and cutting the length, leaves all other values.
 use Rattle.std.proofs.Common.{◌≡◌, ◌+◌, ◌-◌, ◌≤◌, ℕ, Bool, List, ◌++◌, length, take, drop, sym, ap, subst, ◌∙◌}
 use Rattle.std.specs.List.{filter}
 use Rattle.acct_tables.proofs.Between.{cut}

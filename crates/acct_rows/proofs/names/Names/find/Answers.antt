@@ -7,8 +7,8 @@ use Rattle.acct_rows.specs.Keyed.{at, place, is_ascending}
 use Rattle.acct_rows.specs.Rows.{account_key, has_name}
 use Rattle.acct_rows.proofs.Named.{names_ascend_all, name_found, first_past_names, stands_at_name}
 use Rattle.std.specs.List.{find}
-use Rattle.acct_rows.proofs.Lookups.{same_Some}
-use Rattle.acct_rows.proofs.Runs.{spot, first_if}
+use Rattle.acct_tables.proofs.Lookups.{same_Some}
+use Rattle.acct_tables.proofs.Runs.{spot, first_if}
 use Rattle.acct_rows.proofs.names.Names.find.Goals as goal
 use Rattle.acct_rows.proofs.names.Names.find.Goals.{in-Ok, in-Ok-2}
 

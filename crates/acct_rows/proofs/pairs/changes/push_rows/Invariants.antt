@@ -1,4 +1,4 @@
--- The changes so far, then those of the rows left, are what was there and those of all; the rows left can be spelled.
+-- The changes so far, then those of the rows left, are what was there and those of all; the rows left can be encoded.
 use Rattle.std.proofs.Common.{◌≡◌, ◌++◌, length}
 use Rattle.acct_rows.specs.Changes.{rows_written, LastFit}
 use Rattle.acct_rows.proofs.pairs.changes.push_rows.Given as goal

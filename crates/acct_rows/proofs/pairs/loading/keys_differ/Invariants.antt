@@ -1,4 +1,4 @@
--- No key that was passed stands again behind it: the keys of the pairs left decide.
+-- No key that was passed stands again after it: the keys of the pairs left decide.
 use Rattle.std.proofs.Common.{◌≡◌, length}
 use Rattle.acct_rows.specs.PairsOf.{keys_differ}
 use Rattle.acct_rows.proofs.pairs.loading.keys_differ.Given as goal

@@ -2,7 +2,7 @@
 use Rattle.std.proofs.Common.{sym, ap, ◌∙◌}
 use Rattle.std.specs.Prelude.{is_some}
 use Rattle.acct_rows.specs.PairRules.{pair_key}
-use Rattle.acct_rows.proofs.Places.{at-unplaced}
+use Rattle.acct_tables.proofs.Lookups.{at-unplaced}
 use Rattle.acct_rows.proofs.Loaded.{placed_there}
 use Rattle.acct_rows.proofs.pairs.store.has.Goals as goal
 

@@ -1,4 +1,4 @@
--- The pairs of the first so many members were added, in order, behind what was there.
+-- The pairs of the first so many members were added, in order, after what was there.
 use Rattle.std.proofs.Common.{◌≡◌, ◌++◌, take}
 use Rattle.acct_rows.specs.PairsOf.{member_pairs}
 use Rattle.acct_rows.proofs.pairs.storing.push_members.Given as goal

@@ -1,4 +1,4 @@
--- The bytes of the first so many privileges were added behind what was there.
+-- The bytes of the first so many privileges were added after what was there.
 use Rattle.std.proofs.Common.{◌≡◌, ◌++◌, take}
 use Rattle.std.specs.List.{flat_map}
 use Rattle.acct_rows.specs.Spelled.{held_bytes}

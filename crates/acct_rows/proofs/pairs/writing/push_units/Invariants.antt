@@ -1,4 +1,4 @@
--- The first so many units were added in two bytes each, the lower one first, behind what was there.
+-- The first so many units were added in two bytes each, the lower one first, after what was there.
 use Rattle.std.proofs.Common.{◌≡◌, ◌++◌, take}
 use Rattle.std.specs.Int.{w16, to_le_bytes}
 use Rattle.std.specs.List.{flat_map}

@@ -1,4 +1,4 @@
--- Without the values within a front the values of the table still ascend by their keys.
+-- Without the values within a prefix the values of the table still ascend by their keys.
 use Rattle.acct_tables.proofs.Ascending.{is_ascending-filter}
 use Rattle.acct_tables.proofs.table.Table.remove_within.Goals as goal
 

@@ -8,9 +8,8 @@ use Rattle.std.specs.declared.cmp.Ordering.TheVariants.{Less, Equal, Greater}
 use Rattle.std.specs.Ordering.{ordering_reverse}
 use Rattle.std.specs.Cmp.{first_so, second_so}
 use Rattle.std.specs.Cmp.Lexicographic.{nat_list_cmp_total}
-use Rattle.acct_rows.specs.Keyed.{compare, by_order, place, further, below_all, is_ascending}
-use Rattle.acct_rows.proofs.Lookups.{tested}
-use Rattle.acct_rows.proofs.Tables.{less}
+use Rattle.acct_tables.specs.Keyed.{compare, by_order, place, further, below_all, is_ascending}
+use Rattle.acct_tables.proofs.Orders.{tested, less}
 
 -- the values that pass a test before the first that doesn't
 abbrev pub leading : {A : Type 0} → (A → Bool) → List A → List A
@@ -50,7 +49,7 @@ drop_further : {A : Type 0} (r : Result ℕ ℕ) (x : A) (xs : List A)
 drop_further (Ok i) x xs = refl
 drop_further (Err i) x xs = refl
 
--- None that passes is below a key; and above it, none that passes is behind one that doesn't.
+-- None that passes is below a key; and above it, none that passes is after one that doesn't.
 module _ {A : Type 0} (key : A → List ℕ) (p : A → Bool) (q : List ℕ)
     (low : (x : A) → p x ≡ true → compare q (key x) ≢ Greater)
     (over : (x y : A) → compare q (key x) ≢ Greater → p x ≡ false → compare (key x) (key y) ≡ Less → p y ≡ false) where

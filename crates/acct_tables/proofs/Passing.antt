@@ -3,8 +3,9 @@ use Rattle.std.proofs.Common.{◌≡◌, ℕ, Bool, true, cond, List, [], ◌∷
 use Rattle.std.proofs.Common.{inl, inr}
 use Rattle.std.specs.List.{list_all}
 use Rattle.std.specs.Cmp.{first_so, second_so}
-use Rattle.acct_rows.specs.Keyed.{same_key, at}
-use Rattle.acct_rows.proofs.Lookups.{tested, same_Some}
+use Rattle.acct_tables.specs.Keyed.{same_key, at}
+use Rattle.acct_tables.proofs.Lookups.{same_Some}
+use Rattle.acct_tables.proofs.Orders.{tested}
 
 -- each of some values has a property
 abbrev pub Each : {A : Type 0} → (A → Type 0) → List A → Type 0

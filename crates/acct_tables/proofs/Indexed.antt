@@ -5,12 +5,12 @@ use Rattle.std.specs.declared.cmp.Ordering.TheVariants.{Less, Equal, Greater}
 use Rattle.std.specs.Ordering.{is_eq, ordering_reverse}
 use Rattle.std.specs.Cmp.{first_so, second_so, tied_itself}
 use Rattle.std.specs.Cmp.Lexicographic.{nat_list_cmp_total}
-use Rattle.acct_rows.specs.Indexes.{index}
-use Rattle.acct_rows.specs.Keyed.{compare, same_key, by_order, at, put, without, below_all, is_ascending}
-use Rattle.acct_rows.proofs.Lookups.{tested, same_Some, key_found, there_or_not}
-use Rattle.acct_rows.proofs.Members.{In, at_in, in_at, below_in}
-use Rattle.acct_rows.proofs.Tables.{same_key-is, same_key-itself, tied-is, apart, swapped, at-put, at-without}
-use Rattle.acct_rows.proofs.Tables.{is_ascending-put, is_ascending-filter, below_apart, below_less}
+use Rattle.acct_tables.specs.Keyed.{index}
+use Rattle.acct_tables.specs.Keyed.{compare, same_key, by_order, at, put, without, below_all, is_ascending}
+use Rattle.acct_tables.proofs.Ascending.{In, below_in, is_ascending-put, is_ascending-filter, below_less}
+use Rattle.acct_tables.proofs.Lookups.{same_Some, key_found, there_or_not, swapped, at-put, at-without, below_apart}
+use Rattle.acct_tables.proofs.Members.{at_in, in_at}
+use Rattle.acct_tables.proofs.Orders.{tested, same_key-is, same_key-itself, tied-is, apart}
 
 module _ {A : Type 0} (key : A → List ℕ) where
   pub first_at : (x : A) (xs : List A) → at key (key x) (x ∷ xs) ≡ Some x
@@ -21,7 +21,7 @@ module _ {A : Type 0} (key : A → List ℕ) where
   none_below q y ys p h = ap (λ r. cond (is_eq r) (Some y) (at key q ys)) p
       ∙ below_apart key q ys (below_less key q (key y) ys p (first_so _ _ h))
 
-  -- what is found behind rows with one key
+  -- what is found after rows with one key
   behind : (q : List ℕ) (x y : A) (xs ys : List A) → is_ascending key (x ∷ xs) ≡ true → is_ascending key (y ∷ ys) ≡ true
       → key x ≡ key y → at key q (x ∷ xs) ≡ at key q (y ∷ ys) → at key q xs ≡ at key q ys
   behind q x y xs ys h k same e =

@@ -2,9 +2,10 @@
 use Rattle.std.proofs.Common.{◌≡◌, ◌≢◌, ℕ, Bool, true, false, ◌||◌, not, cond, List, [], ◌∷◌, map, Some}
 use Rattle.std.proofs.Common.{None, refl, sym, ap, ◌∙◌, inl, inr}
 use Rattle.std.specs.List.{filter, list_any}
-use Rattle.acct_rows.specs.Keyed.{same_key, at, without, without_all, is_ascending}
-use Rattle.acct_rows.proofs.Tables.{same_key-is, same_key-itself, at-without, is_ascending-filter}
-use Rattle.acct_rows.proofs.Lookups.{tested, same_Some, key_found}
+use Rattle.acct_tables.specs.Keyed.{same_key, at, without, without_keys, is_ascending}
+use Rattle.acct_tables.proofs.Ascending.{is_ascending-filter}
+use Rattle.acct_tables.proofs.Lookups.{at-without, same_Some, key_found}
+use Rattle.acct_tables.proofs.Orders.{same_key-is, same_key-itself, tested}
 
 module _ {A : Type 0} (key : A → List ℕ) where
   -- what is found after a removal was there, at another key
@@ -29,13 +30,13 @@ module _ {A : Type 0} (key : A → List ℕ) where
       ]
 
   pub is_ascending-without_all : (ks : List (List ℕ)) (xs : List A) → is_ascending key xs ≡ true
-      → is_ascending key (without_all key ks xs) ≡ true
+      → is_ascending key (without_keys key ks xs) ≡ true
   is_ascending-without_all [] xs h = h
   is_ascending-without_all (k ∷ ks) xs h =
       is_ascending-without_all ks (without key k xs) (is_ascending-filter key _ xs h)
 
   -- a row that is found after the removal of some keys was there, at none of them
-  all_found : (q : List ℕ) (ks : List (List ℕ)) (xs : List A) (b : A) → at key q (without_all key ks xs) ≡ Some b
+  all_found : (q : List ℕ) (ks : List (List ℕ)) (xs : List A) (b : A) → at key q (without_keys key ks xs) ≡ Some b
       → (at key q xs ≡ Some b) × (list_any (λ k. same_key k q) ks ≡ false)
   all_found q [] xs b e = (e, refl)
   all_found q (k ∷ ks) xs b e =
@@ -51,7 +52,7 @@ module _ {A : Type 0} (key : A → List ℕ) where
       )
 
   all_keep : (q : List ℕ) (ks : List (List ℕ)) (xs : List A) → list_any (λ k. same_key k q) ks ≡ false
-      → at key q (without_all key ks xs) ≡ at key q xs
+      → at key q (without_keys key ks xs) ≡ at key q xs
   all_keep q [] xs h = refl
   all_keep q (k ∷ ks) xs h =
       elim (tested (same_key k q)) [
@@ -107,7 +108,7 @@ module _ {A : Type 0} (key : A → List ℕ) where
 
     -- what is found after the rows that pass were removed was there, and doesn't pass
     pub purged_found : (q : List ℕ) (xs : List A) (b : A)
-        → at key q (without_all key (map key (filter p xs)) xs) ≡ Some b → (at key q xs ≡ Some b) × (p b ≡ false)
+        → at key q (without_keys key (map key (filter p xs)) xs) ≡ Some b → (at key q xs ≡ Some b) × (p b ≡ false)
     purged_found q xs b e =
         let found : (at key q xs ≡ Some b) × (list_any (λ k. same_key k q) (map key (filter p xs)) ≡ false) =
         all_found q (map key (filter p xs)) xs b e in (
@@ -120,6 +121,6 @@ module _ {A : Type 0} (key : A → List ℕ) where
         )
 
     pub purged_keeps : ((x y : A) → key x ≡ key y → p x ≡ p y) → (q : List ℕ) (xs : List A) (b : A)
-        → at key q xs ≡ Some b → p b ≡ false → at key q (without_all key (map key (filter p xs)) xs) ≡ Some b
+        → at key q xs ≡ Some b → p b ≡ false → at key q (without_keys key (map key (filter p xs)) xs) ≡ Some b
     purged_keeps alike q xs b e f =
         all_keep q (map key (filter p xs)) xs (unlisted alike q xs b (key_found key q xs b e) f) ∙ e

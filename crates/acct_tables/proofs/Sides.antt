@@ -7,9 +7,8 @@ use Rattle.std.specs.declared.cmp.Ordering.{Ordering}
 use Rattle.std.specs.declared.cmp.Ordering.TheVariants.{Less, Equal, Greater}
 use Rattle.std.specs.Ordering.{is_eq, is_lt, is_le, is_gt}
 use Rattle.std.specs.Cmp.{first_so, second_so}
-use Rattle.acct_rows.specs.Keyed.{compare, below_all, is_ascending}
-use Rattle.acct_rows.proofs.Lookups.{tested}
-use Rattle.acct_rows.proofs.Tables.{less}
+use Rattle.acct_tables.specs.Keyed.{compare, below_all, is_ascending}
+use Rattle.acct_tables.proofs.Orders.{tested, less}
 
 -- what the first value decides of a filter
 passing : {A : Type 0} (p : A → Bool) (b : Bool) (x : A) (xs : List A)
@@ -38,7 +37,7 @@ one_more Greater true x all low mid high lows mids e =
 one_more Greater false x all low mid high lows mids e = e
 
 module _ {A : Type 0} (key : A → List ℕ) where
-  -- none passes behind a row, if no row above it does
+  -- none passes after a row, if no row above it does
   none_behind : (p : A → Bool) (x : A) (xs : List A) → below_all key (key x) xs ≡ true
       → ((y : A) → compare (key x) (key y) ≡ Less → p y ≡ false) → filter p xs ≡ []
   none_behind p x [] h fails = refl

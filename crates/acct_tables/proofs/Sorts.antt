@@ -8,13 +8,13 @@ use Rattle.std.specs.declared.cmp.Ordering.TheVariants.{Less, Equal}
 use Rattle.std.specs.Cmp.{first_so, second_so, tied_itself}
 use Rattle.std.specs.Cmp.Lexicographic.{nat_list_cmp_total}
 use Rattle.std.proofs.lemmas.List.Sorted.{IsPermutation-sym}
-use Rattle.acct_rows.specs.Indexes.{index}
-use Rattle.acct_rows.specs.Keyed.{compare, same_key, below_all, is_ascending}
-use Rattle.acct_rows.proofs.Indexed.{same_members, index_ascends, in_index, index_in}
-use Rattle.acct_rows.proofs.Lookups.{tested}
-use Rattle.acct_rows.proofs.Members.{In, in_map, map_in, in_permutation, below_in}
-use Rattle.acct_rows.proofs.Members.{one_if, count_by, count_by-permutation, sorted_rises}
-use Rattle.acct_rows.proofs.Tables.{same_key-is}
+use Rattle.acct_tables.specs.Keyed.{index}
+use Rattle.acct_tables.specs.Keyed.{compare, same_key, below_all, is_ascending}
+use Rattle.acct_tables.proofs.Indexed.{same_members, index_ascends, in_index, index_in}
+use Rattle.acct_tables.proofs.Ascending.{In, below_in}
+use Rattle.acct_tables.proofs.Members.{in_map, map_in, in_permutation, one_if, count_by, count_by-permutation}
+use Rattle.acct_tables.proofs.Members.{sorted_rises}
+use Rattle.acct_tables.proofs.Orders.{tested, same_key-is}
 
 -- an index of rows by ascending key, whose own key tells that of a row
 module _ {A B : Type 0} (entry : A → B) (key : A → List ℕ) (by : B → List ℕ)
