@@ -1,5 +1,5 @@
 -- The operations by opnum: what stands at the place of an opnum is what a search of the table finds, and nothing is
--- served behind the last place.
+-- served after the last place.
 use Rattle.std.proofs.Common.{◌≡◌, ℕ, ◌+◌, ◌<◌, ◌≤◌, ◌==◌, nat_lt, Bool, true, false, not, ◌&&◌, ◌||◌, cond}
 use Rattle.std.proofs.Common.{List, [], ◌∷◌, Some, None, map, length, get_or}
 use Rattle.std.proofs.Common.{refl, sym, ap, subst, ◌∙◌, inl, inr, arith}
@@ -39,7 +39,7 @@ none_behind : (face : Face) (opnum : ℕ) → opnum_count face ≤ opnum → wor
 unfolding work_of
 none_behind face opnum over = behind face (opnum_count face) opnum all_works (all_below face) over
 
--- what stands at the place of an opnum among those below a number, behind which nothing is served
+-- what stands at the place of an opnum among those below a number, after which nothing is served
 at_opnum : (face : Face) (n opnum : ℕ) → (n ≤ opnum → work_of face opnum ≡ None)
     → get_or (map (work_of face) (range_with_len 0 n)) opnum None ≡ work_of face opnum
 at_opnum face n opnum over =

@@ -22,7 +22,7 @@ use Rattle.lsat_translate.specs.Table as translations
 use Rattle.samr_members.specs.Table as members
 use Rattle.samr_objects.specs.Table as objects
 
--- It brings no handle and needs no bit, and memory may want for the new handle alone.
+-- It brings no handle and needs no bit, and memory may run out for the new handle alone.
 abbrev pub opening : Face → ℕ → Profile
 opening face opnum = record {
   face = face;

@@ -23,7 +23,7 @@ pub fn operations_keep_rows()
     samr_objects::laws::operations_keep_rows();
 }
 
-/// Each call that some served stub spells has its operation in the table, so no call is turned away for want of one.
+/// Each call that some served stub spells has its operation in the table, so no call is turned away for lack of one.
 pub fn calls_have_operations()
     ensures { CallsHaveOperations }
 {}

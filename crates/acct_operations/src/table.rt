@@ -342,7 +342,7 @@ fn lsa_works() -> &'static [Option<Work>]
     ]
 }
 
-// What stands at the place that an opnum says; behind the last place nothing does.
+// What stands at the place that an opnum says; after the last place nothing does.
 #[tactic(auto, using(std::proofs::lemmas::Option::get_or_from_slice_get))]
 fn at(works: &[Option<Work>], opnum: u16) -> Option<Work>
     ensures { result ≡ get_or works.now opnum None }
@@ -397,7 +397,7 @@ fn on_domain(opnum: u16, bits: u32) -> Profile
     on(Kind::Domain, opnum, bits)
 }
 
-// An operation that opens an object by a handle to another: memory may want for the new handle alone.
+// An operation that opens an object by a handle to another: memory may run out for the new handle alone.
 fn opening_by(kind: Kind, opnum: u16, bits: u32) -> Profile
     ensures { result ≡ asking Samr opnum (Only kind) bits BehindConditions }
 {

@@ -5,3 +5,5 @@ pub mod Filled
 pub mod Mapped
 pub mod Operations
 pub mod Pages
+pub mod PageEntries
+pub mod Sids

@@ -55,8 +55,8 @@ is_condition_status status = is_refusal status && nat_lt status (2 ^ 32) && not 
 abbrev pub IsShaped : Operation → Planned → Type 0
 IsShaped o planned = HasShape o.profile.face o.profile.opnum (Done planned.status planned.outs)
 
--- The operation has a layout, its conditions answer refusals and what it plans none, memory may want where the profile
--- says, and what it plans has its outputs, while each list of rows has fewer than 2^32.
+-- The operation has a layout, its conditions answer refusals and what it plans none, memory may run out where the
+-- profile says, and what it plans has its outputs, while each list of rows has fewer than 2^32.
 pub record IsRight (o : Operation) : Type 0 where
   pub laid_out : is_some (layout_of o.profile.face o.profile.opnum) ≡ true
   pub refuses : (r : Lists) (object : Object) (asked : Args)

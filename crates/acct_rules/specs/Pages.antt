@@ -10,21 +10,21 @@ abbrev pub within : {A : Type 0} → (A → ℕ) → ℕ → List A → List A
 within cost left [] = []
 within cost left (x ∷ xs) = if nat_le (cost x) left then x ∷ within cost (left - cost x) xs else []
 
--- the first, whatever it costs, and behind it those that keep the sum of costs within so much
+-- the first, whatever it costs, and after it those that keep the sum of costs within so much
 abbrev pub first_within : {A : Type 0} → (A → ℕ) → ℕ → List A → List A
 first_within cost most [] = []
 first_within cost most (x ∷ xs) = x ∷ within cost (most - cost x) xs
 
--- A page of the entries that are left: the first, whatever it costs, and behind it those that keep the sum of costs
+-- A page of the entries that are left: the first, whatever it costs, and after it those that keep the sum of costs
 -- within the preferred length.
 abbrev pub page : {A : Type 0} → (A → ℕ) → ℕ → List A → List A
 page cost preferred xs = first_within cost (min preferred most_page) xs
 
--- some of the entries that were left are left behind a page
+-- some of the entries that were left are left after a page
 abbrev pub leaves_some : {A : Type 0} → List A → List A → Bool
 leaves_some given left = nat_lt (length given) (length left)
 
--- the status of a page: some entries are left behind it, or none
+-- the status of a page: some entries are left after it, or none
 abbrev pub page_status : Bool → ℕ
 page_status more = if more then status_more_entries else status_success
 
@@ -38,7 +38,7 @@ preferred_room preferred = record { is_empty = true; left = min preferred most_p
 abbrev pub has_room : ℕ → PageRoom → Bool
 has_room cost room = room.is_empty || nat_le cost room.left
 
--- the room that is left behind it
+-- the room that is left after it
 abbrev pub room_behind : ℕ → PageRoom → PageRoom
 room_behind cost room = if has_room cost room then record { is_empty = false; left = room.left - cost } else room
 

@@ -42,7 +42,7 @@ needed (needs.Bits bits) r asked = bits
 needed (needs.ByClass class bits others) r asked = if class_of asked == class then bits else others
 needed (needs.ByAccount bits missing) r asked = if has_account r asked then bits else missing
 
--- memory may want wherever the handle passed
+-- memory may run out wherever the handle passed
 abbrev pub is_anywhere : Memory → Bool
 is_anywhere memory.Anywhere = true
 is_anywhere memory.BehindConditions = false

@@ -4,7 +4,7 @@
 //! It stands on the rows of `acct_rows`, the calls and replies of `acct_calls` and the layouts of `acct_layouts`. A
 //! crate of operations has for each of them a definition (in specs/, a `Ruled` of the rows, the object of the handle
 //! that was brought, and the arguments) and a function that answers what it decides, a `Planned`. The crates above use
-//! `Profile` with its words (which handles are taken, which bits of their grants are needed, where memory may want),
+//! `Profile` with its words (which handles are taken, which bits of their grants are needed, where memory may run out),
 //! `Planned` with what it does to rows and handles, and the outputs of what was opened. In specs/, `Operations` has
 //! what each operation owes: `IsRight`, and `KeepsRows`.
 #![tactic(auto)]
@@ -12,6 +12,7 @@
 mod asked;
 mod mapped;
 mod outputs;
+mod page_entries;
 mod pages;
 mod planned;
 mod profile;
@@ -25,6 +26,7 @@ pub use asked::{
 };
 pub use mapped::{mapped_status, use_of_kind};
 pub use outputs::fill;
+pub use page_entries::{NamePage, name_cost};
 pub use pages::{PageRoom, page_status};
 pub use planned::{
     Effect, Opening, Planned, answers, closes, creates, opens, puts, refusal, removes,

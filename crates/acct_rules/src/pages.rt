@@ -40,7 +40,7 @@ impl PageRoom {
     }
 }
 
-/// The status of a page, by whether entries are left behind it.
+/// The status of a page, by whether entries are left after it.
 pub fn page_status(more: bool) -> u32
     ensures { result ≡ page_status more }
 {

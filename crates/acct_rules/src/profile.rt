@@ -56,7 +56,7 @@ pub enum Needs {
     ByAccount { bits: u32, missing: u32 },
 }
 
-/// Where memory may want, of a call whose handle passed.
+/// Where memory may run out, of a call whose handle passed.
 #[derive(Clone, Copy, Debug, PartialEq, Eq)]
 pub enum Memory {
     Never,
@@ -66,7 +66,7 @@ pub enum Memory {
 }
 
 /// What is fixed for an operation: the interface and opnum by which it is called, the handle that it takes, the bits
-/// that the handle's grant must have, and where memory may want.
+/// that the handle's grant must have, and where memory may run out.
 #[derive(Clone, Copy, Debug, PartialEq, Eq)]
 pub struct Profile {
     pub face: Face,

@@ -1,4 +1,4 @@
--- An enumeration goes on behind a page with what the page didn't give.
+-- An enumeration goes on after a page with what the page didn't give.
 use Rattle.std.proofs.Common.{◌≡◌, ℕ, ◌+◌, ◌-◌, ◌<◌, ◌≤◌, Bool, true, false, cond, List, [], ◌∷◌, ◌++◌, length, map}
 use Rattle.std.proofs.Common.{drop}
 use Rattle.std.proofs.Common.{suc, zero, refl, sym, ap, ◌∙◌, append_assoc, length-append, arith}
@@ -16,7 +16,8 @@ use Rattle.dtyp_sid.specs.Value.{SidValue}
 use Rattle.lsad_rights.specs.Laws.{privileges_given, privilege_context, privileges_given_of_all}
 use Rattle.lsad_rights.specs.Laws.{privilege_context_of_all, accounts_given, account_context, accounts_given_of_all}
 use Rattle.lsad_rights.specs.Laws.{account_context_of_all, EnumerationsGoOn}
-use Rattle.lsad_rights.specs.Listings.{given_status, entry_of, entry_cost, is_behind, privileges_left, last_low}
+use Rattle.acct_rules.specs.PageEntries.{entry_cost, last_rid}
+use Rattle.lsad_rights.specs.Listings.{given_status, entry_of, is_behind, privileges_left}
 use Rattle.lsad_rights.specs.Listings.{sid_of_row, sid_cost, accounts_left}
 use Rattle.lsad_rights.specs.Privileges.{privilege_row, low_of, privileges}
 use Rattle.lsad_rights.specs.declared.privileges.KnownPrivilege.{KnownPrivilege}
@@ -68,7 +69,7 @@ behind-rises low c (p ∷ ps) up =
 left-rises : (context : ℕ) → Rising context (filter (is_behind context) privileges)
 left-rises context = behind-rises 0 context privileges (rising 0 privileges privileges-rise)
 
--- ---- what is left behind a LUID
+-- ---- what is left after a LUID
 
 narrowed-one : (b d : Bool) (c : ℕ) (p : KnownPrivilege) (ps qs : List KnownPrivilege) → is_behind c p ≡ b
     → (b ≡ true → d ≡ true) → ps ≡ filter (is_behind c) qs
@@ -78,7 +79,7 @@ narrowed-one true false c p ps qs is higher rest = let no : false ≡ true = hig
 narrowed-one false true c p ps qs is higher rest = rw is rest
 narrowed-one false false c p ps qs is higher rest = rest
 
--- those behind a higher one are those behind it among those that were left before
+-- those after a higher one are those after it among those that were left before
 narrowed : (before c : ℕ) (ps : List KnownPrivilege) → before ≤ c
     → filter (is_behind c) ps ≡ filter (is_behind c) (filter (is_behind before) ps)
 narrowed before c [] least = refl
@@ -98,40 +99,40 @@ abbrev lefts : ℕ → List KnownPrivilege → List RidName
 lefts left ps = within entry_cost left (map entry_of ps)
 
 last-one : (b : Bool) (c : ℕ) (p : KnownPrivilege) (given : List RidName) → c < low_of p
-    → low_of p ≤ last_low (low_of p) given → c ≤ last_low c (cond b (entry_of p ∷ given) [])
+    → low_of p ≤ last_rid (low_of p) given → c ≤ last_rid c (cond b (entry_of p ∷ given) [])
 last-one true c p given under most = omega arith
 last-one false c p given under most = omega arith
 
-last-least : (c left : ℕ) (ps : List KnownPrivilege) → Rising c ps → c ≤ last_low c (lefts left ps)
+last-least : (c left : ℕ) (ps : List KnownPrivilege) → Rising c ps → c ≤ last_rid c (lefts left ps)
 last-least c left [] up = omega arith
 last-least c left (p ∷ ps) up =
     last-one (nat_le (entry_cost (entry_of p)) left) c p (lefts (left - entry_cost (entry_of p)) ps) up.0
     (last-least (low_of p) (left - entry_cost (entry_of p)) ps up.1)
 
--- ---- a page of privileges, and what is left behind it
+-- ---- a page of privileges, and what is left after it
 
 abbrev behind : ℕ → List KnownPrivilege → List RidName
 behind c ps = map entry_of (filter (is_behind c) ps)
 
--- a privilege that was given isn't behind the last one
+-- a privilege that was given isn't after the last one
 given-one : (p : KnownPrivilege) (ps : List KnownPrivilege) (given : List RidName)
-    → low_of p ≤ last_low (low_of p) given → map entry_of ps ≡ given ++ behind (last_low (low_of p) given) ps
-    → map entry_of (p ∷ ps) ≡ (entry_of p ∷ given) ++ behind (last_low (low_of p) given) (p ∷ ps)
+    → low_of p ≤ last_rid (low_of p) given → map entry_of ps ≡ given ++ behind (last_rid (low_of p) given) ps
+    → map entry_of (p ∷ ps) ≡ (entry_of p ∷ given) ++ behind (last_rid (low_of p) given) (p ∷ ps)
 given-one p ps given least rest =
-    let not-behind : is_behind (last_low (low_of p) given) p ≡ false = grind (arith, nat_tests) in
+    let not-behind : is_behind (last_rid (low_of p) given) p ≡ false = grind (arith, nat_tests) in
     rw not-behind (ap (λ (xs : List RidName). entry_of p ∷ xs) rest)
 
 parted-one : (b : Bool) (c : ℕ) (p : KnownPrivilege) (ps : List KnownPrivilege) (given : List RidName)
-    → Rising c (p ∷ ps) → low_of p ≤ last_low (low_of p) given
-    → map entry_of ps ≡ given ++ behind (last_low (low_of p) given) ps
+    → Rising c (p ∷ ps) → low_of p ≤ last_rid (low_of p) given
+    → map entry_of ps ≡ given ++ behind (last_rid (low_of p) given) ps
     → map entry_of (p ∷ ps) ≡ cond b (entry_of p ∷ given) []
-    ++ behind (last_low c (cond b (entry_of p ∷ given) [])) (p ∷ ps)
+    ++ behind (last_rid c (cond b (entry_of p ∷ given) [])) (p ∷ ps)
 parted-one true c p ps given up least rest = given-one p ps given least rest
 parted-one false c p ps given up least rest =
     ap (map entry_of) (sym (all-behind c c (p ∷ ps) (omega arith) up))
 
 parted : (c left : ℕ) (ps : List KnownPrivilege) → Rising c ps
-    → map entry_of ps ≡ lefts left ps ++ behind (last_low c (lefts left ps)) ps
+    → map entry_of ps ≡ lefts left ps ++ behind (last_rid c (lefts left ps)) ps
 parted c left [] up = refl
 parted c left (p ∷ ps) up =
     parted-one (nat_le (entry_cost (entry_of p)) left) c p ps (lefts (left - entry_cost (entry_of p)) ps) up
@@ -141,7 +142,7 @@ parted c left (p ∷ ps) up =
 abbrev paged : ℕ → List KnownPrivilege → List RidName
 paged preferred ps = page entry_cost preferred (map entry_of ps)
 
-page-least : (c preferred : ℕ) (ps : List KnownPrivilege) → Rising c ps → c ≤ last_low c (paged preferred ps)
+page-least : (c preferred : ℕ) (ps : List KnownPrivilege) → Rising c ps → c ≤ last_rid c (paged preferred ps)
 page-least c preferred [] up = omega arith
 page-least c preferred (p ∷ ps) up =
     let least = last-least (low_of p) (min preferred most_page - entry_cost (entry_of p)) ps up.1 in
@@ -149,7 +150,7 @@ page-least c preferred (p ∷ ps) up =
     omega arith
 
 page-parted : (c preferred : ℕ) (ps : List KnownPrivilege) → Rising c ps
-    → map entry_of ps ≡ paged preferred ps ++ behind (last_low c (paged preferred ps)) ps
+    → map entry_of ps ≡ paged preferred ps ++ behind (last_rid c (paged preferred ps)) ps
 page-parted c preferred [] up = refl
 page-parted c preferred (p ∷ ps) up =
     let left = min preferred most_page - entry_cost (entry_of p) in
@@ -175,9 +176,9 @@ all-pages context (preferred ∷ rest) =
     ∙ sym (append_assoc (privileges_given context preferred)
     (privileges_given_of_all (privilege_context context preferred) rest) _)
 
--- ---- a page of accounts, and what is left behind it
+-- ---- a page of accounts, and what is left after it
 
--- a page is the front of what is left
+-- a page is the prefix of what is left
 front-one : (b : Bool) (s : SidValue) (given xs : List SidValue) → given ++ drop (length given) xs ≡ xs
     → cond b (s ∷ given) [] ++ drop (length (cond b (s ∷ given) [])) (s ∷ xs) ≡ s ∷ xs
 front-one true s given xs is = ap (λ (ys : List SidValue). s ∷ ys) is

@@ -1,34 +1,15 @@
--- Pages of privileges and accounts: the last entry, how many there are, and that none is given where none is left.
+-- Pages of privileges and accounts: how many there are, and that none is given where none is left.
 use Rattle.std.proofs.Common.{◌≡◌, ℕ, ◌-◌, ◌≤◌, ◌==◌, Bool, true, false, cond, List, [], ◌∷◌, ◌++◌, length}
-use Rattle.std.proofs.Common.{map, drop, Some, slice_get, suc, zero, refl, sym, ap, ◌∙◌, arith}
+use Rattle.std.proofs.Common.{map, drop, refl, sym, ap, ◌∙◌, arith}
 use Rattle.std.specs.Prelude.{min, nat_le}
 use Rattle.std.proofs.lemmas.Bool.Decides.{nat_tests}
 use Rattle.std.proofs.lemmas.List.{length-drop, length-map}
-use Rattle.acct_calls.specs.declared.lists.RidName.{RidName}
 use Rattle.acct_codes.specs.Limits.{most_page}
 use Rattle.acct_rows.specs.declared.row.LsaRow.{LsaRow}
 use Rattle.acct_rules.specs.Pages.{within, page, preferred_room, given_in}
 use Rattle.acct_rules.specs.declared.pages.PageRoom.{PageRoom}
 use Rattle.dtyp_sid.specs.Value.{SidValue}
-use Rattle.lsad_rights.specs.Listings.{last_low, sid_of_row, sid_cost}
-
--- ---- the last entry
-
-last-at : (before n : ℕ) (entries : List RidName) (last : RidName) → length entries ≡ suc n
-    → slice_get entries n ≡ Some last → last_low before entries ≡ last.rid
-last-at before n [] last count at = absurd (omega arith)
-last-at before zero (x ∷ []) last count at = let e : x ≡ last = cc in ap (λ (y : RidName). y.rid) e
-last-at before (suc n) (x ∷ []) last count at = absurd (omega arith)
-last-at before zero (x ∷ y ∷ ys) last count at = absurd (omega arith)
-last-at before (suc n) (x ∷ y ∷ ys) last count at =
-    last-at x.rid n (y ∷ ys) last (omega arith) at
-
-pub last-is : (before : ℕ) (entries : List RidName) (last : RidName)
-    → slice_get entries (length entries - 1) ≡ Some last → last_low before entries ≡ last.rid
-last-is before [] last at = cc
-last-is before (x ∷ xs) last at =
-    last-at before (length xs) (x ∷ xs) last (omega arith)
-    (let e : length (x ∷ xs) - 1 ≡ length xs = omega arith in cc)
+use Rattle.lsad_rights.specs.Listings.{sid_of_row, sid_cost}
 
 -- ---- how many are given
 

@@ -39,7 +39,8 @@ use Rattle.lsad_rights.specs.Accounts.{privilege_shown, privileges_shown, access
 use Rattle.lsad_rights.specs.Found.{account_of, account_of_sid}
 use Rattle.lsad_rights.specs.HeldRights.{name_in, held_name, names_held, privilege_names, logon_names}
 use Rattle.lsad_rights.specs.Holders.{is_wanted, accounts_wanted, holders_status}
-use Rattle.lsad_rights.specs.Listings.{listed_status, entry_of, entry_cost, is_behind, privileges_left, last_low}
+use Rattle.acct_rules.specs.PageEntries.{entry_cost, last_rid}
+use Rattle.lsad_rights.specs.Listings.{listed_status, entry_of, is_behind, privileges_left}
 use Rattle.lsad_rights.specs.Listings.{sid_of_row, sid_cost, accounts_left}
 use Rattle.lsad_rights.specs.LogonRights.{right_row, right_name, rights_of, has_right, logon_rights}
 use Rattle.lsad_rights.specs.Names.{low_in}
@@ -167,13 +168,13 @@ left-all context =
     (λ k p lt. (low-long (get_or privileges k p), privilege-text (get_or privileges k p))))
 
 last-long : (before : ℕ) (entries : List RidName) → IsLong before → All IsAccount entries
-    → IsLong (last_low before entries)
+    → IsLong (last_rid before entries)
 last-long before [] long all = long
 last-long before (x ∷ xs) long all =
     last-long x.rid xs (All-head IsAccount x xs all).0 (All-tail IsAccount x xs all)
 
 pub privileges-shaped : (context preferred : ℕ) → IsLong context
-    → IsLong (last_low context (page entry_cost preferred (privileges_left context)))
+    → IsLong (last_rid context (page entry_cost preferred (privileges_left context)))
     × IsListed IsAccount (page entry_cost preferred (privileges_left context))
 privileges-shaped context preferred long =
     let all = page-all IsAccount entry_cost preferred (privileges_left context) (left-all context) in

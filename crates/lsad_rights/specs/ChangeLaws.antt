@@ -93,7 +93,7 @@ pub record RightsAreAdded (sid : SidValue) (names : List (List ℕ)) (r later : 
       → list_any (sid_eq sid) (accounts_wanted (Some (Holders right)) later) ≡ true
   pub stay : OthersStay sid r later
 
--- The account of a SID stays, and holds what it held before but for the rights that are named, or for all.
+-- The account of a SID stays, and holds what it held before except the rights that are named, or for all.
 pub record RightsAreTaken (sid : SidValue) (asked : Args) (r later : Lists) : Type 0 where
   pub account : LsaRow
   pub there : lsa_at later sid ≡ Some account

@@ -17,7 +17,8 @@ use Rattle.acct_rules.specs.Operations.{IsRight, KeepsRows, Operation}
 use Rattle.acct_rules.specs.Pages.{page}
 use Rattle.dtyp_sid.specs.Value.{SidValue}
 use Rattle.lsad_rights.specs.HeldRights.{held_name, names_held}
-use Rattle.lsad_rights.specs.Listings.{given_status, entry_cost, sid_cost, privileges_left, accounts_left, last_low}
+use Rattle.acct_rules.specs.PageEntries.{entry_cost, last_rid}
+use Rattle.lsad_rights.specs.Listings.{given_status, sid_cost, privileges_left, accounts_left}
 use Rattle.lsad_rights.specs.Listings.{list_privileges, list_accounts}
 use Rattle.lsad_rights.specs.LogonRights.{bit_of, right_name, rights_of}
 use Rattle.lsad_rights.specs.Names.{low_in}
@@ -93,14 +94,14 @@ RightsAgree =
 
 -- ---- enumerations of privileges
 
--- the entries of a page behind a context, and the context behind it
+-- the entries of a page after a context, and the context after it
 abbrev pub privileges_given : ℕ → ℕ → List RidName
 privileges_given context preferred = page entry_cost preferred (privileges_left context)
 
 abbrev pub privilege_context : ℕ → ℕ → ℕ
-privilege_context context preferred = last_low context (privileges_given context preferred)
+privilege_context context preferred = last_rid context (privileges_given context preferred)
 
--- the entries of several pages, each with a preferred length of its own, and the context behind them
+-- the entries of several pages, each with a preferred length of its own, and the context after them
 abbrev pub privileges_given_of_all : ℕ → List ℕ → List RidName
 privileges_given_of_all context [] = []
 privileges_given_of_all context (preferred ∷ rest) =
@@ -132,8 +133,8 @@ account_context_of_all r context (preferred ∷ rest) =
 -- ---- what is left is given once
 
 -- What is left of an enumeration is given once, whatever lengths are preferred: the entries of its pages, and then what
--- is left behind them. A page is empty only where nothing is left, and its status says whether nothing was left before
--- it, or something is left behind it.
+-- is left after them. A page is empty only where nothing is left, and its status says whether nothing was left before
+-- it, or something is left after it.
 pub record EnumerationsGoOn : Type 0 where
   pub privileges : (context : ℕ) (preferred : List ℕ)
       → privileges_left context

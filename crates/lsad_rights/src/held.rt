@@ -25,7 +25,7 @@ fn place(held: &[Held], low: u32) -> usize
         .count()
 }
 
-/// Adds a privilege in its place; it takes the place of the same privilege with other attributes. After want of memory
+/// Adds a privilege in its place; it takes the place of the same privilege with other attributes. Where memory ran out
 /// the list is of no use.
 pub fn put_held(held: &mut Vec<Held>, privilege: Held) -> Result<(), NoMemory>
     ensures { OnOk result (held.new.items ≡ with_held privilege held.old.items) }

@@ -19,7 +19,7 @@ pub fn operations_are_right()
     each_lsa_is_good();
 }
 
-/// Each operation keeps the rows sound and leaves the objects, but for an account that is deleted.
+/// Each operation keeps the rows sound and leaves the objects, except an account that is deleted.
 pub fn operations_keep_rows()
     ensures { KeepRows }
 {

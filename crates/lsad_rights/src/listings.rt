@@ -1,23 +1,27 @@
 // The operations that list the privileges and the accounts of the policy page by page.
 ghost use Rattle.std.specs.Prelude.{◌≡◌, [], ◌∷◌, ◌++◌, IfOk, OnOk, if◌then◌else◌, map, drop, length};
 ghost use Rattle.std.specs.List.{filter};
+ghost use Rattle.acct_rules.specs.PageEntries.{entry_cost};
 ghost use Rattle.acct_rules.specs.Pages.{given_in, leaves_some, preferred_room, has_room, room_behind};
 ghost use Rattle.acct_rules.specs.Planned.{decision};
-ghost use Rattle.lsad_rights.specs.Listings.{entry_of, entry_cost, is_behind, last_low, sid_of_row, sid_cost};
+ghost use Rattle.lsad_rights.specs.Listings.{entry_of, is_behind, sid_of_row, sid_cost};
 ghost use Rattle.lsad_rights.specs.Listings.{given_status, list_privileges, list_accounts};
 
 use crate::privileges::KnownPrivilege;
 use acct_base::Seq;
-use acct_calls::{Args, Outs, RidName, RidNames, Sids};
+use acct_calls::{Args, Outs, RidName, Sids};
 use acct_codes::limit::PAGE_ENTRY_COST;
 use acct_codes::status::STATUS_NO_MORE_ENTRIES;
 use acct_rows::{LsaRow, Object, Rows};
-use acct_rules::{NoMemory, PageRoom, Planned, answers, asked_context, asked_length, page_status};
+use acct_rules::{
+    NamePage, NoMemory, PageRoom, Planned, answers, asked_context, asked_length, name_cost,
+    page_status,
+};
 use dtyp_sid::Sid;
 use dtyp_sid::laws::written_bytes_have_lengths;
 use std::alloc::Global;
 
-// The status of a page by how many entries it has, and whether some are left behind it: one is given wherever one is
+// The status of a page by how many entries it has, and whether some are left after it: one is given wherever one is
 // left.
 fn given_status(given: usize, more: bool) -> u32
     ensures { result ≡ given_status given more }
@@ -29,40 +33,34 @@ fn given_status(given: usize, more: bool) -> u32
     }
 }
 
-/// A page of privileges that is filled entry by entry.
-#[derive(Drop)]
-struct PrivilegePage {
-    entries: RidNames,
-    room: PageRoom,
-}
-
-impl PrivilegePage {
-    // Gives one more privilege, where there is room for it.
-    fn give(&mut self, alloc: Global, privilege: KnownPrivilege) -> Result<bool, NoMemory>
-        ensures room { IfOk result (λ given. given ≡ has_room (entry_cost (entry_of privilege)) self.old.room) }
-        ensures behind { IfOk result (λ given.
-            self.new.room ≡ room_behind (entry_cost (entry_of privilege)) self.old.room) }
-        ensures entries { IfOk result (λ given.
-            self.new.entries ≡ self.old.entries ++ (if given then entry_of privilege ∷ [] else [])) }
-    {
-        let name = privilege.name(alloc)?;
-        let cost = PAGE_ENTRY_COST as usize + 2 * name.units().len();
-        if !self.room.take(cost) {
-            drop(name);
-            return Ok(false);
-        }
-        self.entries.push(RidName {
-            rid: privilege.low(),
-            name,
-        })?;
-        Ok(true)
+// Gives one more privilege, where there is room for it.
+fn give_privilege(
+    alloc: Global,
+    page: &mut NamePage,
+    privilege: KnownPrivilege,
+) -> Result<bool, NoMemory>
+    ensures room { IfOk result (λ given. given ≡ has_room (entry_cost (entry_of privilege)) page.old.room) }
+    ensures behind { IfOk result (λ given.
+        page.new.room ≡ room_behind (entry_cost (entry_of privilege)) page.old.room) }
+    ensures entries { IfOk result (λ given.
+        page.new.entries ≡ page.old.entries ++ (if given then entry_of privilege ∷ [] else [])) }
+{
+    let name = privilege.name(alloc)?;
+    if !page.room.take(name_cost(&name)) {
+        drop(name);
+        return Ok(false);
     }
+    page.entries.push(RidName {
+        rid: privilege.low(),
+        name,
+    })?;
+    Ok(true)
 }
 
-// Gives the privileges behind the context while there is room, and tells whether some are left behind them.
+// Gives the privileges after the context while there is room, and tells whether some are left after them.
 fn give_privileges(
     alloc: Global,
-    page: &mut PrivilegePage,
+    page: &mut NamePage,
     privileges: &[KnownPrivilege],
     context: u32,
 ) -> Result<bool, NoMemory>
@@ -74,24 +72,14 @@ fn give_privileges(
         more ≡ leaves_some (given_in entry_cost page.old.room left) left) }
 {
     for privilege in privileges {
-        if privilege.low() > context && !page.give(alloc, *privilege)? {
+        if privilege.low() > context && !give_privilege(alloc, page, *privilege)? {
             return Ok(true);
         }
     }
     Ok(false)
 }
 
-// The low part of the last privilege that was given, or the one before.
-fn last_low(entries: &[RidName], before: u32) -> u32
-    ensures { result ≡ last_low before entries.now }
-{
-    match entries.last() {
-        Some(entry) => entry.rid,
-        None => before,
-    }
-}
-
-/// LsarEnumeratePrivileges (MS-LSAD 3.1.4.8.1): the privileges behind a LUID, as many as are preferred, but one at
+/// LsarEnumeratePrivileges (MS-LSAD 3.1.4.8.1): the privileges after a LUID, as many as are preferred, but one at
 /// least where one is left.
 pub fn list_privileges(
     alloc: Global,
@@ -102,10 +90,7 @@ pub fn list_privileges(
     ensures { IfOk result (λ p. p ≡ decision (list_privileges rows.now.lists policy args.now)) }
 {
     let before = asked_context(args);
-    let mut page = PrivilegePage {
-        entries: Seq::new(alloc),
-        room: PageRoom::preferred(asked_length(args)),
-    };
+    let mut page = NamePage::new(alloc, asked_length(args));
     let more = match give_privileges(alloc, &mut page, KnownPrivilege::all(), before) {
         Ok(more) => more,
         Err(full) => {
@@ -114,7 +99,7 @@ pub fn list_privileges(
         }
     };
     let status = given_status(page.entries.as_slice().len(), more);
-    let context = last_low(page.entries.as_slice(), before);
+    let context = page.last_rid(before);
     let page = Outs::PrivilegePage {
         context,
         entries: page.entries,
@@ -152,7 +137,7 @@ impl SidPage {
     }
 }
 
-// Gives the accounts while there is room, and tells whether some are left behind them.
+// Gives the accounts while there is room, and tells whether some are left after them.
 fn give_accounts(page: &mut SidPage, accounts: &[LsaRow]) -> Result<bool, NoMemory>
     ensures given { OnOk result (
         let left = map sid_of_row accounts.now in
@@ -169,7 +154,7 @@ fn give_accounts(page: &mut SidPage, accounts: &[LsaRow]) -> Result<bool, NoMemo
     Ok(false)
 }
 
-// The accounts behind those that were given before.
+// The accounts after those that were given before.
 fn accounts_left(rows: &Rows, context: u32) -> &[LsaRow]
     ensures { result.now ≡ drop context rows.now.lists.lsa }
 {

@@ -45,6 +45,7 @@ asks (args.Rights x y z) = record { names = λ n. absurd n; sids = λ n. absurd 
 asks (args.LookNames x y) = record { names = λ n. n.1; sids = λ n. absurd n }
 asks (args.LookSids x y) = record { names = λ n. absurd n; sids = λ n. (n.1, n.2) }
 asks (args.Policy x y) = record { names = λ n. absurd n; sids = λ n. absurd n }
+asks (args.Security x y) = record { names = λ n. absurd n; sids = λ n. absurd n }
 
 pub few-names : (a : Args) → AreNamesAsked a → length (asked_names a) ≤ 1000
 few-names a = (asks a).names

@@ -22,7 +22,8 @@ use Rattle.dtyp_sid.specs.Order.{sid_eq, EqualSidsAreOne}
 use Rattle.dtyp_sid.specs.Value.{SidValue}
 use Rattle.lsat_translate.specs.Known.{all_well_known, well_known_sid, row_sid, domain_sid}
 use Rattle.lsat_translate.specs.Laws.{HidesNone}
-use Rattle.lsat_translate.specs.Matches.{account_match, with_rid, sid_of}
+use Rattle.lsat_translate.specs.Matches.{account_match, sid_of}
+use Rattle.acct_rules.specs.Sids.{with_rid}
 use Rattle.lsat_translate.specs.Names.{is_never_mapped, is_backslash, is_domain_named, account_named, domain_named}
 use Rattle.lsat_translate.specs.Names.{well_known_named, is_authority_named, match_alone, match_in, match_behind}
 use Rattle.lsat_translate.specs.Names.{match_split, match_of_name}
@@ -190,7 +191,7 @@ last-of-last sid rid =
 has-some : (sid : SidValue) (rid : ℕ) → nat_lt 0 (length (with_last sid rid).subs) ≡ true
 has-some sid rid = let more = counted sid.subs rid in grind (arith, nat_tests)
 
--- the account of a domain is found by the domain's SID with its RID behind, and by no other domain's
+-- the account of a domain is found by the domain's SID followed by its RID, and by no other domain's
 behind-itself : EqualSidsAreOne → (sid : SidValue) (rid : ℕ) → is_behind sid (with_last sid rid) ≡ true
 behind-itself one sid rid =
     let front : sid_eq (front_of (with_last sid rid)) sid ≡ true =

@@ -28,7 +28,7 @@ well_known_text System = codes "SYSTEM"
 unfoldable pub well_known_name : WellKnown → List ℕ
 well_known_name w = name_of_text (well_known_text w)
 
--- the RID behind the SID of its domain
+-- the RID after the SID of its domain
 abbrev pub well_known_rid : WellKnown → ℕ
 well_known_rid Everyone = security_world_rid
 well_known_rid AnonymousLogon = security_anonymous_logon_rid

@@ -1,12 +1,11 @@
 -- What a name or a SID is translated to: what it is used for, its RID, its SID, its name, and the domain that it
 -- refers to.
-use Rattle.std.specs.Prelude.{ℕ, ◌==◌, nat_le, List, [], length, Option, Some, None, if◌then◌else◌}
-use Rattle.acct_codes.specs.Limits.{most_domain_subs}
+use Rattle.std.specs.Prelude.{ℕ, ◌==◌, List, [], Option, Some, None, if◌then◌else◌}
 use Rattle.acct_codes.specs.Uses.{sid_type_domain, sid_type_well_known_group, sid_type_unknown}
 use Rattle.acct_rows.specs.Rows.{Lists, account_domain, account_at}
 use Rattle.acct_rows.specs.declared.row.AccountRow.{AccountRow}
 use Rattle.acct_rules.specs.Mapped.{use_of_kind}
-use Rattle.dtyp_sid.specs.Made.{with_last}
+use Rattle.acct_rules.specs.Sids.{with_rid}
 use Rattle.dtyp_sid.specs.Value.{SidValue}
 use Rattle.lsat_translate.specs.Known.{domain_name, domain_sid, home_of, well_known_name, well_known_rid}
 use Rattle.lsat_translate.specs.Known.{well_known_sid}
@@ -57,11 +56,7 @@ rid_in (Some m) = rid_of m
 
 -- ---- its SID
 
--- the SID with a RID behind, where it has room for one, as that of each domain of sound rows has
-abbrev pub with_rid : ℕ → SidValue → Option SidValue
-with_rid rid sid = if nat_le (length sid.subs) most_domain_subs then Some (with_last sid rid) else None
-
--- that of an account is its domain's with its RID behind
+-- that of an account is its domain's followed by its RID
 abbrev pub sid_of : Lists → Match → Option SidValue
 sid_of r (WellKnown w) = Some (well_known_sid w)
 sid_of r (Domain k) = Some (domain_sid r k)

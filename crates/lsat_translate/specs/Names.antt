@@ -39,7 +39,7 @@ match_alone r name =
     (option_or (option_map matches.Domain (domain_named r name))
     (option_or (account_named r account_domain name) (account_named r builtin_domain name)))
 
--- ---- a name behind that of a domain
+-- ---- a name after that of a domain
 
 abbrev pub is_authority_named : List ℕ → WellKnown → Bool
 is_authority_named name w = same_known (home_of w) known.NtAuthority && is_well_known_named name w
@@ -51,7 +51,7 @@ match_in r name known.Builtin = account_named r builtin_domain name
 match_in r name known.NtAuthority = option_map matches.WellKnown (find (is_authority_named name) all_well_known)
 match_in r name known.World = None
 
--- the domain itself, where no name stands behind it
+-- the domain itself, where no name stands after it
 abbrev pub match_behind : Lists → List ℕ → Known → Option Match
 match_behind r [] k = Some (matches.Domain k)
 match_behind r (u ∷ us) k = match_in r (u ∷ us) k

@@ -34,7 +34,7 @@ front_of sid = record { authority = sid.authority; subs = take (length sid.subs 
 abbrev pub last_of : SidValue → ℕ
 last_of sid = get_or sid.subs (length sid.subs - 1) 0
 
--- it is the domain's SID with a RID behind
+-- it is the domain's SID followed by a RID
 abbrev pub is_behind : SidValue → SidValue → Bool
 is_behind domain sid = nat_lt 0 (length sid.subs) && sid_eq (front_of sid) domain
 

@@ -74,7 +74,7 @@ impl WellKnown {
         Name::from_text(alloc, self.text())
     }
 
-    /// Its RID, which stands behind the SID of its domain.
+    /// Its RID, which stands after the SID of its domain.
     pub(crate) fn rid(self) -> u32
         ensures { result ≡ well_known_rid self }
     {

@@ -95,7 +95,7 @@ impl Match {
         }
     }
 
-    /// Its SID: that of an account is its domain's with its RID behind, which each domain of sound rows has room for.
+    /// Its SID: that of an account is its domain's followed by its RID, which each domain of sound rows has room for.
     pub(crate) fn sid(self, rows: &Rows) -> Option<Sid>
         ensures { result ≡ sid_of rows.now.lists self }
     {

@@ -115,7 +115,7 @@ fn match_in(
     }
 }
 
-// What stands behind the name of a domain; the domain itself where nothing does.
+// What stands after the name of a domain; the domain itself where nothing does.
 fn match_behind(
     alloc: Global,
     rows: &Rows,

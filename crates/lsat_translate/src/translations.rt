@@ -31,7 +31,7 @@ use std::alloc::Global;
 // By what the entry of a name tells its match.
 #[derive(Clone, Copy, Debug, PartialEq, Eq)]
 enum Form {
-    // By its RID, which stands behind the SID of its domain.
+    // By its RID, which stands after the SID of its domain.
     Rid,
     // By its SID.
     Sid,

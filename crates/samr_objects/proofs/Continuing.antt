@@ -1,4 +1,4 @@
--- An enumeration of accounts goes on behind a page with what the page didn't give.
+-- An enumeration of accounts goes on after a page with what the page didn't give.
 use Rattle.std.proofs.Common.{◌≡◌, ℕ, ◌+◌, ◌-◌, ◌<◌, ◌≤◌, Bool, true, false, cond, List, [], ◌∷◌, ◌++◌, length, map}
 use Rattle.std.proofs.Common.{refl, sym, ap, subst, ◌∙◌, append_assoc, length-append, arith}
 use Rattle.std.specs.Prelude.{◌&&◌, nat_lt, nat_le, min}
@@ -13,8 +13,8 @@ use Rattle.acct_rows.specs.Rows.{Lists, account_key}
 use Rattle.acct_rows.specs.Sound.{IsSoundRows}
 use Rattle.acct_rows.specs.declared.row.AccountRow.{AccountRow}
 use Rattle.acct_rules.specs.Pages.{within, page, page_status}
-use Rattle.samr_objects.specs.Entries.{cost}
-use Rattle.samr_objects.specs.Enumerations.{is_wanted, entry_of, left_of, last_rid}
+use Rattle.acct_rules.specs.PageEntries.{entry_cost, last_rid}
+use Rattle.samr_objects.specs.Enumerations.{is_wanted, entry_of, left_of}
 use Rattle.samr_objects.specs.Laws.{given_of, later, given_of_all, later_than_all, GoesOn}
 use Rattle.samr_objects.specs.declared.enumerations.Wanted.{Wanted}
 
@@ -63,9 +63,9 @@ rising w (x ∷ xs) ascending =
     (subst (λ d. below_all account_key (d ∷ x.rid ∷ []) xs ≡ true) (wanted-domain w x is) (first_so _ _ ascending)))
     (rising w xs (second_so _ _ ascending))
 
--- ---- what is left behind a RID
+-- ---- what is left after a RID
 
--- accounts that are wanted behind a higher RID are those above it that were wanted before
+-- accounts that are wanted after a higher RID are those above it that were wanted before
 fewer : (b c r : ℕ) (p q : Bool) → b ≤ c
     → ((p && nat_lt c r) && q) ≡ (((p && nat_lt b r) && q) && nat_lt c r)
 fewer b c r p q least = grind (arith, nat_tests)
@@ -91,7 +91,7 @@ all-above c b (x ∷ xs) least rises =
 -- ---- the last RID of a page
 
 abbrev lefts : ℕ → List AccountRow → List RidName
-lefts left xs = within cost left (map entry_of xs)
+lefts left xs = within entry_cost left (map entry_of xs)
 
 last-one : (b : Bool) (c left : ℕ) (x : AccountRow) (given : List RidName) → c < x.rid
     → x.rid ≤ last_rid x.rid given → c ≤ last_rid c (cond b (entry_of x ∷ given) [])
@@ -101,10 +101,10 @@ last-one false c left x given under most = omega arith
 last-least : (c left : ℕ) (xs : List AccountRow) → Rising c xs → c ≤ last_rid c (lefts left xs)
 last-least c left [] rises = omega arith
 last-least c left (x ∷ xs) rises =
-    last-one (nat_le (cost (entry_of x)) left) c left x (lefts (left - cost (entry_of x)) xs) rises.0
-    (last-least x.rid (left - cost (entry_of x)) xs rises.1)
+    last-one (nat_le (entry_cost (entry_of x)) left) c left x (lefts (left - entry_cost (entry_of x)) xs) rises.0
+    (last-least x.rid (left - entry_cost (entry_of x)) xs rises.1)
 
--- ---- a page, and what is left behind it
+-- ---- a page, and what is left after it
 
 abbrev behind : ℕ → List AccountRow → List RidName
 behind c xs = map entry_of (filter (above c) xs)
@@ -129,17 +129,18 @@ parted : (c left : ℕ) (xs : List AccountRow) → Rising c xs
     → map entry_of xs ≡ lefts left xs ++ behind (last_rid c (lefts left xs)) xs
 parted c left [] rises = refl
 parted c left (x ∷ xs) rises =
-    parted-one (nat_le (cost (entry_of x)) left) c x xs (lefts (left - cost (entry_of x)) xs) rises
-    (last-least x.rid (left - cost (entry_of x)) xs rises.1) (parted x.rid (left - cost (entry_of x)) xs rises.1)
+    parted-one (nat_le (entry_cost (entry_of x)) left) c x xs (lefts (left - entry_cost (entry_of x)) xs) rises
+    (last-least x.rid (left - entry_cost (entry_of x)) xs rises.1)
+    (parted x.rid (left - entry_cost (entry_of x)) xs rises.1)
 
 -- and so with a whole page
 abbrev paged : ℕ → List AccountRow → List RidName
-paged preferred xs = page cost preferred (map entry_of xs)
+paged preferred xs = page entry_cost preferred (map entry_of xs)
 
 page-least : (c preferred : ℕ) (xs : List AccountRow) → Rising c xs → c ≤ last_rid c (paged preferred xs)
 page-least c preferred [] rises = omega arith
 page-least c preferred (x ∷ xs) rises =
-    let least = last-least x.rid (min preferred most_page - cost (entry_of x)) xs rises.1 in
+    let least = last-least x.rid (min preferred most_page - entry_cost (entry_of x)) xs rises.1 in
     let under = rises.0 in
     omega arith
 
@@ -147,7 +148,7 @@ page-parted : (c preferred : ℕ) (xs : List AccountRow) → Rising c xs
     → map entry_of xs ≡ paged preferred xs ++ behind (last_rid c (paged preferred xs)) xs
 page-parted c preferred [] rises = refl
 page-parted c preferred (x ∷ xs) rises =
-    let left = min preferred most_page - cost (entry_of x) in
+    let left = min preferred most_page - entry_cost (entry_of x) in
     given-one c x xs (lefts left xs) (last-least x.rid left xs rises.1) (parted x.rid left xs rises.1)
 
 -- ---- the enumeration
@@ -171,7 +172,7 @@ all-pages w r (preferred ∷ rest) sound =
     ∙ ap (λ (xs : List RidName). given_of w preferred r ++ xs) (all-pages (later w preferred r) r rest sound)
     ∙ sym (append_assoc (given_of w preferred r) (given_of_all (later w preferred r) rest r) _)
 
-none-left : (preferred : ℕ) (xs : List RidName) → page cost preferred xs ≡ [] → xs ≡ []
+none-left : (preferred : ℕ) (xs : List RidName) → page entry_cost preferred xs ≡ [] → xs ≡ []
 none-left preferred [] none = refl
 none-left preferred (x ∷ xs) none = cc
 

@@ -76,7 +76,7 @@ exists-known : (o : Option AccountRow) → is_condition_status (exists_status o)
 exists-known None = refl
 exists-known (Some a) = kind-known a.kind
 
--- the status of a collision is one of a condition, and so are those behind it
+-- the status of a collision is one of a condition, and so are those after it
 known-there : (b : Bool) → b ≡ true → (b && true) ≡ true
 known-there b h = cc
 
@@ -128,7 +128,7 @@ may-be r k n (Some name) h = record {
   rids = is-off _ (first-of _ _ (second-of _ _ (second-of _ _ h)));
 }
 
--- ---- the rows behind a creation
+-- ---- the rows after a creation
 
 pub record RowLaws : Type 0 where
   pub each : EachIsGood

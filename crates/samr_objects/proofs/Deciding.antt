@@ -6,7 +6,7 @@ use Rattle.std.specs.declared.result.Result.TheVariants.{Ok, Err}
 use Rattle.acct_rules.specs.Planned.{Condition, first_failed, none_fails, decided, refusal}
 use Rattle.acct_rules.specs.declared.planned.Planned.{Planned}
 
--- a condition that doesn't fail leaves it to those behind it
+-- a condition that doesn't fail leaves it to those after it
 pub behind : (fails : Bool) (status : ℕ) (rest value : Option ℕ) → fails ≡ false → rest ≡ value
     → cond fails (Some status) rest ≡ value
 behind true status rest value passes is = cc

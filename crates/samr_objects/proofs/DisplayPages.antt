@@ -1,4 +1,4 @@
--- What is displayed goes on behind a page with what the page didn't give.
+-- What is displayed goes on after a page with what the page didn't give.
 use Rattle.std.proofs.Common.{◌≡◌, ℕ, ◌+◌, ◌-◌, Bool, true, false, cond, List, [], ◌∷◌, ◌++◌, length, take, drop}
 use Rattle.std.proofs.Common.{refl, ap, ◌∙◌}
 use Rattle.std.specs.Prelude.{zero, suc, min, nat_le, nat_lt}

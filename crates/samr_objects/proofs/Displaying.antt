@@ -56,7 +56,7 @@ both : (a b : Bool) → a && b ≡ true → (a ≡ true) × (b ≡ true)
 both true b h = (refl, h)
 both false b h = cc
 
--- an account that the page takes is given, and behind it what the page with it gives
+-- an account that the page takes is given, and after it what the page with it gives
 pub taken : (p : DisplayPage) (a : AccountRow) (rest : List AccountRow) → takes_account p a ≡ true
     → given_on p (a ∷ rest) ≡ displayed (p.place + 1) a ∷ given_on (with_account a p) rest
 taken p a rest takes =
@@ -112,7 +112,7 @@ at-place xs place x within is =
     let e : suc place ≡ place + 1 = omega arith in
     drop-cons xs place x within ∙ ap (λ y. y ∷ drop (suc place) xs) (sym is) ∙ ap (λ n. x ∷ drop n xs) e
 
--- one that is displayed stands before those behind it
+-- one that is displayed stands before those after it
 pub shown-next : (p : AccountRow → Bool) (xs : List AccountRow) (place : ℕ) (x : AccountRow) → place < length xs
     → x ≡ get_or xs place x → p x ≡ true → filter p (drop place xs) ≡ x ∷ filter p (drop (place + 1) xs)
 shown-next p xs place x within is shown =
@@ -189,7 +189,7 @@ gives-one p a rest fn all takes goes =
           ∙ ap (λ ys. leaves_some ys (left_for p (a ∷ rest))) (sym is) ∙ goes.more;
     }
 
--- what is left of a page that gives no more, and whether there is more behind it
+-- what is left of a page that gives no more, and whether there is more after it
 pub record Ends (p fn : DisplayPage) (all : List AccountRow) (is_left : Bool) : Type 0 where
   pub given : p.entries ≡ fn.entries ++ given_on fn all
   pub returned : p.returned ≡ as_count (fn.returned + sum_by display_cost (given_on fn all))

@@ -1,7 +1,7 @@
--- What is left of the accounts of a domain, and the pages of it: entries that can be spelled, few, and each
+-- What is left of the accounts of a domain, and the pages of it: entries that can be encoded, few, and each
 -- opnum's own.
-use Rattle.std.proofs.Common.{◌≡◌, ℕ, ◌-◌, ◌≤◌, Bool, true, false, cond, All, List, [], ◌∷◌, length}
-use Rattle.std.proofs.Common.{suc, zero, Some, slice_get, get_or, refl, ap, arith}
+use Rattle.std.proofs.Common.{ℕ, ◌≤◌, Bool, true, false, cond, All, List, [], ◌∷◌, length}
+use Rattle.std.proofs.Common.{Some, get_or, refl, arith}
 use Rattle.std.specs.List.{filter}
 use Rattle.std.proofs.lemmas.List.{length-map}
 use Rattle.std.proofs.lemmas.List.Elements.{All-head, All-tail, All-map, All-filter}
@@ -23,32 +23,14 @@ use Rattle.acct_rows.specs.Sound.{IsSoundRows, IsGoodAccount}
 use Rattle.acct_rows.specs.declared.row.AccountRow.{AccountRow}
 use Rattle.acct_rules.specs.Asked.{asked_context, asked_filter, asked_length}
 use Rattle.acct_rules.specs.Operations.{IsRight}
+use Rattle.acct_rules.specs.PageEntries.{entry_cost, last_rid}
 use Rattle.acct_rules.specs.Pages.{page, leaves_some}
-use Rattle.samr_objects.specs.Entries.{cost}
-use Rattle.samr_objects.specs.Enumerations.{is_wanted, entry_of, left_of, last_rid, wanted}
+use Rattle.samr_objects.specs.Enumerations.{is_wanted, entry_of, left_of, wanted}
 use Rattle.samr_objects.specs.Table.{enumerate_groups_in_domain, enumerate_aliases_in_domain, enumerate_users_in_domain}
 use Rattle.samr_objects.specs.declared.enumerations.Wanted.{Wanted}
 use Rattle.samr_objects.proofs.Asking.{arguments}
 use Rattle.samr_objects.proofs.Paging.{page-few}
 use Rattle.samr_objects.proofs.Shaping.{page-full, page-long, page-all, account-long, name-text, accounts-good}
-
--- ---- the last entry
-
-last-at : (before n : ℕ) (entries : List RidName) (last : RidName) → length entries ≡ suc n
-    → slice_get entries n ≡ Some last → last_rid before entries ≡ last.rid
-last-at before n [] last count at = absurd (omega arith)
-last-at before zero (x ∷ []) last count at = let e : x ≡ last = cc in ap (λ (y : RidName). y.rid) e
-last-at before (suc n) (x ∷ []) last count at = absurd (omega arith)
-last-at before zero (x ∷ y ∷ ys) last count at = absurd (omega arith)
-last-at before (suc n) (x ∷ y ∷ ys) last count at =
-    last-at x.rid n (y ∷ ys) last (omega arith) at
-
-pub last-is : (before : ℕ) (entries : List RidName) (last : RidName)
-    → slice_get entries (length entries - 1) ≡ Some last → last_rid before entries ≡ last.rid
-last-is before [] last at = cc
-last-is before (x ∷ xs) last at =
-    last-at before (length xs) (x ∷ xs) last (omega arith)
-    (let e : length (x ∷ xs) - 1 ≡ length xs = omega arith in cc)
 
 -- ---- what a page shows
 
@@ -82,14 +64,14 @@ last-long before (x ∷ xs) long all =
 
 -- a page and its context
 listed-shaped : EachIsGood → (w : Wanted) (preferred : ℕ) (r : Lists) → HasRoom r 0 → IsSoundRows r → IsLong w.behind
-    → IsLong (last_rid w.behind (page cost preferred (left_of w r)))
-    × IsListed IsAccount (page cost preferred (left_of w r))
+    → IsLong (last_rid w.behind (page entry_cost preferred (left_of w r)))
+    × IsListed IsAccount (page entry_cost preferred (left_of w r))
 listed-shaped each w preferred r few sound long =
-    let all = page-all IsAccount cost preferred (left_of w r) (left-shaped each w r sound) in
-    let most = page-few cost preferred (left_of w r) in
+    let all = page-all IsAccount entry_cost preferred (left_of w r) (left-shaped each w r sound) in
+    let most = page-few entry_cost preferred (left_of w r) in
     let left = left-few w r in
     let room = few.accounts in
-    (last-long w.behind (page cost preferred (left_of w r)) long all, (omega arith, all))
+    (last-long w.behind (page entry_cost preferred (left_of w r)) long all, (omega arith, all))
 
 -- ---- what is asked for
 
@@ -104,7 +86,7 @@ filtered-long _ are = absurd are
 -- ---- the operations
 
 abbrev more-left : Wanted → Args → Lists → Bool
-more-left w asked r = leaves_some (page cost (asked_length asked) (left_of w r)) (left_of w r)
+more-left w asked r = leaves_some (page entry_cost (asked_length asked) (left_of w r)) (left_of w r)
 
 pub list_groups-right : EachIsGood → IsRight enumerate_groups_in_domain
 unfolding HasShape samr_layout lsa_layout

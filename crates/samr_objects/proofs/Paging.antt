@@ -9,7 +9,7 @@ use Rattle.acct_rows.specs.declared.row.DomainRow.{DomainRow}
 use Rattle.acct_rules.specs.Pages.{within, page, preferred_room, given_in}
 use Rattle.acct_rules.specs.declared.pages.PageRoom.{PageRoom}
 use Rattle.samr_objects.specs.Domains.{listed}
-use Rattle.samr_objects.specs.Entries.{cost}
+use Rattle.acct_rules.specs.PageEntries.{entry_cost}
 
 either-few : {A : Type 0} (b : Bool) (x : A) (given xs : List A) → length given ≤ length xs
     → length (cond b (x ∷ given) []) ≤ length (x ∷ xs)
@@ -25,37 +25,37 @@ page-few cost preferred [] = omega arith
 page-few cost preferred (x ∷ xs) = let rest = within-few cost (min preferred most_page - cost x) xs in omega arith
 
 few-left : (context : ℕ) (domains : List DomainRow) (preferred : ℕ)
-    → length (page cost preferred (map listed (drop context domains))) ≤ length domains - context
+    → length (page entry_cost preferred (map listed (drop context domains))) ≤ length domains - context
 few-left context domains preferred =
-    let few = page-few cost preferred (map listed (drop context domains)) in
+    let few = page-few entry_cost preferred (map listed (drop context domains)) in
     let mapped = length-map (drop context domains) listed in
     let dropped = length-drop context domains in
     omega arith
 
 in-room : (room : PageRoom) (preferred : ℕ) (xs : List RidName) → room ≡ preferred_room preferred
-    → given_in cost room xs ≡ page cost preferred xs
-in-room room preferred xs is = ap (λ r. given_in cost r xs) is
+    → given_in entry_cost room xs ≡ page entry_cost preferred xs
+in-room room preferred xs is = ap (λ r. given_in entry_cost r xs) is
 
 -- a page of domains that was filled has no more of them than are left
 pub given-few : (context preferred : ℕ) (domains left : List DomainRow) (room : PageRoom)
     (before entries given : List RidName)
     → left ≡ drop context domains → before ≡ [] → room ≡ preferred_room preferred
-    → entries ≡ before ++ given_in cost room (map listed left) → given ≡ entries
+    → entries ≡ before ++ given_in entry_cost room (map listed left) → given ≡ entries
     → length given ≤ length domains - context
 given-few context preferred domains left room before entries given is-left none is-room is-page same =
     let most = few-left context domains preferred in
-    let e : length given ≡ length (page cost preferred (map listed (drop context domains))) =
+    let e : length given ≡ length (page entry_cost preferred (map listed (drop context domains))) =
     ap length (same ∙ is-page
-    ∙ ap (λ (b : List RidName). b ++ given_in cost room (map listed left)) none
+    ∙ ap (λ (b : List RidName). b ++ given_in entry_cost room (map listed left)) none
     ∙ in-room room preferred (map listed left) is-room
-    ∙ ap (λ (d : List DomainRow). page cost preferred (map listed d)) is-left) in
+    ∙ ap (λ (d : List DomainRow). page entry_cost preferred (map listed d)) is-left) in
     omega arith
 
 pub page-few-left : (context preferred : ℕ) (domains : List DomainRow) → length domains + 0 < 2 ^ 32
-    → length (page cost preferred (map listed (drop context domains))) < 2 ^ 32
+    → length (page entry_cost preferred (map listed (drop context domains))) < 2 ^ 32
 page-few-left context preferred domains few = omega (arith, few-left context domains preferred, few)
 
 pub context-long : (context preferred : ℕ) (domains : List DomainRow) → length domains + 0 < 2 ^ 32
     → context < 2 ^ 32
-    → context + length (page cost preferred (map listed (drop context domains))) < 2 ^ 32
+    → context + length (page entry_cost preferred (map listed (drop context domains))) < 2 ^ 32
 context-long context preferred domains few fits = omega (arith, few-left context domains preferred, few, fits)

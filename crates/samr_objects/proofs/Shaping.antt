@@ -27,7 +27,7 @@ use Rattle.acct_rules.specs.Pages.{within, page, page_status}
 use Rattle.dtyp_sid.specs.Made.{with_last}
 use Rattle.dtyp_sid.specs.Value.{SidValue, IsSid}
 use Rattle.samr_objects.specs.Domains.{listed, sid_in, sid_of_rid}
-use Rattle.samr_objects.specs.Entries.{cost}
+use Rattle.acct_rules.specs.PageEntries.{entry_cost}
 use Rattle.acct_rules.specs.Mapped.{use_of_kind}
 use Rattle.samr_objects.specs.Found.{is_named, domain_named, use_in, rid_in, name_in}
 
@@ -156,9 +156,9 @@ page-all P cost preferred (x ∷ xs) all =
     (within-all P cost (min preferred most_page - cost x) xs (All-tail P x xs all))
 
 pub page-shaped : EachIsGood → (r : Lists) (context preferred : ℕ) → IsSoundRows r
-    → All IsAccount (page cost preferred (map listed (drop context r.domains)))
+    → All IsAccount (page entry_cost preferred (map listed (drop context r.domains)))
 page-shaped each r context preferred sound =
-    page-all IsAccount cost preferred (map listed (drop context r.domains))
+    page-all IsAccount entry_cost preferred (map listed (drop context r.domains))
     (All-map IsAccount listed (drop context r.domains)
     (All-drop (λ (d : DomainRow). IsAccount (listed d)) context r.domains
     (λ k d lt. listed-good (get_or r.domains k d) (goods each r sound k d lt))))

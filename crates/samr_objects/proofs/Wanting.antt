@@ -1,4 +1,4 @@
--- The accounts that are wanted stand behind the RID.
+-- The accounts that are wanted stand after the RID.
 use Rattle.std.proofs.Common.{◌≡◌, ◌==◌, nat_lt, Bool, true, false, ◌&&◌, cond, List, [], ◌∷◌, refl, sym, ap, ◌∙◌}
 use Rattle.std.specs.List.{filter}
 use Rattle.acct_rows.specs.Ranges.{is_behind}

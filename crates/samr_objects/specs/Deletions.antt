@@ -24,7 +24,7 @@ is_special object = nat_lt (rid_of object) first_created_rid
 
 -- ---- what goes
 
--- the account's SID: its domain's, with its RID behind
+-- the account's SID: its domain's, followed by its RID
 abbrev pub account_sid : Lists → Object → Option SidValue
 account_sid r object = sid_of_rid (domain_at r (domain_of object)) (rid_of object)
 

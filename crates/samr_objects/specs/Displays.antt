@@ -69,7 +69,7 @@ costs_of entries = as_count (sum_by display_cost entries)
 
 -- ---- the operation
 
--- Of the entries behind the first ones, as many as the index says, a page of at most as many as are asked for. The
+-- Of the entries after the first ones, as many as the index says, a page of at most as many as are asked for. The
 -- total is what all that are left cost, and what is returned is what those cost that are given.
 abbrev pub displays : Option DisplayArm → Lists → ℕ → Args → Ruled
 displays arm r domain asked =
@@ -97,7 +97,7 @@ account_cost a = display_cost (displayed 0 a)
 abbrev pub takes_account : DisplayPage → AccountRow → Bool
 takes_account p a = nat_lt 0 p.count && has_room (account_cost a) p.room
 
--- the page with the account behind
+-- the page with the account at its end
 abbrev pub with_account : AccountRow → DisplayPage → DisplayPage
 with_account a p = record {
   entries = p.entries ++ displayed (p.place + 1) a ∷ [];

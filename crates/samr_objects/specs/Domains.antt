@@ -1,11 +1,9 @@
 -- The operations on domains: to look for one by its name, to list them, to open one, and the SID of a RID.
 use Rattle.std.specs.Prelude.{ℕ, ◌+◌, not, [], ◌∷◌, length, map, drop, Option, Some, None, is_some}
-use Rattle.std.specs.Prelude.{nat_le, if◌then◌else◌}
 use Rattle.std.specs.Option.{option_map}
 use Rattle.acct_calls.specs.declared.calls.Args.{Args}
 use Rattle.acct_calls.specs.declared.lists.RidName.{RidName}
 use Rattle.acct_calls.specs.declared.replies.Outs.TheVariants as outs
-use Rattle.acct_codes.specs.Limits.{most_domain_subs}
 use Rattle.acct_codes.specs.Statuses.{status_success, status_no_such_domain}
 use Rattle.acct_rows.specs.Objects.{domain_of}
 use Rattle.acct_rows.specs.Rows.{Lists, domain_at}
@@ -13,11 +11,11 @@ use Rattle.acct_rows.specs.declared.object.Object.{Object}
 use Rattle.acct_rows.specs.declared.object.Object.TheVariants.{Domain}
 use Rattle.acct_rows.specs.declared.row.DomainRow.{DomainRow}
 use Rattle.acct_rules.specs.Asked.{asked_name, asked_sid, asked_rid, asked_context, asked_length, desired_access}
+use Rattle.acct_rules.specs.PageEntries.{entry, entry_cost}
 use Rattle.acct_rules.specs.Pages.{page, page_status, leaves_some}
 use Rattle.acct_rules.specs.Planned.{Ruled, when, answers, opens}
-use Rattle.dtyp_sid.specs.Made.{with_last}
+use Rattle.acct_rules.specs.Sids.{with_rid}
 use Rattle.dtyp_sid.specs.Value.{SidValue}
-use Rattle.samr_objects.specs.Entries.{entry, cost}
 use Rattle.samr_objects.specs.Found.{domain_named, domain_of_sid, number_of}
 
 abbrev pub sid_in : Option DomainRow → Option SidValue
@@ -40,7 +38,7 @@ listed d = entry 0 d.name
 abbrev pub list_domains : Lists → Object → Args → Ruled
 list_domains r object asked =
     let left = map listed (drop (asked_context asked) r.domains) in
-    let given = page cost (asked_length asked) left in
+    let given = page entry_cost (asked_length asked) left in
     record {
       conditions = [];
       planned =
@@ -56,10 +54,6 @@ open_domain r object asked =
       conditions = when (not (is_some found)) status_no_such_domain ∷ [];
       planned = opens (Domain (number_of found)) (desired_access asked);
     }
-
--- the SID with a RID behind, where it has room for one
-abbrev pub with_rid : ℕ → SidValue → Option SidValue
-with_rid rid sid = if nat_le (length sid.subs) most_domain_subs then Some (with_last sid rid) else None
 
 -- the SID of a RID of a domain
 abbrev pub sid_of_rid : Option DomainRow → ℕ → Option SidValue

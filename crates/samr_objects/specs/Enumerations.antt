@@ -11,9 +11,9 @@ use Rattle.acct_rows.specs.Rows.{Lists, same_kind}
 use Rattle.acct_rows.specs.declared.object.Object.{Object}
 use Rattle.acct_rows.specs.declared.row.AccountRow.{AccountRow}
 use Rattle.acct_rules.specs.Asked.{asked_context, asked_filter, asked_length}
+use Rattle.acct_rules.specs.PageEntries.{entry, entry_cost, last_rid}
 use Rattle.acct_rules.specs.Pages.{page, page_status, leaves_some}
 use Rattle.acct_rules.specs.Planned.{Ruled, answers}
-use Rattle.samr_objects.specs.Entries.{entry, cost}
 use Rattle.samr_objects.specs.declared.enumerations.Wanted.{Wanted}
 
 -- ---- which accounts are left
@@ -22,7 +22,7 @@ use Rattle.samr_objects.specs.declared.enumerations.Wanted.{Wanted}
 abbrev pub has_one_of : ℕ → ℕ → Bool
 has_one_of asked bits = (asked == 0) || not (bit_and bits asked == 0)
 
--- an account of the domain and of the kind, behind a RID, with one of the bits
+-- an account of the domain and of the kind, after a RID, with one of the bits
 abbrev pub is_wanted : Wanted → AccountRow → Bool
 is_wanted w a =
     (a.domain == w.domain) && same_kind w.kind a.kind && nat_lt w.behind a.rid && has_one_of w.filter a.bits
@@ -37,16 +37,11 @@ left_of w r = map entry_of (filter (is_wanted w) r.accounts)
 
 -- ---- a page of them
 
--- the RID of the last entry that was given; where none was, the one before
-abbrev pub last_rid : ℕ → List RidName → ℕ
-last_rid before [] = before
-last_rid before (entry ∷ entries) = last_rid entry.rid entries
-
 -- Common processing (MS-SAMR 3.1.5.2.2): the context is the last RID that was given.
 abbrev pub list_accounts : Wanted → ℕ → Lists → Ruled
 list_accounts w preferred r =
     let left = left_of w r in
-    let given = page cost preferred left in
+    let given = page entry_cost preferred left in
     record {
       conditions = [];
       planned = answers (page_status (leaves_some given left)) (outs.Page (last_rid w.behind given) (Some given));

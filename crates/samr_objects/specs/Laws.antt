@@ -19,8 +19,8 @@ use Rattle.acct_rules.specs.Pages.{page, page_status}
 use Rattle.acct_calls.specs.Calls.{zero_handle}
 use Rattle.acct_rules.specs.Planned.{Ruled, none_fails, decision, answers}
 use Rattle.samr_objects.specs.Displays.{display_cost}
-use Rattle.samr_objects.specs.Entries.{cost}
-use Rattle.samr_objects.specs.Enumerations.{left_of, last_rid, list_accounts}
+use Rattle.acct_rules.specs.PageEntries.{entry_cost, last_rid}
+use Rattle.samr_objects.specs.Enumerations.{left_of, list_accounts}
 use Rattle.samr_objects.specs.Queries.{query_domain, query_group, query_alias, query_user}
 use Rattle.samr_objects.specs.Table.{query_information_domain, query_information_domain2, query_information_group}
 use Rattle.samr_objects.specs.Table.{query_information_alias, query_information_user, query_information_user2}
@@ -92,13 +92,13 @@ KeepRows = Each KeepsRows
 
 -- the entries of a page
 abbrev pub given_of : Wanted → ℕ → Lists → List RidName
-given_of w preferred r = page cost preferred (left_of w r)
+given_of w preferred r = page entry_cost preferred (left_of w r)
 
--- the enumeration that goes on behind it
+-- the enumeration that goes on after it
 abbrev pub later : Wanted → ℕ → Lists → Wanted
 later w preferred r = record w { behind = last_rid w.behind (given_of w preferred r) }
 
--- the entries of several pages, each with a preferred length of its own, and the enumeration that goes on behind them
+-- the entries of several pages, each with a preferred length of its own, and the enumeration that goes on after them
 abbrev pub given_of_all : Wanted → List ℕ → Lists → List RidName
 given_of_all w [] r = []
 given_of_all w (preferred ∷ rest) r = given_of w preferred r ++ given_of_all (later w preferred r) rest r
@@ -108,8 +108,8 @@ later_than_all w [] r = w
 later_than_all w (preferred ∷ rest) r = later_than_all (later w preferred r) rest r
 
 -- What is left of an enumeration is given once, whatever lengths are preferred: the entries of its pages, and then what
--- is left behind them. A page is empty only where nothing is left, and its status says that there is more exactly where
--- something is left behind it.
+-- is left after them. A page is empty only where nothing is left, and its status says that there is more exactly where
+-- something is left after it.
 pub record GoesOn (w : Wanted) (r : Lists) : Type 0 where
   pub once : (preferred : List ℕ) → left_of w r ≡ given_of_all w preferred r ++ left_of (later_than_all w preferred r) r
   pub empty : (preferred : ℕ) → given_of w preferred r ≡ [] → left_of w r ≡ []
@@ -122,7 +122,7 @@ EnumerationsGoOn = (w : Wanted) (r : Lists) → IsSoundRows r → GoesOn w r
 
 -- ---- what is displayed
 
--- the page behind so many entries, of at most as many as are asked for
+-- the page after so many entries, of at most as many as are asked for
 abbrev pub display_page : List DisplayRow → ℕ → ℕ → ℕ → List DisplayRow
 display_page all index count preferred = page display_cost preferred (take count (drop index all))
 
@@ -256,7 +256,7 @@ pub record IsCreated (k : Kind) (r later : Lists) (domain : ℕ) (name : List �
   pub found_by_name : find_name later domain name ≡ Some account
   pub next_is_above : next_rid_of (domain_at later domain) ≡ account.rid + 1
 
--- so it is behind what a creation plans where none of its conditions fails
+-- so it is after what a creation plans where none of its conditions fails
 abbrev pub Creates : Kind → Operation → Type 0
 Creates k o =
     (r : Lists) (object : Object) (call : Call) → IsAsked o r object call

@@ -3,7 +3,6 @@ pub mod Creations
 pub mod Deletions
 pub mod Displays
 pub mod Domains
-pub mod Entries
 pub mod Enumerations
 pub mod Found
 pub mod Laws

@@ -136,7 +136,7 @@ impl DisplayPage {
 }
 
 // Gives the accounts that are displayed while they are asked for and there is room, and tells whether some are left
-// behind them.
+// after them.
 fn give_accounts(
     alloc: Global,
     page: &mut DisplayPage,
@@ -171,7 +171,7 @@ fn rest_of(accounts: &[AccountRow], place: usize) -> &[AccountRow]
     accounts.get(place..).unwrap_or(&[])
 }
 
-// The accounts from where a page begins: behind as many that are displayed as the index says.
+// The accounts from where a page begins: after as many that are displayed as the index says.
 fn accounts_behind(
     accounts: &[AccountRow],
     arm: DisplayArm,
@@ -209,7 +209,7 @@ fn total_cost(accounts: &[AccountRow], arm: DisplayArm, domain: u8) -> u32
 }
 
 /// SamrQueryDisplayInformation (MS-SAMR 3.1.5.3.3): a page of the normal users or of the groups of the domain, by
-/// ascending RID, behind as many of them as the index says; as many as are asked for and as are preferred, but one at
+/// ascending RID, after as many of them as the index says; as many as are asked for and as are preferred, but one at
 /// least where one is left. It walks the accounts, and copies those alone that it gives.
 pub fn query_display(
     alloc: Global,

@@ -1,18 +1,17 @@
 // The operations on domains.
 ghost use Rattle.std.specs.Prelude.{◌≡◌, ◌+◌, ◌<◌, ◌++◌, IfOk, OnOk, OnErr, length, map, drop, min};
+ghost use Rattle.acct_rules.specs.PageEntries.{entry_cost};
 ghost use Rattle.acct_rules.specs.Pages.{given_in, leaves_some};
 ghost use Rattle.acct_rules.specs.Planned.{decision};
 ghost use Rattle.samr_objects.specs.Domains.{look_domain, list_domains, open_domain, rid_to_sid, listed};
-ghost use Rattle.samr_objects.specs.Entries.{cost};
 
-use crate::entries::Page;
 use crate::found::{domain_named, domain_of_sid};
 use acct_calls::{Args, Outs};
 use acct_codes::status::{STATUS_NO_SUCH_DOMAIN, STATUS_SUCCESS};
 use acct_rows::{DomainRow, Object, Rows};
 use acct_rules::{
-    NoMemory, Planned, answers, asked_context, asked_length, asked_name, asked_rid, asked_sid,
-    desired_access, opens, page_status, refusal,
+    NamePage, NoMemory, Planned, answers, asked_context, asked_length, asked_name, asked_rid,
+    asked_sid, desired_access, opens, page_status, refusal,
 };
 use std::alloc::Global;
 
@@ -32,14 +31,14 @@ pub fn look_domain(
     }
 }
 
-// Gives the domains while there is room, and tells whether some are left behind them.
-fn give_domains(alloc: Global, page: &mut Page, domains: &[DomainRow]) -> Result<bool, NoMemory>
+// Gives the domains while there is room, and tells whether some are left after them.
+fn give_domains(alloc: Global, page: &mut NamePage, domains: &[DomainRow]) -> Result<bool, NoMemory>
     ensures given { OnOk result (
         let left = map listed domains.now in
-        page.new.entries ≡ page.old.entries ++ given_in cost page.old.room left) }
+        page.new.entries ≡ page.old.entries ++ given_in entry_cost page.old.room left) }
     ensures more { IfOk result (λ more.
         let left = map listed domains.now in
-        more ≡ leaves_some (given_in cost page.old.room left) left) }
+        more ≡ leaves_some (given_in entry_cost page.old.room left) left) }
 {
     for domain in domains {
         if !page.give(alloc, 0, &domain.name)? {
@@ -49,7 +48,7 @@ fn give_domains(alloc: Global, page: &mut Page, domains: &[DomainRow]) -> Result
     Ok(false)
 }
 
-// The domains behind those that were listed before.
+// The domains after those that were listed before.
 fn domains_left(rows: &Rows, context: u32) -> &[DomainRow]
     ensures { result.now ≡ drop context rows.now.lists.domains }
 {
@@ -69,7 +68,7 @@ pub fn list_domains(
 {
     rows.has_few_rows();
     let context = asked_context(args);
-    let mut page = Page::new(alloc, asked_length(args));
+    let mut page = NamePage::new(alloc, asked_length(args));
     let more = give_domains(alloc, &mut page, domains_left(rows, context))?;
     let given = page.entries.as_slice().len();
     let page = Outs::Page {

@@ -1,22 +1,21 @@
 // The operations that list the accounts of a domain.
 ghost use Rattle.std.specs.Prelude.{◌≡◌, ◌++◌, IfOk, OnOk, map};
 ghost use Rattle.std.specs.List.{filter};
+ghost use Rattle.acct_rules.specs.PageEntries.{entry_cost};
 ghost use Rattle.acct_rules.specs.Pages.{given_in, leaves_some};
 ghost use Rattle.acct_rules.specs.Planned.{decision};
-ghost use Rattle.samr_objects.specs.Entries.{cost};
-ghost use Rattle.samr_objects.specs.Enumerations.{has_one_of, is_wanted, entry_of, last_rid, list_accounts};
+ghost use Rattle.samr_objects.specs.Enumerations.{has_one_of, is_wanted, entry_of, list_accounts};
 ghost use Rattle.samr_objects.specs.Enumerations.{list_groups, list_aliases, list_users};
 
-use crate::entries::Page;
-use acct_calls::{Args, Outs, RidName};
+use acct_calls::{Args, Outs};
 use acct_codes::Kind;
 use acct_rows::{AccountRow, Object, Rows};
 use acct_rules::{
-    NoMemory, Planned, answers, asked_context, asked_filter, asked_length, page_status,
+    NamePage, NoMemory, Planned, answers, asked_context, asked_filter, asked_length, page_status,
 };
 use std::alloc::Global;
 
-/// The accounts that are listed: those of a domain and of a kind behind a RID. Where the filter isn't 0, an account
+/// The accounts that are listed: those of a domain and of a kind after a RID. Where the filter isn't 0, an account
 /// needs one of its bits.
 #[derive(Clone, Copy, Debug, PartialEq, Eq)]
 pub struct Wanted {
@@ -41,19 +40,19 @@ fn is_wanted(account: &AccountRow, wanted: Wanted) -> bool
         && has_one_of(account.bits, wanted.filter)
 }
 
-// Gives the accounts that are wanted while there is room, and tells whether some are left behind them.
+// Gives the accounts that are wanted while there is room, and tells whether some are left after them.
 fn give_accounts(
     alloc: Global,
-    page: &mut Page,
+    page: &mut NamePage,
     accounts: &[AccountRow],
     wanted: Wanted,
 ) -> Result<bool, NoMemory>
     ensures given { OnOk result (
         let left = map entry_of (filter (is_wanted wanted) accounts.now) in
-        page.new.entries ≡ page.old.entries ++ given_in cost page.old.room left) }
+        page.new.entries ≡ page.old.entries ++ given_in entry_cost page.old.room left) }
     ensures more { IfOk result (λ more.
         let left = map entry_of (filter (is_wanted wanted) accounts.now) in
-        more ≡ leaves_some (given_in cost page.old.room left) left) }
+        more ≡ leaves_some (given_in entry_cost page.old.room left) left) }
 {
     for account in accounts {
         if is_wanted(account, wanted) && !page.give(alloc, account.rid, &account.name)? {
@@ -61,16 +60,6 @@ fn give_accounts(
         }
     }
     Ok(false)
-}
-
-// The RID of the last entry that was given, or the one before.
-fn last_rid(entries: &[RidName], before: u32) -> u32
-    ensures { result ≡ last_rid before entries.now }
-{
-    match entries.last() {
-        Some(entry) => entry.rid,
-        None => before,
-    }
 }
 
 // The accounts among which are all that are wanted: those that stand before them aren't walked.
@@ -88,10 +77,10 @@ fn list_accounts(
 ) -> Result<Planned, NoMemory>
     ensures { IfOk result (λ p. p ≡ decision (list_accounts wanted preferred rows.now.lists)) }
 {
-    let mut page = Page::new(alloc, preferred);
+    let mut page = NamePage::new(alloc, preferred);
     let accounts = accounts_left(rows, &wanted);
     let more = give_accounts(alloc, &mut page, accounts, wanted)?;
-    let context = last_rid(page.entries.as_slice(), wanted.behind);
+    let context = page.last_rid(wanted.behind);
     let page = Outs::Page {
         context,
         entries: Some(page.entries),
@@ -99,7 +88,7 @@ fn list_accounts(
     Ok(answers(alloc, page_status(more), page))
 }
 
-/// SamrEnumerateGroupsInDomain (MS-SAMR 3.1.5.2.3): the groups of the domain behind a RID, as many as are preferred,
+/// SamrEnumerateGroupsInDomain (MS-SAMR 3.1.5.2.3): the groups of the domain after a RID, as many as are preferred,
 /// but one at least where one is left.
 pub fn list_groups(
     alloc: Global,

@@ -71,7 +71,7 @@ pub fn sets_are_shown()
     fields_are_set();
 }
 
-/// An enumeration of accounts that goes on behind each page gives each account once, in as many pages as there are.
+/// An enumeration of accounts that goes on after each page gives each account once, in as many pages as there are.
 pub fn enumerations_go_on()
     ensures { EnumerationsGoOn }
 {}

@@ -14,7 +14,6 @@ mod creations;
 mod deletions;
 mod displays;
 mod domains;
-mod entries;
 mod enumerations;
 mod found;
 pub mod laws;

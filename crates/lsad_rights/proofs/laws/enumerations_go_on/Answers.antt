@@ -1,4 +1,4 @@
--- An enumeration goes on behind a page with what the page didn't give.
+-- An enumeration goes on after a page with what the page didn't give.
 use Rattle.lsad_rights.proofs.Continuing.{go-on}
 use Rattle.lsad_rights.proofs.laws.enumerations_go_on.Goals as goal
 

@@ -14,7 +14,8 @@ use Rattle.acct_rules.specs.Pages.{page}
 use Rattle.dtyp_sid.specs.Value.{SidValue}
 use Rattle.lsad_rights.specs.Found.{account_of, account_of_sid}
 use Rattle.lsad_rights.specs.Holders.{accounts_asked, accounts_wanted}
-use Rattle.lsad_rights.specs.Listings.{entry_cost, sid_cost, privileges_left, accounts_left}
+use Rattle.acct_rules.specs.PageEntries.{entry_cost}
+use Rattle.lsad_rights.specs.Listings.{sid_cost, privileges_left, accounts_left}
 use Rattle.lsad_rights.specs.Names.{privilege_asked, privilege_of_luid}
 use Rattle.lsad_rights.specs.Policy.{is_shown}
 use Rattle.lsad_rights.specs.Table.{enumerate_privileges, query_information_policy, query_information_policy2}

@@ -2,7 +2,8 @@
 use Rattle.std.proofs.Common.{◌≡◌, ◌++◌, drop, map}
 use Rattle.std.specs.List.{filter}
 use Rattle.acct_rules.specs.Pages.{given_in, leaves_some}
-use Rattle.lsad_rights.specs.Listings.{entry_of, entry_cost, is_behind}
+use Rattle.acct_rules.specs.PageEntries.{entry_cost}
+use Rattle.lsad_rights.specs.Listings.{entry_of, is_behind}
 use Rattle.lsad_rights.proofs.listings.give_privileges.Given as goal
 
 abbrev pub invariant-loop-privilege : goal.invariant-loop-privilege

@@ -1,4 +1,4 @@
--- The context behind a page is a number of 32 bits.
+-- The context after a page is a number of 32 bits.
 use Rattle.std.proofs.Common.{arith}
 use Rattle.lsad_rights.proofs.Listing.{given-few}
 use Rattle.lsad_rights.proofs.listings.list_accounts.Goals as goal

@@ -1,4 +1,4 @@
--- Behind the last account nothing is left to count.
+-- After the last account nothing is left to count.
 use Rattle.std.proofs.Common.{◌≡◌, ◌+◌, subst, ◌∙◌}
 use Rattle.std.specs.List.{filter, sum_by}
 use Rattle.samr_objects.specs.Displays.{is_displayed, account_cost, as_count}

@@ -2,7 +2,7 @@
 use Rattle.std.proofs.Common.{◌≡◌, ◌++◌, drop, map}
 use Rattle.acct_rules.specs.Pages.{given_in, leaves_some}
 use Rattle.samr_objects.specs.Domains.{listed}
-use Rattle.samr_objects.specs.Entries.{cost}
+use Rattle.acct_rules.specs.PageEntries.{entry_cost}
 use Rattle.samr_objects.proofs.domains.give_domains.Given as goal
 
 abbrev pub invariant-loop-domain : goal.invariant-loop-domain
@@ -10,7 +10,8 @@ invariant-loop-domain l =
     let rest = map listed (drop l.domain-index l.domains) in
     let all = map listed l.domains in
     record {
-      given : l.page.entries ++ given_in cost l.page.room rest
-          ≡ l.fn.page.entries ++ given_in cost l.fn.page.room all;
-      more : leaves_some (given_in cost l.page.room rest) rest ≡ leaves_some (given_in cost l.fn.page.room all) all;
+      given : l.page.entries ++ given_in entry_cost l.page.room rest
+          ≡ l.fn.page.entries ++ given_in entry_cost l.fn.page.room all;
+      more : leaves_some (given_in entry_cost l.page.room rest) rest
+          ≡ leaves_some (given_in entry_cost l.fn.page.room all) all;
     }

@@ -1,4 +1,4 @@
--- The context behind a page is a number of 32 bits.
+-- The context after a page is a number of 32 bits.
 use Rattle.std.proofs.Common.{arith}
 use Rattle.samr_objects.proofs.Paging.{given-few}
 use Rattle.samr_objects.proofs.domains.list_domains.Goals as goal

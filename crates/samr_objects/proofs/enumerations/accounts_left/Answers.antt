@@ -1,4 +1,4 @@
--- All accounts that are wanted stand behind the RID, so none is missing from those that are walked.
+-- All accounts that are wanted stand after the RID, so none is missing from those that are walked.
 use Rattle.std.proofs.Common.{ap, ◌∙◌}
 use Rattle.std.specs.List.{filter}
 use Rattle.samr_objects.specs.Enumerations.{is_wanted}

@@ -1,4 +1,4 @@
--- What is displayed goes on behind a page.
+-- What is displayed goes on after a page.
 use Rattle.samr_objects.proofs.DisplayPages.{goes-on}
 use Rattle.samr_objects.proofs.laws.displays_go_on.Goals as goal
 

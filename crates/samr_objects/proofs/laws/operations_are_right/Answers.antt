@@ -17,7 +17,7 @@ use Rattle.acct_rules.specs.Asked.{asked_name, asked_names, asked_rids, asked_ri
 use Rattle.acct_rules.specs.Operations.{IsRight}
 use Rattle.acct_rules.specs.Pages.{page, leaves_some}
 use Rattle.samr_objects.specs.Domains.{listed}
-use Rattle.samr_objects.specs.Entries.{cost}
+use Rattle.acct_rules.specs.PageEntries.{entry_cost}
 use Rattle.samr_objects.specs.Found.{use_in}
 use Rattle.samr_objects.specs.Table.{lookup_domain_in_sam_server, enumerate_domains_in_sam_server}
 use Rattle.samr_objects.specs.Table.{open_domain_in_sam_server, lookup_names_in_domain, lookup_ids_in_domain}
@@ -74,7 +74,7 @@ abbrev left-of : Lists → Args → List RidName
 left-of r asked = map listed (drop (asked_context asked) r.domains)
 
 abbrev page-of : Lists → Args → List RidName
-page-of r asked = page cost (asked_length asked) (left-of r asked)
+page-of r asked = page entry_cost (asked_length asked) (left-of r asked)
 
 list_domains : EachIsGood → IsRight enumerate_domains_in_sam_server
 unfolding HasShape samr_layout lsa_layout

@@ -1,35 +1,35 @@
-// The entries of a page of domains or accounts.
+// The entries of a page that are names with numbers.
 ghost use Rattle.std.specs.Prelude.{◌≡◌, [], ◌∷◌, ◌++◌, IfOk, if◌then◌else◌};
 ghost use Rattle.acct_rules.specs.Pages.{preferred_room, has_room, room_behind};
-ghost use Rattle.samr_objects.specs.Entries.{entry, name_cost};
+ghost use Rattle.acct_rules.specs.PageEntries.{entry, name_cost, last_rid};
 
+use crate::pages::PageRoom;
 use acct_base::Seq;
 use acct_calls::{Name, NoMemory, RidName, RidNames};
 use acct_codes::limit::PAGE_ENTRY_COST;
-use acct_rules::PageRoom;
 use std::alloc::Global;
 
-// What an entry of that name costs: its bytes, and some more.
-fn name_cost(name: &Name) -> usize
+/// What an entry of that name costs of a page's room, in bytes: the name's, and some more.
+pub fn name_cost(name: &Name) -> usize
     ensures { result ≡ name_cost name.now }
 {
     PAGE_ENTRY_COST as usize + 2 * name.units().len()
 }
 
-/// A page that is filled entry by entry.
+/// A page of names with numbers that is filled entry by entry.
 #[derive(Drop)]
-pub struct Page {
+pub struct NamePage {
     pub entries: RidNames,
     pub room: PageRoom,
 }
 
-impl Page {
+impl NamePage {
     /// A page without an entry, for which a length is preferred. It takes no memory.
-    pub fn new(alloc: Global, preferred: u32) -> Page
+    pub fn new(alloc: Global, preferred: u32) -> NamePage
         ensures entries { result.entries ≡ [] }
         ensures room { result.room ≡ preferred_room preferred }
     {
-        Page {
+        NamePage {
             entries: Seq::new(alloc),
             room: PageRoom::preferred(preferred),
         }
@@ -50,5 +50,15 @@ impl Page {
             name: name.copy(alloc)?,
         })?;
         Ok(true)
+    }
+
+    /// The number of the last entry that was given, or the one before.
+    pub fn last_rid(&self, before: u32) -> u32
+        ensures { result ≡ last_rid before self.now.entries }
+    {
+        match self.entries.as_slice().last() {
+            Some(entry) => entry.rid,
+            None => before,
+        }
     }
 }
