@@ -24,7 +24,7 @@ LegalAfter-push start before (a ∷ history) e legal may =
           (subst (λ (es : List Entry). May start es e) same may),
     )
 
--- one element more in front, where it is of the connection
+-- one element more at the beginning, where it is of the connection
 one_more : {A : Type 0} (here : Bool) (x : A) (all xs ys : List A) → all ≡ xs ++ ys
     → cond here (x ∷ all) all ≡ cond here (x ∷ xs) xs ++ ys
 one_more true x all xs ys is = ap (λ zs. x ∷ zs) is

@@ -3,7 +3,6 @@ use Rattle.std.proofs.Common.{◌≡◌, ◌≢◌, ℕ, ◌<◌, ◌==◌, Bool
 use Rattle.std.proofs.Common.{◌++◌, map, Option, Some, None, option_map, refl, sym, ap, subst, ◌∙◌, inl, inr, arith}
 use Rattle.std.specs.List.{filter, find}
 use Rattle.std.specs.Cmp.{nat_cmp_is, first_so, second_so}
-use Rattle.std.specs.Cmp.Lexicographic.{slice_cmp}
 use Rattle.std.specs.Ordering.{nat_cmp, ordering_then, is_eq}
 use Rattle.std.specs.declared.cmp.Ordering.{Ordering}
 use Rattle.std.specs.declared.cmp.Ordering.TheVariants.{Less, Equal, Greater}
@@ -14,53 +13,47 @@ use Rattle.dtyp_sid.specs.Order.{sid_eq, sid_cmp}
 use Rattle.dtyp_sid.proofs.Equal.{equal_sids}
 use Rattle.acct_rows.specs.declared.object.Object.{Object}
 use Rattle.acct_rows.specs.declared.object.Object.TheVariants.{Server, Domain, Group, Alias, User, Policy, Account}
-use Rattle.acct_rows.specs.Objects.{same_object}
-use Rattle.acct_tables.specs.Keyed.{Key, compare, is_within, put, without_all, is_ascending, sorted}
+use Rattle.acct_rows.specs.Objects.{domain_of, rid_of, same_object}
+use Rattle.acct_tables.specs.Keyed.{Key, compare, compare_front, is_within, put, without_all, is_ascending, sorted}
 use Rattle.acct_tables.proofs.Ascending.{In, is_ascending-filter}
+use Rattle.acct_tables.proofs.Ended.{then_then, ended-compare, ended-front, ended-parts}
 use Rattle.acct_tables.proofs.Sorted.{in_put, in_filter, sorted_put, sorted_push, sorted_filter, sorted_already}
 use Rattle.acct_tables.proofs.Sorted.{without_passing, sorted_without, follows_ascends}
 use Rattle.acct_machine.specs.declared.state.Held.{Held}
 use Rattle.acct_machine.specs.declared.arrivals.Arrival.{Arrival}
 use Rattle.acct_machine.specs.declared.arrivals.Numbered.TheVariants as numbers
 use Rattle.acct_machine.specs.State.{number_of, is_handle, find_handle}
-use Rattle.acct_machine.specs.Arrivals.{number_key, number_front, object_part, object_key, object_front, turn_key}
+use Rattle.acct_machine.specs.Arrivals.{number_key, number_front, rank_of, sid_part, object_part, object_order}
+use Rattle.acct_machine.specs.Arrivals.{object_key, object_front, turn_key}
 use Rattle.acct_machine.specs.Indexed.{held_of, arrived, CameBefore}
 
 -- ---- orders
 
--- orders of keys of three numbers, each a part
-abbrev pub three : Ordering → Ordering → Ordering → Ordering
-three r s t = ordering_then (ordering_then r Equal)
-    (ordering_then (ordering_then s Equal) (ordering_then (ordering_then t Equal) Equal))
+-- orders of keys of three numbers, and of two
+abbrev three : Ordering → Ordering → Ordering → Ordering
+three r s t = ordering_then r (ordering_then s (ordering_then t Equal))
 
-pub three_is : (r s t : Ordering) → ordering_then r (ordering_then s t) ≡ three r s t
-three_is Less s t = refl
-three_is Greater s t = refl
-three_is Equal Less t = refl
-three_is Equal Greater t = refl
-three_is Equal Equal Less = refl
-three_is Equal Equal Equal = refl
-three_is Equal Equal Greater = refl
+abbrev two : Ordering → Ordering → Ordering
+two r s = ordering_then r (ordering_then s Equal)
 
-abbrev pub two : Ordering → Ordering → Ordering
-two r s = ordering_then (ordering_then r Equal) (ordering_then (ordering_then s Equal) Equal)
+-- objects compare, and then what is after them
+pub objects_ordered : (a b : Object) (j k : Key)
+    → ordering_then (object_order a b) (compare j k) ≡ compare (object_part a j) (object_part b k)
+objects_ordered a b j k =
+    let ranks = nat_cmp (rank_of a) (rank_of b) in
+    let domains = nat_cmp (domain_of a) (domain_of b) in
+    let rids = nat_cmp (rid_of a) (rid_of b) in
+    let sids = compare (sid_part a) (sid_part b) in
+    then_then ranks (ordering_then domains (ordering_then rids sids)) (compare j k)
+    ∙ ap (ordering_then ranks) (then_then domains (ordering_then rids sids) (compare j k)
+    ∙ ap (ordering_then domains) (then_then rids sids (compare j k)
+    ∙ ap (ordering_then rids) (sym (ended-compare (sid_part a) (sid_part b) j k))))
 
-pub two_is : (r s : Ordering) → ordering_then r s ≡ two r s
-two_is Less s = refl
-two_is Greater s = refl
-two_is Equal Less = refl
-two_is Equal Equal = refl
-two_is Equal Greater = refl
-
-pub one_is : (r : Ordering) → r ≡ ordering_then (ordering_then r Equal) Equal
-one_is Less = refl
-one_is Equal = refl
-one_is Greater = refl
-
-pub part_is : (r : Ordering) → r ≡ ordering_then r Equal
-part_is Less = refl
-part_is Equal = refl
-part_is Greater = refl
+pub objects_fronted : (a b : Object) (j : Key)
+    → object_order a b ≡ compare_front (object_part a j) (object_part b [])
+objects_fronted a b j =
+    ap (λ r. ordering_then (nat_cmp (rank_of a) (rank_of b)) (ordering_then (nat_cmp (domain_of a) (domain_of b))
+    (ordering_then (nat_cmp (rid_of a) (rid_of b)) r))) (sym (ended-front (sid_part a) (sid_part b) j))
 
 -- ---- tests
 
@@ -79,8 +72,10 @@ two_equal Equal Less = refl
 two_equal Equal Equal = refl
 two_equal Equal Greater = refl
 
-one_equal : (r : Ordering) → is_eq (ordering_then (ordering_then r Equal) Equal) ≡ is_eq r
-one_equal r = ap is_eq (sym (one_is r))
+one_equal : (r : Ordering) → is_eq (ordering_then r Equal) ≡ is_eq r
+one_equal Less = refl
+one_equal Greater = refl
+one_equal Equal = refl
 
 pub handle_within : (conn number : ℕ) (a : Arrival)
     → is_within number_key (number_front (numbers.Handle conn number)) a ≡ is_handle conn number (held_of a)
@@ -94,17 +89,6 @@ pub conn_within : (conn : ℕ) (a : Arrival)
     → is_within number_key (number_front (numbers.Conn conn)) a ≡ (a.held.conn == conn)
 conn_within conn a = one_equal (nat_cmp a.held.conn conn) ∙ eq_is a.held.conn conn
 
--- orders of the parts of two objects of one kind
-abbrev pub four : Ordering → Ordering → Ordering
-four r s = ordering_then (ordering_then r (ordering_then s Equal)) Equal
-
-four_equal : (r s : Ordering) → is_eq (four r s) ≡ (is_eq r && is_eq s)
-four_equal Less s = refl
-four_equal Greater s = refl
-four_equal Equal Less = refl
-four_equal Equal Equal = refl
-four_equal Equal Greater = refl
-
 sids_equal : (s t : SidValue) → is_eq (sid_cmp s t) ≡ sid_eq s t
 sids_equal s t =
     let law = equal_sids s t in
@@ -117,38 +101,40 @@ sids_equal s t =
       ] refl
     ] refl
 
-pub same_part : (a b : Object)
-    → is_eq (ordering_then (slice_cmp nat_cmp (object_part a) (object_part b)) Equal) ≡ same_object a b
-same_part Server Server = refl
-same_part (Domain a) (Domain b) = one_equal (nat_cmp a b) ∙ eq_is a b
-same_part (Group a) (Group b) = one_equal (nat_cmp a b) ∙ eq_is a b
-same_part (Alias a i) (Alias b j) = four_equal (nat_cmp a b) (nat_cmp i j)
+same_order : (a b : Object) → is_eq (object_order a b) ≡ same_object a b
+same_order Server Server = refl
+same_order (Domain a) (Domain b) = one_equal (nat_cmp a b) ∙ eq_is a b
+same_order (Group a) (Group b) = one_equal (nat_cmp a b) ∙ eq_is a b
+same_order (Alias a i) (Alias b j) = two_equal (nat_cmp a b) (nat_cmp i j)
     ∙ ap (λ t. t && is_eq (nat_cmp i j)) (eq_is a b) ∙ ap (λ t. (a == b) && t) (eq_is i j)
-same_part (User a) (User b) = one_equal (nat_cmp a b) ∙ eq_is a b
-same_part Policy Policy = refl
-same_part (Account a) (Account b) = ap is_eq (sym (part_is (sid_cmp a b))) ∙ sids_equal a b
-same_part _ _ = refl
+same_order (User a) (User b) = one_equal (nat_cmp a b) ∙ eq_is a b
+same_order Policy Policy = refl
+same_order (Account a) (Account b) = sids_equal a b
+same_order _ _ = refl
 
 pub object_within : (object : Object) (a : Arrival)
     → is_within object_key (object_front object) a ≡ same_object a.held.object object
-object_within object a = same_part a.held.object object
+object_within object a =
+    ap is_eq (sym (objects_fronted a.held.object object (number_key a))) ∙ same_order a.held.object object
 
 -- ---- keys
 
 rest_of : Key → Key
 rest_of [] = []
-rest_of (p ∷ ps) = ps
+rest_of (n ∷ ns) = ns
 
 pub object_tells : (x y : Arrival) → object_key x ≡ object_key y → number_key x ≡ number_key y
 unfolding rest_of
-object_tells x y e = ap rest_of e
+object_tells x y e =
+    (ended-parts (sid_part x.held.object) (sid_part y.held.object) (number_key x) (number_key y)
+    (ap (λ k. rest_of (rest_of (rest_of k))) e)).1
 
 pub turn_tells : (x y : Arrival) → turn_key x ≡ turn_key y → number_key x ≡ number_key y
 unfolding rest_of
 turn_tells x y e = ap rest_of e
 
 turn_in : Key → ℕ
-turn_in (c ∷ n ∷ (t ∷ ts) ∷ ps) = t
+turn_in (c ∷ n ∷ t ∷ ts) = t
 turn_in _ = 0
 
 same_turn : (x y : Arrival) → number_key x ≡ number_key y → x.turn ≡ y.turn
@@ -195,7 +181,7 @@ module _ (next : ℕ) (a : Arrival) (is : a.turn ≡ next) (xs : List Arrival) (
   comes_last x e =
       let under : x.turn < next = before_in next xs x all e in
       let less : nat_cmp x.turn a.turn ≡ Less = sym (nat_cmp_is x.turn a.turn Less (omega arith)) in
-      ap (λ r. ordering_then (ordering_then r Equal) (compare (number_key x) (number_key a))) less
+      ap (λ r. ordering_then r (compare (number_key x) (number_key a))) less
 
   pub arrived_put : arrived (put number_key a xs) ≡ arrived xs ++ held_of a ∷ []
   unfolding arrived
@@ -310,7 +296,7 @@ module _ (conn number : ℕ) where
       sym (nat_cmp_is (number_of x.held.conn x.held.serial) (number_of y.held.conn y.held.serial) Equal
       (here.1 ∙ sym there.1)) in
       let turn : nat_cmp x.turn y.turn ≡ Less = turn_decides _ _ (nat_cmp x.turn y.turn) conns numbers lt in
-      ap (λ r. ordering_then (ordering_then r Equal) (compare (number_key x) (number_key y))) turn
+      ap (λ r. ordering_then r (compare (number_key x) (number_key y))) turn
 
   pub found : (xs : List Arrival) → is_ascending number_key xs ≡ true
       → option_map held_of (find wanted xs) ≡ find_handle conn number (arrived xs)

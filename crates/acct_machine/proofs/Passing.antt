@@ -106,7 +106,7 @@ may-number start before (Gone conn) numbered may =
           (Gone conn),
     )
 
--- each entry of `es` is of another connection than one that is opened behind them all
+-- each entry of `es` is of another connection than one that is opened after them all
 others-before : KeepsConnected → (start : Start) (before es : List Entry) (k listener : ℕ) (after : List Entry)
     → Legal start before → LegalAfter start before (es ++ Opened k listener ∷ after)
     → (length (state_at start before).conns < k) × AreOfOthers k es
@@ -164,7 +164,7 @@ pub entries-are-numbered : KeepsConnected → EntriesAreNumbered
 entries-are-numbered connected start history legal =
     entries-within connected start [] history tt legal (first start) refl
 
--- ---- fronts
+-- ---- prefixes
 
 legal-front : (start : Start) (before xs ys : List Entry) → LegalAfter start before (xs ++ ys)
     → LegalAfter start before xs

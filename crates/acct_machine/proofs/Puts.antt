@@ -24,7 +24,7 @@ below-there : (k : List ℕ) (xs : List Pair) (a : Pair) (rest : List Pair) → 
 below-there k [] a rest h = less _ (first_so _ _ h)
 below-there k (x ∷ xs) a rest h = below-there k xs a rest (second_so _ _ h)
 
--- a pair above all of them goes behind them
+-- a pair above all of them goes after them
 put-last : (a : Pair) (xs rest : List Pair) → is_ascending (xs ++ a ∷ rest) ≡ true → put a xs ≡ xs ++ a ∷ []
 put-last a [] rest h = refl
 put-last a (x ∷ xs) rest h =

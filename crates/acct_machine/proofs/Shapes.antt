@@ -77,6 +77,7 @@ handle-are (outputs.Listed l) zero handle are fits = lists-handle l zero handle 
 handle-are (outputs.Shown s) zero handle are fits = absurd are
 handle-are (outputs.Policy p) zero handle are fits = policy-handle p zero handle are
 handle-are (outputs.Translation t) zero handle are fits = translated-handle t zero handle are
+handle-are outputs.Security zero handle are fits = absurd are
 
 plain-created : (p : ScalarOutputs) (zero handle : Handle) (none granted rid : ℕ)
     → ArePlain p (outs.Created zero none rid) → IsHandle handle → IsLong granted
@@ -112,6 +113,7 @@ created-are (outputs.Shown s) zero handle none granted rid are fits long = absur
 created-are (outputs.Policy p) zero handle none granted rid are fits long = policy-created p zero handle none 0 rid are
 created-are (outputs.Translation t) zero handle none granted rid are fits long =
     translated-created t zero handle none 0 rid are
+created-are outputs.Security zero handle none granted rid are fits long = absurd are
 
 filled-are : (o : Outputs) (handle : Handle) (granted : ℕ) (out : Outs) → AreOutputs o out → IsHandle handle
     → IsLong granted

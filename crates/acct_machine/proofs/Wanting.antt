@@ -1,4 +1,4 @@
--- Where memory may want and a commit may fail, behind the conditions of a call.
+-- Where memory may run out and a commit may fail, after the conditions of a call.
 use Rattle.std.proofs.Common.{◌≡◌, ◌≢◌, inl, inr, ℕ, Bool, true, false, Option, Some, None, is_none, refl, sym, ◌∙◌, ap}
 use Rattle.std.proofs.Common.{subst}
 use Rattle.std.specs.Prelude.{◌&&◌}

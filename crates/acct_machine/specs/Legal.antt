@@ -33,7 +33,7 @@ pub record HasCommit (o : Operation) (s : State) (conn : ℕ) (call : Call) : Ty
   pub none : NoneFails o s conn call
   pub differs : (outcome o s conn call).0.rows ≢ s.rows
 
--- where memory may want, by the profile of the operation
+-- where memory may run out, by the profile of the operation
 abbrev pub MayWant : Memory → Operation → State → ℕ → Call → Type 0
 MayWant memory.Never o s conn call = ⊥
 MayWant memory.BehindConditions o s conn call = NoneFails o s conn call
@@ -44,8 +44,8 @@ pub record HasPassed (o : Operation) (s : State) (conn : ℕ) (call : Call) : Ty
   pub found : operation_of call ≡ Some o
   pub passed : access o s conn call ≡ Passed
 
--- Which verdict a call may have: memory may want only where its handle passed, and the store may fail only where there
--- is a change to commit besides.
+-- Which verdict a call may have: memory may run out only where its handle passed, and the store may fail only where
+-- there is a change to commit besides.
 abbrev pub MayHave : State → ℕ → Call → Verdict → Type 0
 MayHave s conn call Ran = ⊤
 MayHave s conn call (StoreFault n) = (o : Operation) × HasPassed o s conn call × HasCommit o s conn call
@@ -98,7 +98,7 @@ Legal start history = LegalAfter start [] history
 abbrev pub LimitsAreKept : Type 0
 LimitsAreKept = (start : Start) (history : List Entry) → Legal start history → IsWithin start.config.limits history
 
--- each front of a legal history is legal
+-- each prefix of a legal history is legal
 abbrev pub FrontsAreLegal : Type 0
 FrontsAreLegal = (start : Start) (before rest : List Entry) → Legal start (before ++ rest) → Legal start before
 

@@ -15,6 +15,7 @@ pub mod Grants
 pub mod Shapes
 pub mod Passing
 pub mod Storing
+pub mod Concluding
 pub mod Shown
 pub mod Machine
 pub mod Decided

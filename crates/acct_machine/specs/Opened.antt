@@ -23,7 +23,7 @@ OpensRows config [] rows = rows ≡ seed_lists config.name config.sid
 OpensRows config (pair ∷ pairs) rows = AreUnbroken (pair ∷ pairs) × ArePairsOf rows (pair ∷ pairs)
 
 -- Why a store isn't opened: the keeper failed and its count of faults rose, or its pairs break a rule, and this is the
--- smallest key that is broken. Want of memory is free.
+-- smallest key that is broken. Running out of memory is free.
 abbrev pub OpenCause : Option (List Pair) → ℕ → ℕ → OpenError → Type 0
 OpenCause told before now StoreFault = Rose before now
 OpenCause told before now (StoredPair key) = IfSome told (λ pairs. (pairs ≢ []) × IsSmallestBroken pairs key)

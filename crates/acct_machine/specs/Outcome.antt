@@ -97,7 +97,7 @@ refused s call status = (s, Done status (refusal_outs call))
 abbrev pub done : State → ℕ → Call → Planned → State × Reply
 done s conn call planned = (changed s conn call planned, replied call planned)
 
--- the same, or that its commit failed or memory wanted for it
+-- the same, or that its commit failed or memory ran out for it
 abbrev pub done_by : State → ℕ → Call → Planned → Verdict → State × Reply
 done_by s conn call planned Ran = done s conn call planned
 done_by s conn call planned (StoreFault n) = refused s call status_internal_db_error
@@ -130,7 +130,7 @@ by_effect s conn call planned (effects.Deletes object) = done s conn call planne
 abbrev pub concluded : State → ℕ → Call → Planned → State × Reply
 concluded s conn call planned = by_effect s conn call planned planned.effect
 
--- the same, or that its commit failed or memory wanted for it
+-- the same, or that its commit failed or memory ran out for it
 abbrev pub concluded_by : State → ℕ → Call → Planned → Verdict → State × Reply
 concluded_by s conn call planned Ran = concluded s conn call planned
 concluded_by s conn call planned (StoreFault n) = refused s call status_internal_db_error

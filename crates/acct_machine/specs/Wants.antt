@@ -1,4 +1,4 @@
--- Where memory may want for what was planned, and where its commit may fail.
+-- Where memory may run out for what was planned, and where its commit may fail.
 use Rattle.std.specs.Prelude.{◌≡◌, ◌≢◌, ℕ, true, false, ⊤}
 use Rattle.acct_calls.specs.declared.calls.Call.{Call}
 use Rattle.acct_rows.specs.Rows.{after}
@@ -12,7 +12,7 @@ use Rattle.acct_machine.specs.Opening.{is_opening_refused}
 use Rattle.acct_machine.specs.Legal.{HasCommit, MayWant}
 
 -- Where the change of a plan may not be made: its commit fails only where the rows after it aren't those before, and
--- memory wants only where there is a change.
+-- memory runs out only where there is a change.
 abbrev pub MayMiss : State → Planned → Verdict → Type 0
 MayMiss s planned Ran = ⊤
 MayMiss s planned (StoreFault n) = after planned.plan s.rows ≢ s.rows

@@ -1,15 +1,14 @@
 // The handles as they came, and the orders by which they are found.
 ghost use Rattle.std.specs.Prelude.{◌≡◌, ◌==◌, not};
-ghost use Rattle.std.specs.Ordering.{nat_cmp};
-ghost use Rattle.std.specs.Cmp.Lexicographic.{slice_cmp};
 ghost use Rattle.acct_rows.specs.Objects.{same_object};
+ghost use Rattle.acct_tables.specs.Keyed.{compare};
 ghost use Rattle.acct_machine.specs.State.{number_of};
-ghost use Rattle.acct_machine.specs.Arrivals.{number_key, number_front, rank_of, sid_part, object_part, object_key};
+ghost use Rattle.acct_machine.specs.Arrivals.{number_key, number_front, rank_of, sid_part, object_order, object_key};
 ghost use Rattle.acct_machine.specs.Arrivals.{object_front};
 
 use crate::lists::number_of;
 use crate::{Held, Object};
-use acct_tables::{Order, Test};
+use acct_tables::{Fronts, Order, Test};
 use std::cmp::Ordering;
 
 /// A handle, with its turn among all that came.
@@ -41,11 +40,7 @@ fn number(arrival: &Arrival) -> u128
 }
 
 impl Order<Arrival> for ByNumber {
-    type Front = Numbered;
-
     ghost key_of = { number_key };
-
-    ghost front_of = { number_front };
 
     fn order(left: &Arrival, right: &Arrival) -> Ordering {
         let conns = left.held.conn.cmp(&right.held.conn);
@@ -53,6 +48,12 @@ impl Order<Arrival> for ByNumber {
         let turns = left.turn.cmp(&right.turn);
         conns.then(numbers.then(turns))
     }
+}
+
+impl Fronts<Arrival> for ByNumber {
+    type Front = Numbered;
+
+    ghost front_of = { number_front };
 
     fn order_front(value: &Arrival, front: &Numbered) -> Ordering {
         match front {
@@ -79,7 +80,7 @@ fn rank(object: &Object) -> u8
 }
 
 fn order_sids(left: &Object, right: &Object) -> Ordering
-    ensures { result ≡ slice_cmp nat_cmp (sid_part left.now) (sid_part right.now) }
+    ensures { result ≡ compare (sid_part left.now) (sid_part right.now) }
 {
     match left {
         Object::Account(sid) => match right {
@@ -94,7 +95,7 @@ fn order_sids(left: &Object, right: &Object) -> Ordering
 }
 
 fn order_objects(left: &Object, right: &Object) -> Ordering
-    ensures { result ≡ slice_cmp nat_cmp (object_part left.now) (object_part right.now) }
+    ensures { result ≡ object_order left.now right.now }
 {
     let kinds = rank(left).cmp(&rank(right));
     let domains = left.domain().cmp(&right.domain());
@@ -104,15 +105,17 @@ fn order_objects(left: &Object, right: &Object) -> Ordering
 }
 
 impl Order<Arrival> for ByObject {
-    type Front = Object;
-
     ghost key_of = { object_key };
-
-    ghost front_of = { object_front };
 
     fn order(left: &Arrival, right: &Arrival) -> Ordering {
         order_objects(&left.held.object, &right.held.object).then(ByNumber::order(left, right))
     }
+}
+
+impl Fronts<Arrival> for ByObject {
+    type Front = Object;
+
+    ghost front_of = { object_front };
 
     fn order_front(value: &Arrival, front: &Object) -> Ordering {
         order_objects(&value.held.object, front)

@@ -96,7 +96,7 @@ impl Handles {
         }
     }
 
-    /// Makes room for more handles. Memory may want only where there is less room than that; there is none past 2^64
+    /// Makes room for more handles. Memory may run out only where there is less room than that; there is none past 2^64
     /// that came.
     pub fn reserve(&mut self, more: usize) -> Result<(), NoMemory>
         ensures handles { self.new.0 ≡ self.old.0 }

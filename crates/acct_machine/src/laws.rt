@@ -87,7 +87,7 @@ pub fn limits_are_kept()
     ensures { LimitsAreKept }
 {}
 
-/// Each front of a legal history is legal.
+/// Each prefix of a legal history is legal.
 pub fn fronts_are_legal()
     ensures { FrontsAreLegal }
 {}

@@ -9,7 +9,7 @@ ghost use Rattle.acct_machine.specs.Sound.{IsSound};
 ghost use Rattle.acct_machine.specs.Machine.{state_of, Opens, OpensFresh, OpensLive, Acts, ActsCalls, SameLive};
 ghost use Rattle.acct_machine.specs.Machine.{SameCalls, Ends, OneLessLive, Shaped, Stored, Commits};
 ghost use Rattle.acct_machine.specs.Room.{most_entries};
-ghost use Rattle.acct_machine.specs.Storing.{HoldsRows, AreUpTo};
+ghost use Rattle.acct_machine.specs.Storing.{HoldsRows, AreCounted};
 ghost use Rattle.std.specs.Vec.{vec_capacity};
 
 use crate::laws::{
@@ -156,16 +156,13 @@ fn begun(alloc: Global, config: &Config, rows: Rows) -> Result<(Rows, Vec<Entry>
     }
 }
 
-// One more entry behind a history that has room for it. It takes no memory.
+// One more entry after a history that has room for it. It takes no memory.
 fn enter(history: &mut Vec<Entry>, entry: Entry)
     requires { length history.old.items < vec_capacity history.old }
     ensures entered { history.new.items ≡ history.old.items ++ entry ∷ [] }
     ensures room { vec_capacity history.old ≤ vec_capacity history.new }
 {
-    match history.push(entry) {
-        Ok(()) => {}
-        Err(_) => unreachable!(),
-    }
+    history.push_reserved(entry);
 }
 
 impl<K: Keeper + Drop> Machine<K> {
@@ -226,10 +223,10 @@ impl<K: Keeper + Drop> Machine<K> {
         self.store.rows()
     }
 
-    /// What happened, in order. None of the counts at the commits that failed lies above the keeper's count.
+    /// What happened, in order. The keeper's count has risen by one at each commit that failed there.
     pub fn history(&self) -> &[Entry]
         ensures all { result.now ≡ self.now.past.history }
-        ensures counts { AreUpTo self.now.keeper.faults self.now.past.start result.now }
+        ensures counts { AreCounted self.now.keeper.faults self.now.past.start result.now }
         ensures legal { Legal self.now.past.start result.now }
     {
         &self.history
@@ -244,7 +241,7 @@ impl<K: Keeper + Drop> Machine<K> {
         ensures held { K.held result.3 ≡ self.keeper.held }
         ensures faults { K.faults result.3 ≡ self.keeper.faults }
         ensures stored { HoldsRows (K.held result.3) result.2.lists }
-        ensures counts { AreUpTo (K.faults result.3) self.past.start result.1.items }
+        ensures counts { AreCounted (K.faults result.3) self.past.start result.1.items }
         ensures legal { Legal self.past.start result.1.items }
         ensures sound { IsSound self.past.start.config (state_of self.past) }
     {
@@ -283,7 +280,7 @@ impl<K: Keeper + Drop> Machine<K> {
     }
 
     /// Makes a call of a live connection, whose stub had so many bytes. A full history is left as it was. A call that
-    /// is entered may be answered that memory wanted, where its operation may want it. A change of rows is committed to
+    /// is entered may be answered that memory ran out, where its operation lets it. A change of rows is committed to
     /// the keeper first; where that fails the call is answered STATUS_INTERNAL_DB_ERROR and changes nothing.
     pub fn act(&mut self, conn: u32, call: Call, bytes: u32) -> Acted
         requires live { is_live conn (state_of self.old.past).conns ≡ true }

@@ -26,7 +26,7 @@ pub enum OpenError {
     /// The pairs break a rule: the smallest key that is broken.
     #[error("a stored pair breaks a rule")]
     StoredPair(Seq<u8>),
-    /// Memory was wanted.
+    /// Memory ran out.
     #[error("there is no memory to open the store")]
     Memory,
 }

@@ -27,7 +27,8 @@ ghost use Rattle.acct_machine.specs.Outcome.{next_handle, done_by, concluded, co
 ghost use Rattle.acct_machine.specs.Outcome.{with_plan};
 ghost use Rattle.acct_machine.specs.Sound.{IsSound};
 ghost use Rattle.acct_machine.specs.Step.{acted, step, live_ended};
-ghost use Rattle.acct_machine.specs.Storing.{HoldsRows, Counts};
+ghost use Rattle.acct_machine.specs.Storing.{HoldsRows};
+ghost use Rattle.acct_machine.specs.Concluding.{Concludes};
 ghost use Rattle.acct_machine.specs.Legal.{HasPassed, MayHave};
 ghost use Rattle.acct_machine.specs.Wants.{MayMiss, Wants, WantsRoom};
 
@@ -108,7 +109,7 @@ fn replied(alloc: Global, call: &Call, status: u32, outs: Outs) -> Reply
     Reply::Done { status, outs }
 }
 
-// What comes of a call whose change the keeper failed to commit, or for which memory was wanted.
+// What comes of a call whose change the keeper failed to commit, or for which memory ran out.
 fn uncommitted<K: Keeper>(
     alloc: Global,
     keeper: &K,
@@ -201,9 +202,7 @@ fn drop_left(handles: &mut Handles, effect: Effect, conn: u32, number: u128)
     match effect {
         Effect::Closes => handles.drop_handle(conn, number),
         Effect::Deletes(object) => handles.drop_object(object),
-        Effect::Nothing => {}
-        Effect::Opens(_) => {}
-        Effect::Checks(_) => {}
+        Effect::Nothing | Effect::Opens(_) | Effect::Checks(_) => {}
     }
 }
 
@@ -280,10 +279,7 @@ impl Store {
             serial: 0,
             live: true,
         };
-        match self.conns.push(new) {
-            Ok(()) => {}
-            Err(_) => unreachable!(),
-        }
+        self.conns.push_reserved(new);
     }
 
     /// The end of a connection, with its handles. It takes no memory.
@@ -390,14 +386,8 @@ impl Store {
             ≡ Some granted }
         requires before { IsSoundRows self.old.rows }
         requires behind { IsSoundRows (after planned.plan self.old.rows) }
-        ensures state { self.new ≡ (concluded_by self.old conn call.now planned result.0).0 }
-        ensures reply { result.1 ≡ (concluded_by self.old conn call.now planned result.0).1 }
-        ensures wants { WantsRoom self.old conn planned result.0 }
-        ensures stored { HoldsRows (K.held keeper.old) self.old.rows → HoldsRows (K.held keeper.new) self.new.rows }
-        ensures counts { Counts (K.faults keeper.old) (K.faults keeper.new) result.0 }
-        ensures later { K.faults keeper.old ≤ K.faults keeper.new }
-        ensures quiet { (concluded self.old conn call.now planned).0.rows ≡ self.old.rows
-            → keeper.new ≡ keeper.old }
+        ensures { Concludes K.held K.faults keeper.old keeper.new (concluded_by self.old conn call.now planned)
+            (WantsRoom self.old conn planned) self.old self.new result }
     {
         let Planned {
             status,
@@ -434,14 +424,8 @@ impl Store {
         requires fits { last_serial conn self.old.conns < 2 ^ 64 - 1 }
         requires before { IsSoundRows self.old.rows }
         requires behind { IsSoundRows (after planned.plan self.old.rows) }
-        ensures state { self.new ≡ (concluded_by self.old conn call.now planned result.0).0 }
-        ensures reply { result.1 ≡ (concluded_by self.old conn call.now planned result.0).1 }
-        ensures wants { WantsRoom self.old conn planned result.0 }
-        ensures stored { HoldsRows (K.held keeper.old) self.old.rows → HoldsRows (K.held keeper.new) self.new.rows }
-        ensures counts { Counts (K.faults keeper.old) (K.faults keeper.new) result.0 }
-        ensures later { K.faults keeper.old ≤ K.faults keeper.new }
-        ensures quiet { (concluded self.old conn call.now planned).0.rows ≡ self.old.rows
-            → keeper.new ≡ keeper.old }
+        ensures { Concludes K.held K.faults keeper.old keeper.new (concluded_by self.old conn call.now planned)
+            (WantsRoom self.old conn planned) self.old self.new result }
     {
         let found = find_conn(&self.conns, conn);
         match self.granted(found, &opening) {
@@ -456,7 +440,7 @@ impl Store {
         }
     }
 
-    // What comes of a plan without an opening, or behind it.
+    // What comes of a plan without an opening, or after it.
     fn done<K: Keeper>(
         &mut self,
         alloc: Global,
@@ -467,14 +451,8 @@ impl Store {
     ) -> (Verdict, Reply)
         requires before { IsSoundRows self.old.rows }
         requires behind { IsSoundRows (after planned.plan self.old.rows) }
-        ensures state { self.new ≡ (done_by self.old conn call.now planned result.0).0 }
-        ensures reply { result.1 ≡ (done_by self.old conn call.now planned result.0).1 }
-        ensures wants { MayMiss self.old planned result.0 }
-        ensures stored { HoldsRows (K.held keeper.old) self.old.rows → HoldsRows (K.held keeper.new) self.new.rows }
-        ensures counts { Counts (K.faults keeper.old) (K.faults keeper.new) result.0 }
-        ensures later { K.faults keeper.old ≤ K.faults keeper.new }
-        ensures quiet { after planned.plan self.old.rows ≡ self.old.rows
-            → keeper.new ≡ keeper.old }
+        ensures { Concludes K.held K.faults keeper.old keeper.new (done_by self.old conn call.now planned)
+            (MayMiss self.old planned) self.old self.new result }
     {
         let Planned {
             status,
@@ -504,14 +482,8 @@ impl Store {
         requires checks { planned.effect ≡ effects.Checks opening }
         requires before { IsSoundRows self.old.rows }
         requires behind { IsSoundRows (after planned.plan self.old.rows) }
-        ensures state { self.new ≡ (concluded_by self.old conn call.now planned result.0).0 }
-        ensures reply { result.1 ≡ (concluded_by self.old conn call.now planned result.0).1 }
-        ensures wants { WantsRoom self.old conn planned result.0 }
-        ensures stored { HoldsRows (K.held keeper.old) self.old.rows → HoldsRows (K.held keeper.new) self.new.rows }
-        ensures counts { Counts (K.faults keeper.old) (K.faults keeper.new) result.0 }
-        ensures later { K.faults keeper.old ≤ K.faults keeper.new }
-        ensures quiet { (concluded self.old conn call.now planned).0.rows ≡ self.old.rows
-            → keeper.new ≡ keeper.old }
+        ensures { Concludes K.held K.faults keeper.old keeper.new (concluded_by self.old conn call.now planned)
+            (WantsRoom self.old conn planned) self.old self.new result }
     {
         let found = find_conn(&self.conns, conn);
         if self.granted(found, &opening).is_none() {
@@ -533,14 +505,8 @@ impl Store {
         requires fits { last_serial conn self.old.conns < 2 ^ 64 - 1 }
         requires before { IsSoundRows self.old.rows }
         requires behind { IsSoundRows (after planned.plan self.old.rows) }
-        ensures state { self.new ≡ (concluded_by self.old conn call.now planned result.0).0 }
-        ensures reply { result.1 ≡ (concluded_by self.old conn call.now planned result.0).1 }
-        ensures wants { WantsRoom self.old conn planned result.0 }
-        ensures stored { HoldsRows (K.held keeper.old) self.old.rows → HoldsRows (K.held keeper.new) self.new.rows }
-        ensures counts { Counts (K.faults keeper.old) (K.faults keeper.new) result.0 }
-        ensures later { K.faults keeper.old ≤ K.faults keeper.new }
-        ensures quiet { (concluded self.old conn call.now planned).0.rows ≡ self.old.rows
-            → keeper.new ≡ keeper.old }
+        ensures { Concludes K.held K.faults keeper.old keeper.new (concluded_by self.old conn call.now planned)
+            (WantsRoom self.old conn planned) self.old self.new result }
     {
         match &planned.effect {
             Effect::Opens(opening) => {
@@ -555,7 +521,7 @@ impl Store {
         }
     }
 
-    // What comes behind the check of the handle.
+    // What comes after the check of the handle.
     fn pass<K: Keeper>(
         &mut self,
         alloc: Global,
@@ -570,16 +536,9 @@ impl Store {
         requires passed { HasPassed (operation work) self.old conn call.now }
         requires spelled { CanBeSpelled call.now }
         requires sound { IsSound self.old.config self.old }
-        ensures state { let planned = planned_of (operation work) self.old conn call.now in
-            self.new ≡ (concluded_by self.old conn call.now planned result.0).0 }
-        ensures reply { let planned = planned_of (operation work) self.old conn call.now in
-            result.1 ≡ (concluded_by self.old conn call.now planned result.0).1 }
-        ensures wants { Wants (operation work) self.old conn call.now result.0 }
-        ensures stored { HoldsRows (K.held keeper.old) self.old.rows → HoldsRows (K.held keeper.new) self.new.rows }
-        ensures counts { Counts (K.faults keeper.old) (K.faults keeper.new) result.0 }
-        ensures later { K.faults keeper.old ≤ K.faults keeper.new }
-        ensures quiet { (outcome (operation work) self.old conn call.now).0.rows ≡ self.old.rows
-            → keeper.new ≡ keeper.old }
+        ensures { let planned = planned_of (operation work) self.old conn call.now in
+            Concludes K.held K.faults keeper.old keeper.new (concluded_by self.old conn call.now planned)
+            (Wants (operation work) self.old conn call.now) self.old self.new result }
     {
         operations_are_right();
         operations_keep_rows();
@@ -600,14 +559,8 @@ impl Store {
         requires fits { last_serial conn self.old.conns < 2 ^ 64 - 1 }
         requires spelled { CanBeSpelled call.now }
         requires sound { IsSound self.old.config self.old }
-        ensures state { self.new ≡ (acted self.old conn call.now result.0).0 }
-        ensures reply { result.1 ≡ (acted self.old conn call.now result.0).1 }
-        ensures verdict { MayHave self.old conn call.now result.0 }
-        ensures stored { HoldsRows (K.held keeper.old) self.old.rows → HoldsRows (K.held keeper.new) self.new.rows }
-        ensures counts { Counts (K.faults keeper.old) (K.faults keeper.new) result.0 }
-        ensures later { K.faults keeper.old ≤ K.faults keeper.new }
-        ensures quiet { (acted self.old conn call.now verdicts.Ran).0.rows ≡ self.old.rows
-            → keeper.new ≡ keeper.old }
+        ensures { Concludes K.held K.faults keeper.old keeper.new (acted self.old conn call.now)
+            (MayHave self.old conn call.now) self.old self.new result }
     {
         let Some(work) = work_of(call.face, call.opnum) else {
             return (Verdict::Ran, Reply::Fault(NCA_S_OP_RNG_ERROR));

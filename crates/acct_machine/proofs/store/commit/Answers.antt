@@ -1,4 +1,4 @@
--- A keeper that holds the rows holds those behind the plan too: they are the same, or the commit follows the plan.
+-- A keeper that holds the rows holds those after the plan too: they are the same, or the commit follows the plan.
 use Rattle.std.proofs.Common.{sym, subst, ◌∙◌}
 use Rattle.acct_rows.specs.Rows.{Lists, after}
 use Rattle.acct_machine.specs.Storing.{HoldsRows}

@@ -83,7 +83,7 @@ invariant_of-self g c =
     c.args.conn
     c.args.bytes c.args.call
     verdict past c.self.invariant.0 c.requires.live c.requires.spelled c.ranges.bytes.fits
-    c.run-verdict.ensures.verdict taken
+    c.run-verdict.ensures.allowed taken
     (rises-called _ _ start c.self.inside.history.items verdict c.self.invariant.1.counts
     c.run-verdict.ensures.counts) in
     let grows : vec_capacity c.self.inside.history ≤ vec_capacity c.enter.new.history = c.enter.ensures.room in (
@@ -122,7 +122,7 @@ returns-clause-shaped g c =
     may-be-entered c.args.self.now.past s c.self.inside.opening.lists c.self.inside.since entries _ _ _ c.args.conn
     c.args.bytes c.args.call
     verdict past c.self.invariant.0 c.requires.live c.requires.spelled c.ranges.bytes.fits
-    c.run-verdict.ensures.verdict taken
+    c.run-verdict.ensures.allowed taken
     (rises-called _ _ start entries verdict c.self.invariant.1.counts c.run-verdict.ensures.counts) in
     let here : HasRoom s.rows 0 =
     subst (λ (lists : Lists). HasRoom lists 0) c.rows.ensures

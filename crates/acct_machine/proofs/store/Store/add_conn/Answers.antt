@@ -10,10 +10,11 @@ use Rattle.acct_machine.proofs.store.Store.add_conn.Goals as goal
 
 pub invariant_of-self : goal.invariant_of-self
 invariant_of-self c =
-    let more : c.push.new.self.items ≡ c.self.inside.conns.items ++ new_conn c.args.conn c.args.listener ∷ [] =
+    let more : c.push_reserved.new.self.items ≡ c.self.inside.conns.items ++ new_conn c.args.conn c.args.listener ∷ [] =
     grind (arith, common_steps) in
     let next : c.args.conn ≡ 1 + length c.self.inside.conns.items = grind (arith, common_steps) in
-    let grows : vec_capacity c.self.inside.conns ≤ vec_capacity c.push.new.self = grind (arith, common_steps) in
+    let grows : vec_capacity c.self.inside.conns ≤ vec_capacity c.push_reserved.new.self =
+    grind (arith, common_steps) in
     record {
       right = c.self.invariant.right;
       numbered = subst (λ (cs : List Conn). IsNumberedFrom 1 cs) (sym more)
