@@ -56,7 +56,7 @@ Sends-written a b n bytes w = record {
   read_faults = w.read_faults;
 }
 
--- what is read from a place on, and what is left behind it
+-- what is read from a place on, and what is left after it
 pub read-splits : (place n : ℕ) (bytes rest : List ℕ) → rest ≡ drop place bytes
     → drop place bytes ≡ take n rest ++ drop (place + n) bytes
 read-splits place n bytes rest is =

@@ -4,7 +4,7 @@ use Rattle.acct_keeper.specs.Causes.{Rose}
 use Rattle.acct_links.specs.declared.callers.TakeError.{TakeError}
 use Rattle.acct_links.specs.declared.callers.TakeError.TheVariants.{Failed, NoMemory}
 
--- a fault comes only where the count of faults rose; want of memory is free
+-- a fault comes only where the count of faults rose; running out of memory is free
 abbrev pub TakeCause : ℕ → ℕ → TakeError → Type 0
 TakeCause before now Failed = Rose before now
 TakeCause before now NoMemory = Unit {0}

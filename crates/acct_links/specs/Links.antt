@@ -45,7 +45,7 @@ pub record Sends (old new : Told) (bytes : List ℕ) : Type 0 where
   pub ended : new.ended ≡ old.ended
   pub read_faults : new.read_faults ≡ old.read_faults
 
--- a front of these bytes was written, and then a write failed
+-- a prefix of these bytes was written, and then a write failed
 pub record SendsFront (old new : Told) (bytes : List ℕ) : Type 0 where
   pub count : ℕ
   pub sends : Sends old new (take count bytes)

@@ -14,7 +14,7 @@ pub struct Asking {
     pub links: u64,
 }
 
-// Adds an asking at the end. After want of memory the list is as it was.
+// Adds an asking at the end. Where memory ran out the list is as it was.
 pub(crate) fn add_asking(
     alloc: Global,
     asked: &mut Vec<Asking>,

@@ -15,7 +15,7 @@ pub enum TakeError {
     /// It failed, and the count of faults rose.
     #[error("what is outside wasn't reached")]
     Failed,
-    /// Memory was wanted.
+    /// Memory ran out.
     #[error("there is no memory for what is outside")]
     NoMemory,
 }

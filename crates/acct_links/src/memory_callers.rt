@@ -16,7 +16,7 @@ use std::alloc::{AllocError, Global};
 use std::collections::VecDeque;
 use std::marker::Model;
 
-// Adds an address at the end. After want of memory the list is as it was.
+// Adds an address at the end. Where memory ran out the list is as it was.
 fn add_address(alloc: Global, called: &mut Vec<Seq<u8>>, address: &str) -> Result<(), AllocError>
     ensures ok { OnOk result (called.new.items ≡ called.old.items ++ address.now ∷ []) }
     ensures err { OnErr result (called.new.items ≡ called.old.items) }

@@ -122,10 +122,7 @@ impl<L: Link + Drop> Door for SteadyDoor<L> {
         ensures listener { self.new.listener ≡ self.old.listener }
         ensures room { self.new.room ≡ self.old.room }
     {
-        match self.finished.push((conn, link)) {
-            Ok(()) => {}
-            Err(_) => unreachable!(),
-        }
+        self.finished.push_reserved((conn, link));
     }
 
     fn listener(&self) -> u32

@@ -69,7 +69,7 @@ fn make_doors<L: Link + Drop>(
     Ok(doors)
 }
 
-// Notes an asking that is answered with doors, and gives them back. After want of memory nothing is noted.
+// Notes an asking that is answered with doors, and gives them back. Where memory ran out nothing is noted.
 fn answer_with<D: Drop>(
     alloc: Global,
     asked: &mut Vec<Asking>,

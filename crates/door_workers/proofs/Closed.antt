@@ -19,7 +19,7 @@ use Rattle.link_sessions.specs.declared.ends.Ended.{Ended}
 use Rattle.door_workers.specs.Joining.{ServesAll}
 use Rattle.door_workers.specs.Working.{IsJoined}
 use Rattle.door_workers.proofs.Places.{at-within, at-behind}
-use Rattle.door_workers.specs.declared.outcome.Outcome.{Outcome}
+use Rattle.door_workers.specs.declared.ends.DoorEnd.{DoorEnd}
 use Rattle.door_workers.specs.Doors.{IsServed, all_services}
 use Rattle.door_workers.specs.Hiring.{ClosesTo, WorksDoors}
 
@@ -52,7 +52,7 @@ known-whole v h front own known =
     front.1 ∙ ap (λ (l : List Entry). v.known ++ l) (no-more v.known front.0 all) ∙ append-nil v.known
 
 pub all-served : {D L K : Type 0} (door : Ghosts D L) (told : L → Told) (lock : HistLock (Locked K) Entry Begun)
-    (start : Start) (most : ℕ) (v : View Begun Entry) (past : Past) (before now : List D) (answer : Outcome)
+    (start : Start) (most : ℕ) (v : View Begun Entry) (past : Past) (before now : List D) (answer : DoorEnd)
     (ends : List Ended) → start_under lock ≡ start → ServesAll told → ClosesTo lock v past
     → WorksDoors door told (start_under lock) most v before now answer ends
     → IsServed door told start most before now past.history answer ends

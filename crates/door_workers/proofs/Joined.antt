@@ -25,8 +25,6 @@ use Rattle.door_workers.specs.Serving.{IsServing}
 use Rattle.door_workers.specs.Working.{IsJoined, AreServed}
 use Rattle.door_workers.proofs.Runs.{runs-none}
 use Rattle.door_workers.proofs.Places.{has-none, distinct-none}
-use Rattle.door_workers.specs.declared.outcome.Outcome.{Outcome}
-use Rattle.door_workers.specs.declared.outcome.Outcome.TheVariants as outcome
 use Rattle.door_workers.specs.Outcomes.{Adds, behind}
 use Rattle.door_workers.specs.Doors.{DoorRun, ServesDoor, ServesDoors, ComesTo, IsServed, all_services, ends_from}
 use Rattle.door_workers.specs.Hiring.{JoinsOne, AreJoined, WorksDoors}
@@ -46,7 +44,7 @@ module _ {D L : Type 0} (door : Ghosts D L) (told : L → Told) where
 
   module _ (start : Start) (most : ℕ) where
     pub none-joined : (v : View Begun Entry) (before : List D) → IsJoined told start most v []
-        → AreJoined door told start most v before [] outcome.Done []
+        → AreJoined door told start most v before [] stop.Closed []
     none-joined v before joined = record {
       runs = [];
       count = refl;
@@ -56,7 +54,7 @@ module _ {D L : Type 0} (door : Ghosts D L) (told : L → Told) where
     }
 
     pub one-joined : (v u : View Begun Entry) (before now : List D) (place : ℕ) (b n : D) (end : DoorEnd)
-        (es : List Ended) (answer new : Outcome) (ends all : List Ended)
+        (es : List Ended) (answer new : DoorEnd) (ends all : List Ended)
         → AreJoined door told start most v before now answer ends
         → JoinsOne door told start most place v u b n end es
         → place ≡ length now → ((d : D) → get_or before (length now) d ≡ b) → Adds end es answer ends new all
@@ -82,7 +80,7 @@ module _ {D L : Type 0} (door : Ghosts D L) (told : L → Told) where
               (one.links (all_services joined.runs) joined.links);
           comes = λ not.
               let adds = adds not in
-              let sum : behind answer end ≢ outcome.NoMemory = λ same. not (adds.0 ∙ same) in
+              let sum : behind answer end ≢ stop.NoMemory = λ same. not (adds.0 ∙ same) in
               let was = joined.comes (none-before answer end sum) in
               let noted = one.noted (none-behind answer end sum) in
               let same : place ≡ 0 + length joined.runs = omega (arith, at, count) in (
@@ -94,17 +92,17 @@ module _ {D L : Type 0} (door : Ghosts D L) (told : L → Told) where
         }
 
     -- all were joined, and the ends stand by number
-    pub all-joined : (v : View Begun Entry) (before now : List D) (answer sorted : Outcome) (ends by : List Ended)
+    pub all-joined : (v : View Begun Entry) (before now : List D) (answer sorted : DoorEnd) (ends by : List Ended)
         → AreJoined door told start most v before now answer ends → length now ≡ length before → sorted ≡ answer
-        → (answer ≡ outcome.NoMemory → by ≡ [])
-        → (answer ≢ outcome.NoMemory
+        → (answer ≡ stop.NoMemory → by ≡ [])
+        → (answer ≢ stop.NoMemory
         → IsPermutation ends by × IsNonDecreasingBy (λ (end : Ended). end.conn) by)
         → WorksDoors door told start most v before now sorted by
     all-joined v before now answer sorted ends by joined count same none all = record {
       runs = joined.runs;
       doors = record { doors = count; count = joined.count; each = joined.each };
       links = joined.links;
-      comes = subst (λ (o : Outcome). ComesTo joined.runs o by) (sym same)
+      comes = subst (λ (o : DoorEnd). ComesTo joined.runs o by) (sym same)
           (comes-sorted joined.runs answer ends by joined.comes none all);
     }
 
@@ -135,7 +133,7 @@ module _ {D L : Type 0} (door : Ghosts D L) (told : L → Told) where
     }
 
     pub none-worked : (v : View Begun Entry) (doors : List D) (ends : List Ended) → IsJoined told start most v []
-        → ends ≡ [] → WorksDoors door told start most v doors doors outcome.NoMemory ends
+        → ends ≡ [] → WorksDoors door told start most v doors doors stop.NoMemory ends
     none-worked v doors ends joined none = record {
       runs = map (λ _. idle) doors;
       doors = idle-doors doors;
@@ -146,8 +144,8 @@ module _ {D L : Type 0} (door : Ghosts D L) (told : L → Told) where
     none-found : (p : ℕ) (e : Entry) → At [] p e → ⊥
     none-found p e at = some-ne-none e (sym at)
 
-    pub none-served : (doors : List D) (history : List Entry) (answer : Outcome) (ends : List Ended) → history ≡ []
-        → answer ≡ outcome.NoMemory → ends ≡ [] → IsServed door told start most doors doors history answer ends
+    pub none-served : (doors : List D) (history : List Entry) (answer : DoorEnd) (ends : List Ended) → history ≡ []
+        → answer ≡ stop.NoMemory → ends ≡ [] → IsServed door told start most doors doors history answer ends
     none-served doors history answer ends nothing wants none = record {
       runs = map (λ _. idle) doors;
       doors = idle-doors doors;
@@ -160,7 +158,7 @@ module _ {D L : Type 0} (door : Ghosts D L) (told : L → Told) where
             all = λ p k listener at. absurd (none-found p (entry.Opened k listener) at);
             once = distinct-none;
           }));
-      comes = subst (λ (o : Outcome). ComesTo (map (λ _. idle) doors) o ends) (sym wants) none;
+      comes = subst (λ (o : DoorEnd). ComesTo (map (λ _. idle) doors) o ends) (sym wants) none;
     }
 
     -- a worker's pass was joined

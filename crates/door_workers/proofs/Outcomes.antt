@@ -9,44 +9,42 @@ use Rattle.door_workers.specs.declared.ends.DoorEnd.{DoorEnd}
 use Rattle.door_workers.specs.declared.ends.DoorEnd.TheVariants as stop
 use Rattle.link_sessions.specs.declared.ends.Ended.{Ended}
 use Rattle.door_workers.specs.Services.{Service, end_of}
-use Rattle.door_workers.specs.declared.outcome.Outcome.{Outcome}
-use Rattle.door_workers.specs.declared.outcome.Outcome.TheVariants as outcome
 use Rattle.door_workers.specs.Outcomes.{behind, behind_all, outcome_of}
 use Rattle.door_workers.specs.Doors.{DoorRun, all_services, stops, ends_from, AreEnds, ComesTo}
 
-behind_all-more : (so_far : Outcome) (ends : List DoorEnd) (end : DoorEnd)
+behind_all-more : (so_far : DoorEnd) (ends : List DoorEnd) (end : DoorEnd)
     → behind_all so_far (ends ++ end ∷ []) ≡ behind (behind_all so_far ends) end
 behind_all-more so_far [] end = refl
 behind_all-more so_far (e ∷ ends) end = behind_all-more (behind so_far e) ends end
 
 -- where the sum isn't out of memory, neither was the one before it nor the end after it
-pub none-before : (so_far : Outcome) (end : DoorEnd) → behind so_far end ≢ outcome.NoMemory
-    → so_far ≢ outcome.NoMemory
+pub none-before : (so_far : DoorEnd) (end : DoorEnd) → behind so_far end ≢ stop.NoMemory
+    → so_far ≢ stop.NoMemory
 none-before so_far end not same =
-    not (subst (λ (o : Outcome). behind o end ≡ outcome.NoMemory) (sym same) refl)
+    not (subst (λ (o : DoorEnd). behind o end ≡ stop.NoMemory) (sym same) refl)
 
-wanted-behind : (so_far : Outcome) → behind so_far stop.NoMemory ≡ outcome.NoMemory
-wanted-behind outcome.Done = refl
-wanted-behind outcome.Failed = refl
-wanted-behind (outcome.Full n) = refl
-wanted-behind outcome.NoMemory = refl
+wanted-behind : (so_far : DoorEnd) → behind so_far stop.NoMemory ≡ stop.NoMemory
+wanted-behind stop.Closed = refl
+wanted-behind stop.Failed = refl
+wanted-behind (stop.Full n) = refl
+wanted-behind stop.NoMemory = refl
 
-pub none-behind : (so_far : Outcome) (end : DoorEnd) → behind so_far end ≢ outcome.NoMemory → end ≢ stop.NoMemory
+pub none-behind : (so_far : DoorEnd) (end : DoorEnd) → behind so_far end ≢ stop.NoMemory → end ≢ stop.NoMemory
 none-behind so_far end not same =
-    not (subst (λ (e : DoorEnd). behind so_far e ≡ outcome.NoMemory) (sym same) (wanted-behind so_far))
+    not (subst (λ (e : DoorEnd). behind so_far e ≡ stop.NoMemory) (sym same) (wanted-behind so_far))
 
-done-no-want : outcome.Done ≢ outcome.NoMemory
-done-no-want same = let other : outcome.Done ≡ outcome.NoMemory = same in cc
+done-no-want : stop.Closed ≢ stop.NoMemory
+done-no-want same = let other : stop.Closed ≡ stop.NoMemory = same in cc
 
-failed-no-want : outcome.Failed ≢ outcome.NoMemory
-failed-no-want same = let other : outcome.Failed ≡ outcome.NoMemory = same in cc
+failed-no-want : stop.Failed ≢ stop.NoMemory
+failed-no-want same = let other : stop.Failed ≡ stop.NoMemory = same in cc
 
-full-no-want : (n : ℕ) → outcome.Full n ≢ outcome.NoMemory
-full-no-want n same = let other : outcome.Full n ≡ outcome.NoMemory = same in cc
+full-no-want : (n : ℕ) → stop.Full n ≢ stop.NoMemory
+full-no-want n same = let other : stop.Full n ≡ stop.NoMemory = same in cc
 
 -- where serving is done, or a door failed, or the history was full, memory didn't run out
-pub is-no-want : (o : Outcome)
-    → (o ≡ outcome.Done) ⊎ ((o ≡ outcome.Failed) ⊎ ((n : ℕ) × (o ≡ outcome.Full n))) → o ≢ outcome.NoMemory
+pub is-no-want : (o : DoorEnd)
+    → (o ≡ stop.Closed) ⊎ ((o ≡ stop.Failed) ⊎ ((n : ℕ) × (o ≡ stop.Full n))) → o ≢ stop.NoMemory
 is-no-want o (inl is) same = done-no-want (sym is ∙ same)
 is-no-want o (inr (inl is)) same = failed-no-want (sym is ∙ same)
 is-no-want o (inr (inr (n, is))) same = full-no-want n (sym is ∙ same)
@@ -56,7 +54,7 @@ module _ {L : Type 0} where
       → outcome_of (stops (runs ++ run ∷ [])) ≡ behind (outcome_of (stops runs)) run.stop
   outcome-more runs run =
       ap (λ (l : List DoorEnd). outcome_of l) (map-append (λ (r : DoorRun L). r.stop) runs (run ∷ []))
-      ∙ behind_all-more outcome.Done (stops runs) run.stop
+      ∙ behind_all-more stop.Closed (stops runs) run.stop
 
   pub services-more : (runs : List (DoorRun L)) (run : DoorRun L)
       → all_services (runs ++ run ∷ []) ≡ all_services runs ++ run.services
@@ -79,10 +77,10 @@ module _ {L : Type 0} where
       ∙ sym (append_assoc first (ends_from (place + 1) runs)
       (flat_map (end_of (place + length (r ∷ runs))) run.services))
 
-  sorted-ends : (runs : List (DoorRun L)) (answer : Outcome) (old new : List Ended)
-      → (answer ≢ outcome.NoMemory → (answer ≡ outcome_of (stops runs)) × (old ≡ ends_from 0 runs))
-      → (answer ≢ outcome.NoMemory → IsPermutation old new × IsNonDecreasingBy (λ (end : Ended). end.conn) new)
-      → answer ≢ outcome.NoMemory → (answer ≡ outcome_of (stops runs)) × AreEnds runs new
+  sorted-ends : (runs : List (DoorRun L)) (answer : DoorEnd) (old new : List Ended)
+      → (answer ≢ stop.NoMemory → (answer ≡ outcome_of (stops runs)) × (old ≡ ends_from 0 runs))
+      → (answer ≢ stop.NoMemory → IsPermutation old new × IsNonDecreasingBy (λ (end : Ended). end.conn) new)
+      → answer ≢ stop.NoMemory → (answer ≡ outcome_of (stops runs)) × AreEnds runs new
   sorted-ends runs answer old new was all not = (
     (was not).0,
     record {
@@ -92,15 +90,15 @@ module _ {L : Type 0} where
   )
 
   -- the ends by number
-  pub comes-sorted : (runs : List (DoorRun L)) (answer : Outcome) (old new : List Ended)
-      → (answer ≢ outcome.NoMemory → (answer ≡ outcome_of (stops runs)) × (old ≡ ends_from 0 runs))
-      → (answer ≡ outcome.NoMemory → new ≡ [])
-      → (answer ≢ outcome.NoMemory → IsPermutation old new × IsNonDecreasingBy (λ (end : Ended). end.conn) new)
+  pub comes-sorted : (runs : List (DoorRun L)) (answer : DoorEnd) (old new : List Ended)
+      → (answer ≢ stop.NoMemory → (answer ≡ outcome_of (stops runs)) × (old ≡ ends_from 0 runs))
+      → (answer ≡ stop.NoMemory → new ≡ [])
+      → (answer ≢ stop.NoMemory → IsPermutation old new × IsNonDecreasingBy (λ (end : Ended). end.conn) new)
       → ComesTo runs answer new
-  comes-sorted runs outcome.NoMemory old new was none all = none refl
-  comes-sorted runs outcome.Done old new was none all =
-      sorted-ends runs outcome.Done old new was all done-no-want
-  comes-sorted runs outcome.Failed old new was none all =
-      sorted-ends runs outcome.Failed old new was all failed-no-want
-  comes-sorted runs (outcome.Full n) old new was none all =
-      sorted-ends runs (outcome.Full n) old new was all (full-no-want n)
+  comes-sorted runs stop.NoMemory old new was none all = none refl
+  comes-sorted runs stop.Closed old new was none all =
+      sorted-ends runs stop.Closed old new was all done-no-want
+  comes-sorted runs stop.Failed old new was none all =
+      sorted-ends runs stop.Failed old new was all failed-no-want
+  comes-sorted runs (stop.Full n) old new was none all =
+      sorted-ends runs (stop.Full n) old new was all (full-no-want n)

@@ -8,12 +8,11 @@ use Rattle.acct_machine.specs.declared.entry.Entry.{Entry}
 use Rattle.acct_links.specs.Links.{Told}
 use Rattle.acct_links.specs.declared.doors.Door.{Ghosts}
 use Rattle.door_workers.specs.declared.ends.DoorEnd.{DoorEnd}
+use Rattle.door_workers.specs.declared.ends.DoorEnd.TheVariants.{NoMemory}
 use Rattle.link_sessions.specs.declared.ends.Ended.{Ended}
 use Rattle.door_workers.specs.Services.{Service, end_of}
 use Rattle.door_workers.specs.Serving.{Runs, StopsAt}
 use Rattle.door_workers.specs.Working.{AreServed}
-use Rattle.door_workers.specs.declared.outcome.Outcome.{Outcome}
-use Rattle.door_workers.specs.declared.outcome.Outcome.TheVariants as outcome
 use Rattle.door_workers.specs.Outcomes.{outcome_of}
 
 -- What became of one door: the links that it gave, in order, and why no further one was taken.
@@ -41,8 +40,8 @@ pub record AreEnds {L : Type 0} (runs : List (DoorRun L)) (ends : List Ended) : 
   pub sorted : IsNonDecreasingBy (λ end. end.conn) ends
 
 -- What serving comes to, and the ends that it tells. Running out of memory is free, and then it tells none.
-abbrev pub ComesTo : {L : Type 0} → List (DoorRun L) → Outcome → List Ended → Type 0
-ComesTo runs outcome.NoMemory ends = ends ≡ []
+abbrev pub ComesTo : {L : Type 0} → List (DoorRun L) → DoorEnd → List Ended → Type 0
+ComesTo runs NoMemory ends = ends ≡ []
 ComesTo runs answer ends = (answer ≡ outcome_of (stops runs)) × AreEnds runs ends
 
 module _ {D L : Type 0} (door : Ghosts D L) (told : L → Told) where
@@ -62,7 +61,7 @@ module _ {D L : Type 0} (door : Ghosts D L) (told : L → Told) where
   -- The doors were served side by side, each to the end that its run tells: what each link read and wrote, in the one
   -- history, which is legal; each connection of the history was served on just one link, from its opening at the
   -- listener of its door to its end.
-  pub record IsServed (start : Start) (most : ℕ) (before now : List D) (history : List Entry) (answer : Outcome)
+  pub record IsServed (start : Start) (most : ℕ) (before now : List D) (history : List Entry) (answer : DoorEnd)
       (ends : List Ended) : Type 0 where
     pub runs : List (DoorRun L)
     pub doors : ServesDoors before now runs

@@ -22,8 +22,6 @@ use Rattle.link_sessions.specs.declared.ends.Ended.{Ended}
 use Rattle.door_workers.specs.Services.{Service, end_of}
 use Rattle.door_workers.specs.Serving.{IsServing, Runs, StopsAt}
 use Rattle.door_workers.specs.Working.{IsJoined}
-use Rattle.door_workers.specs.declared.outcome.Outcome.{Outcome}
-use Rattle.door_workers.specs.declared.outcome.Outcome.TheVariants as outcome
 use Rattle.door_workers.specs.Outcomes.{outcome_of}
 use Rattle.door_workers.specs.Doors.{DoorRun, ServesDoor, ServesDoors, ComesTo, all_services, stops, ends_from}
 
@@ -81,17 +79,17 @@ module _ {D L : Type 0} (door : doors.Ghosts D L) (told : L → Told) where
 
   -- The workers of the first doors were joined: what became of these doors, of their links in what the first pass
   -- knows, and what they come to.
-  pub record AreJoined (start : Start) (most : ℕ) (v : View Begun Entry) (before now : List D) (answer : Outcome)
+  pub record AreJoined (start : Start) (most : ℕ) (v : View Begun Entry) (before now : List D) (answer : DoorEnd)
       (ends : List Ended) : Type 0 where
     pub runs : List (DoorRun L)
     pub count : length runs ≡ length now
     pub each : (i : ℕ) (d e : D) (run : DoorRun L) → i < length now
         → ServesDoor door told (slice_index_or before i d) (slice_index_or now i e) (slice_index_or runs i run)
     pub links : IsJoined told start most v (all_services runs)
-    pub comes : answer ≢ outcome.NoMemory → (answer ≡ outcome_of (stops runs)) × (ends ≡ ends_from 0 runs)
+    pub comes : answer ≢ stop.NoMemory → (answer ≡ outcome_of (stops runs)) × (ends ≡ ends_from 0 runs)
 
   -- All workers worked, and their passes were joined.
-  pub record WorksDoors (start : Start) (most : ℕ) (v : View Begun Entry) (before now : List D) (answer : Outcome)
+  pub record WorksDoors (start : Start) (most : ℕ) (v : View Begun Entry) (before now : List D) (answer : DoorEnd)
       (ends : List Ended) : Type 0 where
     pub runs : List (DoorRun L)
     pub doors : ServesDoors door told before now runs

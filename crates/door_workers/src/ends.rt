@@ -1,13 +1,13 @@
-// How workers end.
+// How workers end, and serving with them.
 
-/// Why a worker takes no further link from its door.
+/// Why no further link is taken: from one door, by its worker, or from all doors together.
 #[derive(Clone, Copy, Debug, PartialEq, Eq)]
 pub enum DoorEnd {
-    /// No link is to come.
+    /// No link is to come, from any of the doors.
     Closed,
-    /// The door failed, and its count of faults rose.
+    /// A door failed, and its count of faults rose; of several doors, none found the history full.
     Failed,
-    /// The history was full, with the count of what it has.
+    /// The history was full, with the count of what it has; of several doors, that of the first that found it so.
     Full(u64),
     /// Memory ran out.
     NoMemory,

@@ -4,7 +4,7 @@ ghost use Rattle.std.specs.List.Sorted.{IsPermutation, IsNonDecreasingBy};
 ghost use Rattle.hist_lock.specs.Passes.{view, IsPassOf};
 ghost use Rattle.hist_lock.specs.Views.{IsFirst};
 ghost use Rattle.door_workers.specs.Passing.{start_under};
-ghost use Rattle.door_workers.specs.declared.outcome.Outcome.TheVariants.{NoMemory};
+ghost use Rattle.door_workers.specs.declared.ends.DoorEnd.TheVariants.{NoMemory};
 ghost use Rattle.door_workers.specs.Outcomes.{Adds};
 ghost use Rattle.door_workers.specs.Hiring.{IsOther, HasWorked, AreJoined, JoinsOne};
 
@@ -13,7 +13,6 @@ use crate::hiring::Hired;
 use crate::kept::Locked;
 use crate::laws::links_are_joined;
 use crate::lock_gate::LockGate;
-use crate::outcome::Outcome;
 use crate::workers::Worker;
 use acct_links::Door;
 use acct_machine::Keeper;
@@ -68,7 +67,7 @@ fn join_one<R: Wait, K: Keeper + Drop, D: Door + Drop>(
 // What came of the doors so far: how serving ends, and the ends of their sessions, door by door.
 #[derive(Drop)]
 pub(crate) struct Sum {
-    pub outcome: Outcome,
+    pub outcome: DoorEnd,
     pub ends: Vec<Ended>,
 }
 
@@ -79,7 +78,7 @@ impl Sum {
     {
         self.outcome = match self.ends.append(&mut ends) {
             Ok(()) => self.outcome.behind(end),
-            Err(_) => Outcome::NoMemory,
+            Err(_) => DoorEnd::NoMemory,
         };
     }
 
@@ -91,8 +90,8 @@ impl Sum {
             × IsNonDecreasingBy (λ end. end.conn) self.new.ends.items }
     {
         match self.outcome {
-            Outcome::NoMemory => self.ends.clear(),
-            Outcome::Done | Outcome::Failed | Outcome::Full(_) => {
+            DoorEnd::NoMemory => self.ends.clear(),
+            DoorEnd::Closed | DoorEnd::Failed | DoorEnd::Full(_) => {
                 self.ends.sort_unstable_by_key(|end| end.conn)
             }
         }
@@ -130,7 +129,7 @@ pub(crate) fn join_all<R: Wait, K: Keeper + Drop, D: Door + Drop>(
     links_are_joined::<D::L>();
     let mut workers = workers;
     let mut sum = Sum {
-        outcome: Outcome::Done,
+        outcome: DoorEnd::Closed,
         ends: Vec::new(alloc),
     };
     while let Some(hired) = workers.pop() {

@@ -41,6 +41,5 @@ pub use kept::{Begun, Calling, Ending, Locked, Opening};
 pub use laws::{full_counts, links_are_joined};
 pub use lock_gate::LockGate;
 pub use opening::open_doors;
-pub use outcome::Outcome;
 pub use serving::{DoorsServed, serve_doors};
 pub use workers::Worker;

@@ -3,15 +3,15 @@ ghost use Rattle.std.specs.Prelude.{◌≡◌, ◌-◌, ◌<◌, ◌≤◌, ◌^
 ghost use Rattle.hist_lock.specs.Passes.{view, IsPassOf};
 ghost use Rattle.hist_lock.specs.Views.{IsFirst};
 ghost use Rattle.door_workers.specs.Passing.{start_under};
-ghost use Rattle.door_workers.specs.declared.outcome.Outcome.TheVariants.{NoMemory};
+ghost use Rattle.door_workers.specs.declared.ends.DoorEnd.TheVariants.{NoMemory};
 ghost use Rattle.door_workers.specs.Doors.{IsServed};
 ghost use Rattle.door_workers.specs.Hiring.{IsIdle, WorksDoors, ClosesTo};
 
+use crate::ends::DoorEnd;
 use crate::hiring::hire_all;
 use crate::joining::{Sum, join_all};
 use crate::kept::Locked;
 use crate::laws::links_are_joined;
-use crate::outcome::Outcome;
 use crate::working::work_all;
 use acct_links::Door;
 use acct_machine::{Keeper, Machine};
@@ -26,7 +26,7 @@ use std::thread::Threads;
 #[derive(Drop)]
 pub struct DoorsServed<K: Keeper + Drop> {
     pub machine: Machine<K>,
-    pub outcome: Outcome,
+    pub outcome: DoorEnd,
     pub ends: Vec<Ended>,
 }
 
@@ -36,7 +36,7 @@ fn not_served<K: Keeper + Drop>(alloc: Global, machine: Machine<K>) -> DoorsServ
 {
     DoorsServed {
         machine,
-        outcome: Outcome::NoMemory,
+        outcome: DoorEnd::NoMemory,
         ends: Vec::new(alloc),
     }
 }
@@ -87,7 +87,7 @@ where
     let mut workers = Vec::new(alloc);
     if workers.reserve(doors.len()).is_err() {
         return Sum {
-            outcome: Outcome::NoMemory,
+            outcome: DoorEnd::NoMemory,
             ends: Vec::new(alloc),
         };
     }

@@ -14,13 +14,11 @@ use Rattle.acct_machine.specs.Passing.{KeepsConnection}
 use Rattle.acct_stubs.specs.declared.errors.WireError.{WireError}
 use Rattle.rpc_session.specs.declared.sessions.Act.TheVariants as act
 use Rattle.rpc_session.specs.declared.sessions.Request.{Request}
-use Rattle.link_sessions.specs.declared.requests.Answer.{Answer}
-use Rattle.link_sessions.specs.declared.requests.Answer.TheVariants as answer
 use Rattle.link_sessions.specs.Requests.{call_on}
 use Rattle.link_sessions.specs.Transcript.{answer_bytes, undecoded_bytes}
 use Rattle.link_sessions.specs.Turns.{IsFrontOf}
-use Rattle.link_sessions.specs.Answering.{Enters, AnswersRequest, BeginsRequest}
-use Rattle.link_sessions.specs.Talking.{Answers, IsAnswered, IsWanting}
+use Rattle.link_sessions.specs.Answering.{Enters, AnswersBy, BeginsRequest, FindsFull}
+use Rattle.link_sessions.specs.Talking.{Answers, IsWanting, MeetsFull}
 use Rattle.link_sessions.proofs.Fronts.{front-same, front-then}
 use Rattle.link_sessions.proofs.Transcripts.{request-decoded, request-answered, request-none}
 use Rattle.link_sessions.proofs.Transcripts.{request-undecoded}
@@ -91,28 +89,29 @@ module _ (start : Start) (k : ℕ) where
 
   module _ (finds : List Entry → Type 0) (known left : List Entry) (asked : Request)
       (passes : (found : List Entry) → finds found → IsFrontOf known found × KeepsConnection start k known found) where
-    answered-by : (r : Result Call WireError) (given : Answer) → call_on asked.face asked.opnum asked.stub ≡ r
-        → AnswersRequest start k finds known left asked (length asked.stub) r given
-        → IsAnswered start k asked known left given
-    answered-by (Err e) (answer.Bytes bytes) is answers =
+    answered-by : (r : Result Call WireError) (bytes : List ℕ) → call_on asked.face asked.opnum asked.stub ≡ r
+        → AnswersBy start k finds known left asked (length asked.stub) r bytes
+        → Answers start k (act.Call asked ∷ []) known left bytes
+    answered-by (Err e) bytes is answers =
         subst (λ (bs : List ℕ). Answers start k (act.Call asked ∷ []) known left bs) (sym answers.1)
         (answers-undecoded known left asked e answers.0 is)
-    answered-by (Err e) (answer.Full n) is answers = absurd answers
-    answered-by (Ok call) (answer.Bytes bytes) is answers =
+    answered-by (Ok call) bytes is answers =
         subst (λ (bs : List ℕ). Answers start k (act.Call asked ∷ []) known left bs) (sym answers.bytes_are)
         (answers-entered finds known left asked call passes is answers.enters)
-    answered-by (Ok call) (answer.Full n) is answers = record {
-      call = call;
-      decoded = is;
-      passes = answers-passed known left (passes left answers.finds_it).0 (passes left answers.finds_it).1;
-      full = answers.full;
-    }
 
-    pub request-is-answered : (given : Answer)
-        → AnswersRequest start k finds known left asked (length asked.stub)
-        (call_on asked.face asked.opnum asked.stub) given
-        → IsAnswered start k asked known left given
-    request-is-answered given answers = answered-by (call_on asked.face asked.opnum asked.stub) given refl answers
+    pub request-is-answered : (bytes : List ℕ) → AnswersBy start k finds known left asked (length asked.stub)
+        (call_on asked.face asked.opnum asked.stub) bytes → Answers start k (act.Call asked ∷ []) known left bytes
+    request-is-answered bytes answers = answered-by (call_on asked.face asked.opnum asked.stub) bytes refl answers
+
+    pub request-meets-full : (call : Call) (n : ℕ) → call_on asked.face asked.opnum asked.stub ≡ Ok call
+        → FindsFull start finds left (length asked.stub) n → MeetsFull start k n asked known left
+    request-meets-full call n is finds_full =
+        let here = passes left finds_full.finds_it in record {
+          call = call;
+          decoded = is;
+          passes = answers-passed known left here.0 here.1;
+          full = finds_full.full;
+        }
 
     nothing-done : left ≡ known → IsWanting start k (act.Call asked ∷ []) known left []
     nothing-done same = record {

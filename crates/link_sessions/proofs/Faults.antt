@@ -1,9 +1,10 @@
--- The calls of a link that failed, behind some of which none did.
-use Rattle.std.proofs.Common.{Bool, true, false, ◌⊎◌, inl, inr, refl, ap, ◌∙◌, Result, Ok, Err}
+-- The calls of a link that failed, after some of which none did.
+use Rattle.std.proofs.Common.{ℕ, Bool, true, false, inl, inr, List, refl, ap, ◌∙◌, Result, Ok, Err, OnOk, OnErr}
 use Rattle.std.specs.Prelude.{is_err, MatchResult}
 use Rattle.acct_keeper.specs.Counts.{faults_after}
-use Rattle.acct_links.specs.Links.{Told, FaultsAre}
+use Rattle.acct_links.specs.Links.{Told, Sends, SendsFront, FaultsAre}
 use Rattle.link_sessions.specs.Faults.{Faults}
+use Rattle.link_sessions.specs.Taking.{IsSent, IsSentInPart}
 use Rattle.link_sessions.specs.declared.ends.SessionEnd.{SessionEnd}
 use Rattle.link_sessions.specs.declared.ends.SessionEnd.TheVariants as end
 
@@ -28,13 +29,18 @@ ends-then (end.Full n) a b c one (inr two) = inr (faults-then false true a b c o
 ends-then (end.ByteLimit n) a b c one two = faults-then false false a b c one two
 ends-then end.NoMemory a b c one two = faults-then false false a b c one two
 
--- a write failed or none did
-pub sent-faults : {T E : Type 0} (old new : Told) (r : Result T E) → FaultsAre false (is_err r) old new
-    → FaultsAre false false old new ⊎ FaultsAre false true old new
-sent-faults old new (Ok x) is = inl is
-sent-faults old new (Err e) is = inr is
+-- what was sent, with the calls that failed
+pub sent-whole : {T E : Type 0} (old new : Told) (bytes : List ℕ) (r : Result T E) → OnOk r (Sends old new bytes)
+    → FaultsAre false (is_err r) old new → OnOk r (IsSent old new bytes)
+sent-whole old new bytes (Ok x) sends faults = record { sends = sends; faults = faults }
+sent-whole old new bytes (Err e) sends faults = tt
 
--- what a result says of the calls behind some of which none failed
+pub sent-in-part : {T E : Type 0} (old new : Told) (bytes : List ℕ) (r : Result T E)
+    → OnErr r (SendsFront old new bytes) → FaultsAre false (is_err r) old new → OnErr r (IsSentInPart old new bytes)
+sent-in-part old new bytes (Ok x) front faults = tt
+sent-in-part old new bytes (Err e) front faults = record { front = front; faults = faults }
+
+-- what a result says of the calls after some of which none failed
 pub results-then : {T : Type 0} (r : Result T SessionEnd) (a b c : Told) → FaultsAre false false a b
     → MatchResult r (λ _. FaultsAre false false b c) (λ end. Faults end b c)
     → MatchResult r (λ _. FaultsAre false false a c) (λ end. Faults end a c)

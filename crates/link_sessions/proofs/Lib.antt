@@ -7,6 +7,7 @@ pub mod Transcripts
 pub mod Answering
 pub mod Faults
 pub mod Talks
+pub mod Taken
 pub mod Telling
 pub mod SoFar
 pub mod Staying

@@ -1,6 +1,7 @@
 -- Clauses of results, and bytes that are appended one after another.
 use Rattle.std.proofs.Common.{ℕ, List, [], ◌++◌, Option, Some, None, Result, Ok, Err, OnOk, IfOk, IfErr, OnErr}
-use Rattle.std.proofs.Common.{sym, ◌∙◌, ap, append_assoc}
+use Rattle.std.proofs.Common.{◌⊎◌, inl, inr, sym, ◌∙◌, ap, append_assoc}
+use Rattle.std.specs.Prelude.{MatchResult}
 use Rattle.std.proofs.lemmas.List.{append-nil}
 use Rattle.std.specs.Io.KnownBytes.{Appends, Keeps}
 
@@ -36,7 +37,16 @@ pub if-err : {T E : Type 0} {P Q : E → Type 0} (r : Result T E) → ((e : E) �
 if-err (Ok x) to p = tt
 if-err (Err e) to p = to e p
 
+pub either : {T E : Type 0} {P Q : Type 0} (r : Result T E) → OnOk r P → OnErr r Q → P ⊎ Q
+either (Ok x) p q = inl p
+either (Err e) p q = inr q
+
 pub if-ok-2 : {T E : Type 0} {P R : T → Type 0} {Q : Type 0} (r : Result T E) → ((x : T) → P x → Q → R x) → IfOk r P
     → OnOk r Q → IfOk r R
 if-ok-2 (Ok x) to p q = to x p q
 if-ok-2 (Err e) to p q = tt
+
+pub of-both : {T E : Type 0} {P Q : Type 0} {R S : E → Type 0} (r : Result T E) → (P → Q) → ((e : E) → R e → S e)
+    → OnOk r P → IfErr r R → MatchResult r (λ _. Q) S
+of-both (Ok x) one two p q = one p
+of-both (Err e) one two p q = two e q

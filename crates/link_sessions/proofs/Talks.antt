@@ -1,6 +1,6 @@
 -- Acts that were answered one after another on a link, up to one that wasn't.
 use Rattle.std.proofs.Common.{◌≡◌, ℕ, ◌≤◌, List, [], ◌∷◌, ◌++◌, ◌⊎◌, inl, inr, length, take, None, refl}
-use Rattle.std.proofs.Common.{sym, ◌∙◌, ap, subst, arith, append_assoc, length-append, Result, Ok, Err, OnOk, OnErr}
+use Rattle.std.proofs.Common.{sym, ◌∙◌, ap, subst, arith, append_assoc, length-append}
 use Rattle.std.proofs.lemmas.List.{take_all}
 use Rattle.acct_calls.specs.declared.calls.Call.{Call}
 use Rattle.acct_calls.specs.declared.replies.Reply.{Reply}
@@ -270,9 +270,3 @@ sends-front s t bytes front = record {
   written = refl;
   all = inr front.failed;
 }
-
--- whether it was sent whole or a write failed
-pub sends-some : {T E : Type 0} (s t : Told) (bytes : List ℕ) (r : Result T E) → OnOk r (Sends s t bytes)
-    → OnErr r (SendsFront s t bytes) → SendsSome s t bytes
-sends-some s t bytes (Ok x) all front = sends-all s t bytes all
-sends-some s t bytes (Err e) all front = sends-front s t bytes front

@@ -44,16 +44,24 @@ pub record FindsFull (start : Start) (finds : List Entry → Type 0) (left : Lis
   pub finds_it : finds left
   pub full : call_full start left size ≡ Some count
 
--- A request was answered, which is this call or none; one that is none is answered by a fault, and nothing else
--- happened.
+-- A request was answered with these bytes, which is this call or none; one that is none is answered by a fault, and
+-- nothing else happened.
+abbrev pub AnswersBy : Start → ℕ → (List Entry → Type 0) → List Entry → List Entry → Request → ℕ
+    → Result Call WireError → List ℕ → Type 0
+AnswersBy start k finds known left asked size (Err e) bytes = (left ≡ known) × (bytes ≡ undecoded_bytes asked e)
+AnswersBy start k finds known left asked size (Ok call) bytes = AnswersCall start k finds left asked size call bytes
+
+-- a call was met by a full history
+abbrev pub MeetsFullBy : Start → (List Entry → Type 0) → List Entry → ℕ → ℕ → Result Call WireError → Type 0
+MeetsFullBy start finds left size count (Err e) = ⊥
+MeetsFullBy start finds left size count (Ok call) = FindsFull start finds left size count
+
+-- what came of a request
 abbrev pub AnswersRequest : Start → ℕ → (List Entry → Type 0) → List Entry → List Entry → Request → ℕ
     → Result Call WireError → Answer → Type 0
-AnswersRequest start k finds known left asked size (Err e) (answer.Bytes bytes) =
-    (left ≡ known) × (bytes.items ≡ undecoded_bytes asked e)
-AnswersRequest start k finds known left asked size (Err e) (answer.Full count) = ⊥
-AnswersRequest start k finds known left asked size (Ok call) (answer.Bytes bytes) =
-    AnswersCall start k finds left asked size call bytes.items
-AnswersRequest start k finds known left asked size (Ok call) (answer.Full count) = FindsFull start finds left size count
+AnswersRequest start k finds known left asked size r (answer.Bytes bytes) =
+    AnswersBy start k finds known left asked size r bytes.items
+AnswersRequest start k finds known left asked size r (answer.Full count) = MeetsFullBy start finds left size count r
 
 -- Where memory ran out: nothing has happened, or the call was entered.
 abbrev pub BeginsRequest : Start → ℕ → (List Entry → Type 0) → List Entry → List Entry → ℕ → Result Call WireError

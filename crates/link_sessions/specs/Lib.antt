@@ -10,3 +10,4 @@ pub mod Talking
 pub mod Faults
 pub mod Sessions
 pub mod SoFar
+pub mod Taking

@@ -12,8 +12,6 @@ use Rattle.rpc_session.specs.declared.sessions.Request.{Request}
 use Rattle.rpc_session.specs.Hearings.{listed}
 use Rattle.acct_keeper.specs.Causes.{Rose}
 use Rattle.acct_links.specs.Links.{Told, Sends}
-use Rattle.link_sessions.specs.declared.requests.Answer.{Answer}
-use Rattle.link_sessions.specs.declared.requests.Answer.TheVariants as answer
 use Rattle.link_sessions.specs.Requests.{call_on}
 use Rattle.link_sessions.specs.Transcript.{transcript, decoded_calls, busy_bytes}
 use Rattle.link_sessions.specs.Turns.{IsFrontOf}
@@ -77,12 +75,6 @@ pub record IsFull (start : Start) (k n : ℕ) (rest : List Act) (before after : 
   pub count : ℕ
   pub written : last ≡ take count (busy_bytes asked)
   pub all : (last ≡ busy_bytes asked) ⊎ Rose old.write_faults new.write_faults
-
--- what the answer to a request says of its connection
-abbrev pub IsAnswered : Start → ℕ → Request → List Entry → List Entry → Answer → Type 0
-IsAnswered start k asked before after (answer.Bytes bytes) =
-    Answers start k (act.Call asked ∷ []) before after bytes.items
-IsAnswered start k asked before after (answer.Full n) = MeetsFull start k n asked before after
 
 -- a prefix of these bytes was written, and they all, unless a write failed
 pub record SendsSome (old new : Told) (bytes : List ℕ) : Type 0 where

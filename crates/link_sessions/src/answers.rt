@@ -1,147 +1,113 @@
-// Acts are answered on a link, over a gate.
-ghost use Rattle.std.specs.Prelude.{◌≡◌, [], ◌∷◌, All, OnOk, OnErr, IfOk, IfErr};
+// Acts are answered over a gate.
+ghost use Rattle.std.specs.Prelude.{◌≡◌, ◌⊎◌, All, OnOk, IfErr};
 ghost use Rattle.rpc_session.specs.Acts.{IsFit, IsFitRequest};
-ghost use Rattle.acct_links.specs.Links.{Sends, SendsFront};
-ghost use Rattle.link_sessions.specs.Transcript.{busy_bytes};
-ghost use Rattle.std.specs.Prelude.{false, MatchResult};
-ghost use Rattle.acct_links.specs.Links.{FaultsAre};
-ghost use Rattle.link_sessions.specs.Faults.{Faults};
-ghost use Rattle.link_sessions.specs.SoFar.{end_of};
-ghost use Rattle.link_sessions.specs.declared.ends.Stop.TheVariants as stop;
-ghost use Rattle.link_sessions.specs.Talking.{Talks, Stops, IsWanting, IsAnswered, SendsSome};
 ghost use Rattle.rpc_session.specs.declared.sessions.Act.TheVariants as act;
+ghost use Rattle.link_sessions.specs.Transcript.{busy_bytes};
+ghost use Rattle.link_sessions.specs.declared.ends.Stop.TheVariants as stop;
+ghost use Rattle.link_sessions.specs.Taking.{TakesAct, TakesActs, HaltsAct, HaltsActs};
 
 use crate::ends::Stop;
 use crate::gate::Gate;
 use crate::requests::{Answer, request};
+use crate::takers::Taker;
 use acct_codes::fault::NCA_S_SERVER_TOO_BUSY;
-use acct_links::{Link, send};
 use rpc_session::{Act, Request, fault_bytes};
-use std::alloc::{AllocError, Global};
+use std::alloc::Global;
 
-// Writes all the bytes, or a prefix of them where a write fails.
-fn write<L: Link>(link: &mut L, bytes: &[u8]) -> Result<(), Stop>
-    ensures ok { OnOk result (Sends (L.told link.old) (L.told link.new) bytes.now) }
-    ensures err { IfErr result
-        (λ why. (why ≡ stop.WriteFault) × SendsFront (L.told link.old) (L.told link.new) bytes.now) }
-    ensures faults { MatchResult result (λ _. FaultsAre false false (L.told link.old) (L.told link.new))
-        (λ why. Faults (end_of why) (L.told link.old) (L.told link.new)) }
+// Gives an answer.
+fn give<T: Taker>(taker: &mut T, bytes: &[u8]) -> Result<(), Stop>
+    ensures ok { OnOk result (T.takes taker.old bytes.now taker.new) }
+    ensures err { IfErr result (λ why. (why ≡ stop.WriteFault) × T.fails taker.old bytes.now taker.new) }
 {
-    match send(link, bytes) {
+    match taker.take(bytes) {
         Ok(()) => Ok(()),
         Err(_) => Err(Stop::WriteFault),
     }
 }
 
-// Writes that the server is too busy, as far as the link takes it.
-fn turn_away<L: Link>(link: &mut L, asked: &Request, count: u64) -> Stop
+// Answers that the server is too busy, as far as that is taken.
+fn turn_away<T: Taker>(taker: &mut T, asked: &Request, count: u64) -> Stop
     ensures full { result ≡ stop.Full count }
-    ensures sends { SendsSome (L.told link.old) (L.told link.new) (busy_bytes asked.now) }
-    ensures faults { Faults (end_of result) (L.told link.old) (L.told link.new) }
+    ensures taken { T.takes taker.old (busy_bytes asked.now) taker.new
+        ⊎ T.fails taker.old (busy_bytes asked.now) taker.new }
 {
     let busy = fault_bytes(asked.id, asked.context, NCA_S_SERVER_TOO_BUSY);
-    let _ = send(link, &busy);
+    let _ = taker.take(&busy);
     Stop::Full(count)
 }
 
-// Makes the answer to a request over the gate.
-fn ask<G: Gate>(
-    alloc: Global,
-    gate: &mut G,
-    conn: u32,
-    asked: &Request,
-) -> Result<Answer, AllocError>
-    requires serves { G.serves gate.old conn }
-    requires fits { IsFitRequest asked.now }
-    ensures answers { IfOk result (IsAnswered (G.start gate.old) conn asked.now (G.known gate.old)
-        (G.known gate.new)) }
-    ensures wants { OnErr result (IsWanting (G.start gate.old) conn (act.Call asked.now ∷ [])
-        (G.known gate.old) (G.known gate.new) []) }
-    ensures serves { G.serves gate.new conn }
-    ensures moves { G.moves gate.old conn gate.new }
-    ensures start { G.start gate.new ≡ G.start gate.old }
-{
-    request(alloc, gate, conn, asked)
-}
-
 // Answers a request.
-fn answer_request<L: Link, G: Gate>(
+fn answer_request<T: Taker, G: Gate>(
     alloc: Global,
-    link: &mut L,
+    taker: &mut T,
     gate: &mut G,
     conn: u32,
     asked: &Request,
 ) -> Result<(), Stop>
     requires serves { G.serves gate.old conn }
     requires fits { IsFitRequest asked.now }
-    ensures ok { OnOk result (Talks (G.start gate.old) conn (act.Call asked.now ∷ []) (G.known gate.old)
-        (G.known gate.new) (L.told link.old) (L.told link.new)) }
-    ensures err { IfErr result (Stops (G.start gate.old) conn (act.Call asked.now ∷ []) (G.known gate.old)
-        (G.known gate.new) (L.told link.old) (L.told link.new)) }
+    ensures ok { OnOk result (TakesAct T.takes G.start G.known G.finds G.serves conn (act.Call asked.now) taker.old
+        gate.old taker.new gate.new) }
+    ensures err { IfErr result (HaltsAct T.takes T.fails G.start G.known G.finds conn (act.Call asked.now) taker.old
+        gate.old taker.new gate.new) }
     ensures serves { G.serves gate.new conn }
     ensures moves { G.moves gate.old conn gate.new }
     ensures start { G.start gate.new ≡ G.start gate.old }
-    ensures faults { MatchResult result (λ _. FaultsAre false false (L.told link.old) (L.told link.new))
-        (λ why. Faults (end_of why) (L.told link.old) (L.told link.new)) }
 {
-    match ask(alloc, gate, conn, asked) {
-        Ok(Answer::Bytes(bytes)) => write(link, &bytes),
-        Ok(Answer::Full(count)) => Err(turn_away(link, asked, count)),
+    match request(alloc, gate, conn, asked) {
+        Ok(Answer::Bytes(bytes)) => give(taker, &bytes),
+        Ok(Answer::Full(count)) => Err(turn_away(taker, asked, count)),
         Err(_) => Err(Stop::NoMemory),
     }
 }
 
 // Answers an act.
-fn answer<L: Link, G: Gate>(
+fn answer<T: Taker, G: Gate>(
     alloc: Global,
-    link: &mut L,
+    taker: &mut T,
     gate: &mut G,
     conn: u32,
     act: &Act,
 ) -> Result<(), Stop>
     requires serves { G.serves gate.old conn }
     requires fits { IsFit act.now }
-    ensures ok { OnOk result (Talks (G.start gate.old) conn (act.now ∷ []) (G.known gate.old) (G.known gate.new)
-        (L.told link.old) (L.told link.new)) }
-    ensures err { IfErr result (Stops (G.start gate.old) conn (act.now ∷ []) (G.known gate.old) (G.known gate.new)
-        (L.told link.old) (L.told link.new)) }
+    ensures ok { OnOk result (TakesAct T.takes G.start G.known G.finds G.serves conn act.now taker.old gate.old
+        taker.new gate.new) }
+    ensures err { IfErr result (HaltsAct T.takes T.fails G.start G.known G.finds conn act.now taker.old gate.old
+        taker.new gate.new) }
     ensures serves { G.serves gate.new conn }
     ensures moves { G.moves gate.old conn gate.new }
     ensures start { G.start gate.new ≡ G.start gate.old }
-    ensures faults { MatchResult result (λ _. FaultsAre false false (L.told link.old) (L.told link.new))
-        (λ why. Faults (end_of why) (L.told link.old) (L.told link.new)) }
 {
     match act {
-        Act::Answered { bytes } => write(link, bytes.as_slice()),
-        Act::Call(asked) => answer_request(alloc, link, gate, conn, asked),
-        Act::Closed { bytes, .. } => write(link, bytes.as_slice()),
+        Act::Answered { bytes } => give(taker, bytes.as_slice()),
+        Act::Call(asked) => answer_request(alloc, taker, gate, conn, asked),
+        Act::Closed { bytes, .. } => give(taker, bytes.as_slice()),
     }
 }
 
 /// Answers acts of a connection that the gate serves, one after the other: each request that is a call is entered, and
-/// its answer is written before the next act is come to. It stops at a write that fails, at a call that finds the
+/// its answer is taken before the next act is come to. It stops at an answer that isn't taken, at a call that finds the
 /// history full, and where memory runs out.
-pub fn answer_all<L: Link, G: Gate>(
+pub fn answer_all<T: Taker, G: Gate>(
     alloc: Global,
-    link: &mut L,
+    taker: &mut T,
     gate: &mut G,
     conn: u32,
     acts: &[Act],
 ) -> Result<(), Stop>
     requires serves { G.serves gate.old conn }
     requires fits { All IsFit acts.now }
-    ensures ok { OnOk result (Talks (G.start gate.old) conn acts.now (G.known gate.old) (G.known gate.new)
-        (L.told link.old) (L.told link.new)) }
-    ensures err { IfErr result (Stops (G.start gate.old) conn acts.now (G.known gate.old) (G.known gate.new)
-        (L.told link.old) (L.told link.new)) }
+    ensures ok { OnOk result (TakesActs T.takes G.start G.known G.finds G.serves conn acts.now taker.old gate.old
+        taker.new gate.new) }
+    ensures err { IfErr result (HaltsActs T.takes T.fails G.start G.known G.finds G.serves conn acts.now taker.old
+        gate.old taker.new gate.new) }
     ensures serves { G.serves gate.new conn }
     ensures moves { G.moves gate.old conn gate.new }
     ensures start { G.start gate.new ≡ G.start gate.old }
-    ensures faults { MatchResult result (λ _. FaultsAre false false (L.told link.old) (L.told link.new))
-        (λ why. Faults (end_of why) (L.told link.old) (L.told link.new)) }
 {
     for i in 0..acts.len() {
-        match answer(alloc, link, gate, conn, &acts[i]) {
+        match answer(alloc, taker, gate, conn, &acts[i]) {
             Ok(()) => {}
             Err(stop) => return Err(stop),
         }

@@ -15,9 +15,12 @@
 //! of the first acts, and what was written are the whole answers to these and a prefix of the next. In every case the
 //! connection's end is entered last.
 //!
+//! [`answer_all`] answers acts one after the other, up to one that isn't answered, and says why. Whatever takes the
+//! answers is a [`Taker`]; those of a session are taken by its link.
+//!
 //! In rooms: `gate` has the trait, `machine_gate` the machine as one; `requests` takes a request to a call and its
-//! answer; `connections` has a peer's stream and phase; `answers` answers acts on a link, `sessions` reads pieces and
-//! hears them, `ends` says how a session ends.
+//! answer; `connections` has a peer's stream and phase; `takers` says what takes answers, `answers` gives them act by
+//! act, `sessions` reads pieces and hears them, `ends` says how a session ends.
 #![tactic(auto)]
 
 mod answers;
@@ -27,10 +30,12 @@ mod gate;
 mod machine_gate;
 mod requests;
 mod sessions;
+mod takers;
 
 pub use answers::answer_all;
 pub use connections::{Peer, heard, is_served, new_peer};
 pub use ends::{Ended, SessionEnd, Stop};
 pub use gate::Gate;
 pub use requests::{Answer, read_request, request};
-pub use sessions::session;
+pub use sessions::{closing, session};
+pub use takers::Taker;

@@ -8,7 +8,7 @@ ghost use Rattle.acct_links.specs.Links.{Told, FaultsAre};
 ghost use Rattle.link_sessions.specs.Turns.{HasNoCall};
 ghost use Rattle.link_sessions.specs.Refusals.{refusal_of, closing_of};
 ghost use Rattle.link_sessions.specs.Faults.{Faults};
-ghost use Rattle.link_sessions.specs.Talking.{Talks};
+ghost use Rattle.link_sessions.specs.Talking.{Talks, Stops};
 ghost use Rattle.link_sessions.specs.SoFar.{SoFar, HasHeard, PieceEnds, end_of};
 ghost use Rattle.link_sessions.specs.Sessions.{IsConversation, IsSession, Ended};
 
@@ -29,8 +29,8 @@ fn refusal_of(act: &Act) -> Option<(u64, u8)>
     }
 }
 
-// The refusal that acts end in.
-fn closing(acts: &[Act]) -> Option<(u64, u8)>
+/// The refusal that acts end in: its place in the stream, and its cause.
+pub fn closing(acts: &[Act]) -> Option<(u64, u8)>
     ensures { result ≡ closing_of acts.now }
 {
     let count = acts.len();
@@ -48,6 +48,29 @@ fn end_of(stop: Stop) -> SessionEnd
         Stop::Full(count) => SessionEnd::Full(count),
         Stop::NoMemory => SessionEnd::NoMemory,
     }
+}
+
+// Answers acts on a link.
+fn answer_on<L: Link, G: Gate>(
+    alloc: Global,
+    link: &mut L,
+    gate: &mut G,
+    conn: u32,
+    acts: &[Act],
+) -> Result<(), Stop>
+    requires serves { G.serves gate.old conn }
+    requires fits { All IsFit acts.now }
+    ensures ok { OnOk result (Talks (G.start gate.old) conn acts.now (G.known gate.old) (G.known gate.new)
+        (L.told link.old) (L.told link.new)) }
+    ensures err { IfErr result (Stops (G.start gate.old) conn acts.now (G.known gate.old) (G.known gate.new)
+        (L.told link.old) (L.told link.new)) }
+    ensures serves { G.serves gate.new conn }
+    ensures moves { G.moves gate.old conn gate.new }
+    ensures start { G.start gate.new ≡ G.start gate.old }
+    ensures faults { MatchResult result (λ _. FaultsAre false false (L.told link.old) (L.told link.new))
+        (λ why. Faults (end_of why) (L.told link.old) (L.told link.new)) }
+{
+    answer_all(alloc, link, gate, conn, acts)
 }
 
 // Answers the acts that a piece completes; a refusal among them ends the session. It gives back the count.
@@ -73,7 +96,7 @@ fn answer_piece<L: Link, G: Gate>(
     ensures faults { MatchResult result (λ _. FaultsAre false false (L.told link.old) (L.told link.new))
         (λ end. Faults end (L.told link.old) (L.told link.new)) }
 {
-    match answer_all(alloc, link, gate, conn, acts) {
+    match answer_on(alloc, link, gate, conn, acts) {
         Err(stop) => Err(end_of(stop)),
         Ok(()) => match closing(acts) {
             Some((place, cause)) => Err(SessionEnd::Closed { place, cause }),

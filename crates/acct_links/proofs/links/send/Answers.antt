@@ -1,4 +1,4 @@
--- What `send` has written so far is a front of the bytes, and each write of the link adds a piece of the rest.
+-- What `send` has written so far is a prefix of the bytes, and each write of the link adds a piece of the rest.
 use Rattle.std.proofs.Common.{◌≡◌, ◌∙◌, take, drop, List, ℕ, arith, subst}
 use Rattle.acct_links.specs.Links.{Sends}
 use Rattle.acct_links.proofs.Sending.{Sends-then, Sends-written, take-more}

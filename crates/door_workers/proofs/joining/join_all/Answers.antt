@@ -3,7 +3,7 @@ use Rattle.std.proofs.Common.{◌≡◌, ◌+◌, ◌<◌, [], Some, None, lengt
 use Rattle.std.specs.Prelude.{slice_index_or}
 use Rattle.std.proofs.lemmas.List.{get_or_default}
 use Rattle.door_workers.specs.Passing.{start_under}
-use Rattle.door_workers.specs.declared.outcome.Outcome.TheVariants as outcome
+use Rattle.door_workers.specs.declared.ends.DoorEnd.TheVariants as stop
 use Rattle.door_workers.specs.Hiring.{HasWorked, AreJoined}
 use Rattle.door_workers.proofs.Joined.{none-joined, one-joined}
 use Rattle.door_workers.proofs.DoorPlaces.{below, each-less, the-last}
@@ -30,9 +30,9 @@ loop-hired-init g c =
       room = c.requires.room;
       places = c.requires.places;
       worked = c.requires.worked;
-      all = subst (λ ds. AreJoined door told start a.max_read v given ds outcome.Done c.new.result.items)
+      all = subst (λ ds. AreJoined door told start a.max_read v given ds stop.Closed c.new.result.items)
           (sym c.requires.none)
-          (subst (λ es. AreJoined door told start a.max_read v given [] outcome.Done es) (sym c.new.ensures.items)
+          (subst (λ es. AreJoined door told start a.max_read v given [] stop.Closed es) (sym c.new.ensures.items)
           (none-joined door told start a.max_read v given
           (c.links_are_joined.ensures.idle start a.max_read v c.requires.idle.0 c.requires.idle.1)));
     }

@@ -1,45 +1,73 @@
--- Where the write of an answer or a refusal fails, a prefix of that act's bytes was sent.
-use Rattle.std.proofs.Common.{ℕ, List, [], ◌∷◌, sym, subst}
+-- An answer or a refusal is taken with its own bytes, or it isn't, and nothing else happened.
+use Rattle.std.proofs.Common.{refl, sym, subst}
 use Rattle.rpc_session.specs.declared.sessions.Act.{Act}
-use Rattle.rpc_session.specs.declared.sessions.Act.TheVariants as act
-use Rattle.link_sessions.specs.Talking.{Answers, Stops}
+use Rattle.link_sessions.specs.Taking.{AnswersAct, HaltsAct}
 use Rattle.link_sessions.specs.declared.ends.Stop.{Stop}
-use Rattle.link_sessions.proofs.Results.{if-err}
-use Rattle.link_sessions.proofs.Answering.{answers-bytes, answers-closed}
-use Rattle.link_sessions.proofs.Talks.{stops-cut}
+use Rattle.link_sessions.proofs.Results.{on-ok, if-err}
 use Rattle.link_sessions.proofs.answers.answer.Goals as goal
+
+pub returns-in-Answered-clause-ok : goal.returns-in-Answered-clause-ok
+returns-in-Answered-clause-ok g c =
+    let a = c.args in
+    let m = g.G.Gate in
+    let h = m.known a.gate.now in
+    let whole = c.as_slice.result.now in
+    on-ok c.give.result
+    (λ taken. record {
+      served = c.requires.serves;
+      same = refl;
+      bytes = whole;
+      answers = subst (λ (x : Act). AnswersAct (m.start a.gate.now) a.conn (m.finds a.gate.now) h h x whole)
+          (sym c.in-Answered.is) (refl, c.as_slice.ensures);
+      taken = taken;
+    }) c.give.ensures.ok
 
 pub returns-in-Answered-clause-err : goal.returns-in-Answered-clause-err
 returns-in-Answered-clause-err g c =
     let a = c.args in
     let m = g.G.Gate in
-    let t = g.L.Link in
+    let t = g.T.Taker in
     let h = m.known a.gate.now in
-    let start = m.start a.gate.now in
     let whole = c.as_slice.result.now in
-    let answers = subst (λ (x : Act). Answers start a.conn (x ∷ []) h h whole) (sym c.in-Answered.is)
-    (subst (λ (bs : List ℕ). Answers start a.conn (act.Answered c.in-Answered.bytes ∷ []) h h bs)
-    (sym c.as_slice.ensures) (answers-bytes start a.conn h c.in-Answered.bytes)) in
-    if-err c.write.result
-    (λ why front. subst (λ (w : Stop). Stops start a.conn (a.act.now ∷ []) h h (t.told a.link.now)
-    (t.told c.write.new.link) w) (sym front.0)
-    (stops-cut start a.conn a.act.now h h (t.told a.link.now) (t.told c.write.new.link) whole answers front.1))
-    c.write.ensures.err
+    if-err c.give.result
+    (λ why failed. subst (λ (w : Stop). HaltsAct t.takes t.fails m.start m.known m.finds a.conn a.act.now
+    a.taker.now a.gate.now c.give.new.taker a.gate.now w) (sym failed.0)
+    (record {
+      bytes = whole;
+      answers = subst (λ (x : Act). AnswersAct (m.start a.gate.now) a.conn (m.finds a.gate.now) h h x whole)
+          (sym c.in-Answered.is) (refl, c.as_slice.ensures);
+      failed = failed.1;
+    })) c.give.ensures.err
+
+pub returns-in-Closed-clause-ok : goal.returns-in-Closed-clause-ok
+returns-in-Closed-clause-ok g c =
+    let a = c.args in
+    let m = g.G.Gate in
+    let h = m.known a.gate.now in
+    let whole = c.as_slice-in-Closed.result.now in
+    on-ok c.give-in-Closed.result
+    (λ taken. record {
+      served = c.requires.serves;
+      same = refl;
+      bytes = whole;
+      answers = subst (λ (x : Act). AnswersAct (m.start a.gate.now) a.conn (m.finds a.gate.now) h h x whole)
+          (sym c.in-Closed.is) (refl, c.as_slice-in-Closed.ensures);
+      taken = taken;
+    }) c.give-in-Closed.ensures.ok
 
 pub returns-in-Closed-clause-err : goal.returns-in-Closed-clause-err
 returns-in-Closed-clause-err g c =
     let a = c.args in
     let m = g.G.Gate in
-    let t = g.L.Link in
+    let t = g.T.Taker in
     let h = m.known a.gate.now in
-    let start = m.start a.gate.now in
     let whole = c.as_slice-in-Closed.result.now in
-    let closed = act.Closed c.in-Closed.place c.in-Closed.cause c.in-Closed.bytes in
-    let answers = subst (λ (x : Act). Answers start a.conn (x ∷ []) h h whole) (sym c.in-Closed.is)
-    (subst (λ (bs : List ℕ). Answers start a.conn (closed ∷ []) h h bs) (sym c.as_slice-in-Closed.ensures)
-    (answers-closed start a.conn h c.in-Closed.place c.in-Closed.cause c.in-Closed.bytes)) in
-    if-err c.write-in-Closed.result
-    (λ why front. subst (λ (w : Stop). Stops start a.conn (a.act.now ∷ []) h h (t.told a.link.now)
-    (t.told c.write-in-Closed.new.link) w) (sym front.0)
-    (stops-cut start a.conn a.act.now h h (t.told a.link.now) (t.told c.write-in-Closed.new.link) whole answers
-    front.1)) c.write-in-Closed.ensures.err
+    if-err c.give-in-Closed.result
+    (λ why failed. subst (λ (w : Stop). HaltsAct t.takes t.fails m.start m.known m.finds a.conn a.act.now
+    a.taker.now a.gate.now c.give-in-Closed.new.taker a.gate.now w) (sym failed.0)
+    (record {
+      bytes = whole;
+      answers = subst (λ (x : Act). AnswersAct (m.start a.gate.now) a.conn (m.finds a.gate.now) h h x whole)
+          (sym c.in-Closed.is) (refl, c.as_slice-in-Closed.ensures);
+      failed = failed.1;
+    })) c.give-in-Closed.ensures.err

@@ -3,26 +3,26 @@ use Rattle.std.proofs.Common.{◌+◌, ◌<◌, ◌∷◌, ◌++◌, [], length,
 use Rattle.acct_links.specs.MemoryDoors.{SteadyDoorInMemory, Lends}
 use Rattle.acct_links.proofs.memory_doors.SteadyDoorDoor.finish.Goals as goal
 
-pub unreachable-requires : goal.unreachable-requires
-unreachable-requires g c =
+pub push_reserved-requires : goal.push_reserved-requires
+push_reserved-requires g c =
     let door = c.self.inside in
     let lends : length door.finished.items + length door.links.items < door.room =
     subst (λ (shown : SteadyDoorInMemory g.row.L.Denot). Lends shown) (sym c.self.view_is) c.requires in
-    omega (arith, door.finished.ok.0, c.self.invariant.1, c.in-Err.ensures.full)
+    omega (arith, door.finished.ok.0, c.self.invariant.1)
 
 pub invariant_of-self : goal.invariant_of-self
 invariant_of-self g c =
     let door = c.self.inside in
     let lends : length door.finished.items + length door.links.items < door.room =
     subst (λ (shown : SteadyDoorInMemory g.row.L.Denot). Lends shown) (sym c.self.view_is) c.requires in (
-      omega (arith, door.finished.ok.0, c.push.new.self.ok.0, c.in-Ok.ensures.len),
-      omega (arith, c.self.invariant.1, c.push.ensures.capacity),
+      omega (arith, door.finished.ok.0, c.push_reserved.new.self.ok.0, c.push_reserved.ensures.len),
+      omega (arith, c.self.invariant.1, c.push_reserved.ensures.capacity),
       c.self.invariant.2,
       c.self.invariant.3,
     )
 
 pub returns-clause-finished : goal.returns-clause-finished
-returns-clause-finished g c = c.in-Ok.ensures.items
+returns-clause-finished g c = c.push_reserved.ensures.items
     ∙ ap (λ (shown : SteadyDoorInMemory g.row.L.Denot). shown.finished ++ (c.args.conn, c.args.link) ∷ [])
     c.self.view_is
 

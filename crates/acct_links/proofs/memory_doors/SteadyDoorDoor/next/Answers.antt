@@ -1,4 +1,4 @@
--- `next` gives the first link to come, which is new; those behind it are new too, and a closed door gives none.
+-- `next` gives the first link to come, which is new; those after it are new too, and a closed door gives none.
 use Rattle.std.proofs.Common.{List, All, drop, length, sym, subst, ap, ◌∙◌, arith, length-drop}
 use Rattle.std.proofs.lemmas.List.Elements.{All-drop, All-head}
 use Rattle.acct_links.specs.Links.{IsNew}

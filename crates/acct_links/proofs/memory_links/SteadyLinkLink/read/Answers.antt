@@ -1,4 +1,4 @@
--- What `read` copies is the front of what is left to read: it adds to what was received, and the rest is left.
+-- What `read` copies is the prefix of what is left to read: it adds to what was received, and the rest is left.
 use Rattle.std.proofs.Common.{◌≡◌, List, ℕ, take, drop, sym, ap, ◌∙◌, ◌++◌, ◌+◌, rules, refl, arith}
 use Rattle.acct_links.specs.Memory.{SteadyLinkInMemory}
 use Rattle.acct_links.proofs.Sending.{read-splits, none-behind, take-more}
