@@ -1,4 +1,4 @@
--- What an answer does to a dialogue, whatever is left to hear behind it.
+-- What an answer does to a dialogue, whatever is left to hear after it.
 use Rattle.std.proofs.Common.{◌≡◌, ℕ, ◌≤◌, Bool, true, false, List, [], ◌++◌, length, Ok, Err, Result, Option}
 use Rattle.std.proofs.Common.{refl, sym, ap, ◌∙◌, ◌⊎◌, inl, inr, cond, if◌then◌else◌}
 use Rattle.std.proofs.lemmas.Bool.{true≢false}
@@ -35,9 +35,9 @@ use Rattle.acct_client.specs.Hearings.{heard_next, next_of, stepped}
 use Rattle.rpc_session.specs.Answers.{size_for}
 use Rattle.acct_client.specs.Runs.{more}
 
--- ---- a PDU in front
+-- ---- a PDU at the beginning
 
--- a whole PDU in front
+-- a whole PDU at the beginning
 pub record IsWhole (bytes : List ℕ) (size : ℕ) : Type 0 where
   pub low : 16 ≤ size
   pub there : size ≤ length bytes
@@ -144,14 +144,14 @@ settles (Failed e) (answer.Stub place stub) =
 
 -- ---- what follows of it
 
--- no answer is awaited behind a whole one
+-- no answer is awaited after a whole one
 pub answered_done : (s : State) (l : Listening) (a : Answer) → (answered s l a).is_awaiting ≡ false
 answered_done s l a = elim (settles s a) [
   | inl leads ↦ ap (λ (p : Progress). p.is_awaiting) (leads.gives l)
   | inr ends ↦ ap (λ (p : Progress). p.is_awaiting) (ends.gives l)
 ]
 
--- what is left behind an answer is what was left, or no answer is awaited any more
+-- what is left after an answer is what was left, or no answer is awaited any more
 pub answered_leaves : (s : State) (l : Listening) (a : Answer)
     → ((answered s l a).left ≡ l) ⊎ (awaits (answered s l a).state ≡ false)
 answered_leaves s l a = elim (settles s a) [
@@ -159,7 +159,7 @@ answered_leaves s l a = elim (settles s a) [
   | inr ends ↦ inr (ap (λ (p : Progress). awaits p.state) (ends.gives l))
 ]
 
--- what is left behind an answer that is no error
+-- what is left after an answer that is no error
 pub answered_kept : (s : State) (l : Listening) (a : Answer) → is_failed (answered s l a).state ≡ false
     → (answered s l a).left ≡ l
 answered_kept s l a e = elim (settles s a) [
@@ -179,7 +179,7 @@ leads_to : (state : State) (l : Listening) (lines b : List ℕ) → is_failed st
 leads_to state l lines b going =
     ap (λ (x : Bool). cond x (goes_to state l lines) (goes_to state (heard_on l b) lines)) (sym going)
 
--- bytes behind a whole answer wait
+-- bytes after a whole answer wait
 pub answered_on : (s : State) (l : Listening) (b : List ℕ) (a : Answer)
     → answered s (heard_on l b) a ≡ progress_on (answered s l a) b
 answered_on s l b a = elim (settles s a) [

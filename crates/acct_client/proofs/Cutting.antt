@@ -25,9 +25,9 @@ Gathered = Option PartialReply
 abbrev Later : Type 0
 Later = ℕ → Gathered → List ℕ → Heard
 
--- ---- what stands in front stays, whatever follows
+-- ---- what stands at the beginning stays, whatever follows
 
--- a whole PDU in front
+-- a whole PDU at the beginning
 pub record IsWhole (bytes : List ℕ) (size : ℕ) : Type 0 where
   pub low : 16 ≤ size
   pub there : size ≤ length bytes

@@ -233,7 +233,7 @@ talks-done command t new old now room cut received bytes idle s l none same kept
     (ap (λ (u : Talk). u.lines) all)
     (ap (λ (u : Talk). u.state) (sym all) ∙ ap (λ (u : Talk). u.state) same ∙ ended-state t.state s.going off)
 
--- memory was wanted for a request
+-- memory ran out for a request
 pub talks-lost : (command : Command) (t : Talk) (old now : Told) (room : ℕ) (cut : Bool) (received bytes lines : List ℕ)
     → TalkSoFar command t received bytes → LinkSoFar old now room cut received bytes
     → Talks command ends.NoMemory old now lines

@@ -21,7 +21,7 @@ use Rattle.acct_client.proofs.Answering.{hears_whole}
 
 -- ---- what is heard of some bytes from a place on
 
--- behind a whole answer less is left and the place is further; while it isn't whole the place doesn't fall
+-- after a whole answer less is left and the place is further; while it isn't whole the place doesn't fall
 abbrev pub Advances : ℕ → ℕ → Heard → Type 0
 Advances place n (Waits l) = place ≤ l.place
 Advances place n (NoAnswer at) = Unit {0}
@@ -66,7 +66,7 @@ pub took_is : (t : Talk) (b : List ℕ) → awaits t.state ≡ true → took t b
 unfolding took
 took_is t b e = ap (λ (x : Bool). cond x t (joined t (progress t.state t.left b))) (goes_unfailed t.state e)
 
--- where what was heard is no error, the place goes on behind a whole answer, and doesn't fall else
+-- where what was heard is no error, the place goes on after a whole answer, and doesn't fall else
 abbrev pub MovesTo : ℕ → Progress → Type 0
 MovesTo place p = is_failed p.state ≡ false
     → (place ≤ p.left.place) × (p.is_awaiting ≡ false → place < p.left.place)

@@ -38,7 +38,7 @@ heard_on l b = record l { rest = l.rest ++ b }
 abbrev pub progress_on : Progress → List ℕ → Progress
 progress_on p b = if is_failed p.state then p else record p { left = heard_on p.left b }
 
--- ---- bytes behind a whole answer wait
+-- ---- bytes after a whole answer wait
 
 turned_on : (id size place : ℕ) (l : Listening) (b : List ℕ) (o : Outcome)
     → turned id size place (heard_on l b) o ≡ progress_on (turned id size place l o) b
@@ -108,7 +108,7 @@ answered_done (Failed e) l answer.Nak = refl
 answered_done (Failed e) l (answer.Bound recv) = refl
 answered_done (Failed e) l (answer.Stub place stub) = refl
 
--- what is left behind an answer is what was left, or nothing more is heard
+-- what is left after an answer is what was left, or nothing more is heard
 abbrev pub Leaves : Listening → Progress → Type 0
 Leaves l p = (p.left ≡ l) ⊎ (awaits p.state ≡ false) × (p.left ≡ silence)
 
@@ -337,7 +337,7 @@ run_waiting stable cut t l b is_true =
     ∙ same_lines (record u { left = heard_on u.left b }) (record t { left = heard_on t.left b })
     (told t.state (on w l b)) run (append-nil t.lines))
 
--- what comes behind an answer
+-- what comes after an answer
 run_answered : (t : Talk) (l : Listening) (a : Answer) (b : List ℕ)
     → run (more (joined t (answered t.state l a)) b) ≡ run (more (run (joined t (answered t.state l a))) b)
     → run_on (more_heard t b) (answered t.state (heard_on l b) a) run

@@ -39,7 +39,7 @@ rose-later a b c le r = omega (arith, le, r)
 
 -- ---- what was sent
 
--- a front of what was to be sent is one also where there is more
+-- a prefix of what was to be sent is one also where there is more
 front-more : (n : ℕ) (x y : List ℕ) → n ≤ length x → take n (x ++ y) ≡ take n x
 front-more n x y le = take-append-le n x y le
 
@@ -68,7 +68,7 @@ pub sent-whole : (old now new : Told) (before bytes : List ℕ) → SentSoFar fa
     → SentSoFar false old new (before ++ bytes)
 sent-whole old now new before bytes s w = Appends-then old.sent now.sent new.sent before bytes s w.sent
 
--- a front of some bytes, behind others
+-- a prefix of some bytes, after others
 take-behind : (x y : List ℕ) (n : ℕ) → x ++ take n y ≡ take (length x + n) (x ++ y)
 take-behind [] y n = let same : 0 + n ≡ n = omega arith in rw same refl
 take-behind (b ∷ x) y n = let same : suc (length x) + n ≡ suc (length x + n) =

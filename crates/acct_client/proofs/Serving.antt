@@ -111,7 +111,7 @@ unfolding response
 response_length back id context flags left part =
     (back (pdu.Response id flags context (min left 0xFFFFFFFF) part) tt).size
 
--- what stands behind bytes of a known length
+-- what stands after bytes of a known length
 behind : (front more : List ℕ) (size : ℕ) → length front ≡ size → drop size (front ++ more) ≡ more
 behind front more size long = ap (λ (n : ℕ). drop n (front ++ more)) (sym long) ∙ drop-append_seam front more
 
@@ -213,7 +213,7 @@ bound_heard stable back xmit recv group first second more is is' whole whole' =
     ∙ ap (λ (b : Bool). stepped 0 80 (cond b (Gives (answer.Bound recv)) Wrong)) (both_zero first second is is'))
     ∙ ap (λ (x : List ℕ). Answered (answer.Bound recv) (listening 80 None x)) (behind (written p) more 80 read.size)
 
--- ---- a dialogue goes on behind an answer that stands in front
+-- ---- a dialogue goes on after an answer that stands at the beginning
 
 abbrev Lines : Talk → List ℕ
 Lines t = t.lines

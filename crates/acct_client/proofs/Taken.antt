@@ -219,7 +219,7 @@ kept_fits t new b h fit = elim (both t new b h) [
   | inr heard ↦ now_fit t new b heard fit
 ]
 
--- ---- want of memory
+-- ---- running out of memory
 
 pub lost_fails : (t new : Talk) (lines b : List ℕ) → new ≡ lost lines → lines ≡ t.lines → IsFailed Memory t new b
 lost_fails t new lines b same is =

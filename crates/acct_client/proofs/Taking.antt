@@ -175,7 +175,7 @@ pub piece_awaits : (t : Talk) (b : List ℕ) → awaits t.state ≡ true
 unfolding progress
 piece_awaits t b is_true e = told_awaits t.state (on (awaited_of t.state) t.left b) is_true e
 
--- ---- no answer is a want of memory
+-- ---- no answer is out of memory
 
 abbrev wants_memory : State → Bool
 wants_memory (Failed Memory) = true
@@ -227,7 +227,7 @@ told_known s (Waits l) e = awaits_known s e
 told_known s (NoAnswer at) e = refl
 told_known s (Answered a l) e = answered_known s l a
 
--- a piece brings no want of memory
+-- no piece runs out of memory
 pub piece_known : (t : Talk) (b : List ℕ) → awaits t.state ≡ true
     → (progress t.state t.left b).state ≢ Failed Memory
 unfolding progress

@@ -29,7 +29,7 @@ abbrev pub answer_of : State → Bool → Result Bool AskError
 answer_of (Failed e) awaiting = Err e
 answer_of _ awaiting = Ok (not awaiting)
 
--- a dialogue that wants memory
+-- a dialogue that runs out of memory
 abbrev pub lost : List ℕ → Talk
 lost lines = record { state = Failed Memory; is_awaiting = false; left = silence; lines = lines }
 
@@ -48,15 +48,15 @@ pub record IsTaken (whole : Bool) (old new : Talk) (piece : List ℕ) : Type 0 w
   pub going : is_failed new.state ≡ false
   pub answer : whole ≡ not new.is_awaiting
 
--- The error that the piece brought, or that came before. Want of memory may come anywhere, and leaves the lines. From
--- then on the error stands.
+-- The error that the piece brought, or that came before. Running out of memory may come anywhere, and leaves the lines.
+-- From then on the error stands.
 pub record IsFailed (e : AskError) (old new : Talk) (piece : List ℕ) : Type 0 where
   pub state : new.state ≡ Failed e
   pub awaiting : new.is_awaiting ≡ false
   pub cause : e ≢ Memory → new ≡ took old piece
   pub lines : e ≡ Memory → new.lines ≡ old.lines
 
--- nothing was sent for want of memory
+-- nothing was sent, since memory ran out
 pub record IsLost (old new : Talk) : Type 0 where
   pub state : new.state ≡ Failed Memory
   pub awaiting : new.is_awaiting ≡ false

@@ -19,7 +19,7 @@ abbrev pub called_with : {L : Type 0} → Option (List (List ℕ)) → List ℕ 
 called_with called address None = called
 called_with called address (Some link) = with_address address called
 
--- no link was given: the caller failed, or memory was wanted
+-- no link was given: the caller failed, or memory ran out
 abbrev pub IsUncalled : TalkEnd → ℕ → ℕ → Type 0
 IsUncalled PeerFault before now = Rose before now
 IsUncalled NoMemory before now = Unit {0}
@@ -30,13 +30,13 @@ pub record IsSilent {E : Type 0} (printing : Result Unit E) (old new : Sunk) : T
   pub ok : printing ≡ Ok tt
   pub same : new ≡ old
 
--- the lines were written, or a front of them before a write failed
+-- the lines were written, or a prefix of them before a write failed
 pub record Prints {E : Type 0} (printing : Result Unit E) (lines : List ℕ) (old new : Sunk) : Type 0 where
   pub ok : OnOk printing (Appends old.held new.held lines)
   pub err : OnErr printing ((n : ℕ) × Appends old.held new.held (take n lines))
   pub cause : HasCause old.faults new.faults printing
 
--- after want of memory nothing is written
+-- where memory ran out nothing is written
 abbrev pub PrintsBy : {E : Type 0} → TalkEnd → Result Unit E → List ℕ → Sunk → Sunk → Type 0
 PrintsBy NoMemory printing lines old new = IsSilent printing old new
 PrintsBy end printing lines old new = Prints printing lines old new

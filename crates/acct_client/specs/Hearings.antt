@@ -20,7 +20,7 @@ stepped place size (Goes reply) = next.Goes reply size
 stepped place size (Gives answer) = next.Gives answer size
 stepped place size Wrong = next.Wrong place
 
--- what stands in front of the bytes from a place on
+-- what stands at the beginning of the bytes from a place on
 abbrev pub next_of : Awaited → ℕ → Option PartialReply → Front → Next
 next_of awaited place reply (Whole pdu size) = stepped place size (turned awaited place reply pdu)
 next_of awaited place reply Rest = next.Waits reply
@@ -54,7 +54,7 @@ hear awaited place reply bytes = hear_in (length bytes) awaited place reply byte
 abbrev pub on : Awaited → Listening → List ℕ → Heard
 on awaited l piece = hear awaited l.place l.reply (l.rest ++ piece)
 
--- what becomes of what was heard, where more bytes come: they are heard while the answer isn't whole, and wait behind
+-- what becomes of what was heard, where more bytes come: they are heard while the answer isn't whole, and wait after
 -- a whole one
 abbrev pub with_more : Awaited → Heard → List ℕ → Heard
 with_more awaited (Waits l) piece = on awaited l piece

@@ -18,7 +18,7 @@ use Rattle.acct_client.specs.declared.ends.TalkEnd.TheVariants.{NoMemory, PeerBy
 
 -- ---- the link
 
--- all of these bytes were sent, or where a write has failed a front of them
+-- all of these bytes were sent, or where a write has failed a prefix of them
 abbrev pub SentSoFar : Bool → Told → Told → List ℕ → Type 0
 SentSoFar false old now bytes = Appends old.sent now.sent bytes
 SentSoFar true old now bytes = (count : ℕ) × (count ≤ length bytes) × Appends old.sent now.sent (take count bytes)
@@ -90,7 +90,7 @@ HeardEnd (Refused status) t = (t.state ≡ Failed (error.Refused status)) ⊎ (t
 HeardEnd NoMemory t = Unit {0}
 HeardEnd end t = ⊥
 
--- what was to be sent: after want of memory something may be missing
+-- what was to be sent: where memory ran out something may be missing
 abbrev pub AsksBy : TalkEnd → List ℕ → List ℕ → Type 0
 AsksBy NoMemory bytes all = (later : List ℕ) × (all ≡ bytes ++ later)
 AsksBy end bytes all = all ≡ bytes

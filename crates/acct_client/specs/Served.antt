@@ -24,14 +24,14 @@ use Rattle.acct_client.specs.Runs.{spoken}
 
 -- ---- the lines
 
--- of what a reply brought, and of those behind it
+-- of what a reply brought, and of those after it
 abbrev pub lines_on : Brought → (Step → List ℕ) → List ℕ
 lines_on (Goes lines next) later = lines ++ later next
 lines_on (Ends lines) later = lines
 lines_on (Refuses status) later = refused_line status
 lines_on Unfit later = []
 
--- Of a step's reply and those behind it, each to the call of the step that the one before brought: up to the last, or
+-- Of a step's reply and those after it, each to the call of the step that the one before brought: up to the last, or
 -- to the first refusal or fault with its line.
 unfoldable pub lines_of : List Reply → Step → List ℕ
 lines_of [] step = []
@@ -56,7 +56,7 @@ bytes_on (Ends lines) later = []
 bytes_on (Refuses status) later = []
 bytes_on Unfit later = []
 
--- a step's reply and those behind it, with call ids from this one on
+-- a step's reply and those after it, with call ids from this one on
 unfoldable pub bytes_of : ℕ → List Reply → ℕ → Step → List ℕ
 bytes_of size [] id step = []
 bytes_of size (r ∷ replies) id step =

@@ -22,12 +22,12 @@ most_read = 67_108_864
 abbrev pub IsBegun : Command → Talk → Type 0
 IsBegun command t = t ≡ begun command
 
--- these bytes were sent, or a front of them before a write failed
+-- these bytes were sent, or a prefix of them before a write failed
 abbrev pub SentOrCut : Told → Told → List ℕ → Type 0
 SentOrCut old new bytes = Appends old.sent new.sent bytes
     ⊎ ((count : ℕ) × Appends old.sent new.sent (take count bytes) × Rose old.write_faults new.write_faults)
 
--- a front of these bytes was sent
+-- a prefix of these bytes was sent
 abbrev pub SentFront : Told → Told → List ℕ → Type 0
 SentFront old new bytes = (count : ℕ) × Appends old.sent new.sent (take count bytes)
 
@@ -36,7 +36,7 @@ pub record HasEnded (link : Told) : Type 0 where
   pub ended : link.ended ≡ true
   pub none_left : IsAtEnd link.left
 
--- Each end has its cause in the dialogue of all that was read, but for want of memory. Where the answer isn't whole it
+-- Each end has its cause in the dialogue of all that was read, unless memory runs out. Where the answer isn't whole it
 -- is that so many bytes were read, or that a call of the link failed or its end came.
 abbrev pub EndsBy : TalkEnd → Talk → ℕ → Told → Told → Type 0
 EndsBy Done t count old new = t.state ≡ Ended
@@ -47,12 +47,12 @@ EndsBy InputTooLong t count old new = (t.is_awaiting ≡ true) × (count ≡ mos
 EndsBy (Refused status) t count old new =
     (t.state ≡ Failed (error.Refused status)) ⊎ (t.state ≡ Failed (error.PeerFault status))
 
--- what was sent: after want of memory only a front
+-- what was sent: where memory ran out only a prefix
 abbrev pub SendsBy : TalkEnd → Told → Told → List ℕ → Type 0
 SendsBy NoMemory old new bytes = SentFront old new bytes
 SendsBy end old new bytes = SentOrCut old new bytes
 
--- the lines: after want of memory nothing is said of them
+-- the lines: where memory ran out nothing is said of them
 abbrev pub LinesBy : TalkEnd → List ℕ → List ℕ → Type 0
 LinesBy NoMemory lines all = Unit {0}
 LinesBy end lines all = lines ≡ all
@@ -84,7 +84,7 @@ IsDoneOrLost Done = Unit {0}
 IsDoneOrLost NoMemory = Unit {0}
 IsDoneOrLost end = ⊥
 
--- a dialogue over such a link comes to its last answer, but for want of memory
+-- a dialogue over such a link comes to its last answer, unless memory runs out
 abbrev pub ComesToItsEnd : Type 0
 ComesToItsEnd = (command : Command) (end : TalkEnd) (old new : Told) (printed peer : List ℕ)
     → Talks command end old new printed → BringsAll command old new peer → IsDoneOrLost end

@@ -38,7 +38,7 @@ impl Model for Asker {
 
 impl Asker {
     /// The client of the command that some words are. `Usage` is answered only off the table of commands, and no words
-    /// off it are taken; no other error is answered but want of memory.
+    /// off it are taken; no other error is answered but running out of memory.
     pub fn new(alloc: Global, words: &[String]) -> Result<Asker, AskError>
         ensures ok { IfOk result (λ asker. option_map begun (command_of (map string_bytes words.now)) ≡ Some asker) }
         ensures err { IfErr result (λ e. IsNoClient e (command_of (map string_bytes words.now))) }
@@ -123,7 +123,7 @@ struct AfterPiece {
     answer: Result<bool, AskError>,
 }
 
-/// A dialogue that wants memory.
+/// A dialogue that runs out of memory.
 fn lost(alloc: Global, lines: Text) -> Talk
     ensures { result ≡ lost lines }
 {

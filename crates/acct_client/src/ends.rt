@@ -5,7 +5,7 @@
 pub enum TalkEnd {
     /// The last answer came.
     Done,
-    /// Memory was wanted.
+    /// Memory ran out.
     NoMemory,
     /// The peer's bytes are no answer from this place on.
     PeerBytes(u64),

@@ -17,7 +17,7 @@ pub struct Listening {
     pub rest: Seq<u8>,
 }
 
-/// What stands in front of some bytes.
+/// What stands at the beginning of some bytes.
 #[derive(Debug, Drop)]
 pub enum Next {
     /// Less than a PDU.
@@ -120,7 +120,7 @@ fn hear(
     }
 }
 
-/// Hears a piece behind what is left. The places are below 2^64.
+/// Hears a piece after what is left. The places are below 2^64.
 pub fn hear_piece(
     alloc: Global,
     awaited: Awaited,

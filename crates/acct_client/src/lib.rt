@@ -6,7 +6,7 @@
 //! layer above uses the contract of [`call`]: what is sent, the lines that are printed and the end are those of the
 //! command's dialogue over all that was read, and the peer is at fault only where a count of the link or the caller
 //! rose, or the link ended. Where no call of the link fails and the peer's bytes bring all answers, the last one comes,
-//! but for want of memory ([`dialogues_come_to_their_ends`]).
+//! except where memory runs out ([`dialogues_come_to_their_ends`]).
 //!
 //! In rooms: without a link, `requests` has what is sent, `hearing` and `answers` read the peer's stream, and
 //! `dialogue` and `asker` go from one state to the next: an [`Asker`] sends the bind and then the requests of its
@@ -38,5 +38,5 @@ pub use hearing::{Heard, Listening, hear_piece, streams_are_cut_anywhere};
 pub use laws::dialogues_come_to_their_ends;
 pub use requests::{bind_bytes, context_of, request_bytes, short_stubs_are_one_pdu};
 
-/// Want of memory, which is the one fault that may come anywhere.
+/// Running out of memory, which is the one fault that may come anywhere.
 pub type NoMemory = std::alloc::AllocError;

@@ -14,7 +14,7 @@ use Rattle.acct_world.specs.declared.part.Part.TheVariants as part
 use Rattle.acct_server.specs.declared.status.Status.{Status}
 use Rattle.acct_commands.specs.Statuses.{talk_status}
 use Rattle.acct_commands.specs.Words.{Form, Replay, Generate, Serve, Call, Calling, ServeNames, calling, calling_at}
-use Rattle.acct_commands.specs.Words.{call_form, is_call, replay_form, gen_form, serve_form, form_of}
+use Rattle.acct_commands.specs.Words.{call_form, is_call_form, replay_form, gen_form, serve_form, form_of}
 use Rattle.acct_client.specs.declared.dialogue.Talk.{Talk}
 use Rattle.acct_client.specs.Dialogues.{begun}
 use Rattle.acct_client.specs.Talks.{IsBegun}
@@ -149,21 +149,21 @@ pub of_the_one : {A : Type 0} (P : A → Type 0) (o : Option A) (known : A) → 
 of_the_one P o known is holds x same =
     let e : Some known ≡ Some x = sym is ∙ same in let f : known ≡ x = cc in subst P f holds
 
-call-form-at : (words rest : List (List ℕ)) (address : List ℕ) → is_call words ≡ true → get_or words 1 [] ≡ address
+call-form-at : (words rest : List (List ℕ)) (address : List ℕ) → is_call_form words ≡ true → get_or words 1 [] ≡ address
     → drop 2 words ≡ rest → call_form words ≡ calling_at address rest
 call-form-at words rest address is here behind =
     ap (λ (b : Bool). if b then calling_at (get_or words 1 []) (drop 2 words) else None) is
     ∙ ap (λ (a : List ℕ). calling_at a (drop 2 words)) here ∙ ap (λ (ws : List (List ℕ)). calling_at address ws) behind
 
 -- what is asked for at an address is what the words after it are
-pub call-form : (words rest : List (List ℕ)) (address : List ℕ) (command : Command) → is_call words ≡ true
+pub call-form : (words rest : List (List ℕ)) (address : List ℕ) (command : Command) → is_call_form words ≡ true
     → get_or words 1 [] ≡ address → drop 2 words ≡ rest → command_of rest ≡ Some command
     → call_form words ≡ Some (record { address = address; command = command })
 call-form words rest address command is here behind known =
     call-form-at words rest address is here behind
     ∙ ap (λ (o : Option Command). option_map (λ (c : Command). calling address c) o) known
 
-pub no-call-form : (words rest : List (List ℕ)) (address : List ℕ) → is_call words ≡ true
+pub no-call-form : (words rest : List (List ℕ)) (address : List ℕ) → is_call_form words ≡ true
     → get_or words 1 [] ≡ address → drop 2 words ≡ rest → command_of rest ≡ None → call_form words ≡ None
 no-call-form words rest address is here behind none =
     call-form-at words rest address is here behind

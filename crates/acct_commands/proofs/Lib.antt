@@ -3,8 +3,10 @@ pub mod Usages
 pub mod Generations
 pub mod Callings
 pub mod Servings
+pub mod Completing
 pub mod Periods
 pub mod GoingOn
 pub mod Fitting
 pub mod Lines
+pub mod Counting
 pub mod Summarizing

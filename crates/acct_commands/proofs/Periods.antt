@@ -7,8 +7,8 @@ use Rattle.std.proofs.lemmas.List.{append-nil}
 use Rattle.std.proofs.lemmas.Grind.{flat_map-append}
 use Rattle.acct_config.specs.declared.config.Config.{Config}
 use Rattle.door_workers.specs.Doors.{DoorRun}
-use Rattle.door_workers.specs.declared.outcome.Outcome.{Outcome}
-use Rattle.door_workers.specs.declared.outcome.Outcome.TheVariants as outcome
+use Rattle.door_workers.specs.declared.ends.DoorEnd.{DoorEnd}
+use Rattle.door_workers.specs.declared.ends.DoorEnd.TheVariants as stop
 use Rattle.door_workers.specs.declared.ends.DoorEnd.TheVariants.{Closed}
 use Rattle.acct_server.specs.Leaves.{StoreCause}
 use Rattle.acct_server.specs.Serving.{Telling, IsServe, served_status}
@@ -109,11 +109,11 @@ module _ {D F K : Type 0} (telling : Telling D F K) (config : Config) where
       ]
 
   -- no period ends for words without a form
-  of-outcome : (outcome : Outcome) → served_status outcome ≢ Usage
-  of-outcome outcome.Done is = absurd cc
-  of-outcome outcome.Failed is = absurd cc
-  of-outcome (outcome.Full n) is = absurd cc
-  of-outcome outcome.NoMemory is = absurd cc
+  of-outcome : (outcome : DoorEnd) → served_status outcome ≢ Usage
+  of-outcome stop.Closed is = absurd cc
+  of-outcome stop.Failed is = absurd cc
+  of-outcome (stop.Full n) is = absurd cc
+  of-outcome stop.NoMemory is = absurd cc
 
   pub serve-not-usage : (doors now : List D) (keeper : K) (left : Served K)
       → IsServe telling config doors now keeper left → left.status ≢ Usage

@@ -2,6 +2,7 @@
 -- before.
 use Rattle.std.proofs.Common.{◌≡◌, List, ◌∷◌, [], ◌++◌, Ok, refl, sym, ◌∙◌, ap}
 use Rattle.std.specs.List.{flat_map}
+use Rattle.acct_server.specs.Completing.{ServingIsComplete}
 use Rattle.acct_server.specs.declared.status.Status.{Status}
 use Rattle.acct_world.specs.declared.part.Part.TheVariants as part
 use Rattle.acct_world.specs.declared.period.Period.{Period}
@@ -10,6 +11,7 @@ use Rattle.acct_world.specs.World.{Seen, TakesSource, GivesSource, TakesKeeper, 
 use Rattle.acct_world.specs.World.{GivesEntrance}
 use Rattle.acct_commands.specs.Serving.{TellingServe, ServeParts, HasServed, kept_in}
 use Rattle.acct_commands.specs.Rounds.{RunsParts, ReturnsParts}
+use Rattle.acct_commands.proofs.Completing.{serving-completes}
 use Rattle.acct_commands.proofs.Worlds.{asked-ok, asked-more}
 
 -- the parts that were out are given back
@@ -66,11 +68,11 @@ gave-back told names before after w3 w4 w5 w6 w7 status runs entrance keeper con
 pub has-served : {S T K E D F C L : Type 0} (told : TellingServe S K E D F) (names : ServeNames)
     (w0 w1 w2 w3 w7 : Seen S T K E D C L) (config : S) (keeper : K) (entrance : E) (status : Status)
     → TakesSource w0 w1 names.config (Ok config) → TakesKeeper told.served.pairs w1 w2 names.store (Ok keeper)
-    → TakesEntrance w2 w3 (Ok entrance)
+    → TakesEntrance w2 w3 (Ok entrance) → ServingIsComplete told.served
     → ReturnsParts told names (record { config = config; keeper = keeper; entrance = entrance; doors = [] }) w3 w7
     status
     → HasServed told names w0 w7 status
-has-served told names w0 w1 w2 w3 w7 config keeper entrance status source store door back =
+has-served told names w0 w1 w2 w3 w7 config keeper entrance status source store door complete back =
     let tells1 : w1.tells ≡ w0.tells = ap (λ (s : Seen _ _ _ _ _ _ _). s.tells) source.others in
     let tells2 : w2.tells ≡ w0.tells = ap (λ (s : Seen _ _ _ _ _ _ _). s.tells) store.others ∙ tells1 in
     let tells3 : w3.tells ≡ w0.tells = ap (λ (s : Seen _ _ _ _ _ _ _). s.tells) door.others ∙ tells2 in
@@ -79,6 +81,9 @@ has-served told names w0 w1 w2 w3 w7 config keeper entrance status source store 
       after = back.after;
       rounds = back.rounds;
       leaves = back.leaves;
+      complete = λ quiet. serving-completes told
+          (record { config = config; keeper = keeper; entrance = entrance; doors = [] }) back.after back.rounds status
+          complete back.leaves quiet;
       took_config = λ tells. (source.part tells).0;
       took_keeper = λ tells. sym (ap (λ (s : Seen _ _ _ _ _ _ _). s.keeper names.store) source.others)
           ∙ (store.part (tells1 ∙ tells)).0;

@@ -3,7 +3,7 @@ use Rattle.std.specs.Prelude.{◌≡◌, ℕ, List, true}
 use Rattle.acct_server.specs.Replaying.{Telling}
 use Rattle.acct_server.specs.declared.status.Status.{Status}
 use Rattle.acct_server.specs.declared.status.Status.TheVariants.{Usage, NoMemory}
-use Rattle.acct_commands.specs.Words.{Form, Replay, Generate, Serve, Call, is_call}
+use Rattle.acct_commands.specs.Words.{Form, Replay, Generate, Serve, Call, is_call_form}
 use Rattle.acct_world.specs.World.{Seen}
 use Rattle.acct_commands.specs.Commanded.{Commanded}
 use Rattle.acct_commands.specs.Generates.{Generates}
@@ -28,5 +28,5 @@ Does told (Call calling) old new status = Calls told.call calling old new status
 -- read.
 abbrev pub IsFormless : List (List ℕ) → Status → Type 0
 IsFormless words Usage = Unit {0}
-IsFormless words NoMemory = is_call words ≡ true
+IsFormless words NoMemory = is_call_form words ≡ true
 IsFormless words _ = ⊥

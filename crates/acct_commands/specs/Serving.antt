@@ -1,13 +1,16 @@
 -- What the command `serve CONFIG STORE` does to a world.
 use Rattle.std.specs.Prelude.{◌≡◌, ◌≢◌, ℕ, ◌-◌, ◌<◌, ◌≤◌, Bool, true, false, List, ◌∷◌, [], ◌++◌, ◌⊎◌, length}
-use Rattle.std.specs.Prelude.{Option, Some, IsSome, IfSome, option_to_list, if◌then◌else◌}
+use Rattle.std.specs.Prelude.{Option, Some, None, IsSome, IfSome, option_to_list, if◌then◌else◌, ⊤}
 use Rattle.std.specs.List.{flat_map}
+use Rattle.acct_config.specs.Rules.{first_broken}
 use Rattle.acct_config.specs.declared.config.Config.{Config}
 use Rattle.acct_keeper.specs.declared.keeper.KeepError.{KeepError}
 use Rattle.acct_keeper.specs.declared.keeper.KeepError.TheVariants as keep
 use Rattle.acct_links.specs.declared.asking.Asking.{Asking}
+use Rattle.acct_keeper.specs.Causes.{NotRisen}
 use Rattle.acct_keeper.specs.Whole.{most_bytes}
 use Rattle.door_workers.specs.Askings.{Opens, StopsAsking}
+use Rattle.acct_server.specs.Completing.{ServesQuietly, IsServingsEnd}
 use Rattle.acct_server.specs.Configured.{IsConfigured}
 use Rattle.acct_server.specs.Leaves.{ConfigCause}
 use Rattle.acct_server.specs.Replaying.{lists_in}
@@ -92,6 +95,14 @@ module _ {D F K : Type 0} (telling : Telling D F K) (config : Config) where
   AreRounds doors keeper (first ∷ rounds) =
       IsRound doors keeper first × Follow (config.limits.max_periods - 1) first rounds
 
+module _ {D F K : Type 0} (telling : Telling D F K) where
+  -- Nothing failed in the rounds from these doors and this keeper on: the pairs that each found break no rule, and
+  -- neither its keeper's count rose nor that of a door.
+  abbrev pub AreQuiet : List D → K → List (Round D K) → Type 0
+  AreQuiet doors keeper [] = ⊤
+  AreQuiet doors keeper (round ∷ rounds) =
+      ServesQuietly telling doors round.doors keeper round.left × AreQuiet round.doors round.left.keeper rounds
+
 -- ---- what is left
 
 -- the status of an asking that wasn't answered with doors
@@ -143,6 +154,18 @@ module _ {S K E D F : Type 0} (told : TellingServe S K E D F) where
       pub left_doors : after.doors ≡ last.doors
       pub left_keeper : after.keeper ≡ last.left.keeper
 
+  -- Nothing failed outside: the source told a short document that breaks no rule, and no count rose, neither the
+  -- source's nor the entrance's nor one in a round.
+  pub record IsQuiet (before after : ServeParts S K E D) (rounds : List (Round D K)) (status : Status) : Type 0 where
+    pub document : List ℕ
+    pub tells : told.left before.config ≡ Some document
+    pub short : length document ≤ most_bytes
+    pub unbroken : first_broken document ≡ None
+    pub source : NotRisen (told.read_faults before.config) (told.read_faults after.config)
+    pub entrance : NotRisen (told.entrance_faults before.entrance) (told.entrance_faults after.entrance)
+    pub each : (serves : ServesRounds before after rounds status)
+        → AreQuiet told.served serves.doors before.keeper rounds
+
   abbrev pub LeavesParts : ServeParts S K E D → ServeParts S K E D → List (Round D K) → Status → Type 0
   LeavesParts before after rounds status =
       StopsAtConfig before after rounds status
@@ -164,6 +187,8 @@ pub record HasServed {S T K E D F C L : Type 0} (told : TellingServe S K E D F) 
   pub after : ServeParts S K E D
   pub rounds : List (Round D K)
   pub leaves : LeavesParts told before after rounds status
+  -- where nothing failed outside, serving was done, or the history was full, or memory ran out
+  pub complete : IsQuiet told before after rounds status → IsServingsEnd status
   pub took_config : old.tells ≡ true → old.source names.config ≡ Some before.config
   pub took_keeper : old.tells ≡ true → old.keeper names.store ≡ Some before.keeper
   pub took_entrance : old.tells ≡ true → old.entrance ≡ Some before.entrance

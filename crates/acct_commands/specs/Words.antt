@@ -66,13 +66,13 @@ abbrev pub calling_at : List ℕ → List (List ℕ) → Option Calling
 calling_at address words = option_map (λ (c : Command). calling address c) (command_of words)
 
 -- `call ADDRESS WORD` with one or more words, of which none begins with a dash
-abbrev pub is_call : List (List ℕ) → Bool
-is_call (command ∷ address ∷ word ∷ words) =
+abbrev pub is_call_form : List (List ℕ) → Bool
+is_call_form (command ∷ address ∷ word ∷ words) =
     bytes_eq command (codes "call") && is_address address && not (list_any begins_with_dash (word ∷ words))
-is_call _ = false
+is_call_form _ = false
 
 abbrev pub call_form : List (List ℕ) → Option Calling
-call_form words = if is_call words then calling_at (get_or words 1 []) (drop 2 words) else None
+call_form words = if is_call_form words then calling_at (get_or words 1 []) (drop 2 words) else None
 
 -- what the words ask for, if they have a form
 abbrev pub form_of : List (List ℕ) → Option Form

@@ -5,13 +5,13 @@ ghost use Rattle.acct_commands.specs.Calls.{most_users};
 ghost use Rattle.acct_client.specs.Talks.{IsBegun};
 ghost use Rattle.client_commands.specs.declared.command.Command.{Command};
 ghost use Rattle.acct_server.specs.declared.status.Status.TheVariants.{Usage};
-ghost use Rattle.acct_commands.specs.Words.{Form, Calling, form_of, is_call, call_form};
+ghost use Rattle.acct_commands.specs.Words.{Form, Calling, form_of, is_call_form, call_form};
 ghost use Rattle.acct_commands.specs.Commanded.{Commanded, Returned, standard_input};
 ghost use Rattle.acct_commands.specs.Calling.{Calls};
 ghost use Rattle.acct_commands.specs.Generates.{Generates};
 ghost use Rattle.acct_commands.specs.Does.{Does, IsFormless};
 
-use crate::forms::{behind_two, gen_users, is_call, replay_name, serve_names};
+use crate::forms::{behind_two, gen_users, is_call_form, replay_name, serve_names};
 use crate::generating::{Generation, generate};
 use crate::keeping::keep;
 use crate::period::{parted, period_between};
@@ -165,7 +165,7 @@ fn run_call<W: World>(alloc: Global, asker: Asker, address: &str, world: &mut W)
 // The command `call`, where the words may be one: it reads which command of the client they are before any part is
 // taken.
 fn run_client<W: World>(alloc: Global, words: &Vec<String>, world: &mut W) -> Status
-    requires call { is_call (map string_bytes words.now.items) ≡ true }
+    requires call { is_call_form (map string_bytes words.now.items) ≡ true }
     requires some { 3 ≤ length words.now.items }
     ensures calls { (calling : Calling) → call_form (map string_bytes words.now.items) ≡ Some calling →
         Calls (record {
@@ -237,7 +237,7 @@ where
     if let Some((config, store)) = serve_names(words) {
         return run_serve(rt, alloc, config, store, world);
     }
-    if is_call(words) {
+    if is_call_form(words) {
         return run_client(alloc, words, world);
     }
     Status::Usage

@@ -2,7 +2,7 @@
 ghost use Rattle.std.specs.Prelude.{◌≡◌, ◌≤◌, None, Some, length, drop, map, MatchOption, IfSome, IsTrue};
 ghost use Rattle.std.specs.List.{list_any};
 ghost use Rattle.std.specs.String.{string_bytes};
-ghost use Rattle.acct_commands.specs.Words.{replay_form, gen_form, serve_form, users_in, is_call, begins_with_dash};
+ghost use Rattle.acct_commands.specs.Words.{replay_form, gen_form, serve_form, users_in, is_call_form, begins_with_dash};
 ghost use Rattle.acct_commands.specs.Calls.{most_users};
 
 use crate::calls::MOST_USERS;
@@ -87,8 +87,8 @@ pub fn behind_two(words: &Vec<String>) -> &[String]
 }
 
 /// Whether the words are `call`, an address, and one word or more, of which none begins with a dash.
-pub fn is_call(words: &Vec<String>) -> bool
-    ensures value { result ≡ is_call (map string_bytes words.now.items) }
+pub fn is_call_form(words: &Vec<String>) -> bool
+    ensures value { result ≡ is_call_form (map string_bytes words.now.items) }
     ensures some { IsTrue result → 3 ≤ length words.now.items }
 {
     if words.len() < 3 {

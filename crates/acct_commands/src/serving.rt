@@ -11,7 +11,7 @@ use crate::statuses::{door_status, entrance_status, read_status, store_status};
 use acct_links::{Door, Entrance};
 use acct_machine::{Config, kept_states_are_sound};
 use acct_rows::pairs::laws::pairs_are_of_one;
-use acct_server::{Status, read_configuration, serve};
+use acct_server::{Status, read_configuration, serve, serving_is_complete};
 use acct_world::World;
 use door_workers::open_doors;
 use std::alloc::Global;
@@ -195,6 +195,7 @@ where
     }) (record { config = config.now; store = store.now }) (W.seen world.old) (W.seen world.new) result }
     ensures not_usage { result ≢ Usage }
 {
+    serving_is_complete::<<W::E as Entrance>::D, W::K>();
     let source = match world.take_source(config) {
         Ok(source) => source,
         Err(e) => return read_status(e),

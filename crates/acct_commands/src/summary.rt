@@ -2,8 +2,8 @@
 ghost use Rattle.std.specs.Prelude.{◌≡◌, ◌++◌, codes, length, IfOk, OnOk};
 ghost use Rattle.acct_codes.specs.declared.kind.Kind.TheVariants.{Alias, User};
 ghost use Rattle.acct_rows.specs.Rows.{account_domain, alias_members_of, is_in_alias};
-ghost use Rattle.acct_commands.specs.Summary.{count_line, is_call, call_count, kind_count, member_count, next_rid};
-ghost use Rattle.acct_commands.specs.Summary.{summary};
+ghost use Rattle.acct_machine.specs.Room.{call_count};
+ghost use Rattle.acct_commands.specs.Summary.{count_line, is_call, kind_count, member_count, next_rid, summary};
 
 use crate::NoMemory;
 use acct_calls::Name;

@@ -26,7 +26,7 @@ use Rattle.acct_machine.specs.declared.opened.OpenError.{OpenError}
 use Rattle.acct_machine.specs.declared.opened.OpenError.TheVariants as unopened
 use Rattle.acct_machine.specs.Opened.{OpensRows, OpenCause}
 use Rattle.acct_machine.specs.State.{Start}
-use Rattle.acct_machine.specs.Storing.{HoldsRows, AreUpTo}
+use Rattle.acct_machine.specs.Storing.{HoldsRows, AreCounted}
 use Rattle.acct_rows.specs.Rows.{Lists}
 use Rattle.acct_server.specs.Begun.{IsBegun}
 use Rattle.acct_server.specs.Configured.{BreaksNone, IsConfigured, refused_status, spelled}
@@ -65,37 +65,38 @@ asked-none document bytes short kept few =
 
 begun-spelled : (document : List ℕ) (config : Config) (pairs : List Pair) (faults : ℕ) (start : Start)
     → IsSpelledBy document config → IsBegun config (Some pairs) faults start
-    → IsBegun (spelled document) (Some pairs) 0 start
+    → IsBegun (spelled document) (Some pairs) faults start
 begun-spelled document config pairs faults start spells begun = record {
   under = begun.under ∙ spells.value;
   rows = subst (λ (c : Config). OpensRows c pairs start.rows) spells.value begun.rows;
   sound = begun.sound;
-  later = omega arith;
+  count = begun.count;
 }
 
-asked-run : (document bytes : List ℕ) (pairs : List Pair) (history : List Entry) (start : Start) (status : Status)
-    → asked_before document bytes ≡ None → IsBegun (spelled document) (Some pairs) 0 start
+asked-run : (document bytes : List ℕ) (pairs : List Pair) (history : List Entry) (count : ℕ) (start : Start)
+    (status : Status)
+    → asked_before document bytes ≡ None → IsBegun (spelled document) (Some pairs) count start
     → IsOfRun status → (status ≡ WriteFault → ⊥)
     → (IsRunThrough status → status ≡ (replayed start bytes history).status)
     → IsAsked document bytes pairs history status
-asked-run document bytes pairs history start Done before begun of_run none through =
-    inr (inl (before, inr (record { start = start; begun = begun; is = through tt })))
-asked-run document bytes pairs history start NoMemory before begun of_run none through = inr (inr refl)
-asked-run document bytes pairs history start Usage before begun of_run none through = absurd of_run
-asked-run document bytes pairs history start (ConfigBroken n) before begun of_run none through = absurd of_run
-asked-run document bytes pairs history start ReadFault before begun of_run none through = absurd of_run
-asked-run document bytes pairs history start WriteFault before begun of_run none through = absurd (none refl)
-asked-run document bytes pairs history start StoreFault before begun of_run none through = absurd of_run
-asked-run document bytes pairs history start (StoredPair key) before begun of_run none through = absurd of_run
-asked-run document bytes pairs history start (EventLine n) before begun of_run none through =
-    inr (inl (before, inr (record { start = start; begun = begun; is = through tt })))
-asked-run document bytes pairs history start DoorFault before begun of_run none through = absurd of_run
-asked-run document bytes pairs history start (HistoryFull n) before begun of_run none through =
-    inr (inl (before, inr (record { start = start; begun = begun; is = through tt })))
-asked-run document bytes pairs history start (PeerBytes place) before begun of_run none through = absurd of_run
-asked-run document bytes pairs history start PeerFault before begun of_run none through = absurd of_run
-asked-run document bytes pairs history start InputTooLong before begun of_run none through = absurd of_run
-asked-run document bytes pairs history start (Refused n) before begun of_run none through = absurd of_run
+asked-run document bytes pairs history count start Done before begun of_run none through =
+    inr (inl (before, inr (record { count = count; start = start; begun = begun; is = through tt })))
+asked-run document bytes pairs history count start NoMemory before begun of_run none through = inr (inr refl)
+asked-run document bytes pairs history count start Usage before begun of_run none through = absurd of_run
+asked-run document bytes pairs history count start (ConfigBroken n) before begun of_run none through = absurd of_run
+asked-run document bytes pairs history count start ReadFault before begun of_run none through = absurd of_run
+asked-run document bytes pairs history count start WriteFault before begun of_run none through = absurd (none refl)
+asked-run document bytes pairs history count start StoreFault before begun of_run none through = absurd of_run
+asked-run document bytes pairs history count start (StoredPair key) before begun of_run none through = absurd of_run
+asked-run document bytes pairs history count start (EventLine n) before begun of_run none through =
+    inr (inl (before, inr (record { count = count; start = start; begun = begun; is = through tt })))
+asked-run document bytes pairs history count start DoorFault before begun of_run none through = absurd of_run
+asked-run document bytes pairs history count start (HistoryFull n) before begun of_run none through =
+    inr (inl (before, inr (record { count = count; start = start; begun = begun; is = through tt })))
+asked-run document bytes pairs history count start (PeerBytes place) before begun of_run none through = absurd of_run
+asked-run document bytes pairs history count start PeerFault before begun of_run none through = absurd of_run
+asked-run document bytes pairs history count start InputTooLong before begun of_run none through = absurd of_run
+asked-run document bytes pairs history count start (Refused n) before begun of_run none through = absurd of_run
 
 -- ---- what was read of the sources
 
@@ -282,7 +283,7 @@ run-complete (Some document) (Some bytes) None config events faults start held n
 run-complete (Some document) (Some bytes) (Some pairs) config events faults start held now before after end configured
     short whole begun runs still =
     subst (λ (bs : List ℕ). IsAsked document bs pairs end.history end.status) whole.all
-    (asked-run document events pairs end.history start end.status
+    (asked-run document events pairs end.history faults start end.status
     (asked-none document events short configured.told.kept_all whole.within)
     (begun-spelled document config pairs faults start configured.told begun) runs.possible
     (λ fault. not_risen before after still (runs.write fault)) (λ ran. (runs.through ran).ends))
@@ -371,10 +372,9 @@ store-not-opened told old new left none out stops config_later events_later keep
 }
 
 -- the keeper's count doesn't fall along a history
-pub up-to-first : (now : ℕ) (start : Start) (history : List Entry) (faults : ℕ) → AreUpTo now start history
-    → faults ≤ start.faults → faults ≤ now
-up-to-first now start history faults up le =
-    let first : start.faults ≤ now = up 0 start.faults (omega arith) in omega (arith, first, le)
+pub counted-later : (now : ℕ) (start : Start) (history : List Entry) (faults : ℕ) → AreCounted now start history
+    → start.faults ≡ faults → faults ≤ now
+counted-later now start history faults counts is = omega (arith, counts.later, is)
 
 pub lines-run : {S T K : Type 0} (told : Telling S T K) (old new : Parts S T K) (left : Replayed K)
     → HasRunLines told old new left → told.read_faults old.config ≤ told.read_faults new.config
@@ -389,6 +389,6 @@ lines-run told old new left has config_later events_later out_later = record {
   config_later = config_later;
   events_later = events_later;
   out_later = out_later;
-  keeper_later = up-to-first (told.store_faults new.keeper) has.start left.history (told.store_faults old.keeper)
-      has.counts has.begun.later;
+  keeper_later = counted-later (told.store_faults new.keeper) has.start left.history (told.store_faults old.keeper)
+      has.counts has.begun.count;
 }

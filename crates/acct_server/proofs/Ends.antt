@@ -8,7 +8,7 @@ use Rattle.acct_config.specs.declared.config.Config.{Config}
 use Rattle.acct_keeper.specs.declared.pairs.Pair.{Pair}
 use Rattle.acct_machine.specs.Legal.{May, LegalAfter, Legal, Rises, faults_of, counts_of}
 use Rattle.acct_machine.specs.State.{Start}
-use Rattle.acct_machine.specs.Storing.{AreUpTo}
+use Rattle.acct_machine.specs.Storing.{AreCounted}
 use Rattle.acct_machine.specs.declared.entry.Entry.{Entry}
 use Rattle.acct_machine.specs.declared.entry.Entry.TheVariants.{Opened, Called, Gone}
 use Rattle.acct_machine.specs.declared.entry.Verdict.{Verdict}
@@ -21,8 +21,6 @@ use Rattle.door_workers.specs.Serving.{StopsAt}
 use Rattle.door_workers.specs.Services.{Service}
 use Rattle.door_workers.specs.declared.ends.DoorEnd.{DoorEnd}
 use Rattle.door_workers.specs.declared.ends.DoorEnd.TheVariants as stop
-use Rattle.door_workers.specs.declared.outcome.Outcome.{Outcome}
-use Rattle.door_workers.specs.declared.outcome.Outcome.TheVariants as outcome
 use Rattle.link_sessions.specs.declared.ends.Ended.{Ended}
 use Rattle.acct_server.specs.Completing.{ServesQuietly, IsServingsEnd, CommitsAll, IsComplete}
 use Rattle.acct_server.specs.Leaves.{StoreCause}
@@ -30,6 +28,7 @@ use Rattle.acct_server.specs.Serving.{Telling, IsServe, served_status}
 use Rattle.acct_server.specs.declared.serving.Served.{Served}
 use Rattle.acct_server.specs.declared.status.Status.{Status}
 use Rattle.acct_server.specs.declared.status.Status.TheVariants as status
+use Rattle.acct_machine.proofs.Storing.{counted-below}
 use Rattle.acct_server.proofs.Denying.{may-after}
 
 not-risen : (before now : ℕ) → NotRisen before now → Rose before now → ⊥
@@ -55,9 +54,10 @@ rises-of : (start : Start) (before : List Entry) (conn : ℕ) (call : Call) (ver
     → May start before (Called conn call verdict bytes) → Rises start before verdict
 rises-of start before conn call verdict bytes (live, is, short, have, takes, rises) = rises
 
-commits-all : (start : Start) (history : List Entry) (first now : ℕ) → Legal start history → first ≤ start.faults
-    → AreUpTo now start history → NotRisen first now → CommitsAll history
-commits-all start history first now legal later up still before after conn call n bytes is =
+commits-all : (start : Start) (history : List Entry) (first now : ℕ) → Legal start history → start.faults ≡ first
+    → AreCounted now start history → NotRisen first now → CommitsAll history
+commits-all start history first now legal same counts still before after conn call n bytes is =
+    let up : All (λ m. m ≤ now) (counts_of start history) = counted-below now start history counts in
     let whole : LegalAfter start [] (before ++ Called conn call (StoreFault n) bytes ∷ after) =
     subst (λ (h : List Entry). LegalAfter start [] h) is legal in
     let may = may-after start [] before after (Called conn call (StoreFault n) bytes) whole in
@@ -67,7 +67,7 @@ commits-all start history first now legal later up still before after conn call 
     let within : n ≤ now = fault-among (λ m. m ≤ now) before after conn call n bytes all in
     let above : Rose start.faults n = All-head (λ m. Rose m n) start.faults (faults_of before)
     (rises-of start before conn call (StoreFault n) bytes may).1 in
-    omega (arith, within, above, later, still.0, still.1)
+    omega (arith, within, above, same, still.0, still.1)
 
 nothing-in : (before after : List Entry) (e : Entry) → [] ≡ before ++ e ∷ after → ⊥
 nothing-in [] after e is = absurd cc
@@ -101,11 +101,11 @@ store-ends held pairs before now (status.Refused n) told unbroken still cause = 
 -- ---- no door failed
 
 -- neither a sum so far nor one more end is a failed door
-abbrev NoneFailed : Outcome → Type 0
-NoneFailed outcome.Failed = ⊥
-NoneFailed outcome.Done = Unit {0}
-NoneFailed outcome.NoMemory = Unit {0}
-NoneFailed (outcome.Full n) = Unit {0}
+abbrev NoneFailed : DoorEnd → Type 0
+NoneFailed stop.Failed = ⊥
+NoneFailed stop.Closed = Unit {0}
+NoneFailed stop.NoMemory = Unit {0}
+NoneFailed (stop.Full n) = Unit {0}
 
 abbrev HasntFailed : DoorEnd → Type 0
 HasntFailed stop.Failed = ⊥
@@ -113,19 +113,19 @@ HasntFailed stop.Closed = Unit {0}
 HasntFailed stop.NoMemory = Unit {0}
 HasntFailed (stop.Full n) = Unit {0}
 
-one-more : (o : Outcome) (e : DoorEnd) → NoneFailed o → HasntFailed e → NoneFailed (behind o e)
-one-more outcome.Failed e none not = absurd none
-one-more outcome.NoMemory e none not = tt
-one-more (outcome.Full n) stop.Failed none not = absurd not
-one-more (outcome.Full n) stop.Closed none not = tt
-one-more (outcome.Full n) stop.NoMemory none not = tt
-one-more (outcome.Full n) (stop.Full m) none not = tt
-one-more outcome.Done stop.Failed none not = absurd not
-one-more outcome.Done stop.Closed none not = tt
-one-more outcome.Done stop.NoMemory none not = tt
-one-more outcome.Done (stop.Full m) none not = tt
+one-more : (o : DoorEnd) (e : DoorEnd) → NoneFailed o → HasntFailed e → NoneFailed (behind o e)
+one-more stop.Failed e none not = absurd none
+one-more stop.NoMemory e none not = tt
+one-more (stop.Full n) stop.Failed none not = absurd not
+one-more (stop.Full n) stop.Closed none not = tt
+one-more (stop.Full n) stop.NoMemory none not = tt
+one-more (stop.Full n) (stop.Full m) none not = tt
+one-more stop.Closed stop.Failed none not = absurd not
+one-more stop.Closed stop.Closed none not = tt
+one-more stop.Closed stop.NoMemory none not = tt
+one-more stop.Closed (stop.Full m) none not = tt
 
-none-failed : {L : Type 0} (o : Outcome) (runs : List (DoorRun L)) → NoneFailed o
+none-failed : {L : Type 0} (o : DoorEnd) (runs : List (DoorRun L)) → NoneFailed o
     → ((i : ℕ) (run : DoorRun L) → i < length runs → HasntFailed (slice_index_or runs i run).stop)
     → NoneFailed (behind_all o (stops runs))
 none-failed o [] none each = none
@@ -134,19 +134,19 @@ none-failed o (run ∷ runs) none each =
     none-failed (behind o run.stop) runs (one-more o run.stop none first)
     (λ i r lt. each (suc i) r (let up : suc i < length (run ∷ runs) = omega (arith, lt) in up))
 
-outcome-ends : (o : Outcome) → NoneFailed o → IsServingsEnd (served_status o)
-outcome-ends outcome.Failed none = absurd none
-outcome-ends outcome.Done none = tt
-outcome-ends outcome.NoMemory none = tt
-outcome-ends (outcome.Full n) none = tt
+outcome-ends : (o : DoorEnd) → NoneFailed o → IsServingsEnd (served_status o)
+outcome-ends stop.Failed none = absurd none
+outcome-ends stop.Closed none = tt
+outcome-ends stop.NoMemory none = tt
+outcome-ends (stop.Full n) none = tt
 
-comes-to-an-end : {L : Type 0} (runs : List (DoorRun L)) (o : Outcome) (ends : List Ended) → ComesTo runs o ends
+comes-to-an-end : {L : Type 0} (runs : List (DoorRun L)) (o : DoorEnd) (ends : List Ended) → ComesTo runs o ends
     → NoneFailed (outcome_of (stops runs)) → NoneFailed o
-comes-to-an-end runs outcome.NoMemory ends comes none = tt
-comes-to-an-end runs outcome.Done ends comes none = tt
-comes-to-an-end runs (outcome.Full n) ends comes none = tt
-comes-to-an-end runs outcome.Failed ends comes none =
-    subst (λ (o : Outcome). NoneFailed o) (sym comes.0) none
+comes-to-an-end runs stop.NoMemory ends comes none = tt
+comes-to-an-end runs stop.Closed ends comes none = tt
+comes-to-an-end runs (stop.Full n) ends comes none = tt
+comes-to-an-end runs stop.Failed ends comes none =
+    subst (λ (o : DoorEnd). NoneFailed o) (sym comes.0) none
 
 module _ {D L K : Type 0} (telling : Telling D L K) (before now : List D) (keeper : K) (left : Served K) where
   stop-is : (d e : D) (ss : List (Service L)) (why : DoorEnd) → NotRisen (telling.door.faults d) (telling.door.faults e)
@@ -195,9 +195,9 @@ module _ {D L K : Type 0} (telling : Telling D L K) (before now : List D) (keepe
     | inr has ↦ record {
       ends = subst (λ (s : Status). IsServingsEnd s) (sym has.status)
           (outcome-ends has.outcome (comes-to-an-end has.served.runs has.outcome left.ends has.served.comes
-          (none-failed outcome.Done has.served.runs tt
+          (none-failed stop.Closed has.served.runs tt
           (by-doors now refl has.served.runs has.served.doors quiet.doors))));
       commits = commits-all has.start left.history (telling.faults keeper) (telling.faults left.keeper)
-          has.served.links.legal has.begun.later has.counts quiet.store;
+          has.served.links.legal has.begun.count has.counts quiet.store;
     }
   ]

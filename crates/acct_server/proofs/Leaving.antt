@@ -346,7 +346,7 @@ end-keeps k conn s h stands = record {
   opened = λ l among. absurd (none-opened k l (number_of conn (Some (Open h))) among);
 }
 
--- how a connection stands behind its acts
+-- how a connection stands after its acts
 behind-keeps : (conn : ℕ) (s : Standing) (verdicts : Verdicts) (h : Hearing) (bytes : List ℕ) (full : Option ℕ)
     (b : Bool) → peer_of conn s.peers ≡ Some (Open h) → is_going h ≡ true
     → (on_acts s.start verdicts s.history conn (on h bytes).acts).full ≡ full
@@ -450,7 +450,7 @@ trace-leaves k verdicts (line ∷ ls) s n =
     follow-leaves k s n (on_line verdicts s line) (λ next. trace_from verdicts next (n + 1) ls)
     (λ m is. line-keeps k verdicts s line m is) (λ next. trace-leaves k verdicts ls next (n + 1))
 
--- what lines open is gone behind them
+-- what lines open is gone after them
 pub lines-leave : (start : Start) (events : List ℕ) (history : List Entry) (k l : ℕ)
     → Among (Opened k l) (entries_of (replayed start events history).effects)
     → Among (Gone k) (entries_of (replayed start events history).effects)

@@ -13,3 +13,4 @@ pub mod Opening
 pub mod Promising
 pub mod Ends
 pub mod Leaving
+pub mod WriteFaults

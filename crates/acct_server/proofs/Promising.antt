@@ -41,7 +41,7 @@ use Rattle.acct_server.proofs.Leaving.{Among, among-here, among-splits, lines-le
 
 -- ---- how what was sent answers what came
 
--- what was sent is a part of some bytes behind others, and so the first of both
+-- what was sent is a part of some bytes after others, and so the first of both
 begins-with : (sent before part all : List ℕ) (n : ℕ) → sent ≡ before ++ take n part → all ≡ before ++ part
     → Begin sent all
 begins-with sent before part all n is whole = (

@@ -1,5 +1,5 @@
 -- The headline: of a connection what came and what was sent, and of the history in which its calls stand that it is
--- legal, where access is denied in it, and what is stored behind it.
+-- legal, where access is denied in it, and what is stored after it.
 use Rattle.std.specs.Prelude.{◌≡◌, ℕ, List, ◌++◌, Option}
 use Rattle.acct_calls.specs.declared.calls.Call.{Call}
 use Rattle.acct_config.specs.declared.config.Config.{Config}
@@ -36,7 +36,7 @@ pub record AnswersAll (start : Start) (history : List Entry) (k : ℕ) (came sen
   pub transcribed : sent ≡ transcript (acts k came) (replies start k history)
   pub calls : calls_of k history ≡ decoded_calls (acts k came)
 
--- A call found the history full: behind the transcript, which stops there, the server is too busy. The calls from that
+-- A call found the history full: after the transcript, which stops there, the server is too busy. The calls from that
 -- one on stand outside the history.
 pub record AnswersUntilFull (start : Start) (history : List Entry) (k : ℕ) (came sent : List ℕ) : Type 0 where
   pub transcribed : sent ≡ busy (acts k came) (replies start k history)
@@ -86,5 +86,5 @@ pub record Headline (config : Config) (held now : Option (List Pair)) (faults : 
   pub legal : Legal start history
   -- access is denied there exactly where the recorded grant of a handle, or the check of an opening, lacks a bit
   pub denied : DeniesExactlyIn start history
-  -- the keeper holds the pairs of the rows behind the history
+  -- the keeper holds the pairs of the rows after the history
   pub stored : HoldsRows now (state_at start history).rows

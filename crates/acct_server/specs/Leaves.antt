@@ -1,6 +1,6 @@
 -- What a replay leaves, by its status.
 use Rattle.std.specs.Prelude.{◌≡◌, ◌≢◌, ℕ, ◌<◌, ◌≤◌, List, [], ◌∷◌, ◌++◌, ◌⊎◌, take, length, Option, Some, None, IfSome}
-use Rattle.std.specs.Prelude.{if◌then◌else◌, nat_lt}
+use Rattle.std.specs.Prelude.{if◌then◌else◌, nat_lt, Bool, true, false}
 use Rattle.std.specs.Io.KnownBytes.{Appends}
 use Rattle.acct_machine.specs.State.{Start}
 use Rattle.acct_config.specs.Rules.{first_broken}
@@ -42,6 +42,10 @@ IsOfRun WriteFault = Unit {0}
 IsOfRun (EventLine n) = Unit {0}
 IsOfRun (HistoryFull count) = Unit {0}
 IsOfRun _ = ⊥
+
+abbrev pub is_write_fault : Status → Bool
+is_write_fault WriteFault = true
+is_write_fault _ = false
 
 -- The history, the bytes written and the status are those of the events, with the verdicts of the history.
 pub record Leaves (start : Start) (held now : Option (List ℕ)) (events : List ℕ) (history : List Entry)
@@ -137,8 +141,9 @@ pub record AsksPair (pairs : List Pair) (status : Status) : Type 0 where
 -- the status of the events, from the rows with which the store is opened, with the verdicts of a history
 pub record AsksRun (document events : List ℕ) (pairs : List Pair) (history : List Entry) (status : Status) : Type 0
   where
+    pub count : ℕ
     pub start : Start
-    pub begun : IsBegun (spelled document) (Some pairs) 0 start
+    pub begun : IsBegun (spelled document) (Some pairs) count start
     pub is : status ≡ (replayed start events history).status
 
 -- The status that a configuration, events and stored pairs ask for, or memory ran out.

@@ -13,13 +13,14 @@ use Rattle.acct_server.specs.declared.replays.Replayed.{Replayed}
 use Rattle.acct_server.specs.declared.status.Status.{Status}
 use Rattle.acct_server.specs.declared.status.Status.TheVariants.{WriteFault, NoMemory}
 use Rattle.acct_keeper.specs.Causes.{Rose, NotRisen}
+use Rattle.acct_keeper.specs.Counts.{faults_after}
 use Rattle.acct_keeper.specs.Whole.{most_bytes, IsWhole}
 use Rattle.acct_keeper.specs.declared.pairs.Pair.{Pair}
-use Rattle.acct_machine.specs.Storing.{HoldsRows, AreUpTo}
+use Rattle.acct_machine.specs.Storing.{HoldsRows, AreCounted}
 use Rattle.acct_server.specs.Begun.{IsBegun}
 use Rattle.acct_server.specs.Configured.{BreaksNone, IsConfigured}
 use Rattle.acct_server.specs.Leaves.{Leaves, Breaks, Stops, IsRunThrough, IsOfRun, ConfigCause, EventsCause}
-use Rattle.acct_server.specs.Leaves.{StoreCause, StoreKept, IsAsked}
+use Rattle.acct_server.specs.Leaves.{StoreCause, StoreKept, IsAsked, is_write_fault}
 use Rattle.link_sessions.specs.Transcribed.{IsTranscribed}
 use Rattle.acct_server.specs.Connections.{found_full, received, sent}
 use Rattle.acct_server.specs.Replayed.{replayed}
@@ -98,6 +99,8 @@ pub record RunsLines {K : Type 0} (start : Start) (events : List ℕ) (held now 
   -- lines
   pub breaks : left.status ≡ WriteFault → Breaks start held now events left.history
   pub write : left.status ≡ WriteFault → Rose before after
+  -- a write failed where that is the status, and no other did
+  pub faults : after ≡ faults_after (is_write_fault left.status) before
   -- where memory ran out: a prefix of the entries, and a prefix of the lines
   pub stops : left.status ≡ NoMemory → Stops start held now events left.history
   -- the history is legal, and access is denied there exactly where a grant or an opening's check lacks a bit
@@ -107,7 +110,7 @@ pub record RunsLines {K : Type 0} (start : Start) (events : List ℕ) (held now 
 -- The lines were run, under the one configuration that the document spells and over the bytes of the events, from the
 -- rows whose pairs the keeper held, or the seed rows where it held none; where a source or the keeper doesn't tell,
 -- under some right configuration, over some bytes, from some sound rows. The keeper holds the pairs of the rows after
--- them, and no count at a commit that failed lies above its count.
+-- them, and its count has risen by one at each commit that failed in the history, and at nothing else.
 pub record HasRunLines {S T K : Type 0} (told : Telling S T K) (old new : Parts S T K) (left : Replayed K) : Type 0
   where
     pub config : Config
@@ -120,7 +123,7 @@ pub record HasRunLines {S T K : Type 0} (told : Telling S T K) (old new : Parts 
     pub runs : RunsLines start events (told.held old.out) (told.held new.out) (told.write_faults old.out)
         (told.write_faults new.out) left
     pub stored : HoldsRows (told.pairs new.keeper) (state_at start left.history).rows
-    pub counts : AreUpTo (told.store_faults new.keeper) start left.history
+    pub counts : AreCounted (told.store_faults new.keeper) start left.history
 
 -- no count rose
 pub record AllQuiet {S T K : Type 0} (told : Telling S T K) (old new : Parts S T K) : Type 0 where

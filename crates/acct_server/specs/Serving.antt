@@ -6,10 +6,10 @@ use Rattle.acct_links.specs.Links.{Told}
 use Rattle.acct_links.specs.declared.doors.Door.{Ghosts}
 use Rattle.acct_machine.specs.State.{Start}
 use Rattle.acct_machine.specs.Step.{state_at}
-use Rattle.acct_machine.specs.Storing.{HoldsRows, AreUpTo}
+use Rattle.acct_machine.specs.Storing.{HoldsRows, AreCounted}
 use Rattle.door_workers.specs.Doors.{IsServed}
-use Rattle.door_workers.specs.declared.outcome.Outcome.{Outcome}
-use Rattle.door_workers.specs.declared.outcome.Outcome.TheVariants as outcome
+use Rattle.door_workers.specs.declared.ends.DoorEnd.{DoorEnd}
+use Rattle.door_workers.specs.declared.ends.DoorEnd.TheVariants as stop
 use Rattle.acct_server.specs.Begun.{IsBegun}
 use Rattle.acct_server.specs.Denied.{DeniesExactlyIn}
 use Rattle.acct_server.specs.Leaves.{StoreCause, StoreKept}
@@ -19,11 +19,11 @@ use Rattle.acct_server.specs.declared.status.Status.{Status}
 use Rattle.acct_server.specs.declared.status.Status.TheVariants.{Done, NoMemory, DoorFault, HistoryFull}
 
 -- the status of serving, by how it ended
-abbrev pub served_status : Outcome → Status
-served_status outcome.Done = Done
-served_status outcome.Failed = DoorFault
-served_status (outcome.Full n) = HistoryFull n
-served_status outcome.NoMemory = NoMemory
+abbrev pub served_status : DoorEnd → Status
+served_status stop.Closed = Done
+served_status stop.Failed = DoorFault
+served_status (stop.Full n) = HistoryFull n
+served_status stop.NoMemory = NoMemory
 
 -- what doors, their links and the keeper tell
 pub record Telling (D L K : Type 0) : Type 1 where
@@ -46,13 +46,13 @@ pub record HasNotServed {D L K : Type 0} (telling : Telling D L K) (config : Con
 
 -- The doors were served, on a machine under the configuration, from the rows whose pairs the keeper held, or the seed
 -- rows where it held none. The history is legal, and access is denied there exactly where a grant or an opening's check
--- lacks a bit. The keeper holds the pairs of the rows after it, and no count at a commit that failed lies above its
--- count.
+-- lacks a bit. The keeper holds the pairs of the rows after it, and its count has risen by one at each commit that failed
+-- in it, and at nothing else.
 pub record HasServedDoors {D L K : Type 0} (telling : Telling D L K) (config : Config) (before now : List D)
     (keeper : K) (left : Served K) : Type 0 where
   pub start : Start
   pub begun : IsBegun config (telling.pairs keeper) (telling.faults keeper) start
-  pub outcome : Outcome
+  pub outcome : DoorEnd
   pub status : left.status ≡ served_status outcome
   pub served : IsServed telling.door telling.told start config.limits.max_read before now left.history outcome
       left.ends
@@ -60,7 +60,7 @@ pub record HasServedDoors {D L K : Type 0} (telling : Telling D L K) (config : C
   pub rows : lists_in left.rows ≡ Some (state_at start left.history).rows
   pub denies : DeniesExactlyIn start left.history
   pub stored : HoldsRows (telling.pairs left.keeper) (state_at start left.history).rows
-  pub counts : AreUpTo (telling.faults left.keeper) start left.history
+  pub counts : AreCounted (telling.faults left.keeper) start left.history
 
 pub record IsServe {D L K : Type 0} (telling : Telling D L K) (config : Config) (before now : List D) (keeper : K)
     (left : Served K) : Type 0 where

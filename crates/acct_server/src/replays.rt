@@ -2,12 +2,13 @@
 ghost use Rattle.std.specs.Prelude.{◌≡◌, ◌<◌, ◌≤◌, ◌^◌, [], None, length, IfSome, IfOk, IfErr, OnOk};
 ghost use Rattle.acct_server.specs.declared.status.Status.TheVariants.{NoMemory, WriteFault};
 ghost use Rattle.acct_keeper.specs.Causes.{Rose};
+ghost use Rattle.acct_keeper.specs.Counts.{faults_after};
 ghost use Rattle.acct_keeper.specs.Whole.{most_bytes};
 ghost use Rattle.acct_machine.specs.Step.{state_at};
-ghost use Rattle.acct_machine.specs.Storing.{HoldsRows, AreUpTo};
+ghost use Rattle.acct_machine.specs.Storing.{HoldsRows, AreCounted};
 ghost use Rattle.acct_server.specs.Configured.{IsConfigured};
 ghost use Rattle.acct_server.specs.Leaves.{Leaves, ConfigCause, Breaks, Stops, Finishes, FinishBreaks};
-ghost use Rattle.acct_server.specs.Leaves.{IsRunThrough, IsOfRun};
+ghost use Rattle.acct_server.specs.Leaves.{IsRunThrough, IsOfRun, is_write_fault};
 ghost use Rattle.acct_server.specs.Replaying.{IsReplay, RunsLines};
 
 use crate::beginning::begin;
@@ -55,6 +56,7 @@ fn finish<K: Keeper + Drop, T: Sink>(
     ensures write { result ≡ WriteFault → Rose (T.faults out.old) (T.faults out.new) }
     ensures memory { result ≡ NoMemory → (run.new ≡ run.old) × (T.held out.new ≡ T.held out.old) }
     ensures later { T.faults out.old ≤ T.faults out.new }
+    ensures faults { T.faults out.new ≡ faults_after (is_write_fault result) (T.faults out.old) }
     ensures start { run.new.machine.start ≡ run.old.machine.start }
     ensures status { IsOfRun result }
 {
@@ -85,6 +87,7 @@ fn run_lines<K: Keeper + Drop, T: Sink>(
         → Stops run.old.machine.start (T.held out.old) (T.held out.new) bytes.now run.new.machine.history }
     ensures write { result ≡ WriteFault → Rose (T.faults out.old) (T.faults out.new) }
     ensures later { T.faults out.old ≤ T.faults out.new }
+    ensures faults { T.faults out.new ≡ faults_after (is_write_fault result) (T.faults out.old) }
     ensures start { run.new.machine.start ≡ run.old.machine.start }
     ensures status { IsOfRun result }
 {
@@ -142,7 +145,7 @@ fn run_events<K: Keeper + Drop, T: Sink>(
     ensures runs { RunsLines run.machine.start events.now (T.held out.old) (T.held out.new) (T.faults out.old)
         (T.faults out.new) result }
     ensures stored { HoldsRows (K.held result.keeper) (state_at run.machine.start result.history).rows }
-    ensures counts { AreUpTo (K.faults result.keeper) run.machine.start result.history }
+    ensures counts { AreCounted (K.faults result.keeper) run.machine.start result.history }
     ensures later { T.faults out.old ≤ T.faults out.new }
 {
     let status = run_lines(alloc, &mut run, events, out);

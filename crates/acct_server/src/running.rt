@@ -3,7 +3,7 @@ ghost use Rattle.std.specs.Prelude.{◌≡◌, ◌≢◌, ◌⊎◌, ◌+◌, �
 ghost use Rattle.std.specs.Prelude.{length, take, Some, None, Ok, Err, OnOk, OnErr, IfOk, IfErr, IfSome, IsSome};
 ghost use Rattle.std.specs.Prelude.{slice_get, slice_set, map, All, option_map};
 ghost use Rattle.std.specs.List.{flat_map};
-ghost use Rattle.acct_machine.specs.Storing.{HoldsRows, AreUpTo};
+ghost use Rattle.acct_machine.specs.Storing.{HoldsRows, AreCounted};
 ghost use Rattle.acct_machine.specs.State.{is_live};
 ghost use Rattle.acct_machine.specs.Machine.{state_of, with_entry};
 ghost use Rattle.acct_machine.specs.Legal.{Legal};
@@ -146,7 +146,7 @@ impl<K: Keeper + Drop> Run<K> {
         ensures rows { result.2.lists ≡ (state_of self.machine).rows }
         ensures legal { Legal self.machine.start result.1.items }
         ensures stored { HoldsRows (K.held result.3) result.2.lists }
-        ensures counts { AreUpTo (K.faults result.3) self.machine.start result.1.items }
+        ensures counts { AreCounted (K.faults result.3) self.machine.start result.1.items }
     {
         self.machine.into_parts()
     }

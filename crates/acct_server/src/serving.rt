@@ -2,7 +2,7 @@
 ghost use Rattle.std.specs.Prelude.{◌≡◌, ◌<◌, ◌≤◌, ℕ, [], Some, None, length, vec_len, slice_index_or};
 ghost use Rattle.acct_config.specs.Right.{IsRight};
 ghost use Rattle.acct_machine.specs.Machine.{state_of};
-ghost use Rattle.acct_machine.specs.Storing.{HoldsRows, AreUpTo};
+ghost use Rattle.acct_machine.specs.Storing.{HoldsRows, AreCounted};
 ghost use Rattle.acct_server.specs.Denied.{DeniesExactlyIn};
 ghost use Rattle.acct_server.specs.Replaying.{lists_in};
 ghost use Rattle.acct_server.specs.Serving.{IsServe, served_status};
@@ -12,7 +12,7 @@ use crate::beginning::begin;
 use acct_base::Seq;
 use acct_links::Door;
 use acct_machine::{Config, Entry, Keeper, Rows, access_is_denied_exactly};
-use door_workers::{DoorsServed, Outcome, serve_doors};
+use door_workers::{DoorEnd, DoorsServed, serve_doors};
 use link_sessions::Ended;
 use std::alloc::Global;
 use std::sync::Wait;
@@ -31,14 +31,14 @@ pub struct Served<K: Drop> {
     pub keeper: K,
 }
 
-fn status_of(outcome: Outcome) -> Status
+fn status_of(outcome: DoorEnd) -> Status
     ensures { result ≡ served_status outcome }
 {
     match outcome {
-        Outcome::Done => Status::Done,
-        Outcome::Failed => Status::DoorFault,
-        Outcome::Full(count) => Status::HistoryFull(count),
-        Outcome::NoMemory => Status::NoMemory,
+        DoorEnd::Closed => Status::Done,
+        DoorEnd::Failed => Status::DoorFault,
+        DoorEnd::Full(count) => Status::HistoryFull(count),
+        DoorEnd::NoMemory => Status::NoMemory,
     }
 }
 
@@ -68,7 +68,7 @@ fn left<K: Keeper + Drop>(served: DoorsServed<K>) -> Served<K>
     ensures ends { result.ends ≡ served.ends.items }
     ensures denies { DeniesExactlyIn served.machine.past.start served.machine.past.history }
     ensures stored { HoldsRows (K.held result.keeper) (state_of served.machine.past).rows }
-    ensures counts { AreUpTo (K.faults result.keeper) served.machine.past.start served.machine.past.history }
+    ensures counts { AreCounted (K.faults result.keeper) served.machine.past.start served.machine.past.history }
 {
     access_is_denied_exactly();
     let DoorsServed {

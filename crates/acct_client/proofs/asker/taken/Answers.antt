@@ -1,4 +1,4 @@
--- A talk that took the piece answers, fails and counts as its dialogue does; after want of memory `taken` loses it.
+-- A talk that took the piece answers, fails and counts as its dialogue does; where memory ran out `taken` loses it.
 use Rattle.std.proofs.Common.{refl}
 use Rattle.acct_client.proofs.Taken.{Kept, kept_answers, kept_fails, kept_hears, kept_ends, kept_counts, kept_fits}
 use Rattle.acct_client.proofs.Taken.{lost_fails, lost_counts, lost_fits}

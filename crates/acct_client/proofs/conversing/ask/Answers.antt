@@ -1,4 +1,4 @@
--- The next request goes behind those sent so far and fewer steps are left, or the talk ends as its dialogue does.
+-- The next request goes after those sent so far and fewer steps are left, or the talk ends as its dialogue does.
 use Rattle.std.proofs.Common.{◌<◌, ◌++◌, ℕ, List, true, arith, subst, sym}
 use Rattle.acct_client.specs.Parts.{SentSoFar, Stands, steps_left}
 use Rattle.acct_client.proofs.Ending.{Asked, ask-less, asked-dialogue, asked-stands, asked-talks, talks-done}

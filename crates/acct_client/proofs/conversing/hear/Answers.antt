@@ -1,4 +1,4 @@
--- A piece heard behind those before is one stream with them: the dialogue goes on, waits or ends as over the whole.
+-- A piece heard after those before is one stream with them: the dialogue goes on, waits or ends as over the whole.
 use Rattle.acct_client.proofs.Ending.{heard-all, heard-ends, heard-moves, heard-on, whole-is}
 use Rattle.acct_client.proofs.conversing.hear.Goals as goal
 

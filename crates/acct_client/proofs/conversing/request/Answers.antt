@@ -1,4 +1,4 @@
--- After a failed write only a front of the requests was sent, and a later request adds nothing to it.
+-- After a failed write only a prefix of the requests was sent, and a later request adds nothing to it.
 use Rattle.acct_client.proofs.Sending.{sent-cut-by, sent-front-by}
 use Rattle.acct_client.proofs.conversing.request.Goals as goal
 

@@ -5,8 +5,8 @@ use Rattle.acct_commands.specs.Words.{gen_form, serve_form}
 use Rattle.acct_commands.proofs.Callings.{does-call}
 use Rattle.acct_commands.proofs.command.account.Goals as goal
 
-pub returns-then-is_call-clause-commanded : goal.returns-then-is_call-clause-commanded
-returns-then-is_call-clause-commanded g c =
+pub returns-then-is_call_form-clause-commanded : goal.returns-then-is_call_form-clause-commanded
+returns-then-is_call_form-clause-commanded g c =
     let s = g.W.S.Source in
     let t = g.W.T.Sink in
     let k = g.W.K.Keeper in

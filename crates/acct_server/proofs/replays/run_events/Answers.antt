@@ -4,7 +4,7 @@ use Rattle.acct_machine.specs.declared.entry.Entry.{Entry}
 use Rattle.acct_machine.specs.State.{Start}
 use Rattle.acct_machine.specs.Step.{state_at}
 use Rattle.acct_machine.specs.Legal.{Legal}
-use Rattle.acct_machine.specs.Storing.{HoldsRows, AreUpTo}
+use Rattle.acct_machine.specs.Storing.{HoldsRows, AreCounted}
 use Rattle.acct_rows.specs.Rows.{Lists}
 use Rattle.acct_server.proofs.Denying.{denies-in}
 use Rattle.acct_server.proofs.Transcribing.{transcribing}
@@ -30,6 +30,7 @@ returns-clause-runs g c =
           (run.ensures.through through).entries;
       breaks = run.ensures.breaks;
       write = run.ensures.write;
+      faults = run.ensures.faults;
       stops = run.ensures.stops;
       legal = legal;
       denies = denies-in c.access_is_denied_exactly.ensures.exactly c.access_is_denied_exactly.ensures.ran start history
@@ -50,6 +51,6 @@ returns-clause-counts g c =
     let run = c.run_lines-status in
     let parts = c.into_parts-opening in
     let start = c.args.run.machine.start in
-    subst (λ (h : List Entry). AreUpTo (g.K.Keeper.faults parts.result.3) start h) (sym c.from_vec.ensures)
-    (subst (λ (s : Start). AreUpTo (g.K.Keeper.faults parts.result.3) s parts.result.1.items) run.ensures.start
+    subst (λ (h : List Entry). AreCounted (g.K.Keeper.faults parts.result.3) start h) (sym c.from_vec.ensures)
+    (subst (λ (s : Start). AreCounted (g.K.Keeper.faults parts.result.3) s parts.result.1.items) run.ensures.start
     parts.ensures.counts)

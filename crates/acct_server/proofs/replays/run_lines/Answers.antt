@@ -1,12 +1,14 @@
 -- `run_lines` leaves the entries and output of the lines; a failed write or running out of memory leaves a prefix of
 -- them.
-use Rattle.std.proofs.Common.{Option, List, ℕ, ◌≡◌, ◌+◌, ◌-◌, ◌^◌, length, [], sym, ap, ◌∙◌, subst, take, arith, Err}
+use Rattle.std.proofs.Common.{Option, List, ℕ, ◌≡◌, ◌+◌, ◌-◌, ◌^◌, length, [], refl, true, sym, ap, ◌∙◌, subst, take}
+use Rattle.std.proofs.Common.{arith, Err}
 use Rattle.std.specs.Io.KnownBytes.{Appends}
+use Rattle.acct_keeper.specs.Counts.{faults_after}
 use Rattle.acct_server.specs.declared.events.LineError.{LineError}
 use Rattle.acct_server.specs.declared.events.LineError.TheVariants.{NoMemory, Refused}
 use Rattle.acct_server.specs.Replayed.{on_line}
 use Rattle.acct_server.specs.Running.{Running, standing, Does}
-use Rattle.acct_server.specs.Leaves.{Stops}
+use Rattle.acct_server.specs.Leaves.{Stops, is_write_fault}
 use Rattle.acct_server.proofs.Bytes.{from_OnOk, from_OnErr, is_nil}
 use Rattle.acct_server.proofs.Heard.{all-within, none-heard}
 use Rattle.acct_server.proofs.Going.{going-starts, going-on, going-stops, going-may-stop, going-breaks, going-ends}
@@ -95,7 +97,9 @@ loop-rest-preserved g c =
           all-within (before + length c.next_line.result.0.now) n c.line.new.self.peers
           (omega (arith, within, parts, is))
           (c.in-Ok.ensures.hears before (c.loop-rest.invariant.heard before (omega (arith, within))));
-      later = omega (arith, c.write_all.ensures.cause.later);
+      faults = c.write_all.ensures.count
+          ∙ ap (λ b. faults_after b (t.faults c.loop-rest.out)) (sym c.is_err.ensures.value ∙ c.if-is_err.false)
+          ∙ c.loop-rest.invariant.faults;
     }
 
 pub returns-clause-through : goal.returns-clause-through
@@ -132,7 +136,7 @@ loop-rest-init g c = record {
       c.requires.peers;
   within = omega arith;
   heard = λ n is. none-heard n c.args.run.now.peers c.requires.peers;
-  later = omega arith;
+  faults = refl;
 }
 
 pub line-requires-clause-heard : goal.line-requires-clause-heard
@@ -190,3 +194,29 @@ returns-in-Some-clause-stops g c = λ memory.
     c.loop-rest.rest.now c.next_line.result.0.now c.next_line.result.1.now c.in-Ok.ran.output.items c.in-Some.count
     c.loop-rest.invariant.going c.next_line.ensures.lines does appends
     (ap (λ (r : Running). r.machine.history) kept.0))
+
+pub returns-then-is_err-clause-faults : goal.returns-then-is_err-clause-faults
+returns-then-is_err-clause-faults g c =
+    let t = g.T.Sink in
+    c.write_all.ensures.count
+    ∙ ap (λ b. faults_after b (t.faults c.loop-rest.out)) (sym c.is_err.ensures.value ∙ c.if-is_err.true)
+    ∙ ap (λ n. faults_after true n) c.loop-rest.invariant.faults
+
+pub returns-in-Some-clause-faults : goal.returns-in-Some-clause-faults
+returns-in-Some-clause-faults g c =
+    let t = g.T.Sink in
+    c.finish.ensures.faults
+    ∙ ap (λ n. faults_after (is_write_fault c.finish.result) n)
+    (c.write_all.ensures.count
+    ∙ ap (λ b. faults_after b (t.faults c.loop-rest.out)) (sym c.is_err.ensures.value ∙ c.if-is_err.false)
+    ∙ c.loop-rest.invariant.faults)
+
+pub returns-in-Err-Refused-clause-faults : goal.returns-in-Err-Refused-clause-faults
+returns-in-Err-Refused-clause-faults g c =
+    c.finish-in-Err-Refused.ensures.faults
+    ∙ ap (λ n. faults_after (is_write_fault c.finish-in-Err-Refused.result) n) c.loop-rest.invariant.faults
+
+pub returns-clause-faults : goal.returns-clause-faults
+returns-clause-faults g c =
+    c.finish-2.ensures.faults ∙ ap (λ n. faults_after (is_write_fault c.finish-2.result) n)
+    c.loop-rest.invariant.faults

@@ -1,4 +1,5 @@
--- The lines passed were run and what they print was written; running those left ends the replay of all lines.
+-- The lines passed were run and what they print was written, no write failed, and running those left ends the replay
+-- of all lines.
 use Rattle.std.proofs.Common.{◌≡◌, ◌≤◌, ◌+◌, ℕ, length}
 use Rattle.acct_server.specs.Running.{AllHeard}
 use Rattle.acct_server.proofs.Going.{Going}
@@ -11,7 +12,7 @@ invariant-loop-rest g l =
       going : Going l.initial.run.machine.start (t.held l.initial.out) (t.held l.out) l.bytes l.run l.number l.rest;
       within : l.number + length l.rest ≤ length l.bytes;
       heard : (n : ℕ) → n + length l.rest ≡ length l.bytes → AllHeard n l.run.peers;
-      later : t.faults l.initial.out ≤ t.faults l.out;
+      faults : t.faults l.out ≡ t.faults l.initial.out;
     }
 
 abbrev pub decreases-loop-rest : goal.decreases-loop-rest

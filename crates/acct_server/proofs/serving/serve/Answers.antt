@@ -3,11 +3,11 @@ use Rattle.std.proofs.Common.{◌≡◌, List, Some, inr, sym, ap, ◌∙◌, su
 use Rattle.acct_machine.specs.declared.entry.Entry.{Entry}
 use Rattle.acct_machine.specs.State.{Start}
 use Rattle.acct_machine.specs.Step.{state_at}
-use Rattle.acct_machine.specs.Storing.{HoldsRows, AreUpTo}
+use Rattle.acct_machine.specs.Storing.{HoldsRows, AreCounted}
 use Rattle.door_workers.specs.Doors.{IsServed}
 use Rattle.link_sessions.specs.declared.ends.Ended.{Ended}
 use Rattle.acct_server.specs.Denied.{DeniesExactlyIn}
-use Rattle.acct_server.proofs.Configuring.{up-to-first}
+use Rattle.acct_server.proofs.Configuring.{counted-later}
 use Rattle.acct_server.proofs.serving.serve.Goals as goal
 
 pub returns-in-Ok : goal.returns-in-Ok
@@ -21,9 +21,9 @@ returns-in-Ok g c =
     let l = c.left.ensures in
     let same : past.start ≡ start = served.ensures.start in
     let history : left.history ≡ past.history = l.history in
-    let counts : AreUpTo (k.faults left.keeper) start left.history =
-    subst (λ (h : List Entry). AreUpTo (k.faults left.keeper) start h) (sym history)
-    (subst (λ (s : Start). AreUpTo (k.faults left.keeper) s past.history) same l.counts) in
+    let counts : AreCounted (k.faults left.keeper) start left.history =
+    subst (λ (h : List Entry). AreCounted (k.faults left.keeper) start h) (sym history)
+    (subst (λ (s : Start). AreCounted (k.faults left.keeper) s past.history) same l.counts) in
     record {
       leaves = inr (record {
         start = start;
@@ -44,6 +44,6 @@ returns-in-Ok g c =
             (subst (λ (s : Start). HoldsRows (k.held left.keeper) (state_at s past.history).rows) same l.stored);
         counts = counts;
       });
-      later = up-to-first (k.faults left.keeper) start left.history (k.faults a.keeper) counts
-          c.in-Ok.ensures.begun.later;
+      later = counted-later (k.faults left.keeper) start left.history (k.faults a.keeper) counts
+          c.in-Ok.ensures.begun.count;
     }

@@ -1,4 +1,4 @@
--- After an error other than want of memory, `Asker::take` is left with the dialogue of all of the stream so far.
+-- After an error other than running out of memory, `Asker::take` is left with the dialogue of all of the stream so far.
 use Rattle.std.proofs.Common.{◌∙◌}
 use Rattle.acct_client.proofs.Asking.{last_of}
 use Rattle.acct_client.proofs.asker.Asker.take.Goals as goal

@@ -1,0 +1,111 @@
+-- Where nothing failed outside, serving comes to its end, round after round.
+use Rattle.std.proofs.Common.{◌≡◌, ℕ, ◌-◌, ◌<◌, ◌≤◌, inl, inr, Bool, true, false, List, ◌∷◌, [], ◌++◌, length}
+use Rattle.std.proofs.Common.{Option, Some, None, sym, ◌∙◌, subst, arith}
+use Rattle.std.specs.Prelude.{IfSome, if◌then◌else◌}
+use Rattle.acct_config.specs.Rules.{first_broken}
+use Rattle.acct_config.specs.declared.config.Config.{Config}
+use Rattle.acct_keeper.specs.Causes.{Rose, NotRisen, KeepCause}
+use Rattle.acct_keeper.specs.Whole.{most_bytes}
+use Rattle.acct_keeper.specs.declared.keeper.KeepError.{KeepError}
+use Rattle.acct_keeper.specs.declared.keeper.KeepError.TheVariants as keep
+use Rattle.acct_server.specs.Completing.{IsServingsEnd, ServingIsComplete}
+use Rattle.acct_server.specs.Leaves.{ConfigCause}
+use Rattle.acct_server.specs.Serving.{Telling}
+use Rattle.acct_server.specs.declared.status.Status.{Status}
+use Rattle.acct_server.specs.declared.status.Status.TheVariants as status
+use Rattle.acct_commands.specs.Serving.{TellingServe, ServeParts, Round, Follow, AreRounds, AreQuiet, IsQuiet}
+use Rattle.acct_commands.specs.Serving.{LeavesParts, ending, entrance_status}
+
+not-risen : (before now : ℕ) → NotRisen before now → Rose before now → ⊥
+not-risen before now still rose = omega (arith, still.0, still.1, rose)
+
+-- ---- before the doors are served
+
+-- a document that is told, is short and breaks no rule
+abbrev Told : Option (List ℕ) → List ℕ → Type 0
+Told left document = (left ≡ Some document) × (length document ≤ most_bytes) × (first_broken document ≡ None)
+
+config-ends : (left : Option (List ℕ)) (document : List ℕ) (before now : ℕ) (s : Status) → Told left document
+    → NotRisen before now → ConfigCause left before now s → IsServingsEnd s
+config-ends left document before now status.Done told still cause = tt
+config-ends left document before now status.NoMemory told still cause = tt
+config-ends left document before now (status.HistoryFull n) told still cause = tt
+config-ends left document before now status.Usage told still cause = cause
+config-ends left document before now (status.Config n) told still cause =
+    let broken = subst (λ (o : Option (List ℕ)). IfSome o (λ bytes. (first_broken bytes ≡ Some n)
+    × (length bytes ≤ most_bytes))) told.0 cause in
+    let clash : None ≡ Some n = sym told.2 ∙ broken.0 in
+    absurd cc
+config-ends left document before now status.ReadFault told still cause = absurd (not-risen before now still cause)
+config-ends left document before now status.InputTooLong told still cause =
+    let long : most_bytes < length document =
+    subst (λ (o : Option (List ℕ)). IfSome o (λ bytes. most_bytes < length bytes)) told.0 cause in
+    absurd (omega (arith, long, told.1))
+config-ends left document before now status.WriteFault told still cause = cause
+config-ends left document before now status.StoreFault told still cause = cause
+config-ends left document before now (status.StoredPair key) told still cause = cause
+config-ends left document before now (status.EventLine n) told still cause = cause
+config-ends left document before now status.DoorFault told still cause = cause
+config-ends left document before now (status.PeerBytes n) told still cause = cause
+config-ends left document before now status.PeerFault told still cause = cause
+config-ends left document before now (status.Refused n) told still cause = cause
+
+entrance-ends : (before now : ℕ) (e : KeepError) → NotRisen before now → KeepCause before now e
+    → IsServingsEnd (entrance_status e)
+entrance-ends before now keep.Failed still cause = absurd (not-risen before now still cause)
+entrance-ends before now keep.NoMemory still cause = tt
+
+-- ---- the rounds
+
+kept-ends : (kept : Bool) (s : Status) → IsServingsEnd s → IsServingsEnd (if kept then s else status.NoMemory)
+kept-ends true s ends = ends
+kept-ends false s ends = tt
+
+-- each round comes to its end
+abbrev EachEnds : {D K : Type 0} → List (Round D K) → Type 0
+EachEnds [] = Unit {0}
+EachEnds (round ∷ rounds) = IsServingsEnd (ending round) × EachEnds rounds
+
+last-ends : {D K : Type 0} (earlier : List (Round D K)) (last : Round D K) → EachEnds (earlier ++ last ∷ [])
+    → IsServingsEnd (ending last)
+last-ends [] last each = each.0
+last-ends (round ∷ earlier) last each = last-ends earlier last each.1
+
+module _ {D F K : Type 0} (telling : Telling D F K) (config : Config) (complete : ServingIsComplete telling) where
+  follow-end : (more : ℕ) (last : Round D K) (rounds : List (Round D K)) → Follow telling config more last rounds
+      → AreQuiet telling last.doors last.left.keeper rounds → EachEnds rounds
+  follow-end more last [] follow quiet = tt
+  follow-end more last (round ∷ rounds) (full, (few, (is, (goes, follow)))) (still, quiet) = (
+    kept-ends round.kept round.left.status
+        (complete config last.doors round.doors last.left.keeper round.left is.serves still).ends,
+    follow-end (more - 1) round rounds follow quiet,
+  )
+
+  rounds-end : (doors : List D) (keeper : K) (rounds : List (Round D K))
+      → AreRounds telling config doors keeper rounds → AreQuiet telling doors keeper rounds → EachEnds rounds
+  rounds-end doors keeper [] are quiet = absurd are
+  rounds-end doors keeper (first ∷ rounds) (is, follow) (still, quiet) = (
+    kept-ends first.kept first.left.status
+        (complete config doors first.doors keeper first.left is.serves still).ends,
+    follow-end (config.limits.max_periods - 1) first rounds follow quiet,
+  )
+
+-- ---- all
+
+pub serving-completes : {S K E D F : Type 0} (told : TellingServe S K E D F) (before after : ServeParts S K E D)
+    (rounds : List (Round D K)) (s : Status) → ServingIsComplete told.served
+    → LeavesParts told before after rounds s → IsQuiet told before after rounds s → IsServingsEnd s
+serving-completes {S} {K} {E} {D} {F} told before after rounds s complete leaves quiet = elim leaves [
+  | inl stops ↦ config-ends (told.left before.config) quiet.document (told.read_faults before.config)
+      (told.read_faults after.config) s (quiet.tells, quiet.short, quiet.unbroken) quiet.source stops.cause
+  | inr opened ↦ elim opened [
+    | inl stops ↦ subst (λ (x : Status). IsServingsEnd x) (sym stops.is)
+        (entrance-ends (told.entrance_faults before.entrance) (told.entrance_faults after.entrance) stops.error
+        quiet.entrance stops.stops.cause)
+    | inr serves ↦ subst (λ (x : Status). IsServingsEnd x) (sym serves.is)
+        (last-ends serves.earlier serves.last
+        (subst (λ (rs : List (Round D K)). EachEnds rs) serves.splits
+        (rounds-end told.served serves.config complete serves.doors before.keeper rounds serves.are
+        (quiet.each serves))))
+  ]
+]
