@@ -99,7 +99,7 @@ module _ (p : List ℕ) (t : ℕ) where
   draining-begins before jobs after gone runs b d =
       subst (λ js. IsDraining p t before js gone runs) (sym b.1) (draining-more before jobs b.0 gone runs d)
 
-  -- the jobs that are left behind the runs are those that haven't left
+  -- the jobs that are left after the runs are those that haven't left
   pub left-behind : (before : List ℕ) (jobs : List Job) (gone : List ℕ) (runs : List Run)
       → IsDraining p t before jobs gone runs → behind (left jobs before) runs ≡ left jobs gone
   left-behind before jobs gone runs d =
@@ -218,7 +218,7 @@ module _ (p : List ℕ) (t : ℕ) where
       → IsDraining p t before jobs gone runs → IsDraining p t before jobs gone (runs ++ [])
   draining-same before jobs gone runs d = subst (λ rs. IsDraining p t before jobs gone rs) (sym (append-nil runs)) d
 
-  -- ---- further out rows behind a drain that stopped
+  -- ---- further out rows after a drain that stopped
 
   holds-more : (before : List ℕ) (jobs more : List Job) (gone : List ℕ) (runs : List Run) (n : ℕ)
       → Begins before (numbers jobs) → Begins gone (numbers jobs) → InOrder (left jobs before) p t runs

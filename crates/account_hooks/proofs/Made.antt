@@ -36,7 +36,7 @@ module _ (p : List ℕ) (t : ℕ) where
     each = inr fails;
   }
 
-  -- what is shown of the runs behind one
+  -- what is shown of the runs after one
   abbrev Later : List Run → Type 0
   Later rs = (n : ℕ) (job : Job) (jobs : List Job) (failed : List Ran) → NoneWell failed → length failed + n ≡ t
       → Follows p t n (job ∷ jobs) rs → IsMadeFor (job ∷ jobs) p t (runs_of p job failed ++ rs)

@@ -6,7 +6,7 @@ use Rattle.account_hooks.specs.Runs.{Job, Run, ended_well, Follows, ended}
 use Rattle.account_hooks.specs.Drains.{NoneWell, EndsWell, times_left, run_of, runs_of}
 use Rattle.account_hooks.proofs.Tries.{runs-snoc}
 
--- the jobs that are left behind these runs
+-- the jobs that are left after these runs
 abbrev pub behind : List Job → List Run → List Job
 behind jobs [] = jobs
 behind [] (run ∷ runs) = []

@@ -20,7 +20,7 @@ abbrev pub NoneWell : List Ran → Type 0
 NoneWell [] = ⊤
 NoneWell (end ∷ ends) = (ended_well end ≡ false) × NoneWell ends
 
--- some runs, none of which ended with 0, and behind them one that did, within so many tries
+-- some runs, none of which ended with 0, and after them one that did, within so many tries
 pub record EndsWell (tries : ℕ) (ends : List Ran) : Type 0 where
   pub failed : List Ran
   pub last : Ran
@@ -105,6 +105,10 @@ IfHeld _ P = ⊤
 abbrev pub IfStoreFault : Drained → (ℕ → Type 0) → Type 0
 IfStoreFault (drained.StoreFault n) P = P n
 IfStoreFault _ P = ⊤
+
+abbrev pub IfNoMemory : Drained → Type 0 → Type 0
+IfNoMemory drained.NoMemory P = P
+IfNoMemory _ P = ⊤
 
 -- after one job or more: the drain goes on, or stopped
 abbrev pub GoesTo : Option Drained → List ℕ → ℕ → List ℕ → List Job → List ℕ → List Run → Type 0

@@ -12,7 +12,7 @@ Begins {A} xs ys = (rest : List A) × (ys ≡ xs ++ rest)
 abbrev pub numbers : List Job → List ℕ
 numbers jobs = map (λ job. job.number) jobs
 
--- the jobs that haven't left: those behind as many as have left
+-- the jobs that haven't left: those after as many as have left
 abbrev pub left : List Job → List ℕ → List Job
 left jobs gone = drop (length gone) jobs
 

@@ -25,7 +25,7 @@ ended_well (Exited code) = code == 0
 ended_well Failed = false
 
 -- The jobs are run in order. Where the first may be run so many times: each run is the program's, with the arguments of
--- the first job; behind one that ended with 0 the next job is the first, and behind another one the same, with a time
+-- the first job; after one that ended with 0 the next job is the first, and after another one the same, with a time
 -- less.
 abbrev pub Follows : List ℕ → ℕ → ℕ → List Job → List Run → Type 0
 Follows program tries times jobs [] = ⊤
@@ -46,7 +46,7 @@ ended [] (run ∷ runs) = []
 ended (job ∷ jobs) (run ∷ runs) =
     cond (ended_well run.ended) (job.number ∷ ended jobs runs) (ended (job ∷ jobs) runs)
 
--- These runs were told behind the others, or it tells no longer.
+-- These runs were told after the others, or it tells no longer.
 abbrev pub Adds : Option (List Run) → List Run → Option (List Run) → Type 0
 Adds told more None = ⊤
 Adds None more (Some now) = ⊥

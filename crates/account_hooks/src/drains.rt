@@ -1,10 +1,11 @@
 // Draining: the program is run for one out row after the other.
 ghost use Rattle.std.specs.Prelude.{◌≡◌, ◌≤◌, ◌<◌, ℕ, List, Bool, true, false, None, ◌++◌, IfNone, IfSome};
 ghost use Rattle.acct_keeper.specs.Causes.{Rose};
-ghost use Rattle.account_hooks.specs.Runs.{Run, job_of, ended_well, Adds};
+ghost use Rattle.account_hooks.specs.Runs.{Run, job_of, Adds};
 ghost use Rattle.account_hooks.specs.declared.runs.Ran.{Ran};
 ghost use Rattle.account_hooks.specs.Gates.{Begins, IsNext};
 ghost use Rattle.account_hooks.specs.Drains.{TriedAs, runs_of, IsDraining, Drains, GoesTo, IfHeld, IfStoreFault};
+ghost use Rattle.account_hooks.specs.Drains.{IfNoMemory};
 
 use crate::gate::{HookGate, HookedEnd};
 use crate::runs::{HookJob, Ran, Spawner};
@@ -22,15 +23,6 @@ pub enum Drained {
     NoMemory,
 }
 
-impl Ran {
-    // It ended with 0.
-    pub(crate) fn is_well(self) -> bool
-        ensures { result ≡ ended_well self }
-    {
-        matches!(self, Ran::Exited(0))
-    }
-}
-
 // Runs the program for a job until it ends with 0, at most so many times. Whether it did.
 fn run_job<P: Spawner>(spawner: &mut P, program: &str, tries: u32, job: &HookJob) -> bool
     ensures runs { (ends : List Ran) × TriedAs result tries ends
@@ -46,41 +38,7 @@ fn run_job<P: Spawner>(spawner: &mut P, program: &str, tries: u32, job: &HookJob
     false
 }
 
-// Runs the program for the first job that is left, and takes it out. Why the drain stops, if it does.
-fn run_first<P: Spawner, G: HookGate>(
-    spawner: &mut P,
-    gate: &mut G,
-    program: &str,
-    tries: u32,
-    job: HookJob,
-) -> Option<Drained>
-    requires tries { 0 < tries }
-    requires ready { G.ready gate.old }
-    requires next { IsNext (G.jobs gate.old) (G.gone gate.old) (job_of job) }
-    ensures ready { G.ready gate.new }
-    ensures moves { G.moves gate.old gate.new }
-    ensures nearer { IfNone result (G.room gate.new < G.room gate.old) }
-    ensures later { P.failed spawner.old ≤ P.failed spawner.new }
-    ensures held { IfSome result (λ answer. IfHeld answer (Rose (P.failed spawner.old) (P.failed spawner.new))) }
-    ensures fault { IfSome result (λ answer. IfStoreFault answer (λ n. G.faulted gate.old n gate.new)) }
-    ensures jobs { Begins (G.jobs gate.old) (G.jobs gate.new) }
-    ensures drains { (more : List Run) × Adds (P.runs spawner.old) more (P.runs spawner.new)
-        × ((before : List ℕ) (earlier : List Run)
-        → IsDraining program.now tries before (G.jobs gate.old) (G.gone gate.old) earlier
-        → GoesTo result program.now tries before (G.jobs gate.new) (G.gone gate.new) (earlier ++ more)) }
-{
-    if !run_job(spawner, program, tries, &job) {
-        return Some(Drained::Held(job.number));
-    }
-    match gate.hooked(job.number) {
-        HookedEnd::Done => None,
-        HookedEnd::Past(_) => unreachable!(),
-        HookedEnd::StoreFault(n) => Some(Drained::StoreFault(n)),
-        HookedEnd::NoMemory => Some(Drained::NoMemory),
-    }
-}
-
-// Goes on with the first job that is left, if there is one. Why the drain stops, if it does.
+// Runs the program for the first job that is left, if there is one, and takes it out. Why the drain stops, if it does.
 fn drain_next<P: Spawner, G: HookGate>(
     spawner: &mut P,
     gate: &mut G,
@@ -95,6 +53,7 @@ fn drain_next<P: Spawner, G: HookGate>(
     ensures later { P.failed spawner.old ≤ P.failed spawner.new }
     ensures held { IfSome result (λ answer. IfHeld answer (Rose (P.failed spawner.old) (P.failed spawner.new))) }
     ensures fault { IfSome result (λ answer. IfStoreFault answer (λ n. G.faulted gate.old n gate.new)) }
+    ensures memory { IfSome result (λ answer. IfNoMemory answer (G.ran_out gate.old gate.new)) }
     ensures jobs { Begins (G.jobs gate.old) (G.jobs gate.new) }
     ensures drains { (more : List Run) × Adds (P.runs spawner.old) more (P.runs spawner.new)
         × ((before : List ℕ) (earlier : List Run)
@@ -104,7 +63,17 @@ fn drain_next<P: Spawner, G: HookGate>(
     match gate.first() {
         Err(_) => Some(Drained::NoMemory),
         Ok(None) => Some(Drained::Empty),
-        Ok(Some(job)) => run_first(spawner, gate, program, tries, job),
+        Ok(Some(job)) => {
+            if !run_job(spawner, program, tries, &job) {
+                return Some(Drained::Held(job.number));
+            }
+            match gate.hooked(job.number) {
+                HookedEnd::Done => None,
+                HookedEnd::Past(_) => unreachable!(),
+                HookedEnd::StoreFault(n) => Some(Drained::StoreFault(n)),
+                HookedEnd::NoMemory => Some(Drained::NoMemory),
+            }
+        }
     }
 }
 
@@ -128,6 +97,7 @@ pub fn drain<P: Spawner, G: HookGate>(
         → Drains result program.now tries before (G.jobs gate.new) (G.gone gate.new) (earlier ++ more)) }
     ensures held { IfHeld result (Rose (P.failed spawner.old) (P.failed spawner.new)) }
     ensures fault { IfStoreFault result (λ n. G.faulted gate.old n gate.new) }
+    ensures memory { IfNoMemory result (G.ran_out gate.old gate.new) }
     ensures later { P.failed spawner.old ≤ P.failed spawner.new }
     ensures jobs { Begins (G.jobs gate.old) (G.jobs gate.new) }
     ensures ready { G.ready gate.new }

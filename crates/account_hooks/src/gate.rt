@@ -1,5 +1,5 @@
 // How a drain reaches the out rows.
-ghost use Rattle.std.specs.Prelude.{◌≡◌, ◌≤◌, ◌<◌, ℕ, List, IfOk};
+ghost use Rattle.std.specs.Prelude.{◌≡◌, ◌≤◌, ◌<◌, ℕ, List, IfOk, OnErr};
 ghost use Rattle.account_hooks.specs.Runs.{Job};
 ghost use Rattle.account_hooks.specs.declared.gate.HookedEnd.TheVariants as hooked;
 ghost use Rattle.account_hooks.specs.Gates.{Begins, numbers, IsNext, IsFirstLeft, LeavesBy, IfPast, IfFault};
@@ -41,10 +41,14 @@ pub trait HookGate {
     /// In between a call found the store failing, with this count.
     ghost faulted: { Self → ℕ → Self → Type 0 };
 
+    /// In between a call ran out of memory. A gate that doesn't know it says nothing by it.
+    ghost ran_out: { Self → Self → Type 0 };
+
     /// The job of the first out row that is left, if one is.
     fn first(&mut self) -> Result<Option<HookJob>, AllocError>
         requires { ready self.old }
         ensures first { IfOk result (IsFirstLeft (jobs self.new) (gone self.new)) }
+        ensures memory { OnErr result (ran_out self.old self.new) }
         ensures jobs { Begins (jobs self.old) (jobs self.new) }
         ensures gone { gone self.new ≡ gone self.old }
         ensures ready { ready self.new }
@@ -58,6 +62,7 @@ pub trait HookGate {
         ensures past { (job : Job) → IsNext (jobs self.old) (gone self.old) job → job.number ≡ number
             → IfPast result ⊥ }
         ensures fault { IfFault result (λ n. faulted self.old n self.new) }
+        ensures memory { result ≡ hooked.NoMemory → ran_out self.old self.new }
         ensures jobs { Begins (jobs self.old) (jobs self.new) }
         ensures ready { ready self.new }
         ensures room { room self.new ≤ room self.old }
@@ -72,4 +77,6 @@ pub trait HookGate {
     ghost goes_on: { (a b c : Self) → moves a b → moves b c → moves a c };
 
     ghost since: { (a b c : Self) (n : ℕ) → moves a b → faulted b n c → faulted a n c };
+
+    ghost out_since: { (a b c : Self) → moves a b → ran_out b c → ran_out a c };
 }

@@ -8,14 +8,17 @@
 //! `Gates` what a gate knows, and `Drains` where a drain stops; the law [`order_is_by_jobs`] says it job by job.
 #![tactic(auto)]
 
+mod copies;
 mod drains;
 mod gate;
 mod laws;
 mod memory;
+mod memory_gate;
 mod runs;
 
 pub use drains::{Drained, drain};
 pub use gate::{HookGate, HookedEnd};
 pub use laws::order_is_by_jobs;
 pub use memory::{MadeRun, MemorySpawner, SteadySpawner};
+pub use memory_gate::MemoryGate;
 pub use runs::{HookJob, Ran, Spawner};

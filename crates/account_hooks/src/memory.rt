@@ -1,8 +1,10 @@
 // Spawners in memory.
-ghost use Rattle.std.specs.Prelude.{◌≡◌, ◌∷◌, [], map, option_map, string_bytes, IfOk, Some, None};
-ghost use Rattle.account_hooks.specs.Runs.{Adds};
-ghost use Rattle.account_hooks.specs.Memory.{seen_run, seen_runs};
+ghost use Rattle.std.specs.Prelude.{◌≡◌, ◌≤◌, ◌+◌, ◌∷◌, [], map, drop, not, option_map, string_bytes, IfOk, Some, None};
+ghost use Rattle.acct_keeper.specs.Counts.{faults_after};
+ghost use Rattle.account_hooks.specs.Runs.{Adds, ended_well};
+ghost use Rattle.account_hooks.specs.Memory.{seen_run, seen_runs, EndsNext, to_come};
 
+use crate::copies::copy_all;
 use crate::runs::{Ran, Spawner};
 use std::alloc::{AllocError, Global};
 
@@ -14,25 +16,28 @@ pub struct MadeRun {
     pub ended: Ran,
 }
 
-/// A spawner in memory: its runs end as listed, the last of the list first, and with 0 once the list is used up. It
-/// tells its runs until it is out of memory.
+/// A spawner in memory: its runs end as listed, one after the other, and with 0 once the list is used up. It tells its
+/// runs until it is out of memory.
 #[derive(Drop)]
 pub struct MemorySpawner {
     alloc: Global,
-    coming: Vec<Ran>,
+    ends: Vec<Ran>,
+    used: usize,
     made: Option<Vec<MadeRun>>,
     failed: u64,
 }
 
 impl MemorySpawner {
-    /// A spawner whose runs end so, the last of the list first.
-    pub fn new(alloc: Global, coming: Vec<Ran>) -> MemorySpawner
+    /// A spawner whose runs end so.
+    pub fn new(alloc: Global, ends: Vec<Ran>) -> MemorySpawner
+        ensures ends { to_come result ≡ ends.items }
         ensures none { seen_runs result.made ≡ Some [] }
         ensures failed { result.failed ≡ 0 }
     {
         MemorySpawner {
             alloc,
-            coming,
+            ends,
+            used: 0,
             made: Some(Vec::new(alloc)),
             failed: 0,
         }
@@ -47,17 +52,6 @@ impl MemorySpawner {
             None => None,
         }
     }
-}
-
-// Copies of texts.
-fn copy_all(alloc: Global, texts: &[String]) -> Result<Vec<String>, AllocError>
-    ensures { IfOk result (λ copies. map string_bytes copies.items ≡ map string_bytes texts.now) }
-{
-    let mut copies = Vec::new(alloc);
-    for text in texts {
-        copies.push(String::from_str(alloc, text.as_str())?)?;
-    }
-    Ok(copies)
 }
 
 fn make_run(
@@ -102,16 +96,31 @@ fn with_run(
     }
 }
 
+// The end at a place of a list, and the place after it. Behind the list it is 0.
+fn next_end(ends: &[Ran], used: usize) -> (Ran, usize)
+    ensures { EndsNext (drop used ends.now) result.0 (drop result.1 ends.now) }
+{
+    match ends.get(used) {
+        Some(ended) => (*ended, used + 1),
+        None => (Ran::Exited(0), used),
+    }
+}
+
 impl Spawner for MemorySpawner {
     ghost runs = { λ s. seen_runs s.made };
 
     ghost failed = { λ s. s.failed };
 
-    fn run(&mut self, program: &str, arguments: &[String]) -> Ran {
-        let ended = match self.coming.pop() {
-            Some(ended) => ended,
-            None => Ran::Exited(0),
-        };
+    fn run(&mut self, program: &str, arguments: &[String]) -> Ran
+        ensures runs { Adds (seen_runs self.old.made)
+            ((record { program = program.now; arguments = map string_bytes arguments.now; ended = result }) ∷ [])
+            (seen_runs self.new.made) }
+        ensures failed { self.new.failed ≡ faults_after (not (ended_well result)) self.old.failed }
+        ensures later { self.old.failed ≤ self.new.failed }
+        ensures listed { EndsNext (to_come self.old) result (to_come self.new) }
+    {
+        let (ended, used) = next_end(&self.ends, self.used);
+        self.used = used;
         if !ended.is_well() {
             self.failed = self.failed.saturating_add(1);
         }

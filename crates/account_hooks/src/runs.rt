@@ -12,6 +12,15 @@ pub enum Ran {
     Failed,
 }
 
+impl Ran {
+    /// Whether it ended with 0.
+    pub fn is_well(self) -> bool
+        ensures { result ≡ ended_well self }
+    {
+        matches!(self, Ran::Exited(0))
+    }
+}
+
 /// What the program is run for: the number of an out row, and its arguments.
 #[derive(Drop)]
 pub struct HookJob {

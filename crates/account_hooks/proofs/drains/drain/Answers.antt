@@ -1,4 +1,4 @@
--- The runs of each part are told behind those of the parts before it.
+-- The runs of each part are told after those of the parts before it.
 use Rattle.std.proofs.Common.{[], ◌++◌, subst, append_assoc, arith, List}
 use Rattle.account_hooks.specs.Runs.{Run}
 use Rattle.account_hooks.specs.Drains.{Drains, IsDraining}

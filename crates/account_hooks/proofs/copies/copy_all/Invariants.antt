@@ -1,6 +1,6 @@
 -- The texts so far are copied.
 use Rattle.std.proofs.Common.{◌≡◌, map, string_bytes, take}
-use Rattle.account_hooks.proofs.memory.copy_all.Given as goal
+use Rattle.account_hooks.proofs.copies.copy_all.Given as goal
 
 abbrev pub invariant-loop-text : goal.invariant-loop-text
 invariant-loop-text l = map string_bytes l.copies.items ≡ map string_bytes (take l.text-index l.texts)
