@@ -3,6 +3,8 @@
 ghost use Rattle.std.specs.Prelude.{◌≡◌, IfOk, is_some};
 ghost use Rattle.account_words.specs.Statuses.{has_message};
 
+use crate::places::at;
+use acct_config::Place;
 use acct_server::Status;
 use host_world::Unread;
 use std::alloc::{AllocError, Global};
@@ -25,10 +27,16 @@ fn rule_of(number: u32) -> &'static str {
     }
 }
 
-fn of_config(alloc: Global, name: &str, rule: u32) -> Result<String, AllocError> {
+fn of_config(
+    alloc: Global,
+    name: &str,
+    rule: u32,
+    place: Option<&Place>,
+) -> Result<String, AllocError> {
     let asks = rule_of(rule);
+    let there = at(alloc, place)?;
     format!(in alloc;
-        "{name} breaks rule {rule}: {asks}; mend it there, by \"The configuration\" of docs/SPECIFICATION.md"
+        "{name} breaks rule {rule}{there}: {asks}; mend it there, by \"The configuration\" of docs/SPECIFICATION.md"
     )
 }
 
@@ -102,19 +110,21 @@ fn word(words: &[String], place: usize) -> &str {
     }
 }
 
-/// What is said of a status, of which the world told why a source wasn't read, where more than its code and word is.
+/// What is said of a status, where more than its code and word is: of which it is known why a source wasn't read, and
+/// where the configuration breaks its rule.
 pub fn message(
     alloc: Global,
     status: &Status,
     words: &[String],
     unread: Option<Unread>,
+    place: Option<&Place>,
 ) -> Result<Option<String>, AllocError>
     ensures { IfOk result (λ text. is_some text ≡ has_message status.now) }
 {
     let name = word(words, 1);
     let store = word(words, 2);
     let text = match status {
-        Status::Config(rule) => of_config(alloc, name, *rule)?,
+        Status::Config(rule) => of_config(alloc, name, *rule, place)?,
         Status::ReadFault => of_source(alloc, name, unread)?,
         Status::WriteFault => of_output(alloc)?,
         Status::StoreFault => of_store(alloc, store)?,

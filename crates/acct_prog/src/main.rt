@@ -1,17 +1,20 @@
 //! The program `account`: `main`, which makes the real world and calls `account` on it.
 //!
 //! It stands on `acct_commands` for the top call, on `host_world` for the real world, and on `account_words` for the
-//! words of the command line, what is said of a status, and what is written where the words have no form. What the
+//! words of the command line, what is said of a status, and what is written where the words have no form; on
+//! `acct_config` for where a configuration that was refused breaks its rule, for which its file is read again. What the
 //! program promises are the clauses of [`account`], over a world that tells; what is here makes that world and writes
 //! to the standard error.
 #![tactic(auto)]
 
 use account_words::{code_of, message, usage, word_of, words};
 pub use acct_commands::account;
+use acct_config::{ConfigError, Place, place_of, read_config};
 pub use acct_links::{Caller, TakeError};
 use acct_server::Status;
 pub use acct_world::{Period, World};
 use host_world::{HeldStreams, HostWorld};
+use std::fs;
 use std::process::ExitCode;
 use std::sync::Wait;
 use std::thread::Threads;
@@ -57,9 +60,37 @@ fn tell(rt: &HostRuntime, status: &Status) {
     }
 }
 
+/// The bytes of a file at a path, if a plain one is there.
+fn file_at(rt: &HostRuntime, path: &str) -> Option<Vec<u8>> {
+    if !fs::metadata(rt, path).ok()?.is_file() {
+        return None;
+    }
+    fs::read(rt, path).ok()
+}
+
+/// Where the configuration in a file breaks a rule, if the file is there and still breaks it.
+fn place_in(rt: &HostRuntime, path: &str, rule: u32) -> Option<Place> {
+    let bytes = file_at(rt, path)?;
+    match read_config(rt.alloc(), &bytes) {
+        Err(ConfigError::Rule(now)) if now == rule => place_of(rt.alloc(), &bytes, rule).ok()?,
+        _ => None,
+    }
+}
+
+/// Where the configuration breaks its rule, if that is the status and it is known. That of the standard input isn't.
+fn place_by(rt: &HostRuntime, status: &Status, words: &[String]) -> Option<Place> {
+    match (status, words.get(1)) {
+        (Status::Config(rule), Some(name)) if name.as_str() != "-" => {
+            place_in(rt, name.as_str(), *rule)
+        }
+        _ => None,
+    }
+}
+
 /// Says after that what happened, with what the status carries, and what to do about it.
 fn tell_more(rt: &HostRuntime, status: &Status, words: &[String], world: &HostWorld) {
-    if let Ok(Some(text)) = message(rt.alloc(), status, words, world.unread()) {
+    let place = place_by(rt, status, words);
+    if let Ok(Some(text)) = message(rt.alloc(), status, words, world.unread(), place.as_ref()) {
         let _ = eprintln!(rt; "account: {text}");
     }
 }

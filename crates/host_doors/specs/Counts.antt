@@ -1,8 +1,9 @@
 -- What links and doors of the system show: counts of their faults, how many links a door still gives, and which link it
 -- keeps for later.
-use Rattle.std.specs.Prelude.{ℕ, ◌-◌, ◌==◌, Bool, true, false, not, ◌&&◌, Option, Some, None, option_map, if◌then◌else◌}
-use Rattle.std.specs.Prelude.{is_none}
+use Rattle.std.specs.Prelude.{ℕ, ◌+◌, ◌-◌, ◌^◌, ◌==◌, min, Bool, true, false, not, ◌&&◌, Option, Some, None, option_map}
+use Rattle.std.specs.Prelude.{if◌then◌else◌, is_none, Result, Ok, Err}
 use Rattle.acct_keeper.specs.Counts.{one_more}
+use Rattle.acct_keeper.specs.declared.streams.Failed.{Failed as CallFailed}
 use Rattle.acct_links.specs.Links.{Told}
 use Rattle.acct_links.specs.declared.doors.Next.{Next}
 use Rattle.acct_links.specs.declared.doors.Next.TheVariants.{Link, Closed, Failed}
@@ -21,6 +22,11 @@ told_by ended reads writes = record {
   read_faults = reads;
   write_faults = writes;
 }
+
+-- how many bytes were read after a read, a number that stands still at the end of its type
+abbrev pub read_after : Result ℕ CallFailed → ℕ → ℕ
+read_after (Ok count) before = min (before + count) (2 ^ 64 - 1)
+read_after (Err failed) before = before
 
 -- ---- doors
 

@@ -217,10 +217,12 @@ impl<R: Clock + Eprint, T: OpenListener<Stream = S> + Drop, S: Read + Write + Op
                 ))
             }
             None if link.has_ended() => {}
-            None => self.hall.say(format_args!(
-                "connection {conn} at listener {listener} was closed: a PDU was refused, max_read was reached, the \
-                history was full, or memory was wanted"
-            )),
+            None => {
+                let cause = link.close_cause();
+                self.hall.say(format_args!(
+                    "connection {conn} at listener {listener} was closed: {cause}"
+                ))
+            }
         }
     }
 }

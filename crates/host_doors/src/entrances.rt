@@ -9,6 +9,7 @@ ghost use Rattle.host_doors.specs.Doors.{IsDoor};
 ghost use Rattle.host_doors.specs.Troubles.{advice_of, is_refused, listened};
 
 use crate::binding::listen;
+use crate::boards::Board;
 use crate::doors::HostDoor;
 use crate::halls::{Hall, LIMITS, Limits};
 use crate::sockets::Socket;
@@ -50,6 +51,7 @@ pub struct HostEntrance<'a, R: Net + Files> {
     rt: &'a R,
     alloc: Global,
     limits: Limits,
+    board: Option<Arc<Board, Global>>,
     hall: Option<Arc<Hall<R>, Global>>,
     fault_count: u64,
     place: Option<String>,
@@ -60,6 +62,7 @@ impl<'a, R: Net + Files + Copy + Drop> HostEntrance<'a, R> {
     /// An entrance of which nothing was asked.
     pub fn new(rt: &'a R, alloc: Global) -> Self
         ensures limits { result.limits ≡ record { read = 600; write = 120; last_read = 5 } }
+        ensures board { result.board ≡ None }
         ensures count { result.fault_count ≡ 0 }
         ensures place { result.place ≡ None }
         ensures trouble { result.trouble ≡ None }
@@ -70,6 +73,23 @@ impl<'a, R: Net + Files + Copy + Drop> HostEntrance<'a, R> {
     /// The same, with other limits of time for the links of its doors.
     pub fn with_limits(rt: &'a R, alloc: Global, limits: Limits) -> Self
         ensures limits { result.limits ≡ limits }
+        ensures board { result.board ≡ None }
+        ensures count { result.fault_count ≡ 0 }
+        ensures place { result.place ≡ None }
+        ensures trouble { result.trouble ≡ None }
+    {
+        HostEntrance::with_board(rt, alloc, limits, None)
+    }
+
+    /// The same, whose doors say the periods of a board, if there is one.
+    pub fn with_board(
+        rt: &'a R,
+        alloc: Global,
+        limits: Limits,
+        board: Option<Arc<Board, Global>>,
+    ) -> Self
+        ensures limits { result.limits ≡ limits }
+        ensures board { result.board ≡ board }
         ensures count { result.fault_count ≡ 0 }
         ensures place { result.place ≡ None }
         ensures trouble { result.trouble ≡ None }
@@ -78,6 +98,7 @@ impl<'a, R: Net + Files + Copy + Drop> HostEntrance<'a, R> {
             rt,
             alloc,
             limits,
+            board,
             hall: None,
             fault_count: 0,
             place: None,
@@ -103,7 +124,12 @@ impl<'a, R: Net + Files + Copy + Drop> HostEntrance<'a, R> {
         if let Some(hall) = &self.hall {
             return Ok(Arc::try_clone(hall)?);
         }
-        let hall = Arc::new(self.alloc, Hall::new(*self.rt, self.limits))?;
+        let board = match &self.board {
+            Some(board) => Some(Arc::try_clone(board)?),
+            None => None,
+        };
+        let hall = Hall::with_board(*self.rt, self.limits, board);
+        let hall = Arc::new(self.alloc, hall)?;
         self.hall = Some(Arc::try_clone(&hall)?);
         Ok(hall)
     }

@@ -1,8 +1,11 @@
 // What the doors of an entrance share, and the connections that they give.
 
+use crate::boards::Board;
 use host_lines::Lines;
+use std::alloc::Global;
 use std::fmt::Display;
 use std::io::Eprint;
+use std::sync::Arc;
 use std::sync::atomic::{AtomicU64, Ordering};
 use std::time::{Clock, Duration};
 
@@ -73,27 +76,34 @@ impl Away {
     }
 }
 
-/// What the doors of an entrance share: their runtime and limits, how many of them keep a link for the next period,
-/// which are away, and their lines.
+/// What the doors of an entrance share: their runtime and limits, the board of their periods, if there is one, how many
+/// of them keep a link for the next period, which are away, which period was said to begin, and their lines.
 #[derive(Drop)]
 pub struct Hall<R> {
     rt: R,
     limits: Limits,
+    board: Option<Arc<Board, Global>>,
     keeping: AtomicU64,
     away: Away,
-    has_begun: AtomicU64,
+    said: AtomicU64,
     lines: Lines,
 }
 
 impl<R> Hall<R> {
     /// The hall of an entrance whose doors give no link yet.
     pub fn new(rt: R, limits: Limits) -> Self {
+        Hall::with_board(rt, limits, None)
+    }
+
+    /// The same, whose doors say the periods of a board, if there is one.
+    pub fn with_board(rt: R, limits: Limits, board: Option<Arc<Board, Global>>) -> Self {
         Hall {
             rt,
             limits,
+            board,
             keeping: AtomicU64::new(0),
             away: Away::new(),
-            has_begun: AtomicU64::new(0),
+            said: AtomicU64::new(0),
             lines: Lines::new(),
         }
     }
@@ -156,10 +166,27 @@ impl<R: Clock + Eprint> Hall<R> {
         self.lines.say(&self.rt, line);
     }
 
-    /// Says that doors are served, the first time that one is asked for a link.
+    /// Says that a period is served, the first time that a door is asked for a link in it.
     pub(crate) fn begin(&self) {
-        if self.has_begun.swap(1, Ordering::SeqCst) == 0 {
+        let period = match &self.board {
+            Some(board) => board.periods(),
+            None => 1,
+        };
+        if self.said.swap(period, Ordering::SeqCst) != period {
+            self.say_period(period);
+        }
+    }
+
+    fn say_period(&self, period: u64) {
+        let Some(board) = &self.board else {
             self.say("serving");
+            return;
+        };
+        let accounts = board.accounts();
+        if period == 1 {
+            self.say(format_args!("serving {accounts} accounts"));
+        } else {
+            self.say(format_args!("period {period} begins, with {accounts} accounts"));
         }
     }
 

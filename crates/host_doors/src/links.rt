@@ -1,9 +1,12 @@
 // The connections of the system.
-ghost use Rattle.std.specs.Prelude.{◌≡◌, None, true, false};
-ghost use Rattle.std.specs.Io.{ReadsAtMost};
-ghost use Rattle.host_doors.specs.Counts.{told_by, is_over};
+ghost use Rattle.std.specs.Prelude.{◌≡◌, ◌<◌, ◌==◌, None, true, false, length, IfOk};
+ghost use Rattle.std.specs.Io.{ReadsAtMost, WritesAtMost};
+ghost use Rattle.acct_links.specs.Links.{Reads, Writes};
+ghost use Rattle.host_doors.specs.Counts.{told_by, is_over, read_after};
+ghost use Rattle.host_doors.specs.Closings.{cause_of, last_of};
 
 use crate::channels::Channel;
+use crate::closings::{CloseCause, LastPdu, cause_of, last_of};
 use crate::halls::{Hall, LIMITS};
 use acct_links::{Failed, Link};
 use std::alloc::Global;
@@ -22,13 +25,17 @@ pub enum LinkTrouble {
 }
 
 /// A connection. It tells nothing of its bytes, and keeps whether anything of it was read or written, whether a read
-/// has answered the end, and what went wrong last.
+/// has answered the end, how many bytes were read, whether the last ones filled what was given for them, what was
+/// written last, and what went wrong last.
 #[derive(Drop)]
 pub struct HostLink<R, S> {
     channel: Channel<S>,
     hall: Option<Arc<Hall<R>, Global>>,
     is_used: bool,
     has_ended: bool,
+    read_count: u64,
+    is_filled: bool,
+    last: LastPdu,
     read_faults: u64,
     write_faults: u64,
     trouble: Option<LinkTrouble>,
@@ -41,6 +48,8 @@ impl<R, S> HostLink<R, S> {
         ensures channel { result.channel ≡ channel }
         ensures unused { result.is_used ≡ false }
         ensures going { result.has_ended ≡ false }
+        ensures last { result.last ≡ LastPdu.Other }
+        ensures read { (result.read_count ≡ 0) × (result.is_filled ≡ false) }
         ensures faults { (result.read_faults ≡ 0) × (result.write_faults ≡ 0) }
         ensures trouble { result.trouble ≡ None }
     {
@@ -49,6 +58,9 @@ impl<R, S> HostLink<R, S> {
             hall,
             is_used: false,
             has_ended: false,
+            read_count: 0,
+            is_filled: false,
+            last: LastPdu::Other,
             read_faults: 0,
             write_faults: 0,
             trouble: None,
@@ -77,6 +89,13 @@ impl<R, S> HostLink<R, S> {
         ensures { result ≡ self.now.has_ended }
     {
         self.has_ended
+    }
+
+    /// Why it was closed, where it hasn't ended and nothing went wrong.
+    pub fn close_cause(&self) -> CloseCause
+        ensures { result ≡ cause_of self.now.last self.now.read_count self.now.is_filled }
+    {
+        cause_of(self.last, self.read_count, self.is_filled)
     }
 
     /// What went wrong last.
@@ -154,11 +173,20 @@ fn not_taken(error: io::Error) -> io::Error {
 impl<R: Clock, S: Read + Write> Link for HostLink<R, S> {
     ghost told = { λ link. told_by link.has_ended link.read_faults link.write_faults };
 
-    fn read(&mut self, buf: &mut [u8]) -> Result<usize, Failed> {
+    fn read(&mut self, buf: &mut [u8]) -> Result<usize, Failed>
+        ensures bound { ReadsAtMost result buf.new }
+        ensures reads { Reads (told_by self.old.has_ended self.old.read_faults self.old.write_faults)
+            (told_by self.new.has_ended self.new.read_faults self.new.write_faults) result buf.new }
+        ensures count { self.new.read_count ≡ read_after result self.old.read_count }
+        ensures filled { IfOk result (λ count. self.new.is_filled ≡ (count == length buf.old)) }
+        ensures last { self.new.last ≡ self.old.last }
+    {
         self.is_used = true;
         match read_within(&mut self.channel, &self.hall, buf) {
             Ok(count) => {
                 self.has_ended |= (count == 0) & !buf.is_empty();
+                self.read_count = self.read_count.saturating_add(count as u64);
+                self.is_filled = count == buf.len();
                 Ok(count)
             }
             Err(error) => {
@@ -169,8 +197,16 @@ impl<R: Clock, S: Read + Write> Link for HostLink<R, S> {
         }
     }
 
-    fn write(&mut self, bytes: &[u8]) -> Result<usize, Failed> {
+    fn write(&mut self, bytes: &[u8]) -> Result<usize, Failed>
+        ensures bound { WritesAtMost result bytes.now }
+        ensures some { IfOk result (λ n. 0 < length bytes.now → 0 < n) }
+        ensures writes { Writes (told_by self.old.has_ended self.old.read_faults self.old.write_faults)
+            (told_by self.new.has_ended self.new.read_faults self.new.write_faults) result bytes.now }
+        ensures last { self.new.last ≡ last_of bytes.now }
+        ensures read { (self.new.read_count ≡ self.old.read_count) × (self.new.is_filled ≡ self.old.is_filled) }
+    {
         self.is_used = true;
+        self.last = last_of(bytes);
         if bytes.is_empty() {
             return Ok(0);
         }

@@ -1,8 +1,8 @@
--- What a source, a keeper and a link of the real world tell, what answers over a link by its first bytes, and what the
--- real world keeps of what went wrong.
+-- What a source, a keeper and a link of the real world tell, how many accounts a keeper's pairs have, what answers over
+-- a link by its first bytes, and what the real world keeps of what went wrong.
 use Rattle.std.specs.Prelude.{ℕ, List, ◌∷◌, [], Bool, true, false, codes, Option, Some, None, nat_eq, if◌then◌else◌}
-use Rattle.std.specs.Prelude.{option_map, slice_get}
-use Rattle.std.specs.List.{starts_with, filter_map}
+use Rattle.std.specs.Prelude.{option_map, is_some, slice_get, length, ◌==◌, ◌&&◌}
+use Rattle.std.specs.List.{starts_with, filter, filter_map}
 use Rattle.std.specs.Str.{bytes_eq}
 use Rattle.std.specs.declared.io.Error.{Error}
 use Rattle.host_world.specs.declared.opened.Opened.{Opened}
@@ -10,6 +10,7 @@ use Rattle.host_world.specs.declared.opened.Opened.TheVariants.{Standard, Disk}
 use Rattle.host_world.specs.declared.channel.Channel.{Channel}
 use Rattle.host_world.specs.declared.channel.Channel.TheVariants.{Tcp, Unix}
 use Rattle.acct_keeper.specs.declared.pairs.Pair.{Pair}
+use Rattle.acct_keeper.specs.declared.pairs.Change.{Change}
 use Rattle.host_world.specs.declared.host_keeper.HostKeeper.{HostKeeper}
 use Rattle.host_world.specs.declared.host_keeper.HostKeeper.TheVariants.{Memory, File}
 use Rattle.host_world.specs.declared.stranger.Stranger.{Stranger}
@@ -36,6 +37,24 @@ held_by (File faults) = None
 abbrev pub faults_of : HostKeeper → ℕ
 faults_of (Memory pairs) = 0
 faults_of (File faults) = faults
+
+-- the key of an account begins with `a`
+abbrev pub is_account_key : List ℕ → Bool
+is_account_key [] = false
+is_account_key (letter ∷ rest) = letter == 97
+
+abbrev pub is_account : Pair → Bool
+is_account pair = is_account_key pair.key
+
+abbrev pub puts_account : Change → Bool
+puts_account change = is_some change.value && is_account_key change.key
+
+-- how many pairs are of accounts, and how many changes put one
+abbrev pub accounts_in : List Pair → ℕ
+accounts_in pairs = length (filter is_account pairs)
+
+abbrev pub accounts_put : List Change → ℕ
+accounts_put changes = length (filter puts_account changes)
 
 -- the bytes begin as an answer by HTTP, a banner of SSH or an alert of TLS
 abbrev pub stranger_of : List ℕ → Stranger

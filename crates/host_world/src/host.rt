@@ -9,7 +9,7 @@ ghost use Rattle.host_world.specs.Host.{held_by, trouble_of, first_trouble, unre
 ghost use Rattle.host_world.specs.declared.stranger.Stranger.TheVariants.{Other};
 
 use crate::host_entrance::{SpokenEntrance, first_trouble};
-use crate::host_keeper::HostKeeper;
+use crate::host_keeper::{BoardKeeper, HostKeeper};
 use crate::host_link::{HostCaller, HostLink};
 use crate::opened::Opened;
 use crate::stranger::Stranger;
@@ -18,12 +18,13 @@ use crate::unread::{Unread, unread_of};
 use acct_keeper::{Failed, KeepError, Sink, Source, SteadyKeeper};
 use acct_links::TakeError;
 use acct_world::{Period, World};
-use host_doors::{DoorTrouble, HostDoor};
+use host_doors::{Board, DoorTrouble, HostDoor};
 use keeper_sqlite::SqliteKeeper;
 use std::alloc::{AllocError, Global};
 use std::fs::File;
 use std::io::{self, Input, Print, Printer, Read, Write};
 use std::net::Net;
+use std::sync::Arc;
 
 // A door of the real world.
 type Door = HostDoor<HostRuntime, <HostRuntime as Net>::Listener, <HostRuntime as Net>::Stream>;
@@ -122,11 +123,13 @@ impl<W: Write + Drop> Sink for HostSink<W> {
 /// The real world. The name `-` is the standard input, each other name of a source a file's path. The keeper with the
 /// empty name is a new one in memory each time, that with another name one in the file at that path. It keeps no
 /// period, but what went wrong with the last link or caller that was given back, and what answered over it, what went
-/// wrong with the last entrance or door, and why the last source that wasn't read wasn't.
+/// wrong with the last entrance or door, and why the last source that wasn't read wasn't. Its keepers and its entrances
+/// share a board of their periods, where there is memory for it.
 #[derive(Drop)]
 pub struct HostWorld<'a> {
     rt: &'a HostRuntime,
     alloc: Global,
+    board: Option<Arc<Board, Global>>,
     source_faults: u64,
     keeper_faults: u64,
     trouble: Option<Trouble>,
@@ -148,6 +151,7 @@ impl<'a> HostWorld<'a> {
         HostWorld {
             rt,
             alloc,
+            board: Arc::new(alloc, Board::new()).ok(),
             source_faults: 0,
             keeper_faults: 0,
             trouble: None,
@@ -186,12 +190,20 @@ impl<'a> HostWorld<'a> {
     }
 }
 
+// The board, where there is one and memory for sharing it.
+fn shared(board: &Option<Arc<Board, Global>>) -> Option<Arc<Board, Global>> {
+    match board {
+        Some(board) => Arc::try_clone(board).ok(),
+        None => None,
+    }
+}
+
 impl<'a> World for HostWorld<'a> {
     type S = HostSource<<HostRuntime as Input>::Reader>;
 
     type T = HostSink<Printer<'a, HostRuntime>>;
 
-    type K = HostKeeper;
+    type K = BoardKeeper;
 
     type E = SpokenEntrance<'a, HostRuntime>;
 
@@ -264,18 +276,22 @@ impl<'a> World for HostWorld<'a> {
         drop(part);
     }
 
-    fn take_keeper(&mut self, name: &str) -> Result<HostKeeper, TakeError>
+    fn take_keeper(&mut self, name: &str) -> Result<BoardKeeper, TakeError>
         ensures kept { self.new ≡ record self.old { keeper_faults = self.new.keeper_faults } }
         ensures given { name.now ≡ [] → IsOk result }
-        ensures empty { IfOk result (λ keeper. name.now ≡ [] → held_by keeper ≡ Some []) }
+        ensures empty { IfOk result (λ told. name.now ≡ [] → held_by told.keeper ≡ Some []) }
         ensures cause { result ≡ Err take_error.Failed → Rose self.old.keeper_faults self.new.keeper_faults }
         ensures later { self.old.keeper_faults ≤ self.new.keeper_faults }
     {
         if name.is_empty() {
-            return Ok(HostKeeper::Memory(SteadyKeeper::new(self.alloc)));
+            let keeper = HostKeeper::Memory(SteadyKeeper::new(self.alloc));
+            return Ok(BoardKeeper::new(keeper, shared(&self.board)));
         }
         match SqliteKeeper::new(self.rt, name) {
-            Ok(keeper) => Ok(HostKeeper::File(keeper)),
+            Ok(keeper) => {
+                let keeper = HostKeeper::File(keeper);
+                Ok(BoardKeeper::new(keeper, shared(&self.board)))
+            }
             Err(KeepError::NoMemory) => Err(TakeError::NoMemory),
             Err(KeepError::Failed) => {
                 self.keeper_faults = self.keeper_faults.saturating_add(1);
@@ -284,7 +300,7 @@ impl<'a> World for HostWorld<'a> {
         }
     }
 
-    fn give_keeper(&mut self, _name: &str, part: HostKeeper) {
+    fn give_keeper(&mut self, _name: &str, part: BoardKeeper) {
         drop(part);
     }
 
@@ -292,7 +308,7 @@ impl<'a> World for HostWorld<'a> {
         ensures kept { self.new ≡ self.old }
         ensures given { IsOk result }
     {
-        Ok(SpokenEntrance::new(self.rt, self.alloc))
+        Ok(SpokenEntrance::new(self.rt, self.alloc, shared(&self.board)))
     }
 
     fn give_entrance(&mut self, part: SpokenEntrance<'a, HostRuntime>, doors: Vec<Door>)

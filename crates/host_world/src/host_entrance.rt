@@ -4,12 +4,13 @@ ghost use Rattle.host_world.specs.Host.{first_trouble};
 
 use acct_keeper::KeepError;
 use acct_links::Entrance;
-use host_doors::{DoorTrouble, HostDoor, HostEntrance};
+use host_doors::{Board, DoorTrouble, HostDoor, HostEntrance, LIMITS};
 use std::alloc::Global;
 use std::fs::Files;
 use std::io::Eprint;
 use std::net::{Net, OpenListener};
 use std::os::fd::AsFd;
+use std::sync::Arc;
 use std::time::Clock;
 
 /// The entrance of the system. It says on the standard error where each listener listens, once it does and before a
@@ -21,14 +22,14 @@ pub struct SpokenEntrance<'a, R: Net + Files + Eprint> {
 }
 
 impl<'a, R: Net + Files + Eprint + Copy + Drop> SpokenEntrance<'a, R> {
-    /// An entrance of which nothing was asked.
-    pub fn new(rt: &'a R, alloc: Global) -> Self
+    /// An entrance of which nothing was asked, whose doors say the periods of a board, if there is one.
+    pub fn new(rt: &'a R, alloc: Global, board: Option<Arc<Board, Global>>) -> Self
         ensures faults { result.entrance.fault_count ≡ 0 }
         ensures trouble { result.entrance.trouble ≡ None }
     {
         SpokenEntrance {
             rt,
-            entrance: HostEntrance::new(rt, alloc),
+            entrance: HostEntrance::with_board(rt, alloc, LIMITS, board),
         }
     }
 

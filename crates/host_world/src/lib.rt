@@ -9,7 +9,7 @@
 //! What a file, a stream, a store or a socket gives or takes is told by no clause.
 //!
 //! In rooms: `host` has the world with its sources and its sink, `opened` what a source reads from, `unread` why one
-//! wasn't read; `host_keeper` has the keepers; `host_entrance` the entrance, which says where it listens; `host_link`
+//! wasn't read; `host_keeper` has the keepers, which say each period; `host_entrance` the entrance, which says where it listens; `host_link`
 //! the caller and its links, `channel` what these go over, `trouble` what went wrong there, `stranger` what answered;
 //! `held_streams` keeps the numbers of standard streams that were closed.
 #![tactic(auto)]
@@ -29,7 +29,7 @@ pub use channel::Channel;
 pub use held_streams::HeldStreams;
 pub use host::{HostSink, HostSource, HostWorld};
 pub use host_entrance::SpokenEntrance;
-pub use host_keeper::HostKeeper;
+pub use host_keeper::{BoardKeeper, HostKeeper};
 pub use host_link::{HostCaller, HostLink};
 pub use opened::Opened;
 pub use stranger::{Stranger, stranger_of};

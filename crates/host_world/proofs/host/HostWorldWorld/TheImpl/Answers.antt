@@ -199,7 +199,7 @@ take_keeper-tells g x d c =
     let old = c.args.self.now in
     let new = c.new.self.now in
     record {
-      takes = taken-keeper held_by old.source_faults old.keeper_faults new.source_faults new.keeper_faults
+      takes = taken-keeper (λ told. held_by told.keeper) old.source_faults old.keeper_faults new.source_faults new.keeper_faults
           c.args.name.now c.result c.ensures.empty c.ensures.cause c.ensures.later
           (ap (λ (w : HostWorld). w.source_faults) c.ensures.kept);
     }
