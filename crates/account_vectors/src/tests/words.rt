@@ -61,7 +61,7 @@ pub fn is_told(rt: &impl Abort, told: &str, wanted: &str, row: &str) {
     assert_eq!(rt; told, wanted, "{row}");
 }
 
-/// The front of a text up to a sign, and what is behind the sign.
+/// What stands before a sign in a text, and what stands after it.
 pub fn split(text: &str, sign: char) -> (&str, &str) {
     text.split_once(sign).unwrap_or((text, ""))
 }

@@ -1,6 +1,7 @@
 // Requests, sessions over a link in memory, entrances that are asked for the doors of listeners, serving over doors in
 // memory: tables, and two links that wait for each other; and the words of the rows. And the doors themselves: those in
 // memory, those at sockets of this process, and what these do where something fails or nothing comes.
+mod closings;
 mod listeners;
 mod meeting;
 mod memory;

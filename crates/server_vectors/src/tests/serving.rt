@@ -112,7 +112,7 @@ fn add_link(alloc: Global, links: &mut Seq<MemoryLink>, names: &str) -> Result<(
     Ok(())
 }
 
-/// A door with up to three links that bring these lines, of whose calls the one with the number in front fails.
+/// A door with up to three links that bring these lines, of whose calls the one with the first number fails.
 fn plan_of(alloc: Global, words: &str) -> Result<DoorPlan<MemoryLink>, Fail>
     ensures { IfOk result (λ plan. All (λ link. IsNew (told_by link)) plan.links) }
 {

@@ -35,13 +35,15 @@ fn table(place: u32) -> (Wire, &'static str, u32, u32) {
         9 => (Wire::TextList, fields::TEXT_LISTS, 1, 2),
         10 => (Wire::Privileges, fields::PRIVILEGES, 1, 2),
         11 => (Wire::Accounts, fields::ACCOUNTS, 3, 4),
+        12 => (Wire::Descriptor, fields::DESCRIPTORS, 3, 5),
+        13 => (Wire::DescriptorPointer, fields::DESCRIPTOR_POINTERS, 3, 5),
         _ => (Wire::Domains, fields::DOMAINS, 2, 4),
     }
 }
 
 #[test]
 fn stubs_are_read_and_written(rt: HostRuntime) -> Result<(), Fail> {
-    for place in 0..13 {
+    for place in 0..15 {
         let (wire, text, rows, stubs) = table(place);
         let counted = table_is_right(&rt, rt.alloc(), wire, text)?;
         assert!(rt; counted == (rows, stubs), "{text}");
@@ -62,13 +64,14 @@ fn bad_table(place: u32) -> (Wire, &'static str, u32) {
         7 => (Wire::NumberList, fields::BAD_LISTS, 1),
         8 => (Wire::TextList, fields::BAD_TEXT_LISTS, 1),
         9 => (Wire::Privileges, fields::BAD_PRIVILEGES, 4),
+        10 => (Wire::Descriptor, fields::BAD_DESCRIPTORS, 7),
         _ => (Wire::Domains, fields::BAD_DOMAINS, 4),
     }
 }
 
 #[test]
 fn bad_stubs_have_their_places(rt: HostRuntime) -> Result<(), Fail> {
-    for place in 0..11 {
+    for place in 0..12 {
         let (wire, text, count) = bad_table(place);
         let counted = lines_are_bad(&rt, rt.alloc(), wire, text)?;
         assert!(rt; counted == count, "{text}");

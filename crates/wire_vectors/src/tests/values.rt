@@ -6,4 +6,5 @@ mod lists;
 mod names;
 mod numbers;
 mod parts;
+mod places;
 mod sids;

@@ -29,7 +29,7 @@ const PRIVATE: &str = "keeper_sqlite_private/accounts.db";
 
 const PRIVATE_LOG: &str = "keeper_sqlite_private/accounts.db-wal";
 
-// Each row: what another program did with the file before; what is done with it, each opening behind a slash; and what
+// Each row: what another program did with the file before; what is done with it, each opening after a slash; and what
 // is answered, for each opening its count of faults at the end. A file that is open is refused to who opens it again,
 // and the keeper that has it open loads it then.
 const ROWS: &str =

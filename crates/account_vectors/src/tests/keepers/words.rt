@@ -1,6 +1,6 @@
 // Keepers that are asked in words, and what they answer.
 //
-// A word is a load or a commit, and a commit its changes: a pair is put, or the one with the key behind the sign
+// A word is a load or a commit, and a commit its changes: a pair is put, or the one with the key after the sign
 // removed. A sign stands for its byte, a star for a long key or value. Of a file there are more words: it is opened once
 // again, many numbers are committed, it is swapped with a spare one, and what lies at its path is no database and then
 // the file again.
@@ -226,7 +226,7 @@ pub fn serve<K: Keeper>(
     told.push('/')
 }
 
-// Adds a value's text, and a sign behind it.
+// Adds a value's text, and a sign after it.
 pub fn push_text<T: Display>(told: &mut String, value: &T) -> Result<(), AllocError> {
     write!(told, "{value};")
 }

@@ -1,7 +1,7 @@
 // A table beside a plain list that is walked: what both hold after each change, and what both find.
 ghost use Rattle.std.specs.Prelude.{[], ◌∷◌, ◌==◌, not};
 
-use acct_tables::{Order, Table, Test};
+use acct_tables::{Fronts, Order, Table, Test, Whole};
 use std::alloc::Global;
 use std::cmp::Ordering;
 use std::test::Fail;
@@ -16,17 +16,29 @@ struct Item {
 struct ByShelf;
 
 impl Order<Item> for ByShelf {
-    type Front = u32;
-
-    ghost key_of = { λ item. (item.shelf ∷ []) ∷ (item.place ∷ []) ∷ [] };
-
-    ghost front_of = { λ shelf. (shelf ∷ []) ∷ [] };
+    ghost key_of = { λ item. item.shelf ∷ item.place ∷ [] };
 
     fn order(left: &Item, right: &Item) -> Ordering {
         left.shelf
             .cmp(&right.shelf)
             .then(left.place.cmp(&right.place))
     }
+}
+
+impl Whole<Item> for ByShelf {
+    type Key = (u32, u32);
+
+    ghost path = { λ key. key.0 ∷ key.1 ∷ [] };
+
+    fn order_key(value: &Item, key: &(u32, u32)) -> Ordering {
+        value.shelf.cmp(&key.0).then(value.place.cmp(&key.1))
+    }
+}
+
+impl Fronts<Item> for ByShelf {
+    type Front = u32;
+
+    ghost front_of = { λ shelf. shelf ∷ [] };
 
     fn order_front(value: &Item, front: &u32) -> Ordering {
         value.shelf.cmp(front)
@@ -55,7 +67,11 @@ fn put(table: &mut Table<Item, ByShelf>, plain: &mut Vec<Item>, item: Item) -> R
 }
 
 fn remove(table: &mut Table<Item, ByShelf>, plain: &mut Vec<Item>, item: Item) {
-    table.remove(&item);
+    if plain.len() % 2 == 0 {
+        table.remove(&item);
+    } else {
+        table.remove_key(&(item.shelf, item.place));
+    }
     plain.retain(|other| *other != item);
 }
 
@@ -97,14 +113,33 @@ fn finds(table: &Table<Item, ByShelf>, plain: &[Item], shelf: u32) -> bool {
     within.len() == count && table.find(&shelf).copied() == within.first().copied()
 }
 
-/// Whether a table rises, has what a list has, and finds each shelf's.
+/// Whether exactly the items of the list are found by their keys.
+fn finds_each(table: &Table<Item, ByShelf>, plain: &[Item]) -> bool {
+    for n in 0..60 {
+        let item = Item {
+            shelf: n / 10,
+            place: n % 10,
+        };
+        let there = if plain.contains(&item) {
+            Some(item)
+        } else {
+            None
+        };
+        if table.find_key(&(item.shelf, item.place)).copied() != there {
+            return false;
+        }
+    }
+    true
+}
+
+/// Whether a table rises, has what a list has, and finds each shelf's and each.
 fn agrees(table: &Table<Item, ByShelf>, plain: &[Item]) -> bool {
     for shelf in 0..6 {
         if !finds(table, plain, shelf) {
             return false;
         }
     }
-    rises(table.as_slice()) && has_all(table.as_slice(), plain)
+    rises(table.as_slice()) && has_all(table.as_slice(), plain) && finds_each(table, plain)
 }
 
 /// The item that a random number stands for.

@@ -15,7 +15,7 @@ use std::test::Fail;
 const DOMAIN: &str = "[domain]\nname = \"CORP\"\nsid = \"S-1-5-21-1-2-3\"\n";
 
 // Each row: the asking that fails, or 0; the listeners, each by its address, its workers and its links; what is
-// answered; the askings that the entrance answered with doors, each with the listener's place in front; and the doors,
+// answered; the askings that the entrance answered with doors, each with the listener's place first; and the doors,
 // each by its listener's place and the letter that its first link brings. The first three doors that an entrance makes
 // bring a, b and c, those after them nothing.
 const ROWS: &str = "0|tcp:127.0.0.1:4045 1 0|Ok(())|0 tcp:127.0.0.1:4045 1 0,|0a,

@@ -17,7 +17,7 @@ use std::sync::Wait;
 use std::test::Fail;
 use std::thread::Threads;
 
-/// Each row: the limits; the links of the first door, each by what it brings, and in front with `!` which of its calls
+/// Each row: the limits; the links of the first door, each by what it brings, and first, with `!`, which of its calls
 /// fails, reads and writes counted together from 1; which call of the door fails, and which of the keeper; how serving
 /// ends; what was finished, each link by its connection and what was written on it; the ends by connection; and what
 /// was entered.

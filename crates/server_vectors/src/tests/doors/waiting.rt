@@ -1,7 +1,7 @@
 // Doors of which an accept fails, or whose clients say nothing, and links that are given back unused.
 use super::sockets::{answered, exchanged};
 use acct_links::{Door, Entrance, Failed, Link, Next, send};
-use host_doors::{Hall, HostDoor, HostEntrance, LIMITS, Limits, Socket};
+use host_doors::{Board, Hall, HostDoor, HostEntrance, LIMITS, Limits, Socket};
 use std::alloc::Global;
 use std::fmt::Display;
 use std::io::{self, Eprint, Read, Write};
@@ -60,10 +60,10 @@ impl OpenListener for Failing {
     }
 }
 
-// A door of one link over a listener that fails so.
+// A door of one link, in this hall, over a listener that fails so.
 fn failing_door<'a>(
     alloc: Global,
-    rt: Still<'a>,
+    hall: Hall<Still<'a>>,
     listener: TcpListener,
     numbers: &'static [i32],
 ) -> Result<HostDoor<Still<'a>, Failing, TcpStream>, Fail> {
@@ -73,7 +73,7 @@ fn failing_door<'a>(
         asked,
         listener,
     };
-    let hall = Arc::new(alloc, Hall::new(rt, LIMITS))?;
+    let hall = Arc::new(alloc, hall)?;
     Ok(HostDoor::new(hall, Arc::new(alloc, Socket::Tcp(failing))?, 0, 1))
 }
 
@@ -89,10 +89,39 @@ fn an_accept_that_fails_is_asked_again(rt: HostRuntime) -> Result<(), Fail> {
     let still = Still { lines: &lines };
     let listener = TcpListener::bind(&rt, "127.0.0.1:0")?;
     let mut client = TcpStream::connect(&rt, listener.local_addr()?)?;
-    let mut door = failing_door(rt.alloc(), still, listener, &WAITED_OUT)?;
+    let mut door = failing_door(rt.alloc(), Hall::new(still, LIMITS), listener, &WAITED_OUT)?;
     assert!(rt; exchanged(&mut door, &mut client)? == (*b"ask", *b"yes", 0));
     assert!(rt; lines.load(Ordering::SeqCst) == LINES);
     assert!(rt; answered(&mut door) == *b"end" && door.trouble().is_none());
+    Ok(())
+}
+
+// How many lines there are once a door was asked twice, after so many periods have begun.
+const PERIODS: [(u64, u64); 3] = [(0, 0), (1, 1), (2, 1)];
+
+fn lines_after(rt: &HostRuntime, periods: u64) -> Result<u64, Fail> {
+    let lines = AtomicU64::new(0);
+    let still = Still { lines: &lines };
+    let board = Arc::new(rt.alloc(), Board::new())?;
+    for _ in 0..periods {
+        board.begin(8);
+    }
+    let hall = Hall::with_board(still, LIMITS, Some(Arc::try_clone(&board)?));
+    let listener = TcpListener::bind(rt, "127.0.0.1:0")?;
+    let mut door = failing_door(rt.alloc(), hall, listener, &[9, 9])?;
+    for _ in 0..2 {
+        if answered(&mut door) != *b"bad" {
+            return Err(Fail::from("the door gave a link"));
+        }
+    }
+    Ok(lines.load(Ordering::SeqCst))
+}
+
+#[test]
+fn a_period_is_said_once(rt: HostRuntime) -> Result<(), Fail> {
+    for (periods, lines) in PERIODS {
+        assert_eq!(rt; lines_after(&rt, periods)?, lines);
+    }
     Ok(())
 }
 
@@ -115,7 +144,7 @@ fn is_lost(rt: &HostRuntime, numbers: &'static [i32], why: &str) -> Result<bool,
     let lines = AtomicU64::new(0);
     let still = Still { lines: &lines };
     let listener = TcpListener::bind(rt, "127.0.0.1:0")?;
-    let mut door = failing_door(rt.alloc(), still, listener, numbers)?;
+    let mut door = failing_door(rt.alloc(), Hall::new(still, LIMITS), listener, numbers)?;
     if answered(&mut door) != *b"bad" {
         return Ok(false);
     }

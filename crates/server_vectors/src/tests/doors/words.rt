@@ -66,7 +66,7 @@ pub fn bytes_of(alloc: Global, names: &str) -> Result<Vec<u8>, Fail> {
     Ok(hex::decode(alloc, digits.as_str().as_bytes())?)
 }
 
-/// A link that brings what the names say. Its call of the number in front, if one stands there, fails.
+/// A link that brings what the names say. Its call of the number that stands first, if one does, fails.
 pub fn link_of(alloc: Global, words: &str) -> Result<MemoryLink, Fail>
     ensures { IfOk result (λ link. IsNew (told_by link)) }
 {

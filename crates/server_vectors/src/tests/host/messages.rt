@@ -3,6 +3,8 @@ use crate::tests::left::words_of;
 use crate::tests::lines::{column, number};
 use account_words::message;
 use acct_base::Seq;
+use acct_codes::Kind;
+use acct_config::{Place, Section, Text};
 use acct_server::Status;
 use host_world::Unread;
 use std::alloc::Global;
@@ -91,7 +93,7 @@ fn unread_of(text: &str) -> Option<Unread> {
 fn said(alloc: Global, words: &str, status: &str) -> Result<String, Fail> {
     let words = words_of(alloc, words)?;
     let told = status_of(alloc, status)?;
-    match message(alloc, &told, words.as_slice(), unread_of(status))? {
+    match message(alloc, &told, words.as_slice(), unread_of(status), None)? {
         Some(text) => Ok(text),
         None => Ok(String::from_str(alloc, "-")?),
     }
@@ -104,5 +106,61 @@ fn what_is_said_of_a_status(rt: HostRuntime) -> Result<(), Fail> {
         let (status, wanted) = column(rest);
         assert_eq!(rt; said(rt.alloc(), words, status)?.as_str(), wanted, "{row}");
     }
+    Ok(())
+}
+
+/// Each row: a table and a key at which a rule is broken, and how that begins which is said of it.
+const PLACES: [(Section, &str, &str); 6] = [
+    (Section::Document, "a\n", "a breaks rule 1 at \"a\\n\": "),
+    (
+        Section::Domain,
+        "oem",
+        "a breaks rule 1 at \"oem\" in [domain]: ",
+    ),
+    (
+        Section::Listener(2),
+        "link",
+        "a breaks rule 1 at \"link\" in [[listener]] 2 (counted from 0): ",
+    ),
+    (
+        Section::Descriptors,
+        "users",
+        "a breaks rule 1 at \"users\" in [descriptor]: ",
+    ),
+    (
+        Section::Descriptor(Kind::Alias),
+        "ace",
+        "a breaks rule 1 at \"ace\" in [descriptor.alias]: ",
+    ),
+    (
+        Section::Limits,
+        "max",
+        "a breaks rule 1 at \"max\" in [limits]: ",
+    ),
+];
+
+fn said_at(alloc: Global, place: &Place) -> Result<String, Fail> {
+    let words = words_of(alloc, "replay a")?;
+    let text = message(
+        alloc,
+        &Status::Config(1),
+        words.as_slice(),
+        None,
+        Some(place),
+    )?;
+    Ok(text.ok_or("nothing is said")?)
+}
+
+#[test]
+fn where_a_rule_is_broken_is_said(rt: HostRuntime) -> Result<(), Fail> {
+    for (section, key, wanted) in PLACES {
+        let place = Place::Key(section, Text::copy_of(rt.alloc(), key)?);
+        assert!(rt;
+            said_at(rt.alloc(), &place)?.starts_with(wanted),
+            "{wanted}"
+        );
+    }
+    let text = said_at(rt.alloc(), &Place::Line(6))?;
+    assert!(rt; text.starts_with("a breaks rule 1 at line 7: "));
     Ok(())
 }

@@ -193,7 +193,7 @@ fn work<R: Wait>(rt: &R, lock: &HistLock<Log>, mut pass: Pass<Log>, conn: u32) -
     pass
 }
 
-// A gate to the log: one contract for whatever stands behind it.
+// A gate to the log: one contract for whatever stands for it.
 trait Gate {
     ghost ready: { Self → Type 0 };
 

@@ -5,7 +5,7 @@ use super::places::lines_are_bad;
 use super::wires::Wire;
 use std::test::Fail;
 
-/// As the tables of limits: the opnum, the length of what is written, and what stands behind the handle. What is
+/// As the tables of limits: the opnum, the length of what is written, and what stands after the handle. What is
 /// received and not kept is written as an empty list.
 const TAKEN: &str = "
 57 132 01000000 01000000 01000000 01000000 0f000000 010f000000000005 15*01000000 00000000 00000000 0100 0000 \

@@ -1,6 +1,6 @@
 // Stubs of the shapes of fields. Unless it says more, the first stub of a row is the second with the referents and the
 // padding that are written, and the second is impacket's 0.10 (Debian's python3-impacket), whose referents and padding
-// are arbitrary; a row with one stub is from a worked example of the operation. The number in front is the most that a
+// are arbitrary; a row with one stub is from a worked example of the operation. The first number is the most that a
 // list may have; 65535 stands for no limit.
 use super::tables::{Row, beginnings_are_bad};
 use super::wires::Wire;
@@ -140,6 +140,47 @@ None
 00000200 00000000 00000000
 ";
 
+/// By hand, as SAMPR_SR_SECURITY_DESCRIPTOR (MS-SAMR 2.2.3.11) stands in a stub: a descriptor of no part and one of an
+/// owner (MS-DTYP 2.4.6), and one of no byte.
+pub const DESCRIPTORS: &str = "
+0 descriptor, of no part
+Bytes [ 1 0 0 128 0 0 0 0 0 0 0 0 0 0 0 0 0 0 0 0 ]
+44411111111111111111111
+14000000 00000200 14000000 01000080 00000000 00000000 00000000 00000000
+14000000 01000000 14000000 01000080 00000000 00000000 00000000 00000000
+
+0 descriptor, of an owner
+Bytes [ 1 0 0 128 20 0 0 0 0 0 0 0 0 0 0 0 0 0 0 0 1 1 0 0 0 0 0 5 18 0 0 0 ]
+44411111111111111111111111111111111
+20000000 00000200 20000000 01000080 14000000 00000000 00000000 00000000 01010000 00000005 12000000
+
+0 descriptor, null or there
+Bytes [ ]
+44
+00000000 00000000
+00000000 00000200 00000000
+";
+
+/// By hand: the descriptor of no part that SamrQuerySecurityObject answers, one of no byte, and none.
+pub const DESCRIPTOR_POINTERS: &str = "
+0 descriptor, of no part
+Bytes [ 1 0 0 128 0 0 0 0 0 0 0 0 0 0 0 0 0 0 0 0 ]
+444411111111111111111111
+00000200 14000000 04000200 14000000 01000080 00000000 00000000 00000000 00000000
+78563412 14000000 01000000 14000000 01000080 00000000 00000000 00000000 00000000
+
+0 descriptor, of no byte
+Bytes [ ]
+444
+00000200 00000000 00000000
+00000200 00000000 04000200 00000000
+
+0 descriptor, null
+None
+4
+00000000
+";
+
 pub const DOMAINS: &str = "
 0 domains, of the reply to LsarLookupSids, the last name empty and there, with a maximum of 32 entries
 [ ReferencedDomain 'CORP' S-1-5-21-1-2-3 ReferencedDomain 'BUILTIN' S-1-5-32 ReferencedDomain '' S-1-1 ]
@@ -211,6 +252,21 @@ pub const BAD_PRIVILEGES: &str = "
 0 count 4 e9030000 e9030000 00000000
 0 short 12 e8030000 e8030000 00000000
 0 short 20 01000000 01000000 00000000 02000000 00000000 030000
+";
+
+pub const BAD_DESCRIPTORS: &str = "
+# a byte too many
+0 count 0 01000400 00000200 01000400
+# bytes, and a null pointer
+0 count 4 01000000 00000000
+# a maximum count that is less, and one that is more
+0 count 8 02000000 00000200 01000000 0102
+0 count 8 02000000 00000200 03000000 010203
+# no byte of two, and one
+0 short 12 02000000 00000200 02000000
+0 short 13 02000000 00000200 02000000 01
+# the last of a thousand
+0 short 1011 e8030000 00000200 e8030000 999*80
 ";
 
 pub const BAD_DOMAINS: &str = "

@@ -119,10 +119,16 @@ const LSA_REPLIES: &str = "
 36 8208 00010000 00000200 00010000 256*0a000a0004000200 256*050000000000000005000000530065005400630062000000 00000000
 ";
 
+/// By hand: a descriptor of 262,144 bytes.
+const DESCRIPTORS: &str = "
+0 262156 00000400 00000200 00000400 262144*80
+";
+
 #[test]
 fn stubs_at_their_limits_are_taken(rt: HostRuntime) -> Result<(), Fail> {
     lines_are_taken(&rt, rt.alloc(), Wire::SamrCalls, SAMR_CALLS)?;
     lines_are_taken(&rt, rt.alloc(), Wire::SamrReplies, SAMR_REPLIES)?;
+    lines_are_taken(&rt, rt.alloc(), Wire::Descriptor, DESCRIPTORS)?;
     lines_are_taken(&rt, rt.alloc(), Wire::LsaCalls, LSA_CALLS)
 }
 

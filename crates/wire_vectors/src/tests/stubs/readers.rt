@@ -15,7 +15,8 @@ use std::test::Fail;
 ///
 /// A number's place is the one after its padding, whether or not the padding is there: beginnings of the comment.
 /// Padding may pass the end. An offset, and a count above the limit, each at its own place. The rule of a caller's own
-/// shape.
+/// shape. Bytes, one after the other and without padding, told as the number whose highest byte is the first; zero bytes
+/// are read at any place.
 const PRIMITIVES: &str = "\
 03000000 00000200 03000000 e8030000 00000000 e8030000 03000000 04000200 03000000 01000000 08000000 01000000 07010000\
 |u32=3 pointer=1 conformant=3 u32=1000 u32=0 u32=1000 u32=3 pointer=1 conformant=3 u32=1 u32=8 u32=1 u32=263 place=52
@@ -33,11 +34,24 @@ const PRIMITIVES: &str = "\
 <00000000 03000000|most2=count4 place=0
 <00000000 030000|most2=short4 place=0
 <000000|most2=short0 place=0
-<00000500|align=2 u16=0 u16=5 broken=count2 place=4";
+<00000500|align=2 u16=0 u16=5 broken=count2 place=4
+07020304 08000000|u8=7 bytes3=131844 u32=8 place=8
+<0702|u8=7 bytes3=short2 place=1
+<07020304|u8=7 bytes3=131844 bytes3=short4 bytes0=0 place=4
+<07|u8=7 align=8 bytes0=0 bytes3=short8 place=8";
 
 /// A word of a row: its kind, and what it tells.
 fn cut(word: &str) -> (&str, &str) {
     word.split_once('=').unwrap_or((word, ""))
+}
+
+/// The number of bytes, the highest first.
+fn number_of(bytes: &[u8]) -> u32 {
+    let mut number: u32 = 0;
+    for byte in bytes {
+        number = number.wrapping_mul(256) | u32::from(*byte);
+    }
+    number
 }
 
 /// Reads a primitive.
@@ -48,6 +62,8 @@ fn read(from: &mut In<'_>, kind: &str) -> Result<u32, NdrError> {
         "u32" => from.u32(),
         "pointer" => from.pointer().map(u32::from),
         "conformant" => from.conformant(),
+        "bytes0" => from.bytes(0).map(number_of),
+        "bytes3" => from.bytes(3).map(number_of),
         "most2" => from.varying(2),
         "most3" => from.varying(3),
         _ => Err(from.broken(2)),
@@ -117,6 +133,7 @@ fn write(to: &mut Out, kind: &str, number: u32) -> Result<(), AllocError> {
         "pointer" => to.pointer(number != 0),
         "conformant" => to.conformant(number),
         "most3" => to.varying(number),
+        "bytes3" => to.bytes(&number.to_be_bytes()[1..]),
         "align" => pad(to, number),
         _ => Ok(()),
     }

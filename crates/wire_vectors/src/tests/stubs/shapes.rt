@@ -4,13 +4,16 @@ ghost use Rattle.ndr_types.specs.Bounds.{HasShortName, IsShort, IsShortPlace};
 
 use super::wires::{Heard, told};
 use acct_calls::{
-    Name, Names, NoMemory, Places, PrivilegeSet, ReferencedDomain, RidName, RidNames, Rids, Sids,
+    Bytes, Name, Names, NoMemory, Places, PrivilegeSet, ReferencedDomain, RidName, RidNames, Rids,
+    Sids,
 };
+use acct_codes::limit::MOST_DESCRIPTOR;
 use dtyp_sid::Sid;
 use ndr_core::{In, NdrError, Out};
 use ndr_types::{
-    read_privilege_set, read_referenced, read_rid_list, read_rid_names, read_sid, read_sid_list,
-    read_text, read_text_list, write_privilege_set, write_referenced, write_rid_list,
+    read_descriptor, read_descriptor_pointer, read_privilege_set, read_referenced, read_rid_list,
+    read_rid_names, read_sid, read_sid_list, read_text, read_text_list, write_descriptor,
+    write_descriptor_pointer, write_privilege_set, write_referenced, write_rid_list,
     write_rid_names, write_sid, write_sid_list, write_text, write_text_list,
 };
 use std::alloc::Global;
@@ -149,6 +152,35 @@ fn accounts_written(
     whole(alloc, end, stub, list, to, written)
 }
 
+fn descriptor_written(
+    alloc: Global,
+    end: usize,
+    stub: &[u8],
+    bytes: &Bytes,
+) -> Result<Heard, Fail> {
+    if bytes.as_slice().len() > 1_000_000 {
+        return Ok(Heard::Long);
+    }
+    let mut to = Out::new(alloc);
+    let written = write_descriptor(&mut to, bytes);
+    whole(alloc, end, stub, bytes, to, written)
+}
+
+fn null_descriptor_written(alloc: Global, end: usize, stub: &[u8]) -> Result<Heard, Fail> {
+    let mut to = Out::new(alloc);
+    let written = write_descriptor_pointer(&mut to, None);
+    whole(alloc, end, stub, &None::<u32>, to, written)
+}
+
+fn pointed_written(alloc: Global, end: usize, stub: &[u8], bytes: &Bytes) -> Result<Heard, Fail> {
+    if bytes.as_slice().len() > 1_000_000 {
+        return Ok(Heard::Long);
+    }
+    let mut to = Out::new(alloc);
+    let written = write_descriptor_pointer(&mut to, Some(bytes));
+    whole(alloc, end, stub, bytes, to, written)
+}
+
 fn domains_written(alloc: Global, end: usize, stub: &[u8], list: &Places) -> Result<Heard, Fail> {
     if list.as_slice().len() > 1000 || !are_short_places(list.as_slice()) {
         return Ok(Heard::Long);
@@ -236,6 +268,33 @@ pub fn accounts(alloc: Global, stub: &[u8]) -> Result<Heard, Fail> {
         Ok(Some(list)) => {
             let heard = accounts_written(alloc, from.place(), stub, &list);
             drop(list);
+            heard
+        }
+        Err(error) => Ok(broken(error)),
+    }
+}
+
+/// A descriptor that is set, of at most 262,144 bytes.
+pub fn descriptor(alloc: Global, stub: &[u8]) -> Result<Heard, Fail> {
+    let mut from = In::new(stub);
+    match read_descriptor(alloc, &mut from, MOST_DESCRIPTOR) {
+        Ok(bytes) => {
+            let heard = descriptor_written(alloc, from.place(), stub, &bytes);
+            drop(bytes);
+            heard
+        }
+        Err(error) => Ok(broken(error)),
+    }
+}
+
+/// A pointer to a descriptor, which may be null.
+pub fn descriptor_pointer(alloc: Global, stub: &[u8]) -> Result<Heard, Fail> {
+    let mut from = In::new(stub);
+    match read_descriptor_pointer(alloc, &mut from) {
+        Ok(None) => null_descriptor_written(alloc, from.place(), stub),
+        Ok(Some(bytes)) => {
+            let heard = pointed_written(alloc, from.place(), stub, &bytes);
+            drop(bytes);
             heard
         }
         Err(error) => Ok(broken(error)),

@@ -5,7 +5,7 @@ ghost use Rattle.acct_layouts.specs.ReplyShapes.{RefersRightly, domains_of};
 
 use super::shapes;
 use super::words::tell;
-use acct_calls::{NoMemory, Outs, Reply};
+use acct_calls::{Call, NoMemory, Outs, Reply};
 use acct_layouts::is_refusal;
 use samr_wire::WireError;
 use std::alloc::Global;
@@ -26,6 +26,8 @@ pub enum Wire {
     TextList,
     Privileges,
     Accounts,
+    Descriptor,
+    DescriptorPointer,
     Domains,
 }
 
@@ -93,11 +95,23 @@ pub fn told<T: Debug>(
     })
 }
 
+/// A call in words, as those of its copy, and its stub.
+fn copy_told(
+    alloc: Global,
+    call: &Call,
+    written: Result<Vec<u8>, NoMemory>,
+) -> Result<Heard, Fail> {
+    let copy = call.copy(alloc)?;
+    let heard = told(alloc, copy.handle.number, &copy.args, written);
+    drop(copy);
+    heard
+}
+
 fn samr_call(alloc: Global, opnum: u16, stub: &[u8]) -> Result<Heard, Fail> {
     match samr_wire::read_call(alloc, opnum, stub) {
         Ok(call) => {
             let written = samr_wire::write_call(alloc, &call);
-            let heard = told(alloc, call.handle.number, &call.args, written);
+            let heard = copy_told(alloc, &call, written);
             drop(call);
             heard
         }
@@ -121,7 +135,7 @@ fn lsa_call(alloc: Global, opnum: u16, stub: &[u8]) -> Result<Heard, Fail> {
     match lsa_wire::read_call(alloc, opnum, stub) {
         Ok(call) => {
             let written = lsa_wire::write_call(alloc, &call);
-            let heard = told(alloc, call.handle.number, &call.args, written);
+            let heard = copy_told(alloc, &call, written);
             drop(call);
             heard
         }
@@ -189,6 +203,8 @@ impl Wire {
             Wire::TextList => shapes::texts(alloc, most, stub),
             Wire::Privileges => shapes::privileges(alloc, stub),
             Wire::Accounts => shapes::accounts(alloc, stub),
+            Wire::Descriptor => shapes::descriptor(alloc, stub),
+            Wire::DescriptorPointer => shapes::descriptor_pointer(alloc, stub),
             _ => shapes::domains(alloc, stub),
         }
     }

@@ -8,7 +8,7 @@ use std::alloc::Global;
 use std::process::Abort;
 use std::test::Fail;
 
-const PLAIN: &str = r#"[domain]
+pub const PLAIN: &str = r#"[domain]
 name = "CORP"
 sid = "S-1-5-21-1-2-3"
 [[listener]]
@@ -19,7 +19,7 @@ token = ["S-1-5-21-1-2-3-500", "S-1-1-0", "S-1-5-32-544"]
 
 /// In each line a rule, a part of the plain document, and what stands in its place in a document of which that rule is
 /// the first that is broken. Those with a dash break none. A semicolon stands for a line end.
-const RULES: &str = r#"0|[domain]|[domain
+pub const RULES: &str = r#"0|[domain]|[domain
 0|[domain]|[domain];name = "X"
 0|[[listener]]|[domain];[[listener]]
 0|"CORP"|CORP
@@ -178,7 +178,7 @@ fn replaced(alloc: Global, document: &str, part: &str, text: &str) -> Result<Str
 }
 
 /// A document changed as a line says, which has a part and what stands in its place.
-fn changed(alloc: Global, document: &str, line: &str) -> Result<String, Fail> {
+pub fn changed(alloc: Global, document: &str, line: &str) -> Result<String, Fail> {
     let lines = line.replace(alloc, ";", "\n")?;
     let (part, text) = cut(lines.as_str(), '|');
     replaced(alloc, document, part, text)
