@@ -2,7 +2,7 @@
 use Rattle.std.proofs.Common.{◌≡◌, ◌≤◌, ◌<◌, ℕ, zero, suc, ◌+◌, ◌==◌, true, false, List, [], ◌∷◌, ◌++◌, length, map, take}
 use Rattle.std.proofs.Common.{drop, get_or, refl, sym, ap, ◌∙◌, subst, arith, Option, Some, None, slice_get}
 use Rattle.std.proofs.lemmas.Bool.Decides.{nat_tests}
-use Rattle.std.proofs.lemmas.List.{at_drop_more, drop_all, drop-map}
+use Rattle.std.proofs.lemmas.List.{at_drop_more, drop-map}
 use Rattle.account_hooks.specs.declared.runs.HookJob.{HookJob}
 use Rattle.account_hooks.specs.Runs.{Job, job_of}
 use Rattle.account_hooks.specs.Gates.{numbers, left, IsNext}

@@ -48,7 +48,7 @@ abbrev Balances : List ℕ → Tally → Type 0
 Balances minutes tally = tally.left_out + left_out_in (turns tally minutes)
     ≡ told_in (turns tally minutes) + (after tally minutes).left_out
 
--- what was left out before a line, and what it and those behind it come to
+-- what was left out before a line, and what it and those after it come to
 abbrev BalancesFrom : ℕ → List ℕ → Tally × ℕ → Type 0
 BalancesFrom total minutes state = total + left_out_in ((decided state).1 ∷ turns (decided state).0 minutes)
     ≡ told_in ((decided state).1 ∷ turns (decided state).0 minutes) + (after (decided state).0 minutes).left_out

@@ -4,7 +4,7 @@ use Rattle.host_lines.specs.declared.tally.Tally.{Tally}
 use Rattle.host_lines.specs.declared.tally.Turn.{Turn}
 use Rattle.host_lines.specs.Tally.{lines_a_minute, asked}
 
--- the turns of lines, by the minute in which each is asked for, and the tally behind them
+-- the turns of lines, by the minute in which each is asked for, and the tally after them
 abbrev pub turns : Tally → List ℕ → List Turn
 turns tally [] = []
 turns tally (minute ∷ minutes) = (asked minute tally).1 ∷ turns (asked minute tally).0 minutes

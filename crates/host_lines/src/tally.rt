@@ -18,7 +18,7 @@ pub struct Tally {
 pub struct Turn {
     /// How many lines were left out before, where that is told now, and else 0.
     pub told: u64,
-    /// Whether the line itself is written behind that.
+    /// Whether the line itself is written after that.
     pub is_written: bool,
 }
 
