@@ -4,6 +4,8 @@ pub mod Masks
 pub mod Nameless
 pub mod Opened
 pub mod ReadIsSpelled
+pub mod ReadParts
+pub mod SmallBytes
 pub mod SpelledIsRead
 pub mod Walk
 pub mod WrittenIsSpelled

@@ -107,7 +107,7 @@ aces_stand lengths place end bytes rest (ace ∷ aces) are stand fit =
     (first.0, aces_stand lengths (next_ace place bytes) end bytes rest aces others_are behind (omega arith))
 
 -- the size of a list fits its field
-aces_short : SidsHaveLengths → (aces : List Ace) → All IsAce aces → length (aces_bytes aces) ≤ 76 * length aces
+pub aces_short : SidsHaveLengths → (aces : List Ace) → All IsAce aces → length (aces_bytes aces) ≤ 76 * length aces
 unfolding aces_bytes
 aces_short lengths [] are = omega arith
 aces_short lengths (ace ∷ aces) are =
@@ -147,13 +147,13 @@ sid_short lengths sid is =
     let few = is.count_fits in
     omega arith
 
-sid_or_none_short : SidsHaveLengths → (sid : Option SidValue) → IsSidOrNone sid → length (sid_bytes sid) ≤ 68
+pub sid_or_none_short : SidsHaveLengths → (sid : Option SidValue) → IsSidOrNone sid → length (sid_bytes sid) ≤ 68
 unfolding sid_bytes
 sid_or_none_short lengths None is = omega arith
 sid_or_none_short lengths (Some sid) is = sid_short lengths sid is
 
 -- the fields of the header
-header_length : (p : Parts) → length (header_bytes p) ≡ 20
+pub header_length : (p : Parts) → length (header_bytes p) ≡ 20
 unfolding header_bytes
 header_length p = refl
 

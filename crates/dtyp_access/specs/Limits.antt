@@ -1,7 +1,7 @@
 -- The limits of a descriptor's parts: flags of 8 bits and masks of 32 (MS-DTYP 2.4.4.1 and 2.4.3), and a list no longer
 -- than its size
 -- field can say, which counts at most 76 bytes an entry
-use Rattle.std.specs.Prelude.{◌≡◌, ◌^◌, ◌<◌, ◌≤◌, List, length, All}
+use Rattle.std.specs.Prelude.{◌≡◌, ◌^◌, ◌<◌, ◌≤◌, nat_le, Bool, true, List, length, All}
 use Rattle.std.specs.declared.option.Option.{Option}
 use Rattle.std.specs.declared.option.Option.TheVariants.{Some, None}
 use Rattle.dtyp_sid.specs.Value.{SidValue, IsSid}
@@ -38,3 +38,8 @@ IsDescriptor d = AreParts (parts_of d)
 -- a list has at most 800 entries, where there is one
 abbrev pub HasFewAces : Option (List Ace) → Type 0
 HasFewAces acl = (aces : List Ace) → acl ≡ Some aces → length aces ≤ 800
+
+-- the same as a test
+abbrev pub has_few_aces : Option (List Ace) → Bool
+has_few_aces None = true
+has_few_aces (Some aces) = nat_le (length aces) 800

@@ -1,7 +1,7 @@
 -- The parts of a descriptor, of which each may be absent, and what a change of named parts leaves
 use Rattle.std.specs.Prelude.{◌≡◌, ℕ, true, is_some, if◌then◌else◌}
 use Rattle.std.specs.Option.{unwrap_or}
-use Rattle.std.specs.declared.option.Option.TheVariants.{Some}
+use Rattle.std.specs.declared.option.Option.TheVariants.{Some, None}
 use Rattle.acct_codes.specs.SecurityInformation.{owner_security_information, group_security_information}
 use Rattle.acct_codes.specs.SecurityInformation.{dacl_security_information}
 use Rattle.dtyp_access.specs.declared.descriptor.Descriptor.{Descriptor}
@@ -11,6 +11,14 @@ use Rattle.dtyp_access.specs.Granted.{shares}
 -- the parts of a descriptor, which always has an owner
 abbrev pub parts_of : Descriptor → Parts
 parts_of d = record { owner = Some d.owner; group = d.group; acl = d.acl }
+
+-- the parts that the bits name; the others are absent
+abbrev pub named_parts : ℕ → Descriptor → Parts
+named_parts info d = record {
+  owner = if shares info owner_security_information then Some d.owner else None;
+  group = if shares info group_security_information then d.group else None;
+  acl = if shares info dacl_security_information then d.acl else None;
+}
 
 -- the parts have an owner where the bits name it
 abbrev pub HasOwnerIfNamed : ℕ → Parts → Type 0

@@ -1,5 +1,5 @@
 -- The bytes that spell a descriptor, or its parts, part by part (MS-DTYP 2.4.4 to 2.4.6)
-use Rattle.std.specs.Prelude.{◌≡◌, ℕ, ◌+◌, ◌-◌, ◌<◌, ◌≤◌, ◌⊎◌, ◌↔◌, true, false, List, [], ◌∷◌, ◌++◌, length, take}
+use Rattle.std.specs.Prelude.{◌≡◌, ℕ, ◌+◌, ◌-◌, ◌^◌, ◌<◌, ◌≤◌, ◌⊎◌, ◌↔◌, true, false, List, [], ◌∷◌, ◌++◌, length, take}
 use Rattle.std.specs.Prelude.{drop, slice_index, All}
 use Rattle.std.specs.declared.option.Option.{Option}
 use Rattle.std.specs.declared.option.Option.TheVariants.{Some, None}
@@ -13,7 +13,7 @@ use Rattle.dtyp_access.specs.declared.descriptor.Descriptor.{Descriptor}
 use Rattle.dtyp_access.specs.declared.parts.Parts.{Parts}
 use Rattle.dtyp_access.specs.Granted.{shares}
 use Rattle.dtyp_access.specs.Parts.{parts_of}
-use Rattle.dtyp_access.specs.Limits.{AreParts, IsDescriptor}
+use Rattle.dtyp_access.specs.Limits.{AreParts, IsDescriptor, HasFewAces}
 use Rattle.dtyp_access.specs.Reading.{u16_at, u32_at, next_ace, parts_of_bytes, descriptor_of_bytes}
 use Rattle.dtyp_access.specs.Written.{type_of, parts_bytes, descriptor_bytes}
 
@@ -92,6 +92,19 @@ ReadPartsSpell = (bytes : List ℕ) (p : Parts) → All (λ byte. byte < 256) by
 abbrev pub ReadBytesSpell : Type 0
 ReadBytesSpell = (bytes : List ℕ) (d : Descriptor) → All (λ byte. byte < 256) bytes → (descriptor_of_bytes bytes ≡ Ok d)
     ↔ SpellDescriptor bytes d
+
+-- what is read keeps the limits of its parts, where its list has at most 800 entries
+abbrev pub ReadPartsAreParts : Type 0
+ReadPartsAreParts = (bytes : List ℕ) (p : Parts) → All (λ byte. byte < 256) bytes → parts_of_bytes bytes ≡ Ok p
+    → HasFewAces p.acl → AreParts p
+
+-- what is written are bytes, and fewer than 2^16 of them
+pub record AreWrittenBytes (bytes : List ℕ) : Type 0 where
+  pub short : length bytes < 2 ^ 16
+  pub small : All (λ byte. byte < 2 ^ 8) bytes
+
+abbrev pub WrittenAreBytes : Type 0
+WrittenAreBytes = (p : Parts) → AreParts p → AreWrittenBytes (parts_bytes p)
 
 -- the written bytes spell the parts, whatever bytes follow
 abbrev pub WrittenBytesSpell : Type 0

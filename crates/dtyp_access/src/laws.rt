@@ -1,7 +1,7 @@
 //! Laws of the access check and of descriptors, each the contract of a function that does nothing.
 ghost use Rattle.dtyp_access.specs.Laws.{MoreSidsGetNoLess, GrantsAreValid, MaximumGrantsAll, NothingIsGranted};
 ghost use Rattle.dtyp_access.specs.Spelled.{ReadPartsSpell, ReadBytesSpell, WrittenBytesSpell, WrittenPartsAreRead};
-ghost use Rattle.dtyp_access.specs.Spelled.{WrittenBytesAreRead};
+ghost use Rattle.dtyp_access.specs.Spelled.{WrittenBytesAreRead, ReadPartsAreParts, WrittenAreBytes};
 
 /// A token with more SIDs is granted no less where no entry denies.
 pub fn more_sids_get_no_less()
@@ -29,6 +29,20 @@ pub fn read_parts_spell()
 {
     dtyp_sid::laws::written_bytes_are_read();
     dtyp_sid::laws::read_bytes_are_written();
+}
+
+/// Parts that are read keep the limits of their parts, where their list has at most 800 entries.
+pub fn read_parts_are_parts()
+    ensures { ReadPartsAreParts }
+{
+    read_parts_spell();
+}
+
+/// What is written are bytes, fewer than 2^16.
+pub fn written_are_bytes()
+    ensures { WrittenAreBytes }
+{
+    dtyp_sid::laws::written_bytes_have_lengths();
 }
 
 /// A descriptor is read exactly from the bytes that spell it.

@@ -23,6 +23,6 @@ pub use ace::{Ace, AceKind, Acl, make_acl};
 pub use check::{is_granted, opening};
 pub use descriptor::{Descriptor, Token, make_token};
 pub use errors::DescError;
-pub use parts::{Parts, replaced};
+pub use parts::{Parts, named_parts, replaced};
 pub use read::{read_descriptor, read_parts};
 pub use write::{has_few_aces, write_descriptor, write_parts};

@@ -1,13 +1,14 @@
 // The parts of a descriptor, of which each may be absent.
-ghost use Rattle.std.specs.Prelude.{◌≡◌};
+ghost use Rattle.std.specs.Prelude.{◌≡◌, IfOk};
 ghost use Rattle.dtyp_access.specs.Limits.{HasFewAces};
-ghost use Rattle.dtyp_access.specs.Parts.{HasOwnerIfNamed, replaced};
+ghost use Rattle.dtyp_access.specs.Parts.{HasOwnerIfNamed, named_parts, replaced};
 
 use crate::{Acl, Descriptor};
 use acct_codes::security_information::{
     DACL_SECURITY_INFORMATION, GROUP_SECURITY_INFORMATION, OWNER_SECURITY_INFORMATION,
 };
 use dtyp_sid::Sid;
+use std::alloc::{AllocError, Global};
 
 /// The parts of a descriptor that were asked for, or that shall replace those of another.
 #[derive(Debug, Drop)]
@@ -15,6 +16,28 @@ pub struct Parts {
     pub owner: Option<Sid>,
     pub group: Option<Sid>,
     pub acl: Option<Acl>,
+}
+
+/// The parts of a descriptor that the bits name (SECURITY_INFORMATION, MS-DTYP 2.4.7); the others are absent.
+#[tactic(auto, unfolding(crate::specs::Granted::shares))]
+pub fn named_parts(alloc: Global, d: &Descriptor, info: u32) -> Result<Parts, AllocError>
+    ensures value { IfOk result (λ parts. parts ≡ named_parts info d.now) }
+    ensures few_aces { IfOk result (λ parts. HasFewAces d.now.acl → HasFewAces parts.acl) }
+{
+    let owner = if info & OWNER_SECURITY_INFORMATION != 0 {
+        Some(d.owner)
+    } else {
+        None
+    };
+    let group = match d.group {
+        Some(group) if info & GROUP_SECURITY_INFORMATION != 0 => Some(group),
+        _ => None,
+    };
+    let acl = match &d.acl {
+        Some(acl) if info & DACL_SECURITY_INFORMATION != 0 => Some(acl.copy(alloc)?),
+        _ => None,
+    };
+    Ok(Parts { owner, group, acl })
 }
 
 /// The descriptor with those parts replaced that the bits name (SECURITY_INFORMATION, MS-DTYP 2.4.7). Where they name

@@ -1,7 +1,7 @@
 // Writing the bytes of a descriptor.
 ghost use Rattle.std.specs.Prelude.{◌≡◌, ◌++◌, ◌+◌, ◌≤◌, length, IfOk, OnOk, Ok, IsTrue, ◌↔◌};
 ghost use Rattle.dtyp_sid.specs.Bytes.{bytes_of};
-ghost use Rattle.dtyp_access.specs.Limits.{HasFewAces};
+ghost use Rattle.dtyp_access.specs.Limits.{HasFewAces, has_few_aces};
 ghost use Rattle.dtyp_access.specs.Reading.{parts_of_bytes, descriptor_of_bytes};
 ghost use Rattle.dtyp_access.specs.Written.{descriptor_bytes, parts_bytes, header_bytes, sid_bytes, list_bytes};
 ghost use Rattle.dtyp_access.specs.Written.{acl_bytes, ace_bytes, aces_bytes, type_of, control_of, offset_if};
@@ -43,7 +43,8 @@ pub fn write_parts(alloc: Global, parts: &Parts) -> Result<Vec<u8>, AllocError>
 
 /// Whether a list, where there is one, has at most 800 entries, so that its size fits its field.
 pub fn has_few_aces(acl: &Option<Acl>) -> bool
-    ensures { IsTrue result ↔ HasFewAces acl.now }
+    ensures value { result ≡ has_few_aces acl.now }
+    ensures few { IsTrue result ↔ HasFewAces acl.now }
 {
     match acl {
         Some(acl) => acl.aces().len() <= 800,
