@@ -1,7 +1,12 @@
 -- A document that breaks no rule spells a configuration that is right.
 use Rattle.std.proofs.Common.{◌≡◌, ℕ, zero, suc, codes, ℤ, pos, negsuc, ◌&&◌, Bool, true, false, List, [], ◌∷◌, map}
 use Rattle.std.proofs.Common.{length, drop, Option, Some, None, refl, ◌≤◌, arith, ap, ◌∙◌, nat_le, is_some, unwrap_or}
-use Rattle.std.proofs.Common.{option_map}
+use Rattle.std.proofs.Common.{option_map, not, ◌==◌, subst}
+use Rattle.std.specs.Prelude.{All, IfSome}
+use Rattle.std.proofs.lemmas.List.Elements.{All-cons}
+use Rattle.dtyp_access.specs.declared.ace.Ace.{Ace}
+use Rattle.dtyp_access.specs.declared.descriptor.Descriptor.{Descriptor}
+use Rattle.dtyp_access.specs.Limits.{HasFewAces, IsDescriptor}
 use Rattle.std.proofs.lemmas.Bool.{and_parts, and_from}
 use Rattle.std.proofs.lemmas.Bool.Decides.{nat_tests}
 use Rattle.std.proofs.lemmas.List.{length-map}
@@ -17,14 +22,15 @@ use Rattle.acct_config.specs.Document.{elements, elements_of}
 use Rattle.acct_config.specs.Kinds.{kinds}
 use Rattle.acct_config.specs.Ranges.{each_limit, range_of}
 use Rattle.acct_config.specs.Right.{IsRight, AreLimits, IsInRange, is_right_listener, is_right_list}
-use Rattle.acct_config.specs.Right.{is_right_descriptor}
+use Rattle.acct_config.specs.Right.{is_right_descriptor, IsRightHook}
 use Rattle.acct_config.specs.Rules.{first_broken_from, kept, domain_sid, listeners, listener_name, have_names}
 use Rattle.acct_config.specs.Rules.{has_address, sid_of, is_sid, token_texts, has_token, is_number_within, workers}
 use Rattle.acct_config.specs.Rules.{links, has_counts, descriptor_table, is_ace, ace_texts, has_aces, aces_are_entries}
-use Rattle.acct_config.specs.Rules.{limit_number, is_in_range}
+use Rattle.acct_config.specs.Rules.{limit_number, is_in_range, hook_table, program, tries, names_program}
+use Rattle.acct_config.specs.Rules.{hook_is_right}
 use Rattle.acct_config.specs.Shape.{found}
 use Rattle.acct_config.specs.Spelled.{count_of, listener_of, ace_at, acl_of, descriptor_of, limit_of, limits_of}
-use Rattle.acct_config.specs.Spelled.{config_of}
+use Rattle.acct_config.specs.Spelled.{hook_of, config_of}
 use Rattle.acct_calls.specs.Domains.{is_domain_sid}
 use Rattle.acct_config.specs.Values.{administrators, is_listener_name, are_distinct}
 use Rattle.acct_base.specs.Words.{is_within}
@@ -138,23 +144,65 @@ limits-kept d all =
       periods = limit-kept d Periods periods.0;
     }
 
-pub right-read : (d : Data) → first_broken_from 1 (kept d) ≡ None → IsRight (config_of d)
+-- the program that is told of changes
+nonempty : (n : ℕ) → not (n == 0) ≡ true → 1 ≤ n
+nonempty n not = grind (arith, nat_tests)
+
+hook-kept : (hook : Option Data) → found true names_program hook ≡ true → IfSome (option_map hook_of hook) IsRightHook
+hook-kept None may = tt
+hook-kept (Some hook) may =
+    let both = and_parts (not (length (program hook) == 0)) (is_number_within 1 100 (tries hook)) may in
+    let within = within-kept 1 100 (tries hook) both.1 in
+    let parts = and_parts (nat_le 1 (count_of 100 (tries hook))) (nat_le (count_of 100 (tries hook)) 100) within in
+    record {
+      named = nonempty (length (program hook)) both.0;
+      tried = le-kept 1 (count_of 100 (tries hook)) parts.0;
+      tries_most = le-kept (count_of 100 (tries hook)) 100 parts.1;
+    }
+
+-- each descriptor of a list has few entries
+few-in : (acl : Option (List Ace)) (aces : List Ace) → is_right_list acl ≡ true → acl ≡ Some aces
+    → nat_le (length aces) 800 ≡ true
+few-in None aces right is = absurd cc
+few-in (Some others) aces right is =
+    let same : others ≡ aces = cc in
+    (and_parts (nat_le 0 (length aces)) (nat_le (length aces) 800)
+    (subst (λ (xs : List Ace). is_within 0 800 (length xs) ≡ true) same right)).1
+
+few-of : (d : Descriptor) → is_right_descriptor d ≡ true → HasFewAces d.acl
+few-of d right = λ aces is. le-kept (length aces) 800 (few-in d.acl aces right is)
+
+pub few-aces : (ds : List Descriptor) → list_all is_right_descriptor ds ≡ true → All (λ d. HasFewAces d.acl) ds
+few-aces [] all = λ k e lt. absurd (omega (arith, lt))
+few-aces (d ∷ ds) all =
+    let both = and_parts _ _ all in
+    All-cons (λ e. HasFewAces e.acl) d ds (few-of d both.0) (few-aces ds both.1)
+
+pub few-read : (d : Data) → first_broken_from 1 (kept d) ≡ None → All (λ e. HasFewAces e.acl) (config_of d).descriptors
 unfolding kept
-right-read d none =
+few-read d none =
+    few-aces (config_of d).descriptors (descriptors-kept d kinds (nth_kept 1 (kept d) 8 _ none refl))
+
+pub right-read : (d : Data) → first_broken_from 1 (kept d) ≡ None → All IsDescriptor (config_of d).descriptors
+    → IsRight (config_of d)
+unfolding kept hook_is_right
+right-read d none parts =
     let names : have_names (listeners d) ≡ true = nth_kept 1 (kept d) 3 _ none refl in
-    let parts = and_parts (is_within 1 16 (length (listeners d))
+    let tested = and_parts (is_within 1 16 (length (listeners d))
     && list_all (λ listener. is_listener_name (listener_name listener)) (listeners d))
     (are_distinct (map listener_name (listeners d))) names in
     let counted = and_parts (is_within 1 16 (length (listeners d)))
-    (list_all (λ listener. is_listener_name (listener_name listener)) (listeners d)) parts.0 in
+    (list_all (λ listener. is_listener_name (listener_name listener)) (listeners d)) tested.0 in
     record {
       name = nth_kept 1 (kept d) 1 _ none refl;
       sid = sid-kept (domain_sid d) (nth_kept 1 (kept d) 2 _ none refl);
       listener_count = simp (length-map) counted.0;
       listeners = listeners-kept (listeners d) counted.1 (nth_kept 1 (kept d) 4 _ none refl)
           (nth_kept 1 (kept d) 5 _ none refl) (nth_kept 1 (kept d) 6 _ none refl);
-      names_differ = simp (map-map) parts.1;
+      names_differ = simp (map-map) tested.1;
       descriptor_count = refl;
       descriptors = descriptors-kept d kinds (nth_kept 1 (kept d) 8 _ none refl);
+      parts = parts;
       limits = limits-kept d (nth_kept 1 (kept d) 9 _ none refl);
+      hook = hook-kept (hook_table d) (nth_kept 1 (kept d) 10 _ none refl);
     }

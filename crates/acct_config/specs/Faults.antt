@@ -8,14 +8,14 @@ use Rattle.toml.specs.Data.{Data, Members, get, as_table}
 use Rattle.acct_codes.specs.declared.kind.Kind.{Kind}
 use Rattle.acct_config.specs.declared.sections.Section.{Section}
 use Rattle.acct_config.specs.declared.sections.Section.TheVariants.{Document, Domain, Listener, Descriptors, Descriptor}
-use Rattle.acct_config.specs.declared.sections.Section.TheVariants.{Limits}
+use Rattle.acct_config.specs.declared.sections.Section.TheVariants.{Limits, Hook}
 use Rattle.acct_config.specs.Document.{keys}
 use Rattle.acct_config.specs.Kinds.{kinds, kind_name, kind_names}
 use Rattle.acct_config.specs.Ranges.{each_limit, limit_key, limit_keys}
 use Rattle.acct_config.specs.Rules.{listeners, listener_name, has_address, has_token, has_counts, is_number_within}
-use Rattle.acct_config.specs.Rules.{workers, owner_is_sid, aces_are_entries, is_in_range}
+use Rattle.acct_config.specs.Rules.{workers, owner_is_sid, aces_are_entries, is_in_range, hook_table, program}
 use Rattle.acct_config.specs.Shape.{is_among, required, optional, is_text, is_number, is_array_of, is_listener}
-use Rattle.acct_config.specs.Shape.{is_descriptor}
+use Rattle.acct_config.specs.Shape.{is_descriptor, table_names}
 use Rattle.acct_config.specs.Values.{is_listener_name}
 use Rattle.acct_base.specs.Words.{is_within}
 
@@ -46,11 +46,12 @@ is_table d = is_some (as_table d)
 
 unfoldable pub whole_misfit : Data → Option (List ℕ)
 whole_misfit d =
-    option_or (unknown_key (codes "domain" ∷ codes "listener" ∷ codes "descriptor" ∷ codes "limits" ∷ []) d)
+    option_or (unknown_key table_names d)
     (option_or (unless (required is_table (codes "domain") d) (codes "domain"))
     (option_or (unless (required (is_array_of is_table) (codes "listener") d) (codes "listener"))
     (option_or (unless (optional is_table (codes "descriptor") d) (codes "descriptor"))
-    (unless (optional is_table (codes "limits") d) (codes "limits")))))
+    (option_or (unless (optional is_table (codes "limits") d) (codes "limits"))
+    (unless (optional is_table (codes "hook") d) (codes "hook"))))))
 
 unfoldable pub domain_misfit : Data → Option (List ℕ)
 domain_misfit d =
@@ -83,6 +84,12 @@ limits_misfit d =
     option_or (unknown_key limit_keys d)
     (option_map limit_key (find (λ limit. not (optional is_number (limit_key limit) d)) each_limit))
 
+unfoldable pub hook_misfit : Data → Option (List ℕ)
+hook_misfit d =
+    option_or (unknown_key (codes "program" ∷ codes "tries" ∷ []) d)
+    (option_or (unless (optional is_text (codes "program") d) (codes "program"))
+    (unless (optional is_number (codes "tries") d) (codes "tries")))
+
 -- rule 1, in the tables of the document
 abbrev pub domain_shape : Data → Option Fault
 domain_shape d = of_section Domain (option_and_then domain_misfit (get (codes "domain") d))
@@ -113,10 +120,13 @@ descriptors_shape d = option_and_then descriptors_shape_of (get (codes "descript
 abbrev pub limits_shape : Data → Option Fault
 limits_shape d = of_section Limits (option_and_then limits_misfit (get (codes "limits") d))
 
+abbrev pub hook_shape : Data → Option Fault
+hook_shape d = of_section Hook (option_and_then hook_misfit (get (codes "hook") d))
+
 unfoldable pub document_shape : Data → Option Fault
 document_shape d =
     option_or (of_section Document (whole_misfit d)) (option_or (domain_shape d)
-    (option_or (listeners_shape d) (option_or (descriptors_shape d) (limits_shape d))))
+    (option_or (listeners_shape d) (option_or (descriptors_shape d) (option_or (limits_shape d) (hook_shape d)))))
 
 -- a key of the listener that was found
 abbrev pub at_listener : List ℕ → Option ℕ → Option Fault
@@ -170,6 +180,13 @@ aces_fault d = at_descriptor (codes "aces") (find (λ kind. not (aces_are_entrie
 abbrev pub limits_fault : Data → Option Fault
 limits_fault d = of_section Limits (option_map limit_key (find (λ limit. not (is_in_range d limit)) each_limit))
 
+-- rule 11: the program where it is missing or empty, and else the tries
+abbrev pub hook_key : Data → List ℕ
+hook_key hook = if length (program hook) == 0 then codes "program" else codes "tries"
+
+abbrev pub hook_fault : Data → Option Fault
+hook_fault d = of_section Hook (option_map hook_key (hook_table d))
+
 -- the key at which the rule of a number is broken, of a document that breaks it
 unfoldable pub fault_of : ℕ → Data → Option Fault
 fault_of rule d =
@@ -182,4 +199,5 @@ fault_of rule d =
     else (if rule == 7 then counts_fault (listeners d)
     else (if rule == 8 then owners_fault d
     else (if rule == 9 then aces_fault d
-    else (if rule == 10 then limits_fault d else None)))))))))
+    else (if rule == 10 then limits_fault d
+    else (if rule == 11 then hook_fault d else None))))))))))

@@ -1,9 +1,11 @@
 -- Which configurations are right: what each that is read keeps, and a server may rely on.
-use Rattle.std.specs.Prelude.{◌≡◌, ℕ, ◌≤◌, Bool, true, ◌&&◌, List, length, map, Option, Some, None}
+use Rattle.std.specs.Prelude.{◌≡◌, ℕ, ◌≤◌, Bool, true, ◌&&◌, List, length, map, Option, Some, None, All, IfSome}
 use Rattle.std.specs.List.{list_all}
 use Rattle.dtyp_access.specs.declared.ace.Ace.{Ace}
 use Rattle.dtyp_access.specs.declared.descriptor.Descriptor.{Descriptor}
+use Rattle.dtyp_access.specs.Limits.{IsDescriptor}
 use Rattle.acct_config.specs.declared.config.Config.{Config}
+use Rattle.acct_config.specs.declared.config.Hook.{Hook}
 use Rattle.acct_config.specs.declared.config.Listener.{Listener}
 use Rattle.acct_config.specs.declared.limits.Limit.{Limit}
 use Rattle.acct_config.specs.declared.limits.Limit.TheVariants.{Calls, Bytes, Conns, Read, Periods}
@@ -41,6 +43,12 @@ pub record AreLimits (limits : Limits) : Type 0 where
   pub read : IsInRange Read limits.max_read
   pub periods : IsInRange Periods limits.max_periods
 
+-- a program that is named, and tried 1 to 100 times
+pub record IsRightHook (hook : Hook) : Type 0 where
+  pub named : 1 ≤ length hook.program
+  pub tried : 1 ≤ hook.tries
+  pub tries_most : hook.tries ≤ 100
+
 pub record IsRight (config : Config) : Type 0 where
   pub name : is_domain_name config.name ≡ true
   pub sid : is_domain_sid config.sid ≡ true
@@ -49,4 +57,6 @@ pub record IsRight (config : Config) : Type 0 where
   pub names_differ : are_distinct (map (λ listener. listener.name) config.listeners) ≡ true
   pub descriptor_count : length config.descriptors ≡ length kinds
   pub descriptors : list_all is_right_descriptor config.descriptors ≡ true
+  pub parts : All IsDescriptor config.descriptors
   pub limits : AreLimits config.limits
+  pub hook : IfSome config.hook IsRightHook

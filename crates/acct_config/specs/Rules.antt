@@ -1,7 +1,7 @@
 -- The rules of a configuration, each a test of the parsed document, and the first that is broken.
 -- Their numbers are those of the answers: a list of rules begins with the first of them.
-use Rattle.std.specs.Prelude.{ℕ, suc, ℤ, pos, negsuc, Bool, true, false, ◌&&◌, is_some, if◌then◌else◌, codes, List, []}
-use Rattle.std.specs.Prelude.{◌∷◌, length, map, Option, Some, None}
+use Rattle.std.specs.Prelude.{ℕ, suc, ℤ, pos, negsuc, Bool, true, false, not, ◌&&◌, is_some, if◌then◌else◌, codes}
+use Rattle.std.specs.Prelude.{◌==◌, List, [], ◌∷◌, length, map, Option, Some, None}
 use Rattle.std.specs.List.{list_all}
 use Rattle.std.specs.Option.{option_map_or}
 use Rattle.toml.specs.Data.{Data, get}
@@ -124,12 +124,28 @@ is_in_range d limit = is_number_within (range_of limit).low (range_of limit).hig
 abbrev pub have_limits : Data → Bool
 have_limits d = list_all (is_in_range d) each_limit
 
+-- rule 11: the program that is told of changes is named, and tried 1 to 100 times, 3 where the table doesn't say
+abbrev pub hook_table : Data → Option Data
+hook_table d = get (codes "hook") d
+
+abbrev pub program : Data → List ℕ
+program hook = text_of (get (codes "program") hook)
+
+abbrev pub tries : Data → ℤ
+tries hook = number_of (pos 3) (get (codes "tries") hook)
+
+abbrev pub names_program : Data → Bool
+names_program hook = not (length (program hook) == 0) && is_number_within 1 100 (tries hook)
+
+unfoldable pub hook_is_right : Data → Bool
+hook_is_right d = found true names_program (hook_table d)
+
 -- which of the rules from 1 on a parsed document keeps, in order
 unfoldable pub kept : Data → List Bool
 kept d =
     is_document d ∷ has_domain_name d ∷ has_domain_sid d ∷ have_names (listeners d) ∷ list_all has_address (listeners d)
     ∷ list_all has_token (listeners d) ∷ list_all has_counts (listeners d) ∷ have_owners d ∷ have_aces d ∷ have_limits d
-    ∷ []
+    ∷ hook_is_right d ∷ []
 
 -- which of the rules bytes keep, in order: rule 0 is that they spell a document
 abbrev pub rules : List ℕ → List Bool

@@ -62,8 +62,18 @@ are_descriptors d = has_only kind_names d && list_all (λ kind. optional is_desc
 unfoldable pub are_limits : Data → Bool
 are_limits d = has_only limit_keys d && list_all (λ limit. optional is_number (limit_key limit) d) each_limit
 
+unfoldable pub is_hook : Data → Bool
+is_hook d =
+    has_only (codes "program" ∷ codes "tries" ∷ []) d && optional is_text (codes "program") d
+    && optional is_number (codes "tries") d
+
+-- the tables of a document
+abbrev pub table_names : List (List ℕ)
+table_names = codes "domain" ∷ codes "listener" ∷ codes "descriptor" ∷ codes "limits" ∷ codes "hook" ∷ []
+
 unfoldable pub is_document : Data → Bool
 is_document d =
-    has_only (codes "domain" ∷ codes "listener" ∷ codes "descriptor" ∷ codes "limits" ∷ []) d
-    && required is_domain (codes "domain") d && required (is_array_of is_listener) (codes "listener") d
+    has_only table_names d && required is_domain (codes "domain") d
+    && required (is_array_of is_listener) (codes "listener") d
     && optional are_descriptors (codes "descriptor") d && optional are_limits (codes "limits") d
+    && optional is_hook (codes "hook") d

@@ -6,6 +6,7 @@ use Rattle.toml.specs.Data.{Data, get}
 use Rattle.dtyp_access.specs.declared.ace.Ace.{Ace}
 use Rattle.dtyp_access.specs.declared.descriptor.Descriptor.{Descriptor}
 use Rattle.acct_config.specs.declared.config.Config.{Config}
+use Rattle.acct_config.specs.declared.config.Hook.{Hook}
 use Rattle.acct_config.specs.declared.config.Listener.{Listener}
 use Rattle.acct_config.specs.declared.limits.Limit.{Limit}
 use Rattle.acct_config.specs.declared.limits.Limit.TheVariants.{Calls, Bytes, Conns, Read, Periods}
@@ -16,7 +17,7 @@ use Rattle.acct_config.specs.Kinds.{kinds}
 use Rattle.acct_config.specs.Ranges.{range_of}
 use Rattle.acct_config.specs.Rules.{kept, first_broken_from, first_broken, domain_name, domain_sid, listeners}
 use Rattle.acct_config.specs.Rules.{listener_name, listener_address, sid_of, token_texts, workers, links}
-use Rattle.acct_config.specs.Rules.{descriptor_table, owner, limit_number}
+use Rattle.acct_config.specs.Rules.{descriptor_table, owner, limit_number, hook_table, program, tries}
 use Rattle.acct_calls.specs.Domains.{name_of_text}
 use Rattle.acct_config.specs.Values.{administrators}
 
@@ -63,6 +64,10 @@ limits_of d = record {
   max_periods = limit_of d Periods;
 }
 
+-- the program that is told of changes, where there is a table for it
+abbrev pub hook_of : Data → Hook
+hook_of hook = record { program = program hook; tries = count_of 100 (tries hook) }
+
 -- the configuration that a document spells
 abbrev pub config_of : Data → Config
 config_of d = record {
@@ -71,6 +76,7 @@ config_of d = record {
   listeners = map listener_of (listeners d);
   descriptors = map (λ kind. descriptor_of (descriptor_table d kind)) kinds;
   limits = limits_of d;
+  hook = option_map hook_of (hook_table d);
 }
 
 -- a document that breaks no rule from 1 on, and its configuration

@@ -24,6 +24,28 @@ pub struct Config {
     /// The descriptors of objects, one for each kind in the order of `Kind`.
     pub descriptors: Seq<Descriptor>,
     pub limits: Limits,
+    /// The program that is told of changes of accounts, if there is one.
+    pub hook: Option<Hook>,
+}
+
+/// A program that is told of changes of accounts.
+#[derive(Debug, Drop)]
+pub struct Hook {
+    pub program: Text,
+    /// How often it is started at most for one change, 1 to 100.
+    pub tries: u32,
+}
+
+impl Hook {
+    /// An equal hook.
+    pub fn copy(&self, alloc: Global) -> Result<Self, AllocError>
+        ensures { IfOk result (λ copy. copy ≡ self.now) }
+    {
+        Ok(Hook {
+            program: Text::copy_of(alloc, self.program.as_str())?,
+            tries: self.tries,
+        })
+    }
 }
 
 /// A place where clients connect.
@@ -79,6 +101,15 @@ fn copy_descriptors(
     Ok(copy)
 }
 
+fn copy_hook(alloc: Global, hook: &Option<Hook>) -> Result<Option<Hook>, AllocError>
+    ensures { IfOk result (λ copy. copy ≡ hook.now) }
+{
+    match hook {
+        Some(hook) => Ok(Some(hook.copy(alloc)?)),
+        None => Ok(None),
+    }
+}
+
 impl Config {
     /// An equal configuration.
     pub fn copy(&self, alloc: Global) -> Result<Self, AllocError>
@@ -90,6 +121,7 @@ impl Config {
             listeners: copy_listeners(alloc, self.listeners.as_slice())?,
             descriptors: copy_descriptors(alloc, self.descriptors.as_slice())?,
             limits: self.limits,
+            hook: copy_hook(alloc, &self.hook)?,
         })
     }
 

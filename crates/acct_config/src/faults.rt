@@ -5,14 +5,15 @@ ghost use Rattle.acct_config.specs.Rules.{listener_name, has_address, has_token,
 ghost use Rattle.acct_config.specs.Rules.{aces_are_entries, is_in_range};
 ghost use Rattle.acct_config.specs.Values.{is_listener_name};
 ghost use Rattle.acct_config.specs.Faults.{first_taken, names_fault, addresses_fault, tokens_fault, counts_key};
-ghost use Rattle.acct_config.specs.Faults.{counts_fault, owners_fault, aces_fault, limits_fault, fault_of};
+ghost use Rattle.acct_config.specs.Faults.{counts_fault, owners_fault, aces_fault, limits_fault, hook_key, hook_fault};
+ghost use Rattle.acct_config.specs.Faults.{fault_of};
 
 use crate::kinds::KINDS;
 use crate::limits::{EACH_LIMIT, Limit, limit_key};
 use crate::misfits::document_shape;
 use crate::rules::{
-    aces_are_entries, has_address, has_counts, has_token, is_in_range, is_number_within, is_taken,
-    listener_name, listeners, owner_is_sid, workers,
+    aces_are_entries, has_address, has_counts, has_token, hook_table, is_in_range,
+    is_number_within, is_taken, listener_name, listeners, owner_is_sid, program, workers,
 };
 use crate::sections::Section;
 use crate::values::is_listener_name;
@@ -159,6 +160,22 @@ fn limits_fault(document: &Value) -> Option<(Section, &'static str)>
     ))
 }
 
+fn hook_key(hook: &Value) -> &'static str
+    ensures { result.now ≡ hook_key (view hook.now) }
+{
+    if program(hook).is_empty() {
+        "program"
+    } else {
+        "tries"
+    }
+}
+
+fn hook_fault(document: &Value) -> Option<(Section, &'static str)>
+    ensures { option_map (λ fault. (fault.0, fault.1.now)) result ≡ hook_fault (view document.now) }
+{
+    Some((Section::Hook, hook_key(hook_table(document)?)))
+}
+
 /// The first key at which a parsed document breaks the rule of a number, from 1 on.
 #[tactic(auto, unfolding(crate::specs::Faults::fault_of))]
 pub fn fault_of(document: &Value, rule: u32) -> Option<(Section, &str)>
@@ -175,6 +192,7 @@ pub fn fault_of(document: &Value, rule: u32) -> Option<(Section, &str)>
         8 => owners_fault(document),
         9 => aces_fault(document),
         10 => limits_fault(document),
+        11 => hook_fault(document),
         _ => None,
     }
 }

@@ -29,7 +29,7 @@ mod values;
 mod words;
 
 pub use address::is_address;
-pub use config::{Config, Listener};
+pub use config::{Config, Hook, Listener};
 pub use errors::ConfigError;
 pub use kinds::kind_name;
 pub use limits::Limits;

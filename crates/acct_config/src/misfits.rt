@@ -10,7 +10,7 @@ ghost use Rattle.acct_config.specs.Shape.{is_listener};
 ghost use Rattle.acct_config.specs.Faults.{unknown_key, is_table, whole_misfit, domain_misfit, listener_misfit};
 ghost use Rattle.acct_config.specs.Faults.{descriptor_misfit, descriptors_misfit, limits_misfit, domain_shape};
 ghost use Rattle.acct_config.specs.Faults.{listeners_shape, descriptors_shape, each_descriptor_shape, limits_shape};
-ghost use Rattle.acct_config.specs.Faults.{document_shape};
+ghost use Rattle.acct_config.specs.Faults.{hook_misfit, hook_shape, document_shape};
 
 use crate::document::{elements, elements_of};
 use crate::kinds::{KIND_NAMES, KINDS, kind_name};
@@ -18,8 +18,8 @@ use crate::limits::{EACH_LIMIT, LIMIT_KEYS, Limit, limit_key};
 use crate::rules::{descriptor_table, listeners};
 use crate::sections::{Section, of_section};
 use crate::shape::{
-    allows_descriptor, allows_number, allows_texts, is_among, is_listener, requires_text,
-    requires_texts,
+    TABLE_NAMES, allows_descriptor, allows_number, allows_text, allows_texts, is_among,
+    is_listener, requires_text, requires_texts,
 };
 use acct_codes::Kind;
 use toml::{Table, Value};
@@ -84,7 +84,7 @@ fn requires_tables(value: &Value, key: &str) -> bool
 fn whole_misfit(document: &Value) -> Option<&str>
     ensures { option_map (λ key. key.now) result ≡ whole_misfit (view document.now) }
 {
-    if let Some(key) = unknown_key(document, &["domain", "listener", "descriptor", "limits"]) {
+    if let Some(key) = unknown_key(document, &TABLE_NAMES) {
         return Some(key);
     }
     if !requires_table(document, "domain") {
@@ -98,6 +98,9 @@ fn whole_misfit(document: &Value) -> Option<&str>
     }
     if !allows_table(document, "limits") {
         return Some("limits");
+    }
+    if !allows_table(document, "hook") {
+        return Some("hook");
     }
     None
 }
@@ -201,6 +204,22 @@ fn limits_misfit(limits: &Value) -> Option<&str>
     Some(limit_key(first_no_number(limits, &EACH_LIMIT)?))
 }
 
+#[tactic(auto, unfolding(crate::specs::Faults::hook_misfit))]
+fn hook_misfit(hook: &Value) -> Option<&str>
+    ensures { option_map (λ key. key.now) result ≡ hook_misfit (view hook.now) }
+{
+    if let Some(key) = unknown_key(hook, &["program", "tries"]) {
+        return Some(key);
+    }
+    if !allows_text(hook, "program") {
+        return Some("program");
+    }
+    if !allows_number(hook, "tries") {
+        return Some("tries");
+    }
+    None
+}
+
 fn domain_shape(document: &Value) -> Option<(Section, &str)>
     ensures { option_map (λ fault. (fault.0, fault.1.now)) result ≡ domain_shape (view document.now) }
 {
@@ -263,6 +282,12 @@ fn limits_shape(document: &Value) -> Option<(Section, &str)>
     of_section(Section::Limits, limits_misfit(document.get("limits")?))
 }
 
+fn hook_shape(document: &Value) -> Option<(Section, &str)>
+    ensures { option_map (λ fault. (fault.0, fault.1.now)) result ≡ hook_shape (view document.now) }
+{
+    of_section(Section::Hook, hook_misfit(document.get("hook")?))
+}
+
 /// The first key at which a document has not the shape of a configuration, table after table.
 #[tactic(auto, unfolding(crate::specs::Faults::document_shape))]
 pub fn document_shape(document: &Value) -> Option<(Section, &str)>
@@ -280,5 +305,8 @@ pub fn document_shape(document: &Value) -> Option<(Section, &str)>
     if let Some(fault) = descriptors_shape(document) {
         return Some(fault);
     }
-    limits_shape(document)
+    if let Some(fault) = limits_shape(document) {
+        return Some(fault);
+    }
+    hook_shape(document)
 }

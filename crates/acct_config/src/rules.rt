@@ -7,7 +7,7 @@ ghost use Rattle.acct_config.specs.Rules.{domain_name, domain_sid, has_domain_na
 ghost use Rattle.acct_config.specs.Rules.{listener_name, listener_address, have_names, has_address, sid_of, is_sid};
 ghost use Rattle.acct_config.specs.Rules.{has_token, is_number_within, workers, links, has_counts, descriptor_table};
 ghost use Rattle.acct_config.specs.Rules.{owner, owner_is_sid, is_ace, aces_are_entries, limit_number, is_in_range};
-ghost use Rattle.acct_config.specs.Rules.{kept, first_broken_from};
+ghost use Rattle.acct_config.specs.Rules.{hook_table, program, tries, hook_is_right, kept, first_broken_from};
 ghost use Rattle.acct_config.specs.Values.{is_listener_name, are_distinct};
 
 use crate::address::is_address;
@@ -260,6 +260,37 @@ fn have_limits(document: &Value, limits: &[Limit]) -> bool
     limits.iter().all(|limit| is_in_range(document, *limit))
 }
 
+/// The table of the program that is told of changes.
+pub fn hook_table(document: &Value) -> Option<&Value>
+    ensures { option_map (λ v. view v.now) result ≡ hook_table (view document.now) }
+{
+    document.get("hook")
+}
+
+/// The program that such a table names.
+pub fn program(hook: &Value) -> &str
+    ensures { result.now ≡ program (view hook.now) }
+{
+    text_of(hook.get("program"))
+}
+
+/// How often it is tried.
+pub fn tries(hook: &Value) -> i64
+    ensures { result ≡ tries (view hook.now) }
+{
+    number_of(3, hook.get("tries"))
+}
+
+#[tactic(auto, unfolding(crate::specs::Rules::hook_is_right))]
+fn hook_is_right(document: &Value) -> bool
+    ensures { result ≡ hook_is_right (view document.now) }
+{
+    match hook_table(document) {
+        Some(hook) => !program(hook).is_empty() && is_number_within(1, 100, tries(hook)),
+        None => true,
+    }
+}
+
 /// The first rule from 1 on that a parsed document breaks.
 #[tactic(auto, unfolding(crate::specs::Rules::kept))]
 pub fn first_broken(alloc: Global, document: &Value) -> Result<Option<u32>, AllocError>
@@ -295,6 +326,9 @@ pub fn first_broken(alloc: Global, document: &Value) -> Result<Option<u32>, Allo
     }
     if !have_limits(document, &EACH_LIMIT) {
         return Ok(Some(10));
+    }
+    if !hook_is_right(document) {
+        return Ok(Some(11));
     }
     Ok(None)
 }

@@ -19,6 +19,8 @@ pub enum Section {
     Descriptor(Kind),
     /// The limits.
     Limits,
+    /// The program that is told of changes.
+    Hook,
 }
 
 /// The key that was found, as one of a table.

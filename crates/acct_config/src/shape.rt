@@ -7,13 +7,16 @@ ghost use Rattle.acct_config.specs.Kinds.{kind_name};
 ghost use Rattle.acct_config.specs.Ranges.{limit_key};
 ghost use Rattle.acct_config.specs.Shape.{is_among, has_only, required, optional, is_text, is_number, is_array_of};
 ghost use Rattle.acct_config.specs.Shape.{is_domain, is_listener, is_descriptor, are_descriptors, are_limits};
-ghost use Rattle.acct_config.specs.Shape.{is_document};
+ghost use Rattle.acct_config.specs.Shape.{is_hook, is_document};
 
 use crate::document::elements;
 use crate::kinds::{KIND_NAMES, KINDS, kind_name};
 use crate::limits::{EACH_LIMIT, LIMIT_KEYS, Limit, limit_key};
 use acct_codes::Kind;
 use toml::{Table, Value};
+
+/// The names of the tables of a document.
+pub const TABLE_NAMES: [&str; 5] = ["domain", "listener", "descriptor", "limits", "hook"];
 
 pub fn is_among(names: &[&str], key: &str) -> bool
     ensures { result ≡ is_among (map (λ name. name.now) names.now) key.now }
@@ -35,6 +38,15 @@ fn has_only(value: &Value, names: &[&str]) -> bool
     match value.as_table() {
         Some(table) => keys_are_among(names, table),
         None => false,
+    }
+}
+
+pub fn allows_text(value: &Value, key: &str) -> bool
+    ensures { result ≡ optional is_text key.now (view value.now) }
+{
+    match value.get(key) {
+        Some(found) => found.is_str(),
+        None => true,
     }
 }
 
@@ -189,14 +201,33 @@ fn allows_limits(value: &Value, key: &str) -> bool
     }
 }
 
+#[tactic(auto, unfolding(crate::specs::Shape::is_hook))]
+fn is_hook(value: &Value) -> bool
+    ensures { result ≡ is_hook (view value.now) }
+{
+    has_only(value, &["program", "tries"])
+        && allows_text(value, "program")
+        && allows_number(value, "tries")
+}
+
+fn allows_hook(value: &Value, key: &str) -> bool
+    ensures { result ≡ optional is_hook key.now (view value.now) }
+{
+    match value.get(key) {
+        Some(found) => is_hook(found),
+        None => true,
+    }
+}
+
 /// Whether the document has only the keys that a configuration has, with their types, and those that it needs.
 #[tactic(auto, unfolding(crate::specs::Shape::is_document))]
 pub fn is_document(value: &Value) -> bool
     ensures { result ≡ is_document (view value.now) }
 {
-    has_only(value, &["domain", "listener", "descriptor", "limits"])
+    has_only(value, &TABLE_NAMES)
         && requires_domain(value, "domain")
         && requires_listeners(value, "listener")
         && allows_descriptors(value, "descriptor")
         && allows_limits(value, "limits")
+        && allows_hook(value, "hook")
 }

@@ -4,18 +4,18 @@ ghost use Rattle.std.specs.List.{filter_map};
 ghost use Rattle.toml.specs.View.{view};
 ghost use Rattle.acct_config.specs.Rules.{sid_of, descriptor_table};
 ghost use Rattle.acct_config.specs.Spelled.{count_of, listener_of, ace_at, acl_of, descriptor_of, limit_of, limits_of};
-ghost use Rattle.acct_config.specs.Spelled.{config_of};
+ghost use Rattle.acct_config.specs.Spelled.{hook_of, config_of};
 
 use crate::document::{elements, elements_of, text_of};
 use crate::entries::ace_of_text;
 use crate::kinds::KINDS;
 use crate::limits::{Limit, range_of};
 use crate::rules::{
-    descriptor_table, domain_name, domain_sid, limit_number, links, listener_address,
-    listener_name, listeners, owner, sid_of, workers,
+    descriptor_table, domain_name, domain_sid, hook_table, limit_number, links, listener_address,
+    listener_name, listeners, owner, program, sid_of, tries, workers,
 };
 use crate::values::administrators;
-use crate::{Config, Limits, Listener, Text};
+use crate::{Config, Hook, Limits, Listener, Text};
 use acct_base::Seq;
 use acct_calls::Name;
 use acct_codes::Kind;
@@ -138,6 +138,18 @@ fn limits_of(document: &Value) -> Limits
     }
 }
 
+fn hook_of(alloc: Global, found: Option<&Value>) -> Result<Option<Hook>, AllocError>
+    ensures { IfOk result (λ made. made ≡ option_map hook_of (option_map (λ v. view v.now) found.entry)) }
+{
+    match found {
+        Some(hook) => Ok(Some(Hook {
+            program: Text::copy_of(alloc, program(hook))?,
+            tries: count_of(100, tries(hook)) as u32,
+        })),
+        None => Ok(None),
+    }
+}
+
 /// The configuration that a parsed document spells.
 pub fn config_of(alloc: Global, document: &Value) -> Result<Config, AllocError>
     ensures { IfOk result (λ config. config ≡ config_of (view document.now)) }
@@ -148,5 +160,6 @@ pub fn config_of(alloc: Global, document: &Value) -> Result<Config, AllocError>
         listeners: listeners_of(alloc, listeners(document))?,
         descriptors: descriptors_of(alloc, document, &KINDS)?,
         limits: limits_of(document),
+        hook: hook_of(alloc, hook_table(document))?,
     })
 }
