@@ -29,7 +29,8 @@ use Rattle.acct_codes.specs.Opnums.{lsar_lookup_privilege_value, lsar_lookup_pri
 use Rattle.acct_codes.specs.Opnums.{lsar_enumerate_accounts_with_user_right, lsar_enumerate_account_rights}
 use Rattle.acct_codes.specs.Opnums.{lsar_add_account_rights, lsar_remove_account_rights, lsar_open_policy2}
 use Rattle.acct_codes.specs.Opnums.{lsar_query_information_policy2, lsar_lookup_sids2, lsar_lookup_names2}
-use Rattle.acct_codes.specs.Opnums.{lsar_lookup_names3}
+use Rattle.acct_codes.specs.Opnums.{lsar_lookup_names3, samr_set_security_object, samr_query_security_object}
+use Rattle.acct_codes.specs.Opnums.{lsar_query_security_object, lsar_set_security_object}
 use Rattle.acct_layouts.specs.declared.classes.Subject.TheVariants as subject
 use Rattle.acct_layouts.specs.declared.fields.Connect.TheVariants as connect
 use Rattle.acct_layouts.specs.declared.fields.Creation.TheVariants as creation
@@ -38,6 +39,7 @@ use Rattle.acct_layouts.specs.declared.fields.Fields.TheVariants as fields
 use Rattle.acct_layouts.specs.declared.fields.ScalarFields.TheVariants as plain
 use Rattle.acct_layouts.specs.declared.fields.PolicyFields.TheVariants as policy
 use Rattle.acct_layouts.specs.declared.fields.Search.TheVariants as search
+use Rattle.acct_layouts.specs.declared.fields.SecurityFields.TheVariants as security
 use Rattle.acct_layouts.specs.declared.fields.Translation.TheVariants as translation
 use Rattle.acct_layouts.specs.declared.outputs.Listed.TheVariants as listed
 use Rattle.acct_layouts.specs.declared.outputs.Outputs.{Outputs}
@@ -55,6 +57,10 @@ abbrev pub samr_table : List (ℕ × Layout)
 samr_table =
     -- SamrCloseHandle (3.1.5.13.1)
     operation samr_close_handle (fields.Scalar plain.Nothing) (outputs.Scalar scalar.HandleBack)
+    -- SamrSetSecurityObject (3.1.5.12.1)
+    ∷ operation samr_set_security_object (fields.Security security.Set) (outputs.Scalar scalar.Nothing)
+    -- SamrQuerySecurityObject (3.1.5.12.2)
+    ∷ operation samr_query_security_object (fields.Security security.Query) outputs.Security
     -- SamrLookupDomainInSamServer (3.1.5.11.1)
     ∷ operation samr_lookup_domain_in_sam_server (fields.Scalar plain.Name) (outputs.Scalar scalar.Sid)
     -- SamrEnumerateDomainsInSamServer (3.1.5.2.1)
@@ -148,6 +154,10 @@ lsa_table =
     operation lsar_close (fields.Scalar plain.Nothing) (outputs.Scalar scalar.HandleBack)
     -- LsarEnumeratePrivileges (MS-LSAD 3.1.4.8.1)
     ∷ operation lsar_enumerate_privileges (fields.Search search.Page) (outputs.Policy shown.PrivilegePage)
+    -- LsarQuerySecurityObject (MS-LSAD 3.1.4.9.1)
+    ∷ operation lsar_query_security_object (fields.Security security.Query) outputs.Security
+    -- LsarSetSecurityObject (MS-LSAD 3.1.4.9.2)
+    ∷ operation lsar_set_security_object (fields.Security security.Set) (outputs.Scalar scalar.Nothing)
     -- LsarQueryInformationPolicy (MS-LSAD 3.1.4.4.4)
     ∷ operation lsar_query_information_policy (fields.Class subject.Policy) (outputs.Shown subject.Policy)
     -- LsarCreateAccount (MS-LSAD 3.1.4.5.1)

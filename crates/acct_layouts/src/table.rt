@@ -5,7 +5,9 @@ ghost use Rattle.acct_layouts.specs.declared.fields.Fields.TheVariants as fields
 ghost use Rattle.acct_layouts.specs.declared.outputs.Outputs.TheVariants as outputs;
 
 use crate::classes::Subject;
-use crate::fields::{Connect, Creation, Fields, PolicyFields, ScalarFields, Search, Translation};
+use crate::fields::{
+    Connect, Creation, Fields, PolicyFields, ScalarFields, Search, SecurityFields, Translation,
+};
 use crate::outputs::{Listed, Outputs, PolicyOutputs, ScalarOutputs};
 use acct_calls::Face;
 use acct_codes::{lsa_opnum, samr_opnum};
@@ -41,6 +43,11 @@ fn samr_layout(opnum: u16) -> Option<Layout>
         | samr_opnum::SAMR_DELETE_GROUP
         | samr_opnum::SAMR_DELETE_ALIAS
         | samr_opnum::SAMR_DELETE_USER => (brings_nothing, handle_back),
+        samr_opnum::SAMR_SET_SECURITY_OBJECT => (Fields::Security(SecurityFields::Set), nothing),
+        samr_opnum::SAMR_QUERY_SECURITY_OBJECT => (
+            Fields::Security(SecurityFields::Query),
+            Outputs::Security,
+        ),
         samr_opnum::SAMR_LOOKUP_DOMAIN_IN_SAM_SERVER => (
             Fields::Scalar(ScalarFields::Name),
             Outputs::Scalar(ScalarOutputs::Sid),
@@ -144,6 +151,11 @@ fn lsa_layout(opnum: u16) -> Option<Layout>
             page,
             Outputs::Policy(PolicyOutputs::PrivilegePage),
         ),
+        lsa_opnum::LSAR_QUERY_SECURITY_OBJECT => (
+            Fields::Security(SecurityFields::Query),
+            Outputs::Security,
+        ),
+        lsa_opnum::LSAR_SET_SECURITY_OBJECT => (Fields::Security(SecurityFields::Set), nothing),
         lsa_opnum::LSAR_QUERY_INFORMATION_POLICY | lsa_opnum::LSAR_QUERY_INFORMATION_POLICY2 => (
             Fields::Class(Subject::Policy),
             policy_shown,
