@@ -11,7 +11,7 @@ use Rattle.acct_rows.specs.declared.row.Row.{Row}
 use Rattle.acct_rows.proofs.Fitting.{all_fit}
 use Rattle.acct_tables.proofs.Lookups.{same_Some}
 use Rattle.acct_rows.proofs.SpelledRows.{fits_key, spelled_rows_are_read}
-use Rattle.acct_rows.proofs.Translated.{not_format}
+use Rattle.acct_rows.proofs.Translated.{not_format, not_next_out, next_known}
 use Rattle.acct_rows.proofs.RowsAt.{row_fits, same_lists, sound_tables}
 
 module _ (back : WrittenBytesAreRead) (sizes : WrittenBytesHaveLengths) (only : ReadBytesAreWritten) where
@@ -25,10 +25,14 @@ module _ (back : WrittenBytesAreRead) (sizes : WrittenBytesHaveLengths) (only : 
       → ((row : Row) → IsRowOf others row → Fits row) → HoldPairs lists pairs → HoldPairs others pairs → (row : Row)
       → IsRowOf lists row → IsRowOf others row
   also_there lists others pairs fit fits held too row e =
-      elim ((too (pair_of row)).0 ((held (pair_of row)).1 (inr (row, e, refl)))) [
+      elim ((too (pair_of row)).0 ((held (pair_of row)).1 (inr (inr (row, e, refl))))) [
         | inl f ↦ absurd (not_format back sizes only (key_of row) (fits_key back sizes only row (fit row e))
             (ap pair_key f))
-        | inr r ↦ subst (IsRowOf others) (one_row r.0 row (fits r.0 r.1) (fit row e) (sym r.2)) r.1
+        | inr other ↦ elim other [
+          | inl n ↦ absurd (not_next_out back sizes only (key_of row) (fits_key back sizes only row (fit row e))
+              (ap pair_key n.1))
+          | inr r ↦ subst (IsRowOf others) (one_row r.0 row (fits r.0 r.1) (fit row e) (sym r.2)) r.1
+        ]
       ]
 
   pub one_rows : PairsAreOfOne
@@ -37,3 +41,5 @@ module _ (back : WrittenBytesAreRead) (sizes : WrittenBytesHaveLengths) (only : 
       let fits = row_fits others (all_fit others later) in
       same_lists lists others (sound_tables lists sound) (sound_tables others later)
       (also_there lists others pairs fit fits held too) (also_there others lists pairs fits fit too held)
+      (same_Some (sym (next_known back sizes only lists pairs fit held sound.next_least sound.next_most)
+      ∙ next_known back sizes only others pairs fits too later.next_least later.next_most))

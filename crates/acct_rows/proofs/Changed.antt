@@ -1,6 +1,6 @@
 -- The changes of a plan take the pairs of the rows to those of the rows after it.
-use Rattle.std.proofs.Common.{◌≡◌, ◌≢◌, ◌↔◌, ℕ, Bool, true, false, ◌&&◌, ◌||◌, cond, List, [], ◌∷◌, ◌++◌}
-use Rattle.std.proofs.Common.{Option, Some, None, refl, sym, ap, subst, ◌∙◌, inl, inr, ◌⊎◌}
+use Rattle.std.proofs.Common.{◌≡◌, ◌≢◌, ◌↔◌, ℕ, ◌+◌, ◌≤◌, ◌==◌, Bool, true, false, ◌&&◌, ◌||◌, cond, List, [], ◌∷◌, ◌++◌}
+use Rattle.std.proofs.Common.{Option, Some, None, refl, sym, ap, subst, ◌∙◌, inl, inr, ◌⊎◌, arith}
 use Rattle.std.specs.Prelude.{is_some, option_map, not}
 use Rattle.std.specs.Str.{bytes_eq}
 use Rattle.std.proofs.lemmas.Slice.Eq.{bytes_eq-Decides}
@@ -13,17 +13,20 @@ use Rattle.acct_keeper.specs.declared.pairs.Change.{Change}
 use Rattle.acct_keeper.specs.Pairs as kept
 use Rattle.acct_rows.specs.Changes.{Follow, row_at, stored_at, same_row_key, is_put}
 use Rattle.acct_rows.specs.Changes.{has_value, where_so, removal, removals}
-use Rattle.acct_rows.specs.Changes.{row_written, last_written, rows_written, changes_of, LastFit}
+use Rattle.acct_rows.specs.Changes.{row_written, last_written, rows_written, next_out_written, changes_of, LastFit}
 use Rattle.acct_rows.specs.Keyed.{compare, same_key, by_order, put, is_ascending}
-use Rattle.acct_rows.specs.PairRules.{pair_key, pair_at}
-use Rattle.acct_rows.specs.PairsOf.{IsRowOf, IsPairOf, HoldPairs}
-use Rattle.acct_rows.specs.Rows.{Lists, put_row, removed, with_puts, after}
+use Rattle.acct_rows.specs.PairRules.{pair_key, pair_at, is_old}
+use Rattle.acct_rows.specs.PairsOf.{IsRowOf, IsNextOut, IsPairOf, HoldPairs, migration, MigratedPairsAscend}
+use Rattle.acct_rows.specs.Rows.{Lists, put_row, remove_row, removed, with_puts, next_past, after}
 use Rattle.acct_rows.specs.Sound.{IsSoundRows}
-use Rattle.acct_rows.specs.Spelled.{stored_key, stored_value, key_of, pair_of, format_key, format_pair, Fits}
+use Rattle.acct_rows.specs.Spelled.{stored_key, stored_value, key_of, pair_of, format_key, format_pair, next_out_key}
+use Rattle.acct_rows.specs.Spelled.{next_out_value, next_out_pair, Fits}
 use Rattle.acct_rows.specs.Stored.{row_of}
 use Rattle.acct_rows.specs.declared.plan.Plan.{Plan}
 use Rattle.acct_rows.specs.declared.row.Row.{Row}
+use Rattle.acct_rows.specs.declared.row.Row.TheVariants as rows
 use Rattle.acct_rows.specs.declared.row.RowKey.{RowKey}
+use Rattle.acct_rows.specs.declared.row.RowKey.TheVariants as keys
 use Rattle.acct_tables.proofs.Ascending.{is_ascending-put, is_ascending-filter}
 use Rattle.acct_tables.proofs.Lookups.{at-put, at-without, same_Some, there_or_not}
 use Rattle.acct_tables.proofs.Orders.{same_key-is, same_key-itself, tested}
@@ -31,7 +34,8 @@ use Rattle.acct_rows.proofs.Fitting.{all_fit}
 use Rattle.acct_rows.proofs.Members.{ascending-kept}
 use Rattle.acct_rows.proofs.ReadRows.{FitsKey}
 use Rattle.acct_rows.proofs.SpelledRows.{fits_key, spelled_rows_are_read}
-use Rattle.acct_rows.proofs.Translated.{is_row_at, at_is_row, one_key, not_format, pair_is}
+use Rattle.acct_rows.proofs.Moves.{equals, equal_is, nat_cases}
+use Rattle.acct_rows.proofs.Translated.{is_row_at, at_is_row, one_key, not_format, not_next_out, pair_is, keys_apart}
 use Rattle.acct_rows.proofs.RowsAt.{among, row_fits, same_itself, same_or_not, removed_at, puts_elsewhere, last_found}
 use Rattle.acct_rows.proofs.RowsAt.{same_lists, sound_tables}
 
@@ -55,7 +59,7 @@ pair_made key value = record { key = key; value = value }
 abbrev made : List ℕ → Option (List ℕ) → Option Pair
 made key value = option_map (pair_made key) value
 
-set_here : (key : List ℕ) (value : Option (List ℕ)) (ps : List Pair)
+pub set_here : (key : List ℕ) (value : Option (List ℕ)) (ps : List Pair)
     → pair_at key (kept.set_key key value ps) ≡ made key value
 set_here key (Some value) ps =
     ap (pair_at key) (put-kept (pair_made key value) ps) ∙ at-put pair_key key (pair_made key value) ps
@@ -63,7 +67,7 @@ set_here key (Some value) ps =
 set_here key None ps =
     at-without pair_key key key ps ∙ ap (λ b. cond (not b) (pair_at key ps) None) (same_key-itself key)
 
-set_apart : (k key : List ℕ) (value : Option (List ℕ)) (ps : List Pair) → k ≢ key
+pub set_apart : (k key : List ℕ) (value : Option (List ℕ)) (ps : List Pair) → k ≢ key
     → pair_at k (kept.set_key key value ps) ≡ pair_at k ps
 set_apart k key (Some value) ps apart =
     elim (tested (same_key k key)) [
@@ -88,6 +92,16 @@ after_ascends : (cs : List Change) (ps : List Pair) → is_ascending pair_key ps
     → is_ascending pair_key (kept.after cs ps) ≡ true
 after_ascends [] ps up = up
 after_ascends (c ∷ cs) ps up = after_ascends cs (kept.set_key c.key c.value ps) (set_ascends c.key c.value ps up)
+
+pub migrated_ascend : MigratedPairsAscend
+migrated_ascend pairs up =
+    let keyed : is_ascending pair_key pairs ≡ true = ascending-kept pairs ∙ up in
+    let then : is_ascending pair_key (kept.after (migration ∷ []) pairs) ≡ true =
+    after_ascends (migration ∷ []) pairs keyed in
+    elim (is_old pairs) as (λ b. kept.is_ascending (cond b (kept.after (migration ∷ []) pairs) pairs) ≡ true) [
+      | true ↦ sym (ascending-kept (kept.after (migration ∷ []) pairs)) ∙ then
+      | false ↦ up
+    ]
 
 after_append : (cs ds : List Change) (ps : List Pair) → kept.after (cs ++ ds) ps ≡ kept.after ds (kept.after cs ps)
 after_append [] ds ps = refl
@@ -174,6 +188,57 @@ both_so false b e = absurd cc
 none_either : {A : Type 0} (b : Bool) (o : Option A) → o ≡ None → cond b None o ≡ None
 none_either true o e = refl
 none_either false o e = e
+
+-- the next out number that a plan leaves
+removed_next : (gone : List RowKey) (lists : Lists) → (removed gone lists).next_out ≡ lists.next_out
+removed_next [] lists = refl
+removed_next (key ∷ gone) lists = removed_next gone (remove_row key lists) ∙ one key
+  where
+    one : (key : RowKey) → (remove_row key lists).next_out ≡ lists.next_out
+    one (keys.Domain number) = refl
+    one (keys.Account domain rid) = refl
+    one (keys.Member group user) = refl
+    one (keys.Alias domain alias member) = refl
+    one (keys.Lsa sid) = refl
+    one (keys.Desc object) = refl
+    one (keys.Out number) = refl
+
+puts_next : (puts : List Row) (lists : Lists) → (with_puts puts lists).next_out ≡ next_past lists.next_out puts
+puts_next [] lists = refl
+puts_next (row ∷ puts) lists = puts_next puts (put_row row lists)
+
+pub plan_next : (plan : Plan) (lists : Lists) → (after plan lists).next_out ≡ next_past lists.next_out plan.puts
+plan_next plan lists =
+    puts_next plan.puts (removed plan.removes lists)
+    ∙ ap (λ n. next_past n plan.puts) (removed_next plan.removes lists)
+
+-- it isn't lower than before
+not_lower : (puts : List Row) (next : ℕ) → next ≤ next_past next puts
+not_lower [] next = omega arith
+not_lower (rows.Out o ∷ puts) next = let rest = not_lower puts (next + 1) in omega arith
+not_lower (rows.Domain x ∷ puts) next = not_lower puts next
+not_lower (rows.Account x ∷ puts) next = not_lower puts next
+not_lower (rows.Member x ∷ puts) next = not_lower puts next
+not_lower (rows.Alias x ∷ puts) next = not_lower puts next
+not_lower (rows.Lsa x ∷ puts) next = not_lower puts next
+not_lower (rows.Desc x ∷ puts) next = not_lower puts next
+
+abbrev next_change : ℕ → Change
+next_change later = record { key = next_out_key; value = Some (next_out_value later) }
+
+next_cases : (next later : ℕ) → ((later ≢ next) × (next_out_written next later ≡ next_change later ∷ []))
+    ⊎ ((later ≡ next) × (next_out_written next later ≡ []))
+unfolding next_out_written
+next_cases next later =
+    elim (so_or_not (not (later == next)) (next_change later)) [
+      | inl w ↦ inl (
+        (λ same. (
+            let t : (later == next) ≡ true = equals later next same in
+            let f : (later == next) ≡ false = not_true_is (later == next) w.0 in cc (t, f))),
+        w.1,
+      )
+      | inr w ↦ inr (equal_is later next (not_false_is (later == next) w.0), w.1)
+    ]
 
 abbrev stored : Row → Pair
 stored row = pair_of row
@@ -402,8 +467,37 @@ module _ (back : WrittenBytesAreRead) (sizes : WrittenBytesHaveLengths) (only : 
       ]
 
   module _ (plan : Plan) (is : after plan lists ≡ others) where
+    abbrev later : ℕ
+    later = next_past lists.next_out plan.puts
+
+    abbrev row_changes : List Change
+    row_changes = removals lists plan.puts plan.removes ++ rows_written lists plan.puts
+
     abbrev changes : List Change
     changes = changes_of lists plan
+
+    later_is : others.next_out ≡ later
+    later_is = ap (λ l. l.next_out) (sym is) ∙ plan_next plan lists
+
+    -- the next out number's change is the last one
+    changes_after : (ps : List Pair)
+        → kept.after changes ps ≡ kept.after (next_out_written lists.next_out later) (kept.after row_changes ps)
+    changes_after ps =
+        let gone = removals lists plan.puts plan.removes in
+        let put = rows_written lists plan.puts in
+        let next = next_out_written lists.next_out later in
+        after_append gone (put ++ next) ps ∙ after_append put next (kept.after gone ps)
+        ∙ ap (kept.after next) (sym (after_append gone put ps))
+
+    -- and changes what is at its key alone
+    next_apart : (k : List ℕ) (ps : List Pair) → k ≢ next_out_key
+        → pair_at k (kept.after (next_out_written lists.next_out later) ps) ≡ pair_at k ps
+    next_apart k ps apart =
+        elim (next_cases lists.next_out later) [
+          | inl w ↦ ap (λ cs. pair_at k (kept.after cs ps)) w.1
+              ∙ set_apart k next_out_key (Some (next_out_value later)) ps apart
+          | inr w ↦ ap (λ cs. pair_at k (kept.after cs ps)) w.1
+        ]
 
     not_gone : (b c : Bool) → c ≡ true → (b && not c) ≡ false
     not_gone true c e = ap not e
@@ -423,9 +517,15 @@ module _ (back : WrittenBytesAreRead) (sizes : WrittenBytesHaveLengths) (only : 
     gone_or (Some r) true = refl
     gone_or (Some r) false = refl
 
-    module _ (pairs : List Pair) (held : HoldPairs lists pairs) where
+    module _ (pairs : List Pair) (held : HoldPairs lists pairs) (least : 1 ≤ lists.next_out) where
+      abbrev rowed : List Pair
+      rowed = kept.after row_changes pairs
+
       abbrev new : List Pair
       new = kept.after changes pairs
+
+      new_apart : (k : List ℕ) → k ≢ next_out_key → pair_at k new ≡ pair_at k rowed
+      new_apart k apart = ap (pair_at k) (changes_after pairs) ∙ next_apart k rowed apart
 
       pairs_at : (key : RowKey) → FitsKey key → pair_at (stored_key key) new ≡ stored_at others key
       pairs_at key fk =
@@ -435,7 +535,8 @@ module _ (back : WrittenBytesAreRead) (sizes : WrittenBytesHaveLengths) (only : 
           let between : pair_at k middle ≡ cond (is_gone lists plan.puts key
           && among plan.removes key) None (pair_at k pairs) =
           removals_at plan.puts key fk plan.removes pairs in
-          ap (pair_at k) (after_append (removals lists plan.puts plan.removes) (rows_written lists plan.puts) pairs)
+          new_apart k (not_next_out back sizes only key fk)
+          ∙ ap (pair_at k) (after_append (removals lists plan.puts plan.removes) (rows_written lists plan.puts) pairs)
           ∙ rows_at plan.puts key fk plan.puts (removed plan.removes lists) is middle (λ t.
           between
           ∙ ap (λ b. cond (b && among plan.removes key) None (pair_at k pairs))
@@ -451,7 +552,7 @@ module _ (back : WrittenBytesAreRead) (sizes : WrittenBytesHaveLengths) (only : 
                 ∙ sym (ap (option_map (λ r. stored r)) (left_at key t))
           ]
 
-      all_stored : Stored changes
+      all_stored : Stored row_changes
       all_stored = stored_append (removals lists plan.puts plan.removes) (rows_written lists plan.puts)
           (removals_stored plan.puts plan.removes) (rows_stored plan.puts (removed plan.removes lists) is)
 
@@ -466,31 +567,111 @@ module _ (back : WrittenBytesAreRead) (sizes : WrittenBytesHaveLengths) (only : 
           let there : stored_at others key ≡ Some p =
           sym (pairs_at key fk) ∙ ap (λ k. pair_at k new) (sym same) ∙ e in
           let r = found_row p (row_at others key) there in
-          inr (r.0, (at_is_row others key r.0 r.1).0, r.2)
+          inr (inr (r.0, (at_is_row others key r.0 r.1).0, r.2))
+
+      -- no row's pair is at these keys
+      format_left : pair_at format_key rowed ≡ pair_at format_key pairs
+      format_left =
+          elim (after_cases format_key row_changes pairs all_stored) [
+            | inl s ↦ absurd (not_format back sizes only s.0 s.1 (sym s.2))
+            | inr same ↦ same
+          ]
+
+      next_left : pair_at next_out_key rowed ≡ pair_at next_out_key pairs
+      next_left =
+          elim (after_cases next_out_key row_changes pairs all_stored) [
+            | inl s ↦ absurd (not_next_out back sizes only s.0 s.1 (sym s.2))
+            | inr same ↦ same
+          ]
+
+      -- the next out number's pair
+      next_written : later ≢ lists.next_out → pair_at next_out_key new ≡ Some (next_out_pair later)
+      next_written unlike =
+          ap (pair_at next_out_key) (changes_after pairs) ∙ elim (next_cases lists.next_out later) [
+            | inl w ↦ ap (λ cs. pair_at next_out_key (kept.after cs rowed)) w.1
+                ∙ set_here next_out_key (Some (next_out_value later)) rowed
+            | inr w ↦ absurd (unlike w.0)
+          ]
+
+      next_stays : later ≡ lists.next_out → pair_at next_out_key new ≡ pair_at next_out_key pairs
+      next_stays same =
+          ap (pair_at next_out_key) (changes_after pairs) ∙ elim (next_cases lists.next_out later) [
+            | inl w ↦ absurd (w.0 same)
+            | inr w ↦ ap (λ cs. pair_at next_out_key (kept.after cs rowed)) w.1 ∙ next_left
+          ]
+
+      risen : later ≢ lists.next_out → others.next_out ≢ 1
+      risen unlike one = unlike (
+          let up = not_lower plan.puts lists.next_out in
+          let now : later ≡ 1 = sym later_is ∙ one in
+          omega (arith, up, now, least))
+
+      next_found : (p : Pair) → pair_at next_out_key new ≡ Some p → p.key ≡ next_out_key → IsPairOf others p
+      next_found p e key =
+          elim (nat_cases later lists.next_out) [
+            | inr unlike ↦
+                let is_next : next_out_pair later ≡ p = same_Some (sym (next_written unlike) ∙ e) in
+                inr (inl (risen unlike, sym is_next ∙ ap (λ n. next_out_pair n) (sym later_is)))
+            | inl same ↦
+                let own : pair_at p.key pairs ≡ Some p =
+                ap (λ k. pair_at k pairs) key ∙ sym (next_stays same) ∙ e in
+                let next : others.next_out ≡ lists.next_out = later_is ∙ same in
+                elim ((held p).0 own) [
+                  | inl f ↦ inl f
+                  | inr other ↦ elim other [
+                    | inl n ↦ inr (inl (subst (λ m. IsNextOut m p) (sym next) n))
+                    | inr r ↦ absurd (not_next_out back sizes only (key_of r.0)
+                        (fits_key back sizes only r.0 (fit r.0 r.1)) (sym (ap pair_key r.2) ∙ key))
+                  ]
+                ]
+          ]
+
+      next_listed : IsNextOut others.next_out (next_out_pair others.next_out)
+          → pair_at next_out_key new ≡ Some (next_out_pair others.next_out)
+      next_listed is_next =
+          elim (nat_cases later lists.next_out) [
+            | inr unlike ↦ next_written unlike ∙ ap (λ n. Some (next_out_pair n)) (sym later_is)
+            | inl same ↦
+                let next : others.next_out ≡ lists.next_out = later_is ∙ same in
+                next_stays same
+                ∙ (held (next_out_pair lists.next_out)).1 (inr (inl (subst (λ n. n ≢ 1) next is_next.0, refl)))
+                ∙ ap (λ n. Some (next_out_pair n)) (sym next)
+          ]
+
+      other_found : (p : Pair) → pair_at p.key new ≡ Some p → p.key ≢ next_out_key → IsPairOf others p
+      other_found p e apart =
+          elim (after_cases p.key row_changes pairs all_stored) [
+            | inl s ↦ row_of_found p s.0 s.1 s.2 e
+            | inr same ↦ elim ((held p).0 (sym same ∙ sym (new_apart p.key apart) ∙ e)) [
+              | inl f ↦ inl f
+              | inr other ↦ elim other [
+                | inl n ↦ absurd (apart (ap pair_key n.1))
+                | inr r ↦ row_of_found p (key_of r.0) (fits_key back sizes only r.0 (fit r.0 r.1)) (ap pair_key r.2) e
+              ]
+            ]
+          ]
 
       pub changed_hold : HoldPairs others new
       changed_hold p = (
-        (λ e. elim (after_cases p.key changes pairs all_stored) [
-          | inl s ↦ row_of_found p s.0 s.1 s.2 e
-          | inr same ↦ elim ((held p).0 (sym same ∙ e)) [
-            | inl f ↦ inl f
-            | inr r ↦ row_of_found p (key_of r.0) (fits_key back sizes only r.0 (fit r.0 r.1)) (ap pair_key r.2) e
-          ]
+        (λ e. elim (tested (same_key p.key next_out_key)) [
+          | inl t ↦
+              let key = same_key-is p.key next_out_key t in
+              next_found p (ap (λ k. pair_at k new) (sym key) ∙ e) key
+          | inr t ↦ other_found p e (λ same. (
+              let u : same_key p.key next_out_key ≡ true =
+              ap (same_key p.key) (sym same) ∙ same_key-itself p.key in cc (t, u)))
         ]),
         (λ e. elim e [
-          | inl f ↦ subst (λ q. pair_at q.key new ≡ Some q) (sym f) format_stays
-          | inr r ↦ subst (λ q. pair_at q.key new ≡ Some q) (sym r.2)
-              (pairs_at (key_of r.0) (fits_key back sizes only r.0 (fits r.0 r.1))
-              ∙ ap (option_map (λ x. stored x)) (is_row_at others r.0 r.1))
+          | inl f ↦ subst (λ q. pair_at q.key new ≡ Some q) (sym f)
+              (new_apart format_key keys_apart ∙ format_left ∙ (held format_pair).1 (inl refl))
+          | inr other ↦ elim other [
+            | inl n ↦ subst (λ q. pair_at q.key new ≡ Some q) (sym n.1) (next_listed (n.0, refl))
+            | inr r ↦ subst (λ q. pair_at q.key new ≡ Some q) (sym r.2)
+                (pairs_at (key_of r.0) (fits_key back sizes only r.0 (fits r.0 r.1))
+                ∙ ap (option_map (λ x. stored x)) (is_row_at others r.0 r.1))
+          ]
         ]),
       )
-        where
-          format_stays : pair_at format_key new ≡ Some format_pair
-          format_stays =
-              elim (after_cases format_key changes pairs all_stored) [
-                | inl s ↦ absurd (not_format back sizes only s.0 s.1 (sym s.2))
-                | inr same ↦ same ∙ (held format_pair).1 (inl refl)
-              ]
 
     -- ---- nothing is written exactly where the rows stay
     empty_parts : {A : Type 0} (xs ys : List A) → xs ++ ys ≡ [] → (xs ≡ []) × (ys ≡ [])
@@ -551,9 +732,10 @@ module _ (back : WrittenBytesAreRead) (sizes : WrittenBytesHaveLengths) (only : 
 
     rows_stay : changes ≡ [] → (key : RowKey) → row_at others key ≡ row_at lists key
     rows_stay none key =
-        let parts = empty_parts (removals lists plan.puts plan.removes) (rows_written lists plan.puts) none in
+        let parts = empty_parts (removals lists plan.puts plan.removes) _ none in
+        let written = empty_parts (rows_written lists plan.puts) _ parts.1 in
         elim (tested (is_put plan.puts key)) [
-          | inl t ↦ none_put plan.puts (removed plan.removes lists) key is parts.1 t
+          | inl t ↦ none_put plan.puts (removed plan.removes lists) key is written.0 t
           | inr t ↦ left_at key t ∙ elim (tested (among plan.removes key)) [
             | inr u ↦ ap (λ b. cond b None (row_at lists key)) u
             | inl u ↦ ap (λ b. cond b None (row_at lists key)) u
@@ -613,10 +795,27 @@ module _ (back : WrittenBytesAreRead) (sizes : WrittenBytesHaveLengths) (only : 
               ap (λ o. is_some o && not (is_put plan.puts key)) none
         ]
 
+    next_stay : changes ≡ [] → later ≡ lists.next_out
+    next_stay none =
+        let parts = empty_parts (removals lists plan.puts plan.removes) _ none in
+        let written = empty_parts (rows_written lists plan.puts) _ parts.1 in
+        elim (next_cases lists.next_out later) [
+          | inl w ↦ absurd (let unlike : next_change later ∷ [] ≡ [] = sym w.1 ∙ written.1 in cc)
+          | inr w ↦ w.0
+        ]
+
+    next_none : others ≡ lists → next_out_written lists.next_out later ≡ []
+    next_none same =
+        elim (next_cases lists.next_out later) [
+          | inl w ↦ absurd (w.0 (sym later_is ∙ ap (λ l. l.next_out) same))
+          | inr w ↦ w.1
+        ]
+
     pub none_written : others ≡ lists → changes ≡ []
     none_written same =
-        ap (λ cs. cs ++ rows_written lists plan.puts) (gone_none (removed_none same) plan.removes (λ key e. e))
-        ∙ put_none same plan.puts (removed plan.removes lists) is
+        let next = next_out_written lists.next_out later in
+        ap (λ cs. cs ++ (rows_written lists plan.puts ++ next)) (gone_none (removed_none same) plan.removes (λ key e. e))
+        ∙ ap (λ cs. cs ++ next) (put_none same plan.puts (removed plan.removes lists) is) ∙ next_none same
 
     pub stay : changes ≡ [] → IsSoundRows lists → IsSoundRows others → others ≡ lists
     stay none sound later =
@@ -625,6 +824,7 @@ module _ (back : WrittenBytesAreRead) (sizes : WrittenBytesHaveLengths) (only : 
         (sym (rows_stay none (key_of row)) ∙ is_row_at others row e)).0)
         (λ row e. (at_is_row others (key_of row) row
         (rows_stay none (key_of row) ∙ is_row_at lists row e)).0)
+        (later_is ∙ next_stay none)
 
 -- the changes of a plan follow it
 module _ (back : WrittenBytesAreRead) (sizes : WrittenBytesHaveLengths) (only : ReadBytesAreWritten)
@@ -635,7 +835,7 @@ module _ (back : WrittenBytesAreRead) (sizes : WrittenBytesHaveLengths) (only : 
     ascending = sym (ascending-kept (kept.after (changes_of lists plan) pairs))
         ∙ after_ascends (changes_of lists plan) pairs (ascending-kept pairs ∙ are.ascending);
     held = changed_hold back sizes only equal_sids lists (after plan lists) (row_fits lists (all_fit lists before))
-        (row_fits (after plan lists) (all_fit (after plan lists) then)) plan refl pairs are.held;
+        (row_fits (after plan lists) (all_fit (after plan lists) then)) plan refl pairs are.held before.next_least;
   }
 
   pub none_or_stay : (changes_of lists plan ≡ []) ↔ (after plan lists ≡ lists)

@@ -1,6 +1,6 @@
 -- Sound rows have spellings.
 use Rattle.std.proofs.Common.{◌≡◌, ℕ, zero, suc, ◌+◌, ◌^◌, ◌<◌, ◌≤◌, ◌==◌, nat_lt, true, false, ◌&&◌, ◌||◌}
-use Rattle.std.proofs.Common.{List, [], ◌∷◌, length, All, Some, refl, sym, ap, subst, ◌∙◌, arith, inl, inr, ◌⊎◌}
+use Rattle.std.proofs.Common.{List, [], ◌∷◌, length, All, Some, is_some, refl, sym, ap, subst, ◌∙◌, arith, inl, inr, ◌⊎◌}
 use Rattle.std.specs.Prelude.{nat_le, not}
 use Rattle.std.specs.List.{AllByRecursion}
 use Rattle.std.specs.Cmp.{first_so, second_so}
@@ -16,20 +16,27 @@ use Rattle.acct_calls.specs.Folding.{is_same}
 use Rattle.acct_codes.specs.Limits.{most_domain_name}
 use Rattle.acct_calls.specs.Validity.{is_valid_name, all_may_stand, is_dots_and_spaces, most_units}
 use Rattle.acct_codes.specs.SystemAccess.{known_system_access}
-use Rattle.acct_rows.specs.Rows.{Lists, account_key, domain_at, account_at, member_at, alias_row_at, same_kind, is_of}
-use Rattle.acct_rows.specs.Sound.{IsGoodDomain, IsGoodAccount, IsGoodLsa, IsSoundRows, good_place}
+use Rattle.acct_rows.specs.Objects.{exists}
+use Rattle.acct_rows.specs.Rows.{Lists, domain_key, account_key, lsa_key, sid_key, domain_at, account_at, member_at}
+use Rattle.acct_rows.specs.Rows.{alias_row_at, lsa_at, same_kind, is_of}
+use Rattle.acct_rows.specs.Sound.{IsGoodDomain, IsGoodAccount, IsGoodLsa, IsGoodOut, IsSoundRows, good_place}
 use Rattle.acct_rows.specs.Sound.{good_primary, next_rid_of, are_above}
-use Rattle.acct_rows.specs.Spelled.{FitsDomain, FitsAccount, FitsMember, FitsAlias, FitsLsa, ascend}
+use Rattle.acct_rows.specs.Spelled.{FitsDomain, FitsAccount, FitsMember, FitsAlias, FitsLsa, FitsObject, FitsOut, ascend}
+use Rattle.dtyp_sid.specs.Value.{IsSid}
+use Rattle.acct_rows.specs.declared.object.Object.{Object}
+use Rattle.acct_rows.specs.declared.object.Object.TheVariants as objects
 use Rattle.acct_rows.specs.PairsOf.{AllFit}
 use Rattle.acct_rows.specs.declared.row.DomainRow.{DomainRow}
 use Rattle.acct_rows.specs.declared.row.AccountRow.{AccountRow}
 use Rattle.acct_rows.specs.declared.row.MemberRow.{MemberRow}
 use Rattle.acct_rows.specs.declared.row.AliasRow.{AliasRow}
 use Rattle.acct_rows.specs.declared.row.LsaRow.{LsaRow}
+use Rattle.acct_rows.specs.declared.row.OutRow.{OutRow}
 use Rattle.acct_rows.specs.declared.row.Held.{Held}
 use Rattle.acct_tables.proofs.Lookups.{key_found, there_or_not}
 use Rattle.acct_tables.proofs.Orders.{tested}
-use Rattle.acct_rows.proofs.Keeping.{each_good, each_member_found, each_lsa_good}
+use Rattle.acct_rows.proofs.Keeping.{each_good, each_member_found, each_lsa_good, each_desc_good, each_out_good}
+use Rattle.acct_rows.proofs.Moves.{one_sid}
 
 -- a name that a domain may have is short
 domain_name_short : (name : List ℕ) → is_domain_name name ≡ true → length name < 2 ^ 16
@@ -204,16 +211,56 @@ lsa_fits l good =
       privileges_ascend = ascend_above l.privileges good.privileges_ascend;
     }
 
+pub object_fits : (lists : Lists) → IsSoundRows lists → (object : Object) → exists lists object ≡ true
+    → FitsObject object
+object_fits lists sound objects.Server there = tt
+object_fits lists sound objects.Policy there = tt
+object_fits lists sound (objects.Group rid) there = (there_fits lists sound Group 0 rid there).1
+object_fits lists sound (objects.Alias domain rid) there = there_fits lists sound Alias domain rid there
+object_fits lists sound (objects.User rid) there = (there_fits lists sound User 0 rid there).1
+object_fits lists sound (objects.Domain number) there =
+    elim (there_or_not (domain_at lists number)) [
+      | inl w ↦
+          let key : domain_key w.0 ≡ number ∷ [] = key_found domain_key (number ∷ []) lists.domains w.0 w.1 in
+          let is : w.0.number ≡ number = cc in
+          subst (λ (n : ℕ). n ≤ 1) is (sound.domain_rules number w.0 w.1).number_most
+      | inr none ↦ absurd (let e : false ≡ true = ap is_some (sym none) ∙ there in cc)
+    ]
+object_fits lists sound (objects.Account sid) there =
+    elim (there_or_not (lsa_at lists sid)) [
+      | inl w ↦ subst IsSid (one_sid w.0.sid sid (key_found lsa_key (sid_key sid) lists.lsa w.0 w.1))
+          (sound.lsa_rules sid w.0 w.1).sid_whole
+      | inr none ↦ absurd (let e : false ≡ true = ap is_some (sym none) ∙ there in cc)
+    ]
+
+pub out_fits : (o : OutRow) → IsGoodOut o → o.number < 2 ^ 63 → FitsOut o
+out_fits o good below = record {
+  number = omega (arith, below);
+  action = (let few = good.action_most in omega arith);
+  domain = place_is o.domain o.kind good.place;
+  rid = (let few = good.rid_most in omega arith);
+  kind = good.kind_known;
+  name = record { count = valid_name_short o.kind o.name good.named; units_fit = good.name_units };
+}
+
 -- every row of sound rows has a spelling
 pub all_fit : (lists : Lists) → IsSoundRows lists → AllFit lists
 all_fit lists sound =
     let good = each_good lists sound in
     let members = each_member_found lists sound in
     let lsa = each_lsa_good lists sound in
+    let descriptors = each_desc_good lists sound in
+    let outs = each_out_good lists sound in
+    let most = sound.next_most in
     record {
       domains = λ k d lt. domain_fits _ (good.domains k d lt).1;
       accounts = λ k d lt. account_fits lists sound _ (good.accounts k d lt).1;
       members = λ k d lt. member_fits lists sound _ (members.members k d lt);
       aliases = λ k d lt. alias_fits lists sound _ (members.aliases k d lt);
       lsa = λ k d lt. lsa_fits _ (lsa.accounts k d lt).1;
+      descriptors = λ k d lt.
+          let good = descriptors.descriptors k d lt in
+          record { object = object_fits lists sound _ good.2; descriptor = good.1 };
+      outs = λ k d lt. let good = outs.outs k d lt in out_fits _ good.1 (let below = good.2 in omega arith);
+      next_out = omega arith;
     }

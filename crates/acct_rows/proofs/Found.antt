@@ -17,7 +17,8 @@ use Rattle.acct_rows.specs.Changes.{row_at}
 use Rattle.acct_rows.specs.Keyed.{compare, is_ascending}
 use Rattle.acct_rows.specs.Loading.{IsReadWell, LoadedRowsAreFound, loaded, somes, is_smaller}
 use Rattle.acct_rows.specs.PairRules.{pair_key, pair_at, is_there, row_in, as_domain, as_account, domain_in, account_in}
-use Rattle.acct_rows.specs.PairRules.{is_earlier, is_other, is_missing}
+use Rattle.acct_rows.specs.PairRules.{is_earlier, is_other, is_missing, next_out_in}
+use Rattle.std.specs.Option.{unwrap_or}
 use Rattle.acct_rows.specs.PairsOf.{IsRowOf}
 use Rattle.acct_rows.specs.Rows.{Lists, account_key, same_kind, domain_at, account_at, has_name, find_name}
 use Rattle.acct_rows.specs.Spelled.{stored_key, key_of, Fits}
@@ -37,13 +38,9 @@ use Rattle.acct_rows.proofs.FoldOrder.{alone}
 use Rattle.acct_rows.proofs.Loaded.{find_so, find_none, find_least, loaded_tables, spelled, source, read_is_row}
 use Rattle.acct_rows.proofs.Moves.{equal_is}
 use Rattle.acct_rows.proofs.Taken.{bind_some}
-use Rattle.acct_rows.proofs.Translated.{is_row_at, at_is_row, one_key}
+use Rattle.acct_rows.proofs.Translated.{is_row_at, at_is_row, one_key, first_byte}
 
 -- ---- keys
-
-abbrev first_byte : List ℕ → ℕ
-first_byte [] = 0
-first_byte (byte ∷ bytes) = byte
 
 -- a row that is stored at a domain's key has it
 domain_key_is : (number : ℕ) (row : Row) → stored_key (key_of row) ≡ stored_key (keys.Domain number)
@@ -53,6 +50,8 @@ domain_key_is number (rows.Account a) e = absurd (let n : 0x61 ≡ 0x64 = ap fir
 domain_key_is number (rows.Member m) e = absurd (let n : 0x6D ≡ 0x64 = ap first_byte e in omega arith)
 domain_key_is number (rows.Alias a) e = absurd (let n : 0x6C ≡ 0x64 = ap first_byte e in omega arith)
 domain_key_is number (rows.Lsa l) e = absurd (let n : 0x73 ≡ 0x64 = ap first_byte e in omega arith)
+domain_key_is number (rows.Desc d) e = absurd (let n : 0x6F ≡ 0x64 = ap first_byte e in omega arith)
+domain_key_is number (rows.Out o) e = absurd (let n : 0x71 ≡ 0x64 = ap first_byte e in omega arith)
 
 -- ---- accounts of one name
 
@@ -78,6 +77,8 @@ earlier_is a (Some (rows.Domain d)) e = absurd cc
 earlier_is a (Some (rows.Member m)) e = absurd cc
 earlier_is a (Some (rows.Alias x)) e = absurd cc
 earlier_is a (Some (rows.Lsa l)) e = absurd cc
+earlier_is a (Some (rows.Desc d)) e = absurd cc
+earlier_is a (Some (rows.Out o)) e = absurd cc
 earlier_is a None e = absurd cc
 
 is_earlier_so : (a b : AccountRow) → has_name a.domain a.name b ≡ true → nat_lt b.rid a.rid ≡ true
@@ -103,6 +104,10 @@ module _ (back : WrittenBytesAreRead) (sizes : WrittenBytesHaveLengths) (only : 
       absurd (let n : 0x6C ≡ 0x61 = ap first_byte e in omega arith)
   account_key_is domain rid lt (rows.Lsa l) fits e =
       absurd (let n : 0x73 ≡ 0x61 = ap first_byte e in omega arith)
+  account_key_is domain rid lt (rows.Desc d) fits e =
+      absurd (let n : 0x6F ≡ 0x61 = ap first_byte e in omega arith)
+  account_key_is domain rid lt (rows.Out o) fits e =
+      absurd (let n : 0x71 ≡ 0x61 = ap first_byte e in omega arith)
 
   module _ (pairs : List Pair) (up : is_ascending pair_key pairs ≡ true) (well : All IsReadWell pairs) where
     abbrev lists : Lists
@@ -155,7 +160,7 @@ module _ (back : WrittenBytesAreRead) (sizes : WrittenBytesHaveLengths) (only : 
         same (Some a) = refl
 
     accounts_ascend : is_ascending account_key lists.accounts ≡ true
-    accounts_ascend = (loaded_tables (somes (map row_of pairs))).accounts
+    accounts_ascend = (loaded_tables (somes (map row_of pairs)) (unwrap_or (next_out_in pairs) 1)).accounts
 
     an_account : (p : Pair) → In p pairs → (a : AccountRow) → row_of p ≡ Some (rows.Account a) → In a lists.accounts
     an_account p i a e =

@@ -18,15 +18,16 @@ use Rattle.dtyp_sid.specs.Order.{sid_eq, EqualSidsAreOne}
 use Rattle.acct_calls.specs.Domains.{builtin_name, builtin_sid, is_domain_name, is_domain_sid}
 use Rattle.acct_calls.specs.Validity.{is_valid_name}
 use Rattle.acct_rows.specs.Rows.{same_kind}
-use Rattle.acct_rows.specs.Sound.{IsGoodDomain, IsGoodRow, IsGoodLsa, good_bits, good_primary, good_place}
+use Rattle.acct_rows.specs.Sound.{IsGoodDomain, IsGoodRow, IsGoodLsa, IsGoodOut, good_bits, good_primary, good_place}
 use Rattle.acct_rows.specs.Sound.{control_is_good}
 use Rattle.acct_rows.specs.Sound.{is_account_kind, are_above}
-use Rattle.acct_rows.specs.Spelled.{FitsDomain, FitsAccount, FitsLsa, ascend}
-use Rattle.acct_rows.specs.PairRules.{has_bad_text, has_bad_control, has_needless_number, has_bad_next}
+use Rattle.acct_rows.specs.Spelled.{FitsDomain, FitsAccount, FitsLsa, FitsOut, ascend}
+use Rattle.acct_rows.specs.PairRules.{has_bad_text, has_bad_control, has_needless_number, has_bad_next, is_bad_change}
 use Rattle.acct_rows.specs.PairRules.{is_misplaced, is_bad_account_domain, is_bad_builtin, breaks_alone, is_known_low}
 use Rattle.acct_rows.specs.declared.row.DomainRow.{DomainRow}
 use Rattle.acct_rows.specs.declared.row.AccountRow.{AccountRow}
 use Rattle.acct_rows.specs.declared.row.LsaRow.{LsaRow}
+use Rattle.acct_rows.specs.declared.row.OutRow.{OutRow}
 use Rattle.acct_rows.specs.declared.row.Held.{Held}
 use Rattle.acct_rows.specs.declared.row.Row.TheVariants as rows
 use Rattle.acct_tables.proofs.Orders.{tested}
@@ -162,6 +163,25 @@ lsa_good l fits e =
           (grind (arith, nat_tests, least), grind (arith, nat_tests, most), (fits.privileges k d lt).attributes);
     }
 
+pub out_good : (o : OutRow) → FitsOut o → (o.number == 0) ≡ false → breaks_alone (rows.Out o) ≡ false → IsGoodOut o
+out_good o fits numbered e =
+    let row = rows.Out o in
+    let text = either_false (has_bad_text row) _ e in
+    let change = either_false (is_bad_change row) (is_misplaced row || false) text.1 in
+    let none = either_false (o.action == 0) (nat_lt 3 o.action || nat_le most_rid o.rid) change.0 in
+    let past = either_false (nat_lt 3 o.action) (nat_le most_rid o.rid) none.1 in
+    let misplaced = either_false (is_misplaced row) false change.1 in
+    record {
+      number_least = grind (arith, nat_tests, numbered);
+      action_least = grind (arith, nat_tests, none.0);
+      action_most = grind (arith, nat_tests, past.0);
+      rid_most = grind (arith, nat_tests, past.1);
+      kind_known = fits.kind;
+      place = place_good o.domain o.kind fits.domain misplaced.0;
+      name_units = fits.name.units_fit;
+      named = not_false (is_valid_name o.kind o.name) text.0;
+    }
+
 -- ---- and what is good breaks no rule by itself
 
 low_false : (m n : ℕ) → n ≤ m → nat_lt m n ≡ false
@@ -284,3 +304,13 @@ users_kind a e domain rid =
     let users = and_false (a.domain == 0) ((a.rid == domain_group_rid_users) && not (same_kind Group a.kind)) second
     (grind (arith, nat_tests)) in
     held_back (a.rid == domain_group_rid_users) (same_kind Group a.kind) users (grind (arith, nat_tests))
+
+pub good_out : (o : OutRow) → IsGoodOut o → breaks_alone (rows.Out o) ≡ false
+good_out o good =
+    let row = rows.Out o in
+    let least : (o.action == 0) ≡ false = (let le = good.action_least in grind (arith, nat_tests)) in
+    let most : nat_lt 3 o.action ≡ false = (let le = good.action_most in grind (arith, nat_tests)) in
+    let rid : nat_le most_rid o.rid ≡ false = (let lt = good.rid_most in grind (arith, nat_tests)) in
+    both_false (has_bad_text row) _ (not_true _ good.named)
+    (both_false (is_bad_change row) _ (both_false _ _ least (both_false _ _ most rid))
+    (both_false (is_misplaced row) false (place_false o.domain o.kind good.place) refl))

@@ -1,14 +1,16 @@
 -- Each row of a table that ascends is found at its key, so that what holds of what is found holds of each row.
-use Rattle.std.proofs.Common.{◌≡◌, ℕ, true, cond, All, List, [], ◌∷◌, Some, None, sym, ap, subst, ◌∙◌}
+use Rattle.std.proofs.Common.{◌≡◌, ◌<◌, ℕ, true, cond, All, List, [], ◌∷◌, Some, None, sym, ap, subst, ◌∙◌}
 use Rattle.std.proofs.Common.{inl, inr}
 use Rattle.std.proofs.lemmas.List.Elements.{All-nil, All-cons}
 use Rattle.std.specs.Cmp.{first_so, second_so}
 use Rattle.acct_rows.specs.Keyed.{same_key, at, is_ascending}
-use Rattle.acct_rows.specs.Laws.{EachIsGood, EachMemberIsFound, EachLsaIsGood}
-use Rattle.acct_rows.specs.Rows.{domain_key, account_key, member_key, alias_key, lsa_key, domain_at, account_at}
-use Rattle.acct_rows.specs.Rows.{member_at, alias_row_at, lsa_at}
-use Rattle.acct_rows.specs.Sound.{IsGoodDomain, IsGoodAccount, IsGoodLsa}
+use Rattle.acct_rows.specs.Laws.{EachIsGood, EachMemberIsFound, EachLsaIsGood, EachDescriptorIsGood, EachOutIsGood}
+use Rattle.acct_rows.specs.Objects.{exists}
+use Rattle.acct_rows.specs.Rows.{domain_key, account_key, member_key, alias_key, lsa_key, desc_key, out_key, domain_at}
+use Rattle.acct_rows.specs.Rows.{account_at, member_at, alias_row_at, lsa_at, desc_at, out_at}
+use Rattle.acct_rows.specs.Sound.{IsGoodDomain, IsGoodAccount, IsGoodLsa, IsGoodDescriptor, IsGoodOut}
 use Rattle.acct_rows.proofs.Moves.{one_sid}
+use Rattle.acct_rows.proofs.ObjectKeys.{one_object}
 use Rattle.acct_tables.proofs.Lookups.{key_found, below_apart}
 use Rattle.acct_tables.proofs.Orders.{tested, same_key-is, same_key-itself}
 
@@ -63,4 +65,25 @@ each_lsa_good r sound = record {
       let there : lsa_at r l.sid ≡ Some l = subst (λ k. at lsa_key k r.lsa ≡ Some l) (sym key) e in
       (there, sound.lsa_rules l.sid l there));
   account_sid = λ sid l e. one_sid l.sid sid (key_found lsa_key _ r.lsa l e);
+}
+
+pub each_desc_good : EachDescriptorIsGood
+each_desc_good r sound = record {
+  descriptors = all_found desc_key
+      (λ d. (desc_at r d.object ≡ Some d) × IsGoodDescriptor d × (exists r d.object ≡ true)) r.descriptors
+      sound.descriptors_ascend (λ q d e.
+      let key : desc_key d ≡ q = key_found desc_key q r.descriptors d e in
+      let there : desc_at r d.object ≡ Some d = subst (λ k. at desc_key k r.descriptors ≡ Some d) (sym key) e in
+      (there, sound.desc_rules d.object d there, sound.desc_objects d.object d there));
+  object = λ object d e. one_object d.object object (key_found desc_key _ r.descriptors d e);
+}
+
+pub each_out_good : EachOutIsGood
+each_out_good r sound = record {
+  outs = all_found out_key (λ o. (out_at r o.number ≡ Some o) × IsGoodOut o × (o.number < r.next_out)) r.outs
+      sound.outs_ascend (λ q o e.
+      let key : out_key o ≡ q = key_found out_key q r.outs o e in
+      let there : out_at r o.number ≡ Some o = subst (λ k. at out_key k r.outs ≡ Some o) (sym key) e in
+      (there, sound.out_rules o.number o there, sound.outs_below o.number o there));
+  number = λ number o e. let key : out_key o ≡ number ∷ [] = key_found out_key _ r.outs o e in cc;
 }

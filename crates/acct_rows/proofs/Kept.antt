@@ -1,16 +1,16 @@
 -- What later rows have to keep of sound rows to be sound
-use Rattle.std.proofs.Common.{◌≡◌, ℕ, ◌≤◌, Bool, true, false, Some, refl}
+use Rattle.std.proofs.Common.{◌≡◌, ℕ, ◌+◌, ◌^◌, ◌<◌, ◌≤◌, Bool, true, false, List, [], ◌∷◌, Some, refl}
 use Rattle.std.proofs.Common.{inl, inr, ◌⊎◌, is_some, arith}
 use Rattle.acct_codes.specs.declared.kind.Kind.{Kind}
 use Rattle.acct_codes.specs.declared.kind.Kind.TheVariants.{Group, Alias, User}
 use Rattle.dtyp_sid.specs.Value.{SidValue, IsSid}
 use Rattle.acct_calls.specs.Folding.{is_same}
-use Rattle.acct_rows.specs.Keyed.{is_ascending}
-use Rattle.acct_rows.specs.Rows.{Lists, domain_key, account_key, member_key, alias_key, lsa_key, is_of}
-use Rattle.acct_rows.specs.Rows.{domain_at, account_at, member_at, alias_row_at, lsa_at}
+use Rattle.acct_rows.specs.Keyed.{at, is_ascending}
+use Rattle.acct_rows.specs.Rows.{Lists, domain_key, account_key, member_key, alias_key, lsa_key, desc_key, out_key, is_of}
+use Rattle.acct_rows.specs.Rows.{domain_at, account_at, member_at, alias_row_at, lsa_at, desc_at}
 use Rattle.acct_rows.specs.Objects.{exists}
 use Rattle.acct_rows.specs.Sound.{next_rid_of, IsGoodDomain, IsGoodAccount, IsGoodMember, IsGoodLsa}
-use Rattle.acct_rows.specs.Sound.{IsSoundRows}
+use Rattle.acct_rows.specs.Sound.{IsGoodDescriptor, IsGoodOut, IsSoundRows}
 use Rattle.acct_rows.specs.Laws.{Keeps}
 use Rattle.acct_rows.specs.declared.object.Object.{Object}
 use Rattle.acct_rows.specs.declared.object.Object.TheVariants as objects
@@ -19,6 +19,8 @@ use Rattle.acct_rows.specs.declared.row.AccountRow.{AccountRow}
 use Rattle.acct_rows.specs.declared.row.MemberRow.{MemberRow}
 use Rattle.acct_rows.specs.declared.row.AliasRow.{AliasRow}
 use Rattle.acct_rows.specs.declared.row.LsaRow.{LsaRow}
+use Rattle.acct_rows.specs.declared.row.DescRow.{DescRow}
+use Rattle.acct_rows.specs.declared.row.OutRow.{OutRow}
 
 -- what is there stays, with its kind, and no next RID is lower
 pub record Kept (r s : Lists) : Type 0 where
@@ -50,6 +52,8 @@ pub record Ascends (s : Lists) : Type 0 where
   pub members : is_ascending member_key s.members ≡ true
   pub aliases : is_ascending alias_key s.aliases ≡ true
   pub lsa : is_ascending lsa_key s.lsa ≡ true
+  pub descriptors : is_ascending desc_key s.descriptors ≡ true
+  pub outs : is_ascending out_key s.outs ≡ true
 
 pub ascends : (r : Lists) → IsSoundRows r → Ascends r
 ascends r sound = record {
@@ -58,10 +62,30 @@ ascends r sound = record {
   members = sound.members_ascend;
   aliases = sound.aliases_ascend;
   lsa = sound.lsa_ascend;
+  descriptors = sound.descriptors_ascend;
+  outs = sound.outs_ascend;
 }
 
--- the later rows: each row was there, or keeps the rules among them
-pub record Moves (r s : Lists) : Type 0 where
+-- the changes and the next out number keep their rules
+pub record OutsRun (outs : List OutRow) (next : ℕ) : Type 0 where
+  pub rules : (number : ℕ) (o : OutRow) → at out_key (number ∷ []) outs ≡ Some o → IsGoodOut o
+  pub below : (number : ℕ) (o : OutRow) → at out_key (number ∷ []) outs ≡ Some o → number < next
+  pub run_on : (number : ℕ) (o : OutRow) → at out_key (number ∷ []) outs ≡ Some o → number + 1 < next
+      → is_some (at out_key ((number + 1) ∷ []) outs) ≡ true
+  pub least : 1 ≤ next
+  pub most : next ≤ 2 ^ 63
+
+pub outs_run : (r : Lists) → IsSoundRows r → OutsRun r.outs r.next_out
+outs_run r sound = record {
+  rules = sound.out_rules;
+  below = sound.outs_below;
+  run_on = sound.outs_run_on;
+  least = sound.next_least;
+  most = sound.next_most;
+}
+
+-- the later rows, without objects that are gone: each row was there, or keeps the rules among them
+pub record Moves (gone : Object → Bool) (r s : Lists) : Type 0 where
   pub order : Ascends s
   pub kept : Kept r s
   pub domains : (n : ℕ) (d : DomainRow) → domain_at s n ≡ Some d → (domain_at r n ≡ Some d) ⊎ IsGoodDomain d
@@ -74,14 +98,29 @@ pub record Moves (r s : Lists) : Type 0 where
   pub aliases : (n i : ℕ) (sid : SidValue) (a : AliasRow) → alias_row_at s n i sid ≡ Some a
       → (alias_row_at r n i sid ≡ Some a) ⊎ ((is_of Alias (account_at s n i) ≡ true) × IsSid a.member)
   pub lsa : (sid : SidValue) (l : LsaRow) → lsa_at s sid ≡ Some l → (lsa_at r sid ≡ Some l) ⊎ IsGoodLsa l
+  pub descs : (x : Object) (d : DescRow) → desc_at s x ≡ Some d
+      → ((desc_at r x ≡ Some d) × (gone x ≡ false)) ⊎ ((exists s x ≡ true) × IsGoodDescriptor d)
+  pub outs : OutsRun s.outs s.next_out
 
-moved_sound : (r s : Lists) → IsSoundRows r → Moves r s → IsSoundRows s
-moved_sound r s sound by = record {
+moved_stays : (gone : Object → Bool) (r s : Lists) → Kept r s → LsaKept gone r s → (x : Object) → exists r x ≡ true
+    → gone x ≡ false → exists s x ≡ true
+moved_stays gone r s kept lsa objects.Server was other = refl
+moved_stays gone r s kept lsa objects.Policy was other = refl
+moved_stays gone r s kept lsa (objects.Domain n) was other = kept.domains n was
+moved_stays gone r s kept lsa (objects.Group i) was other = kept.kinds Group 0 i was
+moved_stays gone r s kept lsa (objects.Alias n i) was other = kept.kinds Alias n i was
+moved_stays gone r s kept lsa (objects.User i) was other = kept.kinds User 0 i was
+moved_stays gone r s kept lsa (objects.Account sid) was other = lsa sid was other
+
+moved_sound : (gone : Object → Bool) (r s : Lists) → IsSoundRows r → Moves gone r s → LsaKept gone r s → IsSoundRows s
+moved_sound gone r s sound by lsa = record {
   domains_ascend = by.order.domains;
   accounts_ascend = by.order.accounts;
   members_ascend = by.order.members;
   aliases_ascend = by.order.aliases;
   lsa_ascend = by.order.lsa;
+  descriptors_ascend = by.order.descriptors;
+  outs_ascend = by.order.outs;
   domain_rules = λ n d e. elim (by.domains n d e) [ inl old ↦ sound.domain_rules n d old | inr good ↦ good ];
   account_domain = by.kept.domains 0 sound.account_domain;
   builtin_domain = by.kept.domains 1 sound.builtin_domain;
@@ -109,17 +148,18 @@ moved_sound r s sound by = record {
     | inr there ↦ there.1
   ];
   lsa_rules = λ sid l e. elim (by.lsa sid l e) [ inl old ↦ sound.lsa_rules sid l old | inr good ↦ good ];
+  desc_rules = λ x d e. elim (by.descs x d e) [ inl old ↦ sound.desc_rules x d old.0 | inr new ↦ new.1 ];
+  desc_objects = λ x d e. elim (by.descs x d e) [
+    | inl old ↦ moved_stays gone r s by.kept lsa x (sound.desc_objects x d old.0) old.1
+    | inr new ↦ new.0
+  ];
+  out_rules = by.outs.rules;
+  outs_below = by.outs.below;
+  outs_run_on = by.outs.run_on;
+  next_least = by.outs.least;
+  next_most = by.outs.most;
 }
 
-moved_stays : (gone : Object → Bool) (r s : Lists) → Kept r s → LsaKept gone r s → (x : Object) → exists r x ≡ true
-    → gone x ≡ false → exists s x ≡ true
-moved_stays gone r s kept lsa objects.Server was other = refl
-moved_stays gone r s kept lsa objects.Policy was other = refl
-moved_stays gone r s kept lsa (objects.Domain n) was other = kept.domains n was
-moved_stays gone r s kept lsa (objects.Group i) was other = kept.kinds Group 0 i was
-moved_stays gone r s kept lsa (objects.Alias n i) was other = kept.kinds Alias n i was
-moved_stays gone r s kept lsa (objects.User i) was other = kept.kinds User 0 i was
-moved_stays gone r s kept lsa (objects.Account sid) was other = lsa sid was other
-
-pub moved : (gone : Object → Bool) (r s : Lists) → IsSoundRows r → Moves r s → LsaKept gone r s → Keeps gone r s
-moved gone r s sound by lsa = record { sound = moved_sound r s sound by; stays = moved_stays gone r s by.kept lsa }
+pub moved : (gone : Object → Bool) (r s : Lists) → IsSoundRows r → Moves gone r s → LsaKept gone r s → Keeps gone r s
+moved gone r s sound by lsa =
+    record { sound = moved_sound gone r s sound by lsa; stays = moved_stays gone r s by.kept lsa }

@@ -3,6 +3,7 @@ pub mod Between
 pub mod Shuffled
 pub mod Translated
 pub mod Changed
+pub mod Described
 pub mod Fitting
 pub mod FoldOrder
 pub mod Found
@@ -23,6 +24,8 @@ pub mod Members
 pub mod Moves
 pub mod Named
 pub mod NamedRows
+pub mod Numbers
+pub mod ObjectKeys
 pub mod PrimaryGroups
 pub mod Purges
 pub mod Rising

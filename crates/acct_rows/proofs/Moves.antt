@@ -1,10 +1,11 @@
 -- The changes that keep sound rows sound
-use Rattle.std.proofs.Common.{◌≡◌, ℕ, ◌<◌, ◌≤◌, ◌==◌, ◌&&◌, Bool, true, false, cond, List, [], ◌∷◌, Option}
+use Rattle.std.proofs.Common.{◌≡◌, ◌≢◌, ℕ, ◌+◌, ◌<◌, ◌≤◌, ◌==◌, ◌&&◌, Bool, true, false, cond, List, [], ◌∷◌, Option}
 use Rattle.std.proofs.Common.{Some, None}
 use Rattle.std.proofs.Common.{refl, sym, ap, subst, ◌∙◌, inl, inr, ◌⊎◌, is_some, arith}
 use Rattle.std.specs.List.{find}
 use Rattle.std.specs.Cmp.{first_so, second_so}
 use Rattle.std.proofs.lemmas.Bool.Decides.{nat_tests}
+use Rattle.std.proofs.lemmas.Cmp.{ranked}
 use Rattle.acct_codes.specs.declared.kind.Kind.{Kind}
 use Rattle.acct_codes.specs.declared.kind.Kind.TheVariants.{Server, Domain, Group, Alias, User, Policy, Account}
 use Rattle.dtyp_sid.specs.Value.{SidValue, IsSid}
@@ -12,32 +13,41 @@ use Rattle.dtyp_sid.specs.Order.{sid_eq}
 use Rattle.dtyp_sid.proofs.Equal.{equal_sids}
 use Rattle.acct_calls.specs.Folding.{is_same}
 use Rattle.acct_calls.proofs.Folds.{equivalence}
-use Rattle.acct_rows.specs.Keyed.{same_key, at, put, is_ascending}
-use Rattle.acct_rows.specs.Rows.{Lists, domain_key, account_key, member_key, alias_key, lsa_key, sid_key, same_kind}
-use Rattle.acct_rows.specs.Rows.{is_of}
-use Rattle.acct_rows.specs.Rows.{domain_at, account_at, member_at, has_name, put_row}
-use Rattle.acct_rows.specs.Rows.{remove_row}
-use Rattle.acct_rows.specs.Objects.{same_object}
+use Rattle.std.specs.Prelude.{not}
+use Rattle.std.specs.Ordering.{is_eq}
+use Rattle.acct_rows.specs.Keyed.{compare, same_key, at, put, without, below_all, is_ascending}
+use Rattle.acct_rows.specs.Rows.{Lists, domain_key, account_key, member_key, alias_key, lsa_key, desc_key, out_key}
+use Rattle.acct_rows.specs.Rows.{sid_key, same_kind, is_of, domain_at, account_at, member_at, has_name, put_row}
+use Rattle.acct_rows.specs.Rows.{remove_row, removed}
+use Rattle.acct_rows.specs.ObjectKeys.{object_key}
+use Rattle.acct_rows.specs.Objects.{same_object, exists}
+use Rattle.acct_rows.specs.declared.object.Object.{Object}
 use Rattle.acct_rows.specs.declared.object.Object.TheVariants as objects
 use Rattle.acct_rows.specs.Sound.{good_place, next_rid_of, IsGoodDomain, IsGoodAccount, IsGoodMember}
-use Rattle.acct_rows.specs.Sound.{IsGoodLsa, IsSoundRows}
+use Rattle.acct_rows.specs.Sound.{IsGoodLsa, IsGoodDescriptor, IsGoodOut, IsSoundRows}
 use Rattle.acct_rows.specs.Laws.{Keeps, nothing, IsNew, Replaces}
 use Rattle.acct_rows.specs.Laws.{DomainsStaySound, NextIsFree, AddedAccountsStaySound, AddedUsersStaySound}
 use Rattle.acct_rows.specs.Laws.{ReplacedAccountsStaySound, OwnNameIsFree, UnusedNameIsFree, NameFoundIsFree}
 use Rattle.acct_rows.specs.Laws.{MembersStaySound, RemovedMembersStaySound, AliasRowsStaySound}
 use Rattle.acct_rows.specs.Laws.{RemovedAliasRowsStaySound, LsaAccountsStaySound, RemovedLsaAccountsStaySound}
+use Rattle.acct_rows.specs.Laws.{DescriptorsStaySound, RemovedDescriptorsStaySound, OutsStaySound, RemovedOutsStaySound}
 use Rattle.acct_rows.specs.declared.row.DomainRow.{DomainRow}
 use Rattle.acct_rows.specs.declared.row.AccountRow.{AccountRow}
 use Rattle.acct_rows.specs.declared.row.MemberRow.{MemberRow}
 use Rattle.acct_rows.specs.declared.row.AliasRow.{AliasRow}
+use Rattle.acct_rows.specs.declared.row.OutRow.{OutRow}
 use Rattle.acct_rows.specs.declared.row.Row.TheVariants as rows
 use Rattle.acct_rows.specs.declared.row.RowKey.TheVariants as keys
-use Rattle.acct_tables.proofs.Ascending.{is_ascending-put, is_ascending-filter}
+use Rattle.std.specs.declared.cmp.Ordering.TheVariants.{Less}
+use Rattle.acct_tables.proofs.Ascending.{below_in, is_ascending-put, is_ascending-filter}
+use Rattle.acct_tables.proofs.Members.{at_in}
+use Rattle.acct_rows.proofs.FoldOrder.{alone}
 use Rattle.acct_tables.proofs.Lookups.{below_apart, same_Some, there_or_not, key_found, put_here, put_cases}
 use Rattle.acct_tables.proofs.Lookups.{put_either, find_none}
 use Rattle.acct_tables.proofs.Orders.{same_key-is, same_key-itself, tested}
 use Rattle.acct_tables.proofs.Removals.{without_found, without_keeps}
-use Rattle.acct_rows.proofs.Kept.{Kept, MembersKept, good_kept, moved}
+use Rattle.acct_rows.proofs.Kept.{Kept, MembersKept, OutsRun, outs_run, good_kept, moved}
+use Rattle.acct_rows.proofs.ObjectKeys.{same_object_key, one_object}
 
 pub equals : (m n : ℕ) → m ≡ n → (m == n) ≡ true
 equals m n e = grind (arith, nat_tests)
@@ -81,6 +91,21 @@ unchanged r s domains accounts = record {
   kinds = λ kind n i was. ap (λ xs. is_of kind (at account_key (n ∷ i ∷ []) xs)) accounts ∙ was;
 }
 
+-- objects stay where domains, accounts and accounts of the policy do
+pub there_still : (r s : Lists) → s.domains ≡ r.domains → s.accounts ≡ r.accounts → s.lsa ≡ r.lsa → (x : Object)
+    → exists r x ≡ true → exists s x ≡ true
+there_still r s domains accounts lsa objects.Server was = refl
+there_still r s domains accounts lsa objects.Policy was = refl
+there_still r s domains accounts lsa (objects.Domain n) was = ap (λ xs. is_some (at domain_key (n ∷ []) xs)) domains ∙ was
+there_still r s domains accounts lsa (objects.Group i) was =
+    ap (λ xs. is_of Group (at account_key (0 ∷ i ∷ []) xs)) accounts ∙ was
+there_still r s domains accounts lsa (objects.Alias n i) was =
+    ap (λ xs. is_of Alias (at account_key (n ∷ i ∷ []) xs)) accounts ∙ was
+there_still r s domains accounts lsa (objects.User i) was =
+    ap (λ xs. is_of User (at account_key (0 ∷ i ∷ []) xs)) accounts ∙ was
+there_still r s domains accounts lsa (objects.Account sid) was =
+    ap (λ xs. is_some (at lsa_key (sid_key sid) xs)) lsa ∙ was
+
 -- accounts keep the rules where nothing changes but the accounts of the policy or the alias rows
 good_unchanged : (r s : Lists) → s.domains ≡ r.domains → s.accounts ≡ r.accounts → MembersKept r s → IsSoundRows r
     → (n i : ℕ) (a : AccountRow) → account_at s n i ≡ Some a → IsGoodAccount s a
@@ -106,6 +131,8 @@ alias_row_sound r a sound whole there =
         members = sound.members_ascend;
         aliases = is_ascending-put alias_key a r.aliases sound.aliases_ascend;
         lsa = sound.lsa_ascend;
+        descriptors = sound.descriptors_ascend;
+        outs = sound.outs_ascend;
       };
       kept = unchanged r s refl refl;
       domains = λ n d e. inl e;
@@ -117,6 +144,8 @@ alias_row_sound r a sound whole there =
         | inr old ↦ inl old
       ];
       lsa = λ sid l e. inl e;
+      descs = λ x d e. inl (e, refl);
+      outs = outs_run r sound;
     }) (λ sid was other. was)
 
 pub removed_alias_row_sound : RemovedAliasRowsStaySound
@@ -129,6 +158,8 @@ removed_alias_row_sound r domain alias member sound =
         members = sound.members_ascend;
         aliases = is_ascending-filter alias_key _ r.aliases sound.aliases_ascend;
         lsa = sound.lsa_ascend;
+        descriptors = sound.descriptors_ascend;
+        outs = sound.outs_ascend;
       };
       kept = unchanged r s refl refl;
       domains = λ n d e. inl e;
@@ -138,6 +169,8 @@ removed_alias_row_sound r domain alias member sound =
       aliases = λ n i sid x e.
           inl (without_found alias_key (n ∷ i ∷ sid_key sid) (domain ∷ alias ∷ sid_key member) r.aliases x e).0;
       lsa = λ sid l e. inl e;
+      descs = λ x d e. inl (e, refl);
+      outs = outs_run r sound;
     }) (λ sid was other. was)
 
 pub lsa_sound : LsaAccountsStaySound
@@ -150,6 +183,8 @@ lsa_sound r l sound good =
         members = sound.members_ascend;
         aliases = sound.aliases_ascend;
         lsa = is_ascending-put lsa_key l r.lsa sound.lsa_ascend;
+        descriptors = sound.descriptors_ascend;
+        outs = sound.outs_ascend;
       };
       kept = unchanged r s refl refl;
       domains = λ n d e. inl e;
@@ -161,7 +196,16 @@ lsa_sound r l sound good =
         | inl w ↦ inr (subst IsGoodLsa (sym w.1) good)
         | inr old ↦ inl old
       ];
+      descs = λ x d e. inl (e, refl);
+      outs = outs_run r sound;
     }) (λ sid was other. there_after lsa_key (sid_key sid) l r.lsa was)
+
+-- an object with another key is another
+pub another : (x y : Object) → object_key y ≢ object_key x → same_object x y ≡ false
+another x y apart = elim (tested (same_object x y)) [
+  | inl t ↦ absurd (apart (sym (same_object_key x y t)))
+  | inr t ↦ t
+]
 
 -- SIDs with one key are one
 abbrev sid_made : ℕ → List ℕ → SidValue
@@ -175,14 +219,17 @@ one_sid a b key =
 
 pub removed_lsa_sound : RemovedLsaAccountsStaySound
 removed_lsa_sound r gone sound =
-    let s = remove_row (keys.Lsa gone) r in
-    moved (λ x. same_object x (objects.Account gone)) r s sound (record {
+    let object = objects.Account gone in
+    let s = removed (keys.Desc object ∷ keys.Lsa gone ∷ []) r in
+    moved (λ x. same_object x object) r s sound (record {
       order = record {
         domains = sound.domains_ascend;
         accounts = sound.accounts_ascend;
         members = sound.members_ascend;
         aliases = sound.aliases_ascend;
         lsa = is_ascending-filter lsa_key _ r.lsa sound.lsa_ascend;
+        descriptors = is_ascending-filter desc_key _ r.descriptors sound.descriptors_ascend;
+        outs = sound.outs_ascend;
       };
       kept = unchanged r s refl refl;
       domains = λ n d e. inl e;
@@ -191,10 +238,185 @@ removed_lsa_sound r gone sound =
       members = λ g u m e. inl e;
       aliases = λ n i sid x e. inl e;
       lsa = λ sid x e. inl (without_found lsa_key (sid_key sid) (sid_key gone) r.lsa x e).0;
+      descs = λ x d e.
+          let found = without_found desc_key (object_key x) (object_key object) r.descriptors d e in
+          inl (found.0, another x object found.1);
+      outs = outs_run r sound;
     }) (λ sid was other.
     ap is_some (without_keeps lsa_key (sid_key sid) (sid_key gone) r.lsa (λ same.
     let itself : sid_eq sid gone ≡ true = ap (sid_eq sid) (one_sid gone sid same)
     ∙ sid_itself sid in cc (itself, other))) ∙ was)
+
+pub desc_sound : DescriptorsStaySound
+desc_sound r d sound good there =
+    let s = put_row (rows.Desc d) r in
+    moved nothing r s sound (record {
+      order = record {
+        domains = sound.domains_ascend;
+        accounts = sound.accounts_ascend;
+        members = sound.members_ascend;
+        aliases = sound.aliases_ascend;
+        lsa = sound.lsa_ascend;
+        descriptors = is_ascending-put desc_key d r.descriptors sound.descriptors_ascend;
+        outs = sound.outs_ascend;
+      };
+      kept = unchanged r s refl refl;
+      domains = λ n x e. inl e;
+      accounts = good_unchanged r s refl refl (λ g u was. was) sound;
+      names = sound.names_differ;
+      members = λ g u m e. inl e;
+      aliases = λ n i sid x e. inl e;
+      lsa = λ sid l e. inl e;
+      descs = λ x y e. elim (put_cases desc_key (object_key x) d r.descriptors y e) [
+        | inl w ↦ inr (
+          there_still r s refl refl refl x (subst (λ z. exists r z ≡ true) (one_object d.object x (sym w.0)) there),
+          subst IsGoodDescriptor (sym w.1) good,
+        )
+        | inr old ↦ inl (old, refl)
+      ];
+      outs = outs_run r sound;
+    }) (λ sid was other. was)
+
+pub removed_desc_sound : RemovedDescriptorsStaySound
+removed_desc_sound r object sound =
+    let s = remove_row (keys.Desc object) r in
+    moved nothing r s sound (record {
+      order = record {
+        domains = sound.domains_ascend;
+        accounts = sound.accounts_ascend;
+        members = sound.members_ascend;
+        aliases = sound.aliases_ascend;
+        lsa = sound.lsa_ascend;
+        descriptors = is_ascending-filter desc_key _ r.descriptors sound.descriptors_ascend;
+        outs = sound.outs_ascend;
+      };
+      kept = unchanged r s refl refl;
+      domains = λ n d e. inl e;
+      accounts = good_unchanged r s refl refl (λ g u was. was) sound;
+      names = sound.names_differ;
+      members = λ g u m e. inl e;
+      aliases = λ n i sid x e. inl e;
+      lsa = λ sid l e. inl e;
+      descs = λ x d e.
+          inl ((without_found desc_key (object_key x) (object_key object) r.descriptors d e).0, refl);
+      outs = outs_run r sound;
+    }) (λ sid was other. was)
+
+-- where the changes alone are others
+outs_moved : (r : Lists) (outs : List OutRow) (next : ℕ) → IsSoundRows r → is_ascending out_key outs ≡ true
+    → OutsRun outs next
+    → Keeps nothing r (record r { outs = outs; next_out = next })
+outs_moved r outs next sound ascend run =
+    let s = record r { outs = outs; next_out = next } in
+    moved nothing r s sound (record {
+      order = record {
+        domains = sound.domains_ascend;
+        accounts = sound.accounts_ascend;
+        members = sound.members_ascend;
+        aliases = sound.aliases_ascend;
+        lsa = sound.lsa_ascend;
+        descriptors = sound.descriptors_ascend;
+        outs = ascend;
+      };
+      kept = unchanged r s refl refl;
+      domains = λ n d e. inl e;
+      accounts = good_unchanged r s refl refl (λ g u was. was) sound;
+      names = sound.names_differ;
+      members = λ g u m e. inl e;
+      aliases = λ n i sid x e. inl e;
+      lsa = λ sid l e. inl e;
+      descs = λ x d e. inl (e, refl);
+      outs = run;
+    }) (λ sid was other. was)
+
+pub nat_cases : (m n : ℕ) → (m ≡ n) ⊎ (m ≢ n)
+nat_cases m n = elim (tested (m == n)) [ inl t ↦ inl (equal_is m n t) | inr t ↦ inr (λ e. cc (t, equals m n e)) ]
+
+first_of : (m n : ℕ) → m ∷ [] ≡ n ∷ [] → m ≡ n
+first_of m n e = cc
+
+-- a change with the next out number is found once it is put, and so are the others
+pub out_sound : OutsStaySound
+out_sound r o sound good number below =
+    let run : OutsRun r.outs r.next_out = outs_run r sound in
+    let outs = put out_key o r.outs in
+    outs_moved r outs (r.next_out + 1) sound (is_ascending-put out_key o r.outs sound.outs_ascend) (record {
+      rules = λ n x e. elim (put_cases out_key (n ∷ []) o r.outs x e) [
+        | inl w ↦ subst IsGoodOut (sym w.1) good
+        | inr old ↦ run.rules n x old
+      ];
+      below = λ n x e. elim (put_cases out_key (n ∷ []) o r.outs x e) [
+        | inl w ↦ let is : n ≡ o.number = first_of n o.number w.0 in omega (arith, is, number)
+        | inr old ↦ omega (arith, run.below n x old)
+      ];
+      run_on = λ n x e later. elim (put_cases out_key (n ∷ []) o r.outs x e) [
+        | inl w ↦ absurd (let is : n ≡ o.number = first_of n o.number w.0 in omega (arith, is, number, later))
+        | inr old ↦ elim (nat_cases (n + 1) r.next_out) [
+          | inl same ↦
+              let key : n + 1 ≡ o.number = same ∙ sym number in
+              ap is_some (ap (λ k. at out_key (k ∷ []) outs) key ∙ put_here out_key o r.outs)
+          | inr other ↦
+              let before : n + 1 < r.next_out = omega (arith, other, run.below n x old) in
+              there_after out_key ((n + 1) ∷ []) o r.outs (run.run_on n x old before)
+        ]
+      ];
+      least = omega arith;
+      most = omega (arith, below);
+    })
+
+-- a change after the first has a higher number
+later_number : (o : OutRow) (others : List OutRow) (n : ℕ) (x : OutRow) → is_ascending out_key (o ∷ others) ≡ true
+    → at out_key (n ∷ []) (o ∷ others) ≡ Some x → o.number ≢ n → o.number < n
+later_number o others n x ascend e apart =
+    let key : out_key x ≡ n ∷ [] = key_found out_key (n ∷ []) (o ∷ others) x e in
+    let is : x.number ≡ n = first_of x.number n key in
+    elim (at_in out_key (n ∷ []) x (o ∷ others) e) [
+      | inl here ↦ absurd (apart (ap (λ (y : OutRow). y.number) (sym here) ∙ is))
+      | inr in_others ↦
+          let lt : compare (out_key o) (out_key x) ≡ Less =
+          below_in out_key (out_key o) x others (first_so _ _ ascend) in_others in
+          let ranks = ranked o.number x.number Less (sym lt ∙ alone o.number x.number) in
+          omega (arith, is, ranks)
+    ]
+
+-- without the first change the others are left
+first_gone : (o : OutRow) (others : List OutRow) → below_all out_key (out_key o) others ≡ true
+    → without out_key (out_key o) (o ∷ others) ≡ others
+first_gone o others above =
+    ap (λ b. cond (not b) (o ∷ without out_key (out_key o) others) (without out_key (out_key o) others))
+    (same_key-itself (out_key o))
+    ∙ none_gone others above
+  where
+    none_gone : (xs : List OutRow) → below_all out_key (out_key o) xs ≡ true → without out_key (out_key o) xs ≡ xs
+    none_gone [] e = refl
+    none_gone (x ∷ xs) e =
+        let lt : compare (out_key o) (out_key x) ≡ Less = below_in out_key (out_key o) x (x ∷ xs) e (inl refl) in
+        ap (λ r. cond (not (is_eq r)) (x ∷ without out_key (out_key o) xs) (without out_key (out_key o) xs)) lt
+        ∙ ap (λ ys. x ∷ ys) (none_gone xs (second_so _ _ e))
+
+-- the first change goes, and the others are found as they were
+pub removed_out_sound : RemovedOutsStaySound
+removed_out_sound r o others sound are =
+    let run : OutsRun r.outs r.next_out = outs_run r sound in
+    let gone = o.number ∷ [] in
+    let outs = without out_key gone r.outs in (
+      outs_moved r outs r.next_out sound (is_ascending-filter out_key _ r.outs sound.outs_ascend) (record {
+        rules = λ n x e. run.rules n x (without_found out_key (n ∷ []) gone r.outs x e).0;
+        below = λ n x e. run.below n x (without_found out_key (n ∷ []) gone r.outs x e).0;
+        run_on = λ n x e later.
+            let found = without_found out_key (n ∷ []) gone r.outs x e in
+            let after : o.number < n = later_number o others n x
+            (subst (λ xs. is_ascending out_key xs ≡ true) are sound.outs_ascend)
+            (subst (λ xs. at out_key (n ∷ []) xs ≡ Some x) are found.0) (λ same. found.1 (ap (λ k. k ∷ []) same)) in
+            ap is_some (without_keeps out_key ((n + 1) ∷ []) gone r.outs (λ same.
+            let is : o.number ≡ n + 1 = first_of o.number (n + 1) same in omega (arith, is, after)))
+            ∙ run.run_on n x found.0 later;
+        least = run.least;
+        most = run.most;
+      }),
+      ap (without out_key gone) are ∙ first_gone o others (first_so _ _
+          (subst (λ xs. is_ascending out_key xs ≡ true) are sound.outs_ascend)),
+    )
 
 -- a domain's row with a next RID that isn't lower
 next_rises : (r : Lists) (old d : DomainRow) → domain_at r d.number ≡ Some old → old.next_rid ≤ d.next_rid → (n : ℕ)
@@ -227,6 +449,8 @@ domains_sound r old d sound there good next =
         members = sound.members_ascend;
         aliases = sound.aliases_ascend;
         lsa = sound.lsa_ascend;
+        descriptors = sound.descriptors_ascend;
+        outs = sound.outs_ascend;
       };
       kept = kept;
       domains = λ n x e. elim (put_cases domain_key (n ∷ []) d r.domains x e) [
@@ -238,6 +462,8 @@ domains_sound r old d sound there good next =
       members = λ g u m e. inl e;
       aliases = λ n i sid x e. inl e;
       lsa = λ sid l e. inl e;
+      descs = λ x d e. inl (e, refl);
+      outs = outs_run r sound;
     }) (λ sid was other. was)
 
 pub next_free : NextIsFree
@@ -319,6 +545,8 @@ module _ (r : Lists) (a : AccountRow) (ms : List MemberRow) (sound : IsSoundRows
           members = ascend;
           aliases = sound.aliases_ascend;
           lsa = sound.lsa_ascend;
+          descriptors = sound.descriptors_ascend;
+          outs = sound.outs_ascend;
         };
         kept = kept;
         domains = λ n d e. inl e;
@@ -330,6 +558,8 @@ module _ (r : Lists) (a : AccountRow) (ms : List MemberRow) (sound : IsSoundRows
         members = each;
         aliases = λ n i sid x e. inl e;
         lsa = λ sid l e. inl e;
+        descs = λ x d e. inl (e, refl);
+        outs = outs_run r sound;
       }) (λ sid was other. was)
 
 pub added_account_sound : AddedAccountsStaySound
@@ -424,6 +654,8 @@ module _ (r : Lists) (old a : AccountRow) (sound : IsSoundRows r) (by : Replaces
           members = sound.members_ascend;
           aliases = sound.aliases_ascend;
           lsa = sound.lsa_ascend;
+          descriptors = sound.descriptors_ascend;
+          outs = sound.outs_ascend;
         };
         kept = kept;
         domains = λ n d e. inl e;
@@ -441,6 +673,8 @@ module _ (r : Lists) (old a : AccountRow) (sound : IsSoundRows r) (by : Replaces
         members = λ g u m e. inl e;
         aliases = λ n i sid x e. inl e;
         lsa = λ sid l e. inl e;
+        descs = λ x d e. inl (e, refl);
+        outs = outs_run r sound;
       }) (λ sid was other. was)
 
 pub replaced_sound : ReplacedAccountsStaySound
@@ -513,6 +747,8 @@ member_sound r m sound good group user =
         members = is_ascending-put member_key m r.members sound.members_ascend;
         aliases = sound.aliases_ascend;
         lsa = sound.lsa_ascend;
+        descriptors = sound.descriptors_ascend;
+        outs = sound.outs_ascend;
       };
       kept = unchanged r s refl refl;
       domains = λ n d e. inl e;
@@ -531,6 +767,8 @@ member_sound r m sound good group user =
       ];
       aliases = λ n i sid x e. inl e;
       lsa = λ sid l e. inl e;
+      descs = λ x d e. inl (e, refl);
+      outs = outs_run r sound;
     }) (λ sid was other. was)
 
 pub removed_member_sound : RemovedMembersStaySound
@@ -543,6 +781,8 @@ removed_member_sound r group user sound other =
         members = is_ascending-filter member_key _ r.members sound.members_ascend;
         aliases = sound.aliases_ascend;
         lsa = sound.lsa_ascend;
+        descriptors = sound.descriptors_ascend;
+        outs = sound.outs_ascend;
       };
       kept = unchanged r s refl refl;
       domains = λ n d e. inl e;
@@ -565,4 +805,6 @@ removed_member_sound r group user sound other =
       members = λ g u m e. inl (without_found member_key (g ∷ u ∷ []) (group ∷ user ∷ []) r.members m e).0;
       aliases = λ n i sid x e. inl e;
       lsa = λ sid l e. inl e;
+      descs = λ x d e. inl (e, refl);
+      outs = outs_run r sound;
     }) (λ sid was other. was)

@@ -8,8 +8,9 @@ use Rattle.acct_codes.specs.declared.kind.Kind.{Kind}
 use Rattle.acct_codes.specs.declared.kind.Kind.TheVariants.{Server, Domain, Group, Alias, User, Policy, Account}
 use Rattle.dtyp_sid.specs.Value.{SidValue}
 use Rattle.acct_rows.specs.Keyed.{at, without, without_all}
-use Rattle.acct_rows.specs.Rows.{Lists, account_key, member_key, alias_key, sid_key, same_kind, is_of}
-use Rattle.acct_rows.specs.Rows.{account_at, member_at, removed}
+use Rattle.acct_rows.specs.Rows.{Lists, account_key, member_key, alias_key, desc_key, sid_key, same_kind, is_of}
+use Rattle.acct_rows.specs.Rows.{account_at, member_at, desc_at, remove_row, removed}
+use Rattle.acct_rows.specs.ObjectKeys.{object_key}
 use Rattle.acct_rows.specs.Objects.{same_object, exists}
 use Rattle.acct_rows.specs.declared.object.Object.{Object}
 use Rattle.acct_rows.specs.declared.object.Object.TheVariants as objects
@@ -19,6 +20,7 @@ use Rattle.acct_rows.specs.Laws.{OthersAreNoPrimary, RemovedAccountsStaySound}
 use Rattle.acct_rows.specs.declared.row.AccountRow.{AccountRow}
 use Rattle.acct_rows.specs.declared.row.MemberRow.{MemberRow}
 use Rattle.acct_rows.specs.declared.row.AliasRow.{AliasRow}
+use Rattle.acct_rows.specs.declared.row.DescRow.{DescRow}
 use Rattle.acct_rows.specs.declared.row.RowKey.{RowKey}
 use Rattle.acct_rows.specs.declared.row.RowKey.TheVariants as keys
 use Rattle.acct_tables.proofs.Ascending.{is_ascending-filter}
@@ -26,7 +28,7 @@ use Rattle.acct_tables.proofs.Lookups.{there_or_not, key_found}
 use Rattle.acct_tables.proofs.Orders.{tested}
 use Rattle.acct_tables.proofs.Removals.{without_found, without_keeps, is_ascending-without_all, purged_found}
 use Rattle.acct_tables.proofs.Removals.{purged_keeps}
-use Rattle.acct_rows.proofs.Moves.{equals, user_domain}
+use Rattle.acct_rows.proofs.Moves.{equals, user_domain, another, there_still, removed_desc_sound}
 
 -- the rows that are left
 abbrev pub left : Lists → ℕ → ℕ → SidValue → Lists
@@ -36,6 +38,9 @@ left r domain rid sid = record {
   members = without_all member_key (map member_key (filter (is_member_of domain rid) r.members)) r.members;
   aliases = without_all alias_key (map alias_key (filter (is_alias_row_of domain rid sid) r.aliases)) r.aliases;
   lsa = r.lsa;
+  descriptors = r.descriptors;
+  outs = r.outs;
+  next_out = r.next_out;
 }
 
 removed-append : (xs ys : List RowKey) (r : Lists) → removed (xs ++ ys) r ≡ removed ys (removed xs r)
@@ -175,8 +180,9 @@ module _ (r : Lists) (domain rid : ℕ) (sid : SidValue) (kind : Kind) (sound : 
         ];
       }
 
-  pub sound_left : IsSoundRows (left r domain rid sid)
-  sound_left = record {
+  pub sound_left : ((x : Object) (d : DescRow) → desc_at r x ≡ Some d → exists (left r domain rid sid) x ≡ true)
+      → IsSoundRows (left r domain rid sid)
+  sound_left described = record {
     domains_ascend = sound.domains_ascend;
     accounts_ascend = is_ascending-filter account_key _ r.accounts sound.accounts_ascend;
     members_ascend = is_ascending-without_all member_key
@@ -184,6 +190,8 @@ module _ (r : Lists) (domain rid : ℕ) (sid : SidValue) (kind : Kind) (sound : 
     aliases_ascend = is_ascending-without_all alias_key
         (map alias_key (filter (is_alias_row_of domain rid sid) r.aliases)) r.aliases sound.aliases_ascend;
     lsa_ascend = sound.lsa_ascend;
+    descriptors_ascend = sound.descriptors_ascend;
+    outs_ascend = sound.outs_ascend;
     domain_rules = sound.domain_rules;
     account_domain = sound.account_domain;
     builtin_domain = sound.builtin_domain;
@@ -220,14 +228,37 @@ module _ (r : Lists) (domain rid : ℕ) (sid : SidValue) (kind : Kind) (sound : 
     alias_members = λ n i s a e. sound.alias_members n i s a
         (purged_found alias_key (is_alias_row_of domain rid sid) (n ∷ i ∷ sid_key s) r.aliases a e).0;
     lsa_rules = sound.lsa_rules;
+    desc_rules = sound.desc_rules;
+    desc_objects = described;
+    out_rules = sound.out_rules;
+    outs_below = sound.outs_below;
+    outs_run_on = sound.outs_run_on;
+    next_least = sound.next_least;
+    next_most = sound.next_most;
   }
 
+-- the rows without a descriptor, which are as sound
+abbrev bare : Object → Lists → Lists
+bare object r = remove_row (keys.Desc object) r
+
+bare_sound : (object : Object) (r : Lists) → IsSoundRows r → IsSoundRows (bare object r)
+bare_sound object r sound = (removed_desc_sound r object sound).sound
+
 -- the rows that are left by a plan
-kept_left : (gone : Object → Bool) (r : Lists) (domain rid : ℕ) (sid : SidValue) → IsSoundRows (left r domain rid sid)
-    → ((x : Object) → exists r x ≡ true → gone x ≡ false → exists (left r domain rid sid) x ≡ true)
-    → Keeps gone r (removed (naming r domain rid sid) r)
-kept_left gone r domain rid sid sound stays =
-    subst (Keeps gone r) (sym (all_removed r domain rid sid)) (record { sound = sound; stays = stays })
+kept_left : (object : Object) (r : Lists) (domain rid : ℕ) (sid : SidValue) → IsSoundRows r
+    → (((x : Object) (d : DescRow) → desc_at (bare object r) x ≡ Some d
+    → exists (left (bare object r) domain rid sid) x ≡ true)
+    → IsSoundRows (left (bare object r) domain rid sid))
+    → ((x : Object) → exists (bare object r) x ≡ true → same_object x object ≡ false
+    → exists (left (bare object r) domain rid sid) x ≡ true)
+    → Keeps (λ x. same_object x object) r (removed (keys.Desc object ∷ naming r domain rid sid) r)
+kept_left object r domain rid sid sound left_sound stays =
+    subst (Keeps (λ x. same_object x object) r) (sym (all_removed (bare object r) domain rid sid)) (record {
+      sound = left_sound (λ x d e.
+          let found = without_found desc_key (object_key x) (object_key object) r.descriptors d e in
+          stays x ((bare_sound object r sound).desc_objects x d e) (another x object found.1));
+      stays = λ x was other. stays x (there_still r (bare object r) refl refl refl x was) other;
+    })
 
 -- a group that is not of all users
 not_users : (r : Lists) (kind : Kind) (domain rid : ℕ) → IsSoundRows r → is_of kind (account_at r domain rid) ≡ true
@@ -297,14 +328,23 @@ removed_account_sound r objects.Policy sid sound account there users primary = c
 removed_account_sound r (objects.Domain n) sid sound account there users primary = cc
 removed_account_sound r (objects.Account s) sid sound account there users primary = cc
 removed_account_sound r (objects.Group rid) sid sound account there users primary =
+    let object = objects.Group rid in
+    let b = bare object r in
+    let sound_b : IsSoundRows b = bare_sound object r sound in
     let others : rid ≢ 513 = apart_from rid 513 users in
-    kept_left _ r 0 rid sid (sound_left r 0 rid sid Group sound there (λ _. others) primary)
-    (group_left r rid sid sound there others primary)
+    kept_left object r 0 rid sid sound (sound_left b 0 rid sid Group sound_b there (λ _. others) primary)
+    (group_left b rid sid sound_b there others primary)
 removed_account_sound r (objects.User rid) sid sound account there users primary =
+    let object = objects.User rid in
+    let b = bare object r in
+    let sound_b : IsSoundRows b = bare_sound object r sound in
     let others : rid ≢ 513 = not_users r User 0 rid sound there (λ e. cc) refl in
-    kept_left _ r 0 rid sid (sound_left r 0 rid sid User sound there (λ _. others) primary)
-    (user_left r rid sid sound there others primary)
+    kept_left object r 0 rid sid sound (sound_left b 0 rid sid User sound_b there (λ _. others) primary)
+    (user_left b rid sid sound_b there others primary)
 removed_account_sound r (objects.Alias n rid) sid sound account there users primary =
+    let object = objects.Alias n rid in
+    let b = bare object r in
+    let sound_b : IsSoundRows b = bare_sound object r sound in
     let others : n ≡ 0 → rid ≢ 513 = not_users r Alias n rid sound there (λ e. cc) in
-    kept_left _ r n rid sid (sound_left r n rid sid Alias sound there others primary)
-    (alias_left r n rid sid sound there others primary)
+    kept_left object r n rid sid sound (sound_left b n rid sid Alias sound_b there others primary)
+    (alias_left b n rid sid sound_b there others primary)

@@ -14,13 +14,20 @@ use Rattle.dtyp_sid.specs.Order.{sid_eq, EqualSidsAreOne}
 use Rattle.acct_rows.specs.Changes.{row_at, same_row_key, is_put}
 use Rattle.acct_rows.specs.Keyed.{compare, same_key, at, without, below_all, is_ascending}
 use Rattle.acct_rows.specs.PairsOf.{AllFit, AreTables, IsRowOf}
-use Rattle.acct_rows.specs.Rows.{Lists, domain_key, account_key, member_key, alias_key, lsa_key, sid_key, domain_at}
-use Rattle.acct_rows.specs.Rows.{account_at, lsa_at, put_row, remove_row, removed, with_puts}
+use Rattle.acct_rows.specs.ObjectKeys.{object_key}
+use Rattle.acct_rows.specs.Rows.{Lists, domain_key, account_key, member_key, alias_key, lsa_key, desc_key, out_key}
+use Rattle.acct_rows.specs.Rows.{sid_key, domain_at, account_at, lsa_at, desc_at, out_at, put_row, remove_row, removed}
+use Rattle.acct_rows.specs.Rows.{place_row, next_after, with_puts}
+use Rattle.acct_rows.specs.Loading.{placed}
 use Rattle.acct_rows.specs.Sound.{IsSoundRows}
-use Rattle.acct_rows.specs.Spelled.{key_of, Fits, FitsDomain, FitsAccount, FitsMember, FitsAlias, FitsLsa}
+use Rattle.acct_rows.specs.Spelled.{key_of, Fits, FitsDomain, FitsAccount, FitsMember, FitsAlias, FitsLsa, FitsDesc}
+use Rattle.acct_rows.specs.Spelled.{FitsOut}
+use Rattle.acct_rows.specs.declared.object.Object.{Object}
 use Rattle.acct_rows.specs.declared.row.DomainRow.{DomainRow}
 use Rattle.acct_rows.specs.declared.row.AccountRow.{AccountRow}
 use Rattle.acct_rows.specs.declared.row.LsaRow.{LsaRow}
+use Rattle.acct_rows.specs.declared.row.DescRow.{DescRow}
+use Rattle.acct_rows.specs.declared.row.OutRow.{OutRow}
 use Rattle.acct_rows.specs.declared.row.Row.{Row}
 use Rattle.acct_rows.specs.declared.row.Row.TheVariants as rows
 use Rattle.acct_rows.specs.declared.row.RowKey.{RowKey}
@@ -30,6 +37,7 @@ use Rattle.acct_tables.proofs.Lookups.{at-without, below_apart, key_found, put_h
 use Rattle.acct_tables.proofs.Members.{at_in, in_at}
 use Rattle.acct_tables.proofs.Orders.{same_key-is, same_key-itself, tested}
 use Rattle.acct_rows.proofs.Moves.{one_sid}
+use Rattle.acct_rows.proofs.ObjectKeys.{one_object, same_object_is, same_object_itself}
 
 all_in : {A : Type 0} (P : A → Type 0) (a : A) (xs : List A) → AllByRecursion P xs → In a xs → P a
 all_in P a [] all i = absurd i
@@ -55,6 +63,18 @@ lsa_found_fits lists sid l fit e =
     all_in FitsLsa l lists.lsa (recursion_from_All FitsLsa lists.lsa fit.lsa)
     (at_in lsa_key (sid_key sid) l lists.lsa e)
 
+pub desc_found_fits : (lists : Lists) (object : Object) (d : DescRow) → AllFit lists → desc_at lists object ≡ Some d
+    → FitsDesc d
+desc_found_fits lists object d fit e =
+    all_in FitsDesc d lists.descriptors (recursion_from_All FitsDesc lists.descriptors fit.descriptors)
+    (at_in desc_key (object_key object) d lists.descriptors e)
+
+pub out_found_fits : (lists : Lists) (number : ℕ) (o : OutRow) → AllFit lists → out_at lists number ≡ Some o
+    → FitsOut o
+out_found_fits lists number o fit e =
+    all_in FitsOut o lists.outs (recursion_from_All FitsOut lists.outs fit.outs)
+    (at_in out_key (number ∷ []) o lists.outs e)
+
 pub row_fits : (lists : Lists) → AllFit lists → (row : Row) → IsRowOf lists row → Fits row
 row_fits lists fit (rows.Domain d) e = domain_found_fits lists d.number d fit e
 row_fits lists fit (rows.Account a) e = account_found_fits lists a.domain a.rid a fit e
@@ -65,6 +85,8 @@ row_fits lists fit (rows.Alias a) e =
     all_in FitsAlias a lists.aliases (recursion_from_All FitsAlias lists.aliases fit.aliases)
     (at_in alias_key (a.domain ∷ a.alias ∷ sid_key a.member) a lists.aliases e)
 row_fits lists fit (rows.Lsa l) e = lsa_found_fits lists l.sid l fit e
+row_fits lists fit (rows.Desc d) e = desc_found_fits lists d.object d fit e
+row_fits lists fit (rows.Out o) e = out_found_fits lists o.number o fit e
 
 -- ---- keys
 
@@ -89,6 +111,8 @@ module _ (equal_sids : EqualSidsAreOne) where
       let three = (equal_sids s t).0.0 (second_so (i == j) (sid_eq s t) rest) in
       rw (one, two, three) refl
   same_is (keys.Lsa s) (keys.Lsa t) e = ap (λ n. keys.Lsa n) ((equal_sids s t).0.0 e)
+  same_is (keys.Desc x) (keys.Desc y) e = ap (λ z. keys.Desc z) (same_object_is x y e)
+  same_is (keys.Out m) (keys.Out n) e = ap (λ k. keys.Out k) (same_number m n e)
   same_is j k e = absurd cc
 
   number_itself : (n : ℕ) → (n == n) ≡ true
@@ -105,6 +129,8 @@ module _ (equal_sids : EqualSidsAreOne) where
       both (a == a) ((i == i) && sid_eq s s) (number_itself a)
       (both (i == i) (sid_eq s s) (number_itself i) ((equal_sids s s).0.1 refl))
   same_itself (keys.Lsa s) = (equal_sids s s).0.1 refl
+  same_itself (keys.Desc x) = same_object_itself x
+  same_itself (keys.Out n) = number_itself n
 
   pub same_or_not : (j k : RowKey) → (j ≡ k) ⊎ ((same_row_key j k ≡ false) × (j ≢ k))
   same_or_not j k =
@@ -132,12 +158,28 @@ module _ {A : Type 0} (key : A → List ℕ) where
         | inr t ↦ at-without key q k xs ∙ ap (λ b. cond (not b) (at key q xs) None) t
       ]
 
+-- the next out number isn't looked at
+next_unseen : (lists : Lists) (next : ℕ) (key : RowKey) → row_at (record lists { next_out = next }) key ≡ row_at lists key
+next_unseen lists next (keys.Domain number) = refl
+next_unseen lists next (keys.Account domain rid) = refl
+next_unseen lists next (keys.Member group user) = refl
+next_unseen lists next (keys.Alias domain alias member) = refl
+next_unseen lists next (keys.Lsa sid) = refl
+next_unseen lists next (keys.Desc object) = refl
+next_unseen lists next (keys.Out number) = refl
+
+pub row_place_here : (lists : Lists) (row : Row) → row_at (place_row row lists) (key_of row) ≡ Some row
+row_place_here lists (rows.Domain d) = ap (option_map (λ x. rows.Domain x)) (put_here domain_key d lists.domains)
+row_place_here lists (rows.Account a) = ap (option_map (λ x. rows.Account x)) (put_here account_key a lists.accounts)
+row_place_here lists (rows.Member m) = ap (option_map (λ x. rows.Member x)) (put_here member_key m lists.members)
+row_place_here lists (rows.Alias a) = ap (option_map (λ x. rows.Alias x)) (put_here alias_key a lists.aliases)
+row_place_here lists (rows.Lsa l) = ap (option_map (λ x. rows.Lsa x)) (put_here lsa_key l lists.lsa)
+row_place_here lists (rows.Desc d) = ap (option_map (λ x. rows.Desc x)) (put_here desc_key d lists.descriptors)
+row_place_here lists (rows.Out o) = ap (option_map (λ x. rows.Out x)) (put_here out_key o lists.outs)
+
 pub row_put_here : (lists : Lists) (row : Row) → row_at (put_row row lists) (key_of row) ≡ Some row
-row_put_here lists (rows.Domain d) = ap (option_map (λ x. rows.Domain x)) (put_here domain_key d lists.domains)
-row_put_here lists (rows.Account a) = ap (option_map (λ x. rows.Account x)) (put_here account_key a lists.accounts)
-row_put_here lists (rows.Member m) = ap (option_map (λ x. rows.Member x)) (put_here member_key m lists.members)
-row_put_here lists (rows.Alias a) = ap (option_map (λ x. rows.Alias x)) (put_here alias_key a lists.aliases)
-row_put_here lists (rows.Lsa l) = ap (option_map (λ x. rows.Lsa x)) (put_here lsa_key l lists.lsa)
+row_put_here lists row =
+    next_unseen (place_row row lists) (next_after row lists.next_out) (key_of row) ∙ row_place_here lists row
 
 domain_is : (m n : ℕ) → (m ∷ []) ≡ (n ∷ []) → keys.Domain m ≡ keys.Domain n
 domain_is m n e =
@@ -165,24 +207,40 @@ alias_is a i b j s t e =
     let three = one_sid s t rest in
     rw (one, two, three) refl
 
-pub row_put_apart : (lists : Lists) (row : Row) (key : RowKey) → key ≢ key_of row
-    → row_at (put_row row lists) key ≡ row_at lists key
-row_put_apart lists (rows.Domain d) (keys.Domain n) apart =
+out_is : (m n : ℕ) → (m ∷ []) ≡ (n ∷ []) → keys.Out m ≡ keys.Out n
+out_is m n e =
+    let is : m ≡ n = cc in
+    ap (λ x. keys.Out x) is
+
+pub row_place_apart : (lists : Lists) (row : Row) (key : RowKey) → key ≢ key_of row
+    → row_at (place_row row lists) key ≡ row_at lists key
+row_place_apart lists (rows.Domain d) (keys.Domain n) apart =
     ap (option_map (λ x. rows.Domain x)) (put_elsewhere domain_key (n ∷ []) d lists.domains
     (λ e. apart (domain_is n d.number e)))
-row_put_apart lists (rows.Account a) (keys.Account n i) apart =
+row_place_apart lists (rows.Account a) (keys.Account n i) apart =
     ap (option_map (λ x. rows.Account x)) (put_elsewhere account_key (n ∷ i ∷ []) a lists.accounts
     (λ e. apart (account_is n i a.domain a.rid e)))
-row_put_apart lists (rows.Member m) (keys.Member n i) apart =
+row_place_apart lists (rows.Member m) (keys.Member n i) apart =
     ap (option_map (λ x. rows.Member x)) (put_elsewhere member_key (n ∷ i ∷ []) m lists.members
     (λ e. apart (member_is n i m.group m.user e)))
-row_put_apart lists (rows.Alias a) (keys.Alias n i s) apart =
+row_place_apart lists (rows.Alias a) (keys.Alias n i s) apart =
     ap (option_map (λ x. rows.Alias x)) (put_elsewhere alias_key (n ∷ i ∷ sid_key s) a lists.aliases
     (λ e. apart (alias_is n i a.domain a.alias s a.member e)))
-row_put_apart lists (rows.Lsa l) (keys.Lsa s) apart =
+row_place_apart lists (rows.Lsa l) (keys.Lsa s) apart =
     ap (option_map (λ x. rows.Lsa x)) (put_elsewhere lsa_key (sid_key s) l lists.lsa
     (λ e. apart (ap (λ x. keys.Lsa x) (one_sid s l.sid e))))
-row_put_apart lists row key apart = refl
+row_place_apart lists (rows.Desc d) (keys.Desc x) apart =
+    ap (option_map (λ y. rows.Desc y)) (put_elsewhere desc_key (object_key x) d lists.descriptors
+    (λ e. apart (ap (λ y. keys.Desc y) (one_object x d.object e))))
+row_place_apart lists (rows.Out o) (keys.Out n) apart =
+    ap (option_map (λ x. rows.Out x)) (put_elsewhere out_key (n ∷ []) o lists.outs
+    (λ e. apart (out_is n o.number e)))
+row_place_apart lists row key apart = refl
+
+pub row_put_apart : (lists : Lists) (row : Row) (key : RowKey) → key ≢ key_of row
+    → row_at (put_row row lists) key ≡ row_at lists key
+row_put_apart lists row key apart =
+    next_unseen (place_row row lists) (next_after row lists.next_out) key ∙ row_place_apart lists row key apart
 
 pub row_removed_here : (lists : Lists) (key : RowKey) → row_at (remove_row key lists) key ≡ None
 row_removed_here lists (keys.Domain n) =
@@ -195,6 +253,10 @@ row_removed_here lists (keys.Alias n i s) =
     ap (option_map (λ x. rows.Alias x)) (without_here alias_key (n ∷ i ∷ sid_key s) lists.aliases)
 row_removed_here lists (keys.Lsa s) =
     ap (option_map (λ x. rows.Lsa x)) (without_here lsa_key (sid_key s) lists.lsa)
+row_removed_here lists (keys.Desc x) =
+    ap (option_map (λ y. rows.Desc y)) (without_here desc_key (object_key x) lists.descriptors)
+row_removed_here lists (keys.Out n) =
+    ap (option_map (λ x. rows.Out x)) (without_here out_key (n ∷ []) lists.outs)
 
 pub row_removed_apart : (lists : Lists) (gone key : RowKey) → key ≢ gone
     → row_at (remove_row gone lists) key ≡ row_at lists key
@@ -213,6 +275,12 @@ row_removed_apart lists (keys.Alias m j t) (keys.Alias n i s) apart =
 row_removed_apart lists (keys.Lsa t) (keys.Lsa s) apart =
     ap (option_map (λ x. rows.Lsa x)) (without_apart lsa_key (sid_key s) (sid_key t) lists.lsa
     (λ e. apart (ap (λ x. keys.Lsa x) (one_sid s t e))))
+row_removed_apart lists (keys.Desc y) (keys.Desc x) apart =
+    ap (option_map (λ z. rows.Desc z)) (without_apart desc_key (object_key x) (object_key y) lists.descriptors
+    (λ e. apart (ap (λ z. keys.Desc z) (one_object x y e))))
+row_removed_apart lists (keys.Out m) (keys.Out n) apart =
+    ap (option_map (λ x. rows.Out x)) (without_apart out_key (n ∷ []) (m ∷ []) lists.outs
+    (λ e. apart (out_is n m e)))
 row_removed_apart lists gone key apart = refl
 
 either : (a b : Bool) → a ≡ true → (a || b) ≡ true
@@ -269,6 +337,53 @@ module _ (equal_sids : EqualSidsAreOne) where
   pub last_found : (row : Row) (later : List Row) (lists : Lists) → is_put later (key_of row) ≡ false
       → row_at (with_puts (row ∷ later) lists) (key_of row) ≡ Some row
   last_found row later lists none = puts_elsewhere later (put_row row lists) (key_of row) none ∙ row_put_here lists row
+
+-- ---- rows in their places
+
+-- what is placed looks at no next out number, and changes none
+place_next : (row : Row) (lists : Lists) (next : ℕ)
+    → place_row row (record lists { next_out = next }) ≡ record (place_row row lists) { next_out = next }
+place_next (rows.Domain d) lists next = refl
+place_next (rows.Account a) lists next = refl
+place_next (rows.Member m) lists next = refl
+place_next (rows.Alias a) lists next = refl
+place_next (rows.Lsa l) lists next = refl
+place_next (rows.Desc d) lists next = refl
+place_next (rows.Out o) lists next = refl
+
+place_keeps : (row : Row) (lists : Lists) → (place_row row lists).next_out ≡ lists.next_out
+place_keeps (rows.Domain d) lists = refl
+place_keeps (rows.Account a) lists = refl
+place_keeps (rows.Member m) lists = refl
+place_keeps (rows.Alias a) lists = refl
+place_keeps (rows.Lsa l) lists = refl
+place_keeps (rows.Desc d) lists = refl
+place_keeps (rows.Out o) lists = refl
+
+pub placed_keeps : (puts : List Row) (lists : Lists) → (placed puts lists).next_out ≡ lists.next_out
+placed_keeps [] lists = refl
+placed_keeps (row ∷ puts) lists = placed_keeps puts (place_row row lists) ∙ place_keeps row lists
+
+placed_next : (puts : List Row) (lists : Lists) (next : ℕ)
+    → placed puts (record lists { next_out = next }) ≡ record (placed puts lists) { next_out = next }
+placed_next [] lists next = refl
+placed_next (row ∷ puts) lists next =
+    ap (placed puts) (place_next row lists next) ∙ placed_next puts (place_row row lists) next
+
+puts_placed : (puts : List Row) (lists : Lists) (key : RowKey)
+    → row_at (with_puts puts lists) key ≡ row_at (placed puts lists) key
+puts_placed [] lists key = refl
+puts_placed (row ∷ puts) lists key =
+    let next = next_after row lists.next_out in
+    puts_placed puts (put_row row lists) key
+    ∙ ap (λ l. row_at l key) (placed_next puts (place_row row lists) next)
+    ∙ next_unseen (placed puts (place_row row lists)) next key
+
+-- the last row of a key is found there
+pub last_placed : EqualSidsAreOne → (row : Row) (later : List Row) (lists : Lists) → is_put later (key_of row) ≡ false
+    → row_at (placed (row ∷ later) lists) (key_of row) ≡ Some row
+last_placed equal_sids row later lists none =
+    sym (puts_placed (row ∷ later) lists (key_of row)) ∙ last_found equal_sids row later lists none
 
 -- ---- rows that are equal at every key are the same
 
@@ -337,8 +452,8 @@ module _ {A : Type 0} (key : A → List ℕ) where
 
 pub same_lists : (lists others : Lists) → AreTables lists → AreTables others
     → ((row : Row) → IsRowOf lists row → IsRowOf others row) → ((row : Row) → IsRowOf others row → IsRowOf lists row)
-    → lists ≡ others
-same_lists lists others up on to from =
+    → lists.next_out ≡ others.next_out → lists ≡ others
+same_lists lists others up on to from next =
     let d = same_rows domain_key lists.domains others.domains up.domains on.domains (λ x e. to (rows.Domain x) e)
     (λ x e. from (rows.Domain x) e) in
     let a = same_rows account_key lists.accounts others.accounts up.accounts on.accounts (λ x e. to (rows.Account x) e)
@@ -349,7 +464,20 @@ same_lists lists others up on to from =
     (λ x e. from (rows.Alias x) e) in
     let s = same_rows lsa_key lists.lsa others.lsa up.lsa on.lsa (λ x e. to (rows.Lsa x) e)
     (λ x e. from (rows.Lsa x) e) in
-    λ i. record { domains = d i; accounts = a i; members = m i; aliases = l i; lsa = s i }
+    let t = same_rows desc_key lists.descriptors others.descriptors up.descriptors on.descriptors
+    (λ x e. to (rows.Desc x) e) (λ x e. from (rows.Desc x) e) in
+    let o = same_rows out_key lists.outs others.outs up.outs on.outs (λ x e. to (rows.Out x) e)
+    (λ x e. from (rows.Out x) e) in
+    λ i. record {
+      domains = d i;
+      accounts = a i;
+      members = m i;
+      aliases = l i;
+      lsa = s i;
+      descriptors = t i;
+      outs = o i;
+      next_out = next i;
+    }
 
 pub sound_tables : (lists : Lists) → IsSoundRows lists → AreTables lists
 sound_tables lists sound = record {
@@ -358,4 +486,6 @@ sound_tables lists sound = record {
   members = sound.members_ascend;
   aliases = sound.aliases_ascend;
   lsa = sound.lsa_ascend;
+  descriptors = sound.descriptors_ascend;
+  outs = sound.outs_ascend;
 }

@@ -314,6 +314,8 @@ module _ (name : List ℕ) (sid : SidValue) where
     members_ascend = refl;
     aliases_ascend = seed_aliases_ascend sid;
     lsa_ascend = refl;
+    descriptors_ascend = refl;
+    outs_ascend = refl;
     domain_rules = λ number d there. found_is domain_key IsGoodDomain (number ∷ []) (seed_domains name sid) d
         (domains_are_good named sided whole sided_whole) there;
     account_domain = refl;
@@ -346,6 +348,13 @@ module _ (name : List ℕ) (sid : SidValue) where
         (domain ∷ alias ∷ sid_key member) (seed_aliases sid) a
         (aliases_are_good sided_whole (has_slot sid sided)) there;
     lsa_rules = λ member l there. cc;
+    desc_rules = λ object d there. cc;
+    desc_objects = λ object d there. cc;
+    out_rules = λ number o there. cc;
+    outs_below = λ number o there. cc;
+    outs_run_on = λ number o there later. cc;
+    next_least = omega arith;
+    next_most = omega arith;
   }
 
 pub seeded_is_sound : (name : List ℕ) (sid : SidValue) (lists : Lists) → is_domain_name name ≡ true

@@ -1,7 +1,8 @@
 -- Pairs in another order, of which no key stands twice, are looked up alike and break the same rules.
-use Rattle.std.proofs.Common.{◌≡◌, ℕ, ◌≤◌, Bool, true, false, ◌&&◌, ◌||◌, cond, List, [], ◌∷◌}
+use Rattle.std.proofs.Common.{◌≡◌, ◌≢◌, ℕ, ◌+◌, ◌==◌, ◌≤◌, Bool, true, false, ◌&&◌, ◌||◌, cond, List, [], ◌∷◌}
 use Rattle.std.proofs.Common.{Option, Some, None, refl, sym, ap, ◌∙◌, arith, inl, inr}
-use Rattle.std.specs.Prelude.{is_some, not}
+use Rattle.std.specs.Prelude.{is_some, not, nat_le}
+use Rattle.std.specs.Str.{bytes_eq}
 use Rattle.std.specs.List.{list_any}
 use Rattle.std.specs.List.Sorted.{IsPermutation, IsSortedBy}
 use Rattle.std.proofs.lemmas.List.Sorted.{IsPermutation-sym}
@@ -16,11 +17,15 @@ use Rattle.acct_rows.specs.PairRules.{pair_key, pair_at, is_there, domain_in, is
 use Rattle.acct_rows.specs.PairRules.{is_earlier, has_taken_name, lacks_primary}
 use Rattle.acct_rows.specs.PairRules.{breaks_alone, breaks_among, breaks_rule, is_format, is_broken_at}
 use Rattle.acct_rows.specs.PairRules.{is_broken, AreUnbroken, IsSmallestBroken, is_other, as_domain, as_account}
-use Rattle.acct_rows.specs.PairsOf.{HoldPairs, keys_differ, AscendingKeysDiffer}
+use Rattle.acct_rows.specs.PairRules.{has_value, is_old, next_in, next_out_in, is_next_out, is_out_of_turn, lacks}
+use Rattle.acct_rows.specs.PairsOf.{HoldPairs, migration, migrated, keys_differ, AscendingKeysDiffer}
 use Rattle.acct_rows.specs.Rows.{Lists, same_kind}
-use Rattle.acct_rows.specs.Spelled.{stored_key}
+use Rattle.acct_rows.specs.Spelled.{stored_key, format_key, format_value, old_format_value, next_out_key}
 use Rattle.acct_base.specs.Reading.{◌>>=◌}
-use Rattle.acct_rows.specs.Stored.{row_of}
+use Rattle.acct_rows.specs.Stored.{row_of, next_out_of}
+use Rattle.acct_rows.specs.declared.object.Object.{Object}
+use Rattle.acct_rows.specs.declared.object.Object.TheVariants as objects
+use Rattle.acct_rows.specs.declared.row.RowKey.{RowKey}
 use Rattle.acct_rows.specs.declared.pairs.loading.PairsError.{PairsError}
 use Rattle.acct_rows.specs.declared.pairs.loading.PairsError.TheVariants.{BadPair, Memory}
 use Rattle.acct_rows.specs.declared.row.Row.{Row}
@@ -30,6 +35,7 @@ use Rattle.acct_tables.proofs.Ascending.{In}
 use Rattle.acct_tables.proofs.Lookups.{there_or_not, key_found}
 use Rattle.acct_tables.proofs.Members.{at_in, in_at, in_permutation, one_if}
 use Rattle.acct_tables.proofs.Orders.{same_key-is, same_key-itself, less, tested}
+use Rattle.acct_rows.proofs.Changed.{set_here, set_apart}
 use Rattle.acct_rows.proofs.Members.{count, count-permutation, precedes}
 use Rattle.acct_rows.proofs.Members.{sorted_ascends, ascending-kept}
 
@@ -185,25 +191,58 @@ module _ (ps qs : List Pair) (differ : keys_differ ps ≡ true) (perm : IsPermut
       ap (λ o. not (is_some o) || is_other kind ((o >>= row_of) >>= as_account))
       (found_alike (stored_key (keys.Account domain rid)))
 
+  pub old_alike : is_old ps ≡ is_old qs
+  old_alike = ap (has_value old_format_value) (found_alike format_key)
+
+  next_alike : next_out_in ps ≡ next_out_in qs
+  next_alike = ap next_in (found_alike next_out_key)
+
+  turn_alike : (number : ℕ) (next : Option ℕ) → is_out_of_turn ps number next ≡ is_out_of_turn qs number next
+  turn_alike number None = refl
+  turn_alike number (Some next) =
+      ap (λ o. nat_le next number || (not (number + 1 == next) && not (is_some o)))
+      (found_alike (stored_key (keys.Out (number + 1))))
+
+  there_alike : (key : RowKey) → not (is_there ps key) ≡ not (is_there qs key)
+  there_alike key = ap (λ o. not (is_some o)) (found_alike (stored_key key))
+
+  lacks_alike : (object : Object) → lacks ps object ≡ lacks qs object
+  lacks_alike objects.Server = refl
+  lacks_alike objects.Policy = refl
+  lacks_alike (objects.Domain number) = there_alike (keys.Domain number)
+  lacks_alike (objects.Group rid) = missing_alike Group 0 rid
+  lacks_alike (objects.Alias domain rid) = missing_alike Alias domain rid
+  lacks_alike (objects.User rid) = missing_alike User 0 rid
+  lacks_alike (objects.Account sid) = there_alike (keys.Lsa sid)
+
   among_alike : (row : Row) → breaks_among ps row ≡ breaks_among qs row
   among_alike (rows.Domain d) = refl
   among_alike (rows.Account a) =
       ap (λ o. is_past a.rid o || (has_taken_name ps (rows.Account a) || (false || (lacks_primary ps (rows.Account a)
-      || false)))) (domain_alike a.domain)
+      || (false || (false || (false || false))))))) (domain_alike a.domain)
       ∙ ap (λ b. is_past a.rid (domain_in qs a.domain)
-      || (b || (false || (lacks_primary ps (rows.Account a) || false))))
+      || (b || (false || (lacks_primary ps (rows.Account a) || (false || (false || (false || false)))))))
       (any_alike (λ pair. is_earlier a (row_of pair)))
       ∙ ap (λ b. is_past a.rid (domain_in qs a.domain) || (has_taken_name qs (rows.Account a) || (false
-      || ((same_kind User a.kind && (b || not (is_there ps (keys.Member a.primary a.rid)))) || false))))
+      || ((same_kind User a.kind && (b || not (is_there ps (keys.Member a.primary a.rid))))
+      || (false || (false || (false || false)))))))
       (missing_alike Group 0 a.primary)
       ∙ ap (λ o. is_past a.rid (domain_in qs a.domain) || (has_taken_name qs (rows.Account a) || (false
-      || ((same_kind User a.kind && (is_missing Group qs 0 a.primary || not (is_some o))) || false))))
+      || ((same_kind User a.kind && (is_missing Group qs 0 a.primary || not (is_some o)))
+      || (false || (false || (false || false)))))))
       (found_alike (stored_key (keys.Member a.primary a.rid)))
   among_alike (rows.Member m) =
       ap (λ b. (b || is_missing User ps 0 m.user) || false) (missing_alike Group 0 m.group)
       ∙ ap (λ b. (is_missing Group qs 0 m.group || b) || false) (missing_alike User 0 m.user)
   among_alike (rows.Alias a) = missing_alike Alias a.domain a.alias
   among_alike (rows.Lsa l) = refl
+  among_alike (rows.Desc d) =
+      ap (λ b. b || (is_old ps || false)) (lacks_alike d.object)
+      ∙ ap (λ b. lacks qs d.object || (b || false)) old_alike
+  among_alike (rows.Out o) =
+      ap (λ next. ((o.number == 0) || is_out_of_turn ps o.number next) || (is_old ps || false)) next_alike
+      ∙ ap (λ b. ((o.number == 0) || b) || (is_old ps || false)) (turn_alike o.number (next_out_in qs))
+      ∙ ap (λ b. ((o.number == 0) || is_out_of_turn qs o.number (next_out_in qs)) || (b || false)) old_alike
 
   rule_alike : (o : Option Row) → breaks_rule ps o ≡ breaks_rule qs o
   rule_alike None = refl
@@ -211,7 +250,10 @@ module _ (ps qs : List Pair) (differ : keys_differ ps ≡ true) (perm : IsPermut
 
   broken_at_alike : (k : List ℕ) (o : Option Pair) → is_broken_at ps k o ≡ is_broken_at qs k o
   broken_at_alike k None = refl
-  broken_at_alike k (Some p) = ap (λ b. not (is_format p) && b) (rule_alike (row_of p))
+  broken_at_alike k (Some p) =
+      ap (λ b. not (is_format p) && (not (bytes_eq p.key next_out_key && (is_some (next_out_of p.value) && not b))
+      && breaks_rule ps (row_of p))) old_alike
+      ∙ ap (λ b. not (is_format p) && (not (is_next_out qs p) && b)) (rule_alike (row_of p))
 
   broken_alike : (k : List ℕ) → is_broken ps k ≡ is_broken qs k
   broken_alike k = broken_at_alike k (pair_at k ps) ∙ ap (is_broken_at qs k) (found_alike k)
@@ -229,8 +271,29 @@ module _ (ps qs : List Pair) (differ : keys_differ ps ≡ true) (perm : IsPermut
   bad_alike (BadPair key) b = smallest_alike key b
   bad_alike Memory b = tt
 
-  pub hold_alike : (lists : Lists) → HoldPairs lists qs → HoldPairs lists ps
+  -- so are they once they are migrated
+  migrated_alike : (k : List ℕ) → pair_at k (migrated ps) ≡ pair_at k (migrated qs)
+  migrated_alike k =
+      ap (λ b. pair_at k (cond b (kept.after (migration ∷ []) ps) ps)) old_alike ∙ elim (is_old qs) as
+      (λ b. pair_at k (cond b (kept.after (migration ∷ []) ps) ps)
+      ≡ pair_at k (cond b (kept.after (migration ∷ []) qs) qs)) [
+        | true ↦ elim (tested (same_key k format_key)) [
+          | inl t ↦
+              let key : k ≡ format_key = same_key-is k format_key t in
+              ap (λ j. pair_at j (kept.after (migration ∷ []) ps)) key
+              ∙ set_here format_key (Some format_value) ps ∙ sym (set_here format_key (Some format_value) qs)
+              ∙ ap (λ j. pair_at j (kept.after (migration ∷ []) qs)) (sym key)
+          | inr t ↦
+              let apart : k ≢ format_key = λ same. (
+              let so : same_key k format_key ≡ true = ap (same_key k) (sym same) ∙ same_key-itself k in cc (so, t)) in
+              set_apart k format_key (Some format_value) ps apart ∙ found_alike k
+              ∙ sym (set_apart k format_key (Some format_value) qs apart)
+        ]
+        | false ↦ found_alike k
+      ]
+
+  pub hold_alike : (lists : Lists) → HoldPairs lists (migrated qs) → HoldPairs lists (migrated ps)
   hold_alike lists held p = (
-    (λ e. (held p).0 (sym (found_alike p.key) ∙ e)),
-    (λ e. found_alike p.key ∙ (held p).1 e),
+    (λ e. (held p).0 (sym (migrated_alike p.key) ∙ e)),
+    (λ e. migrated_alike p.key ∙ (held p).1 e),
   )

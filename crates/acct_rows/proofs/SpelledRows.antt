@@ -1,19 +1,24 @@
 -- The row that a pair spells is read of it.
 use Rattle.std.proofs.Common.{◌≡◌, ℕ, ◌+◌, ◌*◌, ◌^◌, ◌<◌, ◌==◌, true, List, [], ◌∷◌}
-use Rattle.std.proofs.Common.{◌++◌, length, Option, Some, refl, sym, ap, ◌∙◌, arith}
+use Rattle.std.proofs.Common.{◌++◌, length, Option, Some, None, refl, sym, ap, ◌∙◌, arith}
 use Rattle.std.specs.List.{flat_map}
 use Rattle.std.proofs.lemmas.Bool.Decides.{nat_tests}
 use Rattle.std.proofs.lemmas.List.{append-nil}
+use Rattle.std.proofs.lemmas.Slice.Eq.{bytes_eq-Decides}
+use Rattle.std.specs.Str.{bytes_eq}
+use Rattle.dtyp_access.specs.Written.{descriptor_bytes}
 use Rattle.acct_codes.specs.declared.kind.Kind.{Kind}
 use Rattle.acct_codes.specs.declared.kind.Kind.TheVariants.{Server, Domain, Group, Alias, User, Policy, Account}
 use Rattle.dtyp_sid.specs.Value.{SidValue, IsSid}
 use Rattle.dtyp_sid.specs.Bytes.{bytes_of, WrittenBytesAreRead, WrittenBytesHaveLengths, ReadBytesAreWritten}
 use Rattle.acct_rows.specs.Sound.{is_account_kind}
-use Rattle.acct_rows.specs.Spelled.{text_bytes, rid_bytes, number_bytes, held_bytes, kind_byte, stored_key, key_of}
-use Rattle.acct_rows.specs.Spelled.{stored_value, domain_value, account_value, lsa_value, Fits, FitsText, FitsHeld}
-use Rattle.acct_rows.specs.Spelled.{FitsDomain, FitsAccount, FitsMember, FitsLsa}
+use Rattle.acct_rows.specs.Spelled.{text_bytes, rid_bytes, count_bytes, number_bytes, held_bytes, kind_byte}
+use Rattle.acct_rows.specs.Spelled.{object_bytes, stored_key, key_of, stored_value, domain_value, account_value}
+use Rattle.acct_rows.specs.Spelled.{lsa_value, out_value, Fits, FitsText, FitsHeld, FitsObject, FitsDomain, FitsAccount}
+use Rattle.acct_rows.specs.Spelled.{FitsMember, FitsLsa, FitsDesc, FitsOut}
 use Rattle.acct_base.specs.Reading.{◌>>=◌, is_end, many}
-use Rattle.acct_rows.specs.Stored.{only_if, number_at, rid_at, text_at, sid_at, whole_sid}
+use Rattle.acct_rows.specs.Stored.{only_if, byte_at, number_at, rid_at, count_at, text_at, sid_at, whole_sid, whole_rid}
+use Rattle.acct_rows.specs.Stored.{domain_object, alias_object, object_of, desc_key_of, out_key_of, desc_of, out_of}
 use Rattle.acct_rows.specs.Stored.{held_at, kind_of_byte, domain_key_of, account_key_of, member_key_of}
 use Rattle.acct_rows.specs.Stored.{alias_key_of, lsa_key_of, lettered, row_key, domain_of, account_of, member_of}
 use Rattle.acct_rows.specs.Stored.{alias_of, lsa_of, valued, row_of, SpelledRowsAreRead}
@@ -22,12 +27,17 @@ use Rattle.acct_rows.specs.declared.row.AccountRow.{AccountRow}
 use Rattle.acct_rows.specs.declared.row.MemberRow.{MemberRow}
 use Rattle.acct_rows.specs.declared.row.AliasRow.{AliasRow}
 use Rattle.acct_rows.specs.declared.row.LsaRow.{LsaRow}
+use Rattle.acct_rows.specs.declared.row.DescRow.{DescRow}
+use Rattle.acct_rows.specs.declared.row.OutRow.{OutRow}
+use Rattle.acct_rows.specs.declared.object.Object.{Object}
+use Rattle.acct_rows.specs.declared.object.Object.TheVariants as objects
 use Rattle.acct_rows.specs.declared.row.Row.{Row}
 use Rattle.acct_rows.specs.declared.row.Row.TheVariants as rows
 use Rattle.acct_rows.specs.declared.row.RowKey.{RowKey}
 use Rattle.acct_rows.specs.declared.row.RowKey.TheVariants as keys
 use Rattle.acct_rows.proofs.Taken.{byte_again, number_again, rid_again, text_again, held_again, many_again}
-use Rattle.acct_rows.proofs.Taken.{domain_number_again, sid_again}
+use Rattle.acct_rows.proofs.Described.{described_again, described_few}
+use Rattle.acct_rows.proofs.Taken.{domain_number_again, sid_again, count_again}
 use Rattle.acct_rows.proofs.ReadRows.{FitsKey, four_fields, five_fields}
 
 -- a last field is read where nothing stands after it
@@ -112,7 +122,31 @@ lsa_value_again l fits =
       fits.privileges_ascend,
     ) refl
 
+out_value_again : (o : OutRow) → FitsOut o → out_of o.number (out_value o) ≡ Some (rows.Out o)
+unfolding out_of out_value
+out_value_again o fits =
+    rw (
+      byte_again o.action (o.domain ∷ number_bytes o.rid ++ kind_byte o.kind ∷ text_bytes o.name),
+      domain_number_again o.domain (number_bytes o.rid ++ kind_byte o.kind ∷ text_bytes o.name) fits.domain,
+      number_again o.rid (kind_byte o.kind ∷ text_bytes o.name) fits.rid,
+      byte_again (kind_byte o.kind) (text_bytes o.name),
+      kind_again o.kind fits.kind,
+      text_last o.name fits.name,
+    ) refl
+
 module _ (back : WrittenBytesAreRead) (sizes : WrittenBytesHaveLengths) (only : ReadBytesAreWritten) where
+  desc_value_again : (d : DescRow) → FitsDesc d
+      → desc_of d.object (descriptor_bytes d.descriptor) ≡ Some (rows.Desc d)
+  unfolding desc_of
+  desc_value_again d fits =
+      let same : bytes_eq (descriptor_bytes d.descriptor) (descriptor_bytes d.descriptor) ≡ true =
+      (bytes_eq-Decides (descriptor_bytes d.descriptor) (descriptor_bytes d.descriptor)).1 refl in
+      rw (
+        described_again back sizes d.descriptor fits.descriptor,
+        described_few d.descriptor fits.descriptor,
+        same,
+      ) refl
+
   domain_value_again : (d : DomainRow) → FitsDomain d → domain_of d.number (domain_value d) ≡ Some (rows.Domain d)
   unfolding domain_of domain_value
   domain_value_again d fits =
@@ -135,8 +169,35 @@ module _ (back : WrittenBytesAreRead) (sizes : WrittenBytesHaveLengths) (only : 
   whole_sid_again sid fits =
       rw (ap sid_at (sym (append-nil (bytes_of sid))) ∙ sid_again back sizes only sid [] fits) refl
 
+  whole_rid_again : (rid : ℕ) → rid < 2 ^ 32 → whole_rid (rid_bytes rid) ≡ Some rid
+  unfolding whole_rid
+  whole_rid_again rid fits = rw (rid_last rid fits) refl
+
+  object_again : (object : Object) → FitsObject object
+      → (byte_at (object_bytes object) >>= λ kind. object_of kind.0 kind.1) ≡ Some object
+  unfolding object_of domain_object alias_object
+  object_again objects.Server fits = rw (byte_again 0 []) refl
+  object_again (objects.Domain number) fits =
+      rw (byte_again 1 (number ∷ []), domain_number_again number [] fits) refl
+  object_again (objects.Group rid) fits = rw (byte_again 2 (rid_bytes rid), whole_rid_again rid fits) refl
+  object_again (objects.Alias domain rid) fits =
+      rw (
+        byte_again 3 (domain ∷ rid_bytes rid),
+        domain_number_again domain (rid_bytes rid) fits.0,
+        rid_last rid fits.1,
+      ) refl
+  object_again (objects.User rid) fits = rw (byte_again 4 (rid_bytes rid), whole_rid_again rid fits) refl
+  object_again objects.Policy fits = rw (byte_again 5 []) refl
+  object_again (objects.Account sid) fits = rw (byte_again 6 (bytes_of sid), whole_sid_again sid fits) refl
+
+  bound_key : (o : Option (ℕ × List ℕ)) (object : Object)
+      → (o >>= λ kind. object_of kind.0 kind.1) ≡ Some object
+      → (o >>= λ kind. object_of kind.0 kind.1 >>= λ x. Some (keys.Desc x)) ≡ Some (keys.Desc object)
+  bound_key None object e = absurd cc
+  bound_key (Some kind) object e = ap (λ (x : Option Object). x >>= λ y. Some (keys.Desc y)) e
+
   pub key_again : (key : RowKey) → FitsKey key → row_key (stored_key key) ≡ Some key
-  unfolding row_key lettered domain_key_of account_key_of member_key_of alias_key_of lsa_key_of
+  unfolding row_key lettered domain_key_of account_key_of member_key_of alias_key_of lsa_key_of desc_key_of out_key_of
   key_again (keys.Domain number) fits = rw (byte_again 0x64 (number ∷ []), domain_number_again number [] fits) refl
   key_again (keys.Account domain rid) fits =
       rw (
@@ -158,6 +219,13 @@ module _ (back : WrittenBytesAreRead) (sizes : WrittenBytesHaveLengths) (only : 
         whole_sid_again member fits.2,
       ) refl
   key_again (keys.Lsa sid) fits = rw (byte_again 0x73 (bytes_of sid), whole_sid_again sid fits) refl
+  key_again (keys.Desc object) fits =
+      rw (byte_again 0x6F (object_bytes object)) (bound_key (byte_at (object_bytes object)) object (object_again object fits))
+  key_again (keys.Out number) fits =
+      rw (
+        byte_again 0x71 (count_bytes number),
+        ap count_at (sym (append-nil (count_bytes number))) ∙ count_again number [] fits,
+      ) refl
 
   pub fits_key : (row : Row) → Fits row → FitsKey (key_of row)
   fits_key (rows.Domain d) fits = fits.number
@@ -165,6 +233,8 @@ module _ (back : WrittenBytesAreRead) (sizes : WrittenBytesHaveLengths) (only : 
   fits_key (rows.Member m) fits = (fits.group, fits.user)
   fits_key (rows.Alias a) fits = (fits.domain, fits.alias, fits.member)
   fits_key (rows.Lsa l) fits = fits.sid
+  fits_key (rows.Desc d) fits = fits.object
+  fits_key (rows.Out o) fits = fits.number
 
   value_again : (row : Row) → Fits row → valued (key_of row) (stored_value row) ≡ Some row
   unfolding valued
@@ -173,6 +243,8 @@ module _ (back : WrittenBytesAreRead) (sizes : WrittenBytesHaveLengths) (only : 
   value_again (rows.Member m) fits = member_value_again m fits
   value_again (rows.Alias a) fits = alias_value_again a
   value_again (rows.Lsa l) fits = lsa_value_again l fits
+  value_again (rows.Desc d) fits = desc_value_again d fits
+  value_again (rows.Out o) fits = out_value_again o fits
 
   pub spelled_rows_are_read : SpelledRowsAreRead
   unfolding row_of

@@ -6,7 +6,7 @@ use Rattle.std.proofs.Common.{subst, ◌∙◌}
 use Rattle.std.proofs.Common.{append_assoc, arith, inl, inr}
 use Rattle.std.specs.Prelude.{slice_index, nat_le}
 use Rattle.std.specs.Result.{result_ok}
-use Rattle.std.specs.Int.{w16, w32, to_le_bytes, to_be_bytes, from_le_bytes, from_be_bytes}
+use Rattle.std.specs.Int.{w16, w32, w64, to_le_bytes, to_be_bytes, from_le_bytes, from_be_bytes}
 use Rattle.std.specs.List.{flat_map, AllByRecursion}
 use Rattle.std.proofs.Math.Seq.{take-append_seam, drop-append_seam}
 use Rattle.std.proofs.lemmas.Bool.{cases_lt, ltb-false, le-ltb, eqb-true}
@@ -15,15 +15,16 @@ use Rattle.std.proofs.lemmas.List.{nil_from_length}
 use Rattle.std.proofs.lemmas.Bool.Decides.{nat_tests}
 use Rattle.std.proofs.lemmas.List.Elements.{All-from_recursion, recursion_from_All}
 use Rattle.std.proofs.lemmas.List.Concat.{flat_map-cons}
-use Rattle.std.proofs.lemmas.Nat.{le_bytes_2, le_bytes_4, be_bytes_4, from_le_bytes-to_le_bytes_2}
+use Rattle.std.proofs.lemmas.Nat.{le_bytes_2, le_bytes_4, be_bytes_4, be_bytes_8, from_le_bytes-to_le_bytes_2}
 use Rattle.std.proofs.lemmas.Nat.{from_le_bytes-to_le_bytes_4, from_be_bytes-to_be_bytes_4}
+use Rattle.std.proofs.lemmas.Nat.{from_be_bytes-to_be_bytes_8}
 use Rattle.dtyp_sid.specs.declared.errors.BytesError.{BytesError}
 use Rattle.dtyp_sid.specs.Value.{SidValue, IsSid}
 use Rattle.dtyp_sid.specs.Bytes.{bytes_of, sid_of_bytes, WrittenBytesAreRead, WrittenBytesHaveLengths}
 use Rattle.dtyp_sid.specs.Bytes.{ReadBytesAreWritten}
-use Rattle.acct_rows.specs.Spelled.{text_bytes, rid_bytes, number_bytes, held_bytes, FitsText, FitsHeld}
+use Rattle.acct_rows.specs.Spelled.{text_bytes, rid_bytes, count_bytes, number_bytes, held_bytes, FitsText, FitsHeld}
 use Rattle.acct_base.specs.Reading.{Reader, ◌>>=◌, is_end, front_at, many}
-use Rattle.acct_rows.specs.Stored.{only_if, byte_at, unit_at, number_at, rid_at}
+use Rattle.acct_rows.specs.Stored.{only_if, byte_at, unit_at, number_at, rid_at, count_at}
 use Rattle.acct_rows.specs.Stored.{text_at, sid_at, domain_number_at, held_at}
 use Rattle.acct_rows.specs.declared.row.Held.{Held}
 use Rattle.acct_base.proofs.Many.{many-none, many-one}
@@ -45,7 +46,7 @@ All_from_bytes (byte ∷ bytes) fits = (fits 0, All_from_bytes bytes (λ i. fits
 pub All_bytes : (bytes : List ℕ) → IsBytes bytes → All (λ byte. byte < 256) bytes
 All_bytes bytes fits = All-from_recursion (λ byte. byte < 256) bytes (All_from_bytes bytes fits)
 
-IsBytes-drop : (n : ℕ) (bytes : List ℕ) → IsBytes bytes → IsBytes (drop n bytes)
+pub IsBytes-drop : (n : ℕ) (bytes : List ℕ) → IsBytes bytes → IsBytes (drop n bytes)
 IsBytes-drop n bytes h i = rw get_or-drop (h (n + i))
 
 IsBytes-take : (n : ℕ) (bytes : List ℕ) → IsBytes bytes → IsBytes (take n bytes)
@@ -181,6 +182,28 @@ pub rid_again : Again rid_at rid_bytes (λ n. n < 2 ^ 32)
 unfolding rid_at rid_bytes
 rid_again n rest lt = rw (front_again 4 (to_be_bytes w32 n) rest refl, from_be_bytes-to_be_bytes_4 n lt) refl
 
+pub count_takes : Takes count_at count_bytes (λ n. n < 2 ^ 64)
+unfolding count_at count_bytes
+count_takes = made 8 (λ front. from_be_bytes w64 front) (to_be_bytes w64) (λ n. n < 2 ^ 64)
+    (λ front len fits. (
+      be_bytes_8 front _ len fits refl,
+      omega (
+        arith,
+        fits 0,
+        fits 1,
+        fits 2,
+        fits 3,
+        fits 4,
+        fits 5,
+        fits 6,
+        fits 7,
+      ),
+    ))
+
+pub count_again : Again count_at count_bytes (λ n. n < 2 ^ 64)
+unfolding count_at count_bytes
+count_again n rest lt = rw (front_again 8 (to_be_bytes w64 n) rest refl, from_be_bytes-to_be_bytes_8 n lt) refl
+
 abbrev AreMany : {A : Type 0} → (A → Type 0) → ℕ → List A → Type 0
 AreMany P n xs = (length xs ≡ n) × AllByRecursion P xs
 
@@ -289,9 +312,9 @@ domain_number_again zero rest le = rw (byte_again 0 rest) refl
 domain_number_again (suc zero) rest le = rw (byte_again 1 rest) refl
 domain_number_again (suc (suc n)) rest le = absurd (omega arith)
 
-read_sid : (result : Result SidValue BytesError) (sid : SidValue) → result_ok result ≡ Some sid → result ≡ Ok sid
-read_sid (Ok x) sid e = cc
-read_sid (Err x) sid e = absurd cc
+pub was_ok : {A E : Type 0} (result : Result A E) (x : A) → result_ok result ≡ Some x → result ≡ Ok x
+was_ok (Ok y) x e = cc
+was_ok (Err y) x e = absurd cc
 
 module _ (back : WrittenBytesAreRead) (sizes : WrittenBytesHaveLengths) (only : ReadBytesAreWritten) where
   pub sid_takes : Takes sid_at bytes_of IsSid
@@ -299,7 +322,7 @@ module _ (back : WrittenBytesAreRead) (sizes : WrittenBytesHaveLengths) (only : 
   sid_takes bytes sid rest fits e =
       let a = bind_some (result_ok (sid_of_bytes bytes)) (λ sid. Some (sid, drop (8 + 4 * length sid.subs) bytes))
       (sid, rest) e in
-      let w = only bytes a.0 (All_bytes bytes fits) (read_sid _ a.0 a.1) in
+      let w = only bytes a.0 (All_bytes bytes fits) (was_ok _ a.0 a.1) in
       let behind : drop (8 + 4 * length a.0.subs) bytes ≡ w.1.0 =
       ap (λ (n : ℕ). drop n bytes) (sym (sizes a.0)) ∙ ap (λ (b : List ℕ). drop (length (bytes_of a.0)) b) w.1.1
       ∙ drop-append_seam (bytes_of a.0) w.1.0 in

@@ -1,7 +1,7 @@
 -- The pairs of sound rows break no rule, and rows whose pairs break none are sound.
-use Rattle.std.proofs.Common.{◌≡◌, ◌≢◌, ℕ, zero, suc, ◌^◌, ◌<◌, ◌≤◌, ◌==◌, nat_lt, Bool, true, false, ◌&&◌, ◌||◌}
+use Rattle.std.proofs.Common.{◌≡◌, ◌≢◌, ℕ, zero, suc, ◌+◌, ◌^◌, ◌<◌, ◌≤◌, ◌==◌, nat_lt, Bool, true, false, ◌&&◌, ◌||◌}
 use Rattle.std.proofs.Common.{List, [], ◌∷◌, Option, Some, None, refl, sym, ap, subst, ◌∙◌, arith, inl, inr, ◌⊎◌}
-use Rattle.std.specs.Prelude.{is_some, option_map, not}
+use Rattle.std.specs.Prelude.{is_some, option_map, not, nat_le}
 use Rattle.std.specs.List.{list_any}
 use Rattle.std.specs.Str.{bytes_eq}
 use Rattle.std.proofs.lemmas.Bool.Decides.{nat_tests}
@@ -16,19 +16,27 @@ use Rattle.acct_calls.specs.Folding.{is_same, IsEquivalence}
 use Rattle.acct_keeper.specs.declared.pairs.Pair.{Pair}
 use Rattle.acct_rows.specs.Keyed.{same_key, is_ascending}
 use Rattle.acct_rows.specs.Rows.{Lists, domain_at, account_at, member_at, alias_row_at, domain_key, account_key}
-use Rattle.acct_rows.specs.Rows.{member_key, alias_key, lsa_key, same_kind, is_of}
-use Rattle.acct_rows.specs.Sound.{IsGoodDomain, IsGoodAccount, IsSoundRows, next_rid_of}
-use Rattle.acct_rows.specs.Spelled.{rid_bytes, stored_key, key_of, pair_of, format_key, format_value, format_pair, Fits}
-use Rattle.acct_rows.specs.Stored.{row_of}
+use Rattle.acct_rows.specs.Rows.{member_key, alias_key, lsa_key, desc_key, out_key, lsa_at, desc_at, out_at, same_kind}
+use Rattle.acct_rows.specs.Rows.{is_of}
+use Rattle.acct_rows.specs.Objects.{exists}
+use Rattle.acct_rows.specs.Sound.{IsGoodDomain, IsGoodAccount, IsGoodOut, IsSoundRows, next_rid_of}
+use Rattle.acct_rows.specs.Spelled.{rid_bytes, stored_key, key_of, pair_of, format_key, format_value, old_format_value}
+use Rattle.acct_rows.specs.Spelled.{format_pair, next_out_key, next_out_value, next_out_pair, Fits, FitsObject}
+use Rattle.acct_rows.specs.Stored.{row_of, next_out_of}
 use Rattle.acct_rows.specs.PairRules.{pair_key, pair_at, is_there, is_missing, is_past, is_past_next}
 use Rattle.acct_rows.specs.PairRules.{is_earlier, has_taken_name, lacks_group_or_user, lacks_primary}
 use Rattle.acct_rows.specs.PairRules.{breaks_alone, breaks_among, breaks_rule, is_format, is_broken_pair, needed}
-use Rattle.acct_rows.specs.PairRules.{is_broken_at, is_broken, AreUnbroken}
+use Rattle.acct_rows.specs.PairRules.{is_broken_at, is_broken, is_old, next_out_in, is_next_out, lacks, is_out_of_turn}
+use Rattle.acct_rows.specs.PairRules.{is_misnumbered, AreUnbroken}
 use Rattle.acct_rows.specs.PairsOf.{IsRowOf, IsPairOf, HoldPairs}
 use Rattle.acct_rows.specs.declared.row.DomainRow.{DomainRow}
 use Rattle.acct_rows.specs.declared.row.AccountRow.{AccountRow}
 use Rattle.acct_rows.specs.declared.row.MemberRow.{MemberRow}
 use Rattle.acct_rows.specs.declared.row.AliasRow.{AliasRow}
+use Rattle.acct_rows.specs.declared.row.DescRow.{DescRow}
+use Rattle.acct_rows.specs.declared.row.OutRow.{OutRow}
+use Rattle.acct_rows.specs.declared.object.Object.{Object}
+use Rattle.acct_rows.specs.declared.object.Object.TheVariants as objects
 use Rattle.acct_rows.specs.declared.row.Row.{Row}
 use Rattle.acct_rows.specs.declared.row.Row.TheVariants as rows
 use Rattle.acct_rows.specs.declared.row.RowKey.{RowKey}
@@ -40,11 +48,13 @@ use Rattle.acct_tables.proofs.Orders.{same_key-is, tested}
 use Rattle.acct_rows.proofs.ReadRows.{FitsKey}
 use Rattle.acct_rows.proofs.SpelledRows.{fits_key, spelled_rows_are_read}
 use Rattle.acct_rows.specs.Changes.{row_at}
-use Rattle.acct_rows.proofs.Translated.{domain_found, account_found, member_found, alias_found, lsa_found, format_none}
-use Rattle.acct_rows.proofs.Translated.{not_format, row_there, there_is, domain_is}
+use Rattle.acct_rows.proofs.Translated.{domain_found, account_found, member_found, alias_found, lsa_found, desc_found}
+use Rattle.acct_rows.proofs.Translated.{out_found, format_none, next_out_none, next_read, next_read_bounds, not_format}
+use Rattle.acct_rows.proofs.Translated.{not_next_out, not_old, next_there, next_known, row_there, there_is, domain_is}
+use Rattle.acct_rows.proofs.Moves.{nat_cases}
 use Rattle.acct_rows.proofs.Translated.{missing_is}
 use Rattle.acct_rows.proofs.Judged.{either_false, both_false, not_false, not_true, domain_good, account_good, lsa_good}
-use Rattle.acct_rows.proofs.Judged.{good_domain, good_account, good_lsa, IsUsersGroup, users_kind}
+use Rattle.acct_rows.proofs.Judged.{out_good, good_domain, good_account, good_lsa, good_out, IsUsersGroup, users_kind}
 
 any_false : {A : Type 0} (p : A → Bool) (a : A) (xs : List A) → list_any p xs ≡ false → In a xs → p a ≡ false
 any_false p a [] e i = absurd i
@@ -84,8 +94,15 @@ module _ (back : WrittenBytesAreRead) (sizes : WrittenBytesHaveLengths) (only : 
     (fit : (row : Row) → IsRowOf lists row → Fits row) (held : HoldPairs lists pairs) where
   row_not_format : (row : Row) → IsRowOf lists row → is_format (pair_of row) ≡ false
   row_not_format row e =
-      ap (λ b. b && bytes_eq (pair_of row).value format_value) (not_same (stored_key (key_of row)) format_key
+      ap (λ b. b && (bytes_eq (pair_of row).value format_value || bytes_eq (pair_of row).value old_format_value))
+      (not_same (stored_key (key_of row)) format_key
       (not_format back sizes only (key_of row) (fits_key back sizes only row (fit row e))))
+
+  row_not_next : (row : Row) → IsRowOf lists row → is_next_out pairs (pair_of row) ≡ false
+  row_not_next row e =
+      ap (λ b. b && (is_some (next_out_of (pair_of row).value) && not (is_old pairs)))
+      (not_same (stored_key (key_of row)) next_out_key
+      (not_next_out back sizes only (key_of row) (fits_key back sizes only row (fit row e))))
 
   row_read : (row : Row) → IsRowOf lists row → row_of (pair_of row) ≡ Some row
   row_read row e = spelled_rows_are_read back sizes only row (fit row e)
@@ -93,7 +110,9 @@ module _ (back : WrittenBytesAreRead) (sizes : WrittenBytesHaveLengths) (only : 
   -- what the pair of a row breaks
   pair_breaks : (row : Row) → IsRowOf lists row → is_broken_pair pairs (pair_of row) ≡ breaks_rule pairs (Some row)
   pair_breaks row e =
-      ap (λ b. not b && breaks_rule pairs (row_of (pair_of row))) (row_not_format row e)
+      ap (λ b. not b && (not (is_next_out pairs (pair_of row)) && breaks_rule pairs (row_of (pair_of row))))
+      (row_not_format row e)
+      ∙ ap (λ b. not b && breaks_rule pairs (row_of (pair_of row))) (row_not_next row e)
       ∙ ap (breaks_rule pairs) (row_read row e)
 
   module _ (unbroken : AreUnbroken pairs) where
@@ -135,6 +154,29 @@ module _ (back : WrittenBytesAreRead) (sizes : WrittenBytesHaveLengths) (only : 
         → is_of kind (account_at lists domain rid) ≡ true
     missing_false kind domain rid one fits e =
         not_false _ (sym (missing_is back sizes only lists pairs fit held kind domain rid one fits) ∙ e)
+
+    -- an object is there where it isn't missing
+    not_lacking : (object : Object) → FitsObject object → lacks pairs object ≡ false → exists lists object ≡ true
+    not_lacking objects.Server fits e = refl
+    not_lacking objects.Policy fits e = refl
+    not_lacking (objects.Domain number) fits e =
+        some_mapped (λ d. rows.Domain d) (domain_at lists number)
+        (sym (there_is back sizes only lists pairs fit held (keys.Domain number) fits) ∙ not_false _ e)
+    not_lacking (objects.Group rid) fits e = missing_false Group 0 rid (omega arith) fits e
+    not_lacking (objects.Alias domain rid) fits e = missing_false Alias domain rid fits.0 fits.1 e
+    not_lacking (objects.User rid) fits e = missing_false User 0 rid (omega arith) fits e
+    not_lacking (objects.Account sid) fits e =
+        some_mapped (λ l. rows.Lsa l) (lsa_at lists sid)
+        (sym (there_is back sizes only lists pairs fit held (keys.Lsa sid) fits) ∙ not_false _ e)
+
+    desc_whole : (object : Object) (d : DescRow) → desc_at lists object ≡ Some d → exists lists object ≡ true
+    desc_whole object d e =
+        let row = rows.Desc d in
+        let found = desc_found lists object d e in
+        let fits = fit row found.0 in
+        let lacking = either_false (lacks pairs d.object) _ (row_unbroken row found.0).1 in
+        let is : d.object ≡ object = (let k = found.1 in cc) in
+        subst (λ x. exists lists x ≡ true) is (not_lacking d.object fits.object lacking.0)
 
     good_domain_at : (number : ℕ) (d : DomainRow) → domain_at lists number ≡ Some d → IsGoodDomain d
     good_domain_at number d e =
@@ -251,16 +293,86 @@ module _ (back : WrittenBytesAreRead) (sizes : WrittenBytesHaveLengths) (only : 
         (subst (λ n. is_of Alias (account_at lists a.domain n) ≡ true) r
         (missing_false Alias a.domain a.alias fits.domain fits.alias (row_unbroken row found.0).1))
 
-    pub unbroken_is_sound : is_ascending domain_key lists.domains ≡ true
+    -- the next out number is 1, or from 2 to 2^63, as its pair breaks no rule
+    module _ (few : lists.next_out < 2 ^ 64) where
+      next_bounds : (1 ≤ lists.next_out) × (lists.next_out ≤ 2 ^ 63)
+      next_bounds =
+          elim (nat_cases lists.next_out 1) [
+            | inl one ↦ (omega (arith, one), omega (arith, one))
+            | inr apart ↦
+                let whole : is_broken_pair pairs (next_out_pair lists.next_out) ≡ false =
+                ap (is_broken_at pairs next_out_key)
+                (sym (next_there back sizes only lists pairs fit held apart)) ∙ unbroken next_out_key in
+                let read = next_unbroken lists.next_out whole in
+                let bounds = next_read_bounds lists.next_out few read in
+                (omega (arith, bounds.0), bounds.1)
+          ]
+        where
+          next_unbroken : (n : ℕ) → is_broken_pair pairs (next_out_pair n) ≡ false
+              → is_some (next_out_of (next_out_value n)) ≡ true
+          next_unbroken n e =
+              elim (tested (is_some (next_out_of (next_out_value n)))) [
+                | inl t ↦ t
+                | inr t ↦ absurd (
+                    let broken : is_broken_pair pairs (next_out_pair n) ≡ true =
+                    ap (λ b. not (b && not (is_old pairs)) && breaks_rule pairs (row_of (next_out_pair n))) t
+                    ∙ ap (breaks_rule pairs) (next_out_none n) in
+                    cc (broken, e))
+              ]
+
+      next_in_pairs : next_out_in pairs ≡ Some lists.next_out
+      next_in_pairs = next_known back sizes only lists pairs fit held next_bounds.0 next_bounds.1
+
+      -- what a change breaks
+      out_whole : (number : ℕ) (o : OutRow) → out_at lists number ≡ Some o
+          → ((number == 0) ≡ false) × (is_out_of_turn pairs number (Some lists.next_out) ≡ false)
+      out_whole number o e =
+          let row = rows.Out o in
+          let found = out_found lists number o e in
+          let misnumbered = either_false (is_misnumbered pairs row) _ (row_unbroken row found.0).1 in
+          let parts = either_false (o.number == 0) (is_out_of_turn pairs o.number (next_out_in pairs)) misnumbered.0 in
+          let is : o.number ≡ number = (let k = found.1 in cc) in (
+            ap (λ n. n == 0) (sym is) ∙ parts.0,
+            ap (λ n. is_out_of_turn pairs n (Some lists.next_out)) (sym is)
+                ∙ ap (is_out_of_turn pairs o.number) (sym next_in_pairs) ∙ parts.1,
+          )
+
+      good_out_at : (number : ℕ) (o : OutRow) → out_at lists number ≡ Some o → IsGoodOut o
+      good_out_at number o e =
+          let row = rows.Out o in
+          let found = out_found lists number o e in
+          let is : o.number ≡ number = (let k = found.1 in cc) in
+          out_good o (fit row found.0) (ap (λ n. n == 0) is ∙ (out_whole number o e).0) (row_unbroken row found.0).0
+
+      out_below : (number : ℕ) (o : OutRow) → out_at lists number ≡ Some o → number < lists.next_out
+      out_below number o e =
+          let turn = either_false (nat_le lists.next_out number) _ (out_whole number o e).1 in
+          grind (arith, nat_tests, turn.0)
+
+      out_runs_on : (number : ℕ) (o : OutRow) → out_at lists number ≡ Some o → number + 1 < lists.next_out
+          → is_some (out_at lists (number + 1)) ≡ true
+      out_runs_on number o e lt =
+          let turn = either_false (nat_le lists.next_out number) _ (out_whole number o e).1 in
+          let other : (number + 1 == lists.next_out) ≡ false = grind (arith, nat_tests) in
+          let there : is_there pairs (keys.Out (number + 1)) ≡ true =
+          not_false _ (ap (λ b. not b && not (is_there pairs (keys.Out (number + 1)))) (sym other) ∙ turn.1) in
+          let fits : number + 1 < 2 ^ 64 = omega (arith, next_bounds.1, lt) in
+          some_mapped (λ x. rows.Out x) (out_at lists (number + 1))
+          (sym (there_is back sizes only lists pairs fit held (keys.Out (number + 1)) fits) ∙ there)
+
+    pub unbroken_is_sound : lists.next_out < 2 ^ 64 → is_ascending domain_key lists.domains ≡ true
         → is_ascending account_key lists.accounts ≡ true
         → is_ascending member_key lists.members ≡ true → is_ascending alias_key lists.aliases ≡ true
-        → is_ascending lsa_key lists.lsa ≡ true → IsSoundRows lists
-    unbroken_is_sound d a m l s = record {
+        → is_ascending lsa_key lists.lsa ≡ true → is_ascending desc_key lists.descriptors ≡ true
+        → is_ascending out_key lists.outs ≡ true → IsSoundRows lists
+    unbroken_is_sound few d a m l s t o = record {
       domains_ascend = d;
       accounts_ascend = a;
       members_ascend = m;
       aliases_ascend = l;
       lsa_ascend = s;
+      descriptors_ascend = t;
+      outs_ascend = o;
       domain_rules = good_domain_at;
       account_domain = domain_there 0 (omega arith);
       builtin_domain = domain_there 1 (omega arith);
@@ -275,6 +387,13 @@ module _ (back : WrittenBytesAreRead) (sizes : WrittenBytesHaveLengths) (only : 
       lsa_rules = λ sid l e.
           let is = (lsa_found lists sid l e).0 in
           lsa_good l (fit (rows.Lsa l) is) (row_unbroken (rows.Lsa l) is).0;
+      desc_rules = λ object x e. (fit (rows.Desc x) (desc_found lists object x e).0).descriptor;
+      desc_objects = desc_whole;
+      out_rules = good_out_at few;
+      outs_below = out_below few;
+      outs_run_on = out_runs_on few;
+      next_least = (next_bounds few).0;
+      next_most = (next_bounds few).1;
     }
 
   -- ---- and the pairs of sound rows break no rule
@@ -342,11 +461,15 @@ module _ (back : WrittenBytesAreRead) (sizes : WrittenBytesHaveLengths) (only : 
         other_false a (rows.Member m) ea eb = refl
         other_false a (rows.Alias x) ea eb = refl
         other_false a (rows.Lsa l) ea eb = refl
+        other_false a (rows.Desc d) ea eb = refl
+        other_false a (rows.Out o) ea eb = refl
 
         not_earlier : (a : AccountRow) → IsRowOf lists (rows.Account a) → (p : Pair) → IsPairOf lists p
             → is_earlier a (row_of p) ≡ false
         not_earlier a ea p (inl is) = ap (λ q. is_earlier a (row_of q)) is ∙ ap (is_earlier a) format_none
-        not_earlier a ea p (inr is) =
+        not_earlier a ea p (inr (inl is)) =
+            ap (λ q. is_earlier a (row_of q)) is.1 ∙ ap (is_earlier a) (next_out_none lists.next_out)
+        not_earlier a ea p (inr (inr is)) =
             ap (λ q. is_earlier a (row_of q)) is.2 ∙ ap (is_earlier a) (row_read is.0 is.1) ∙ other_false a is.0 ea is.1
 
     users_is_group : (a : AccountRow) → IsRowOf lists (rows.Account a) → IsUsersGroup a
@@ -355,6 +478,44 @@ module _ (back : WrittenBytesAreRead) (sizes : WrittenBytesHaveLengths) (only : 
         ap (λ n. account_at lists n domain_group_rid_users) (sym domain)
         ∙ ap (λ n. account_at lists a.domain n) (sym rid) ∙ e in
         ap (is_of Group) (sym there) ∙ sound.users_group
+
+    some_row : {A : Type 0} (f : A → Row) (o : Option A) → is_some o ≡ true → is_some (option_map f o) ≡ true
+    some_row f (Some x) e = refl
+    some_row f None e = absurd cc
+
+    -- an object that is there isn't missing
+    lacks_not : (object : Object) → FitsObject object → exists lists object ≡ true → lacks pairs object ≡ false
+    lacks_not objects.Server fits e = refl
+    lacks_not objects.Policy fits e = refl
+    lacks_not (objects.Domain number) fits e =
+        not_true _ (there_is back sizes only lists pairs fit held (keys.Domain number) fits
+        ∙ some_row (λ d. rows.Domain d) (domain_at lists number) e)
+    lacks_not (objects.Group rid) fits e = missing_not Group 0 rid (omega arith) fits e
+    lacks_not (objects.Alias domain rid) fits e = missing_not Alias domain rid fits.0 fits.1 e
+    lacks_not (objects.User rid) fits e = missing_not User 0 rid (omega arith) fits e
+    lacks_not (objects.Account sid) fits e =
+        not_true _ (there_is back sizes only lists pairs fit held (keys.Lsa sid) fits
+        ∙ some_row (λ l. rows.Lsa l) (lsa_at lists sid) e)
+
+    newer_not : is_old pairs ≡ false
+    newer_not = not_old back sizes only lists pairs fit held
+
+    -- a change has its turn
+    turn_not : (number : ℕ) (o : OutRow) → out_at lists number ≡ Some o
+        → is_out_of_turn pairs number (Some lists.next_out) ≡ false
+    turn_not number o e =
+        let below = sound.outs_below number o e in
+        let low : nat_le lists.next_out number ≡ false = grind (arith, nat_tests) in
+        elim (tested (number + 1 == lists.next_out)) [
+          | inl t ↦ both_false _ _ low (ap (λ b. not b && not (is_there pairs (keys.Out (number + 1)))) t)
+          | inr t ↦
+              let later : number + 1 < lists.next_out = grind (arith, nat_tests) in
+              let fits : number + 1 < 2 ^ 64 = omega (arith, sound.next_most, later) in
+              let there : is_there pairs (keys.Out (number + 1)) ≡ true =
+              there_is back sizes only lists pairs fit held (keys.Out (number + 1)) fits
+              ∙ some_row (λ x. rows.Out x) (out_at lists (number + 1)) (sound.outs_run_on number o e later) in
+              both_false _ _ low (ap (λ b. not b && not (is_there pairs (keys.Out (number + 1)))) t ∙ not_true _ there)
+        ]
 
     row_is_whole : (row : Row) → IsRowOf lists row → breaks_rule pairs (Some row) ≡ false
     row_is_whole (rows.Domain d) e =
@@ -372,19 +533,33 @@ module _ (back : WrittenBytesAreRead) (sizes : WrittenBytesHaveLengths) (only : 
         both_false _ _ refl
         (missing_not Alias a.domain a.alias fits.domain fits.alias (sound.alias_rows a.domain a.alias a.member a e))
     row_is_whole (rows.Lsa l) e = both_false _ _ (good_lsa l (sound.lsa_rules l.sid l e)) refl
+    row_is_whole (rows.Desc d) e =
+        both_false _ _ (lacks_not d.object (fit (rows.Desc d) e).object (sound.desc_objects d.object d e))
+        (both_false _ false newer_not refl)
+    row_is_whole (rows.Out o) e =
+        let good = sound.out_rules o.number o e in
+        let numbered : (o.number == 0) ≡ false = (let least = good.number_least in grind (arith, nat_tests)) in
+        both_false _ _ (good_out o good) (both_false _ _ (both_false _ _ numbered
+        (ap (is_out_of_turn pairs o.number)
+        (next_known back sizes only lists pairs fit held sound.next_least sound.next_most)
+        ∙ turn_not o.number o e))
+        (both_false _ false newer_not refl))
 
     pair_is_whole : (p : Pair) → IsPairOf lists p → is_broken_pair pairs p ≡ false
     pair_is_whole p (inl is) = ap (is_broken_pair pairs) is
-    pair_is_whole p (inr is) =
+    pair_is_whole p (inr (inl is)) =
+        let two : 2 ≤ lists.next_out = omega (arith, sound.next_least, is.0) in
+        let read : is_some (next_out_of (next_out_value lists.next_out)) ≡ true =
+        ap is_some (next_read lists.next_out two sound.next_most) in
+        ap (is_broken_pair pairs) is.1
+        ∙ ap (λ b. not (b && not (is_old pairs)) && breaks_rule pairs (row_of (next_out_pair lists.next_out))) read
+        ∙ ap (λ b. not (not b) && breaks_rule pairs (row_of (next_out_pair lists.next_out))) newer_not
+    pair_is_whole p (inr (inr is)) =
         ap (is_broken_pair pairs) is.2 ∙ pair_breaks is.0 is.1 ∙ row_is_whole is.0 is.1
 
     some_there : (key : RowKey) → FitsKey key → is_some (row_at lists key) ≡ true
         → is_some (pair_at (stored_key key) pairs) ≡ true
     some_there key fits e = there_is back sizes only lists pairs fit held key fits ∙ e
-
-    some_row : {A : Type 0} (f : A → Row) (o : Option A) → is_some o ≡ true → is_some (option_map f o) ≡ true
-    some_row f (Some x) e = refl
-    some_row f None e = absurd cc
 
     of_some : (kind : Kind) (o : Option AccountRow) → is_of kind o ≡ true → is_some o ≡ true
     of_some kind (Some a) e = refl

@@ -144,6 +144,9 @@ naming_removed r domain rid sid sound =
       members = purged-is member_key (is_member_of domain rid) (member_alike domain rid) r.members;
       aliases = purged-is alias_key (is_alias_row_of domain rid sid) (alias_alike domain rid sid) r.aliases;
       lsa = refl;
+      descriptors = refl;
+      outs = refl;
+      next_out = refl;
       rid_free = rid-gone r domain rid sid;
       name_free = λ a there. name-gone r domain rid sid a sound there;
     })

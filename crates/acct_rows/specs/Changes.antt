@@ -2,13 +2,15 @@
 use Rattle.std.specs.Prelude.{◌≡◌, ◌==◌, Bool, false, ◌&&◌, not, List, [], ◌∷◌, ◌++◌, Option, Some, None}
 use Rattle.std.specs.Prelude.{ℕ, is_some, option_map, if◌then◌else◌}
 use Rattle.std.specs.List.{list_any}
-use Rattle.std.specs.Str.{bytes_eq}
 use Rattle.dtyp_sid.specs.Order.{sid_eq}
 use Rattle.acct_keeper.specs.declared.pairs.Pair.{Pair}
 use Rattle.acct_keeper.specs.declared.pairs.Change.{Change}
 use Rattle.acct_keeper.specs.Pairs.{after}
-use Rattle.acct_rows.specs.Rows.{Lists, domain_at, account_at, member_at, alias_row_at, lsa_at}
-use Rattle.acct_rows.specs.Spelled.{stored_key, stored_value, key_of, pair_of, Fits}
+use Rattle.acct_rows.specs.Objects.{same_object}
+use Rattle.acct_rows.specs.Rows.{Lists, domain_at, account_at, member_at, alias_row_at, lsa_at, desc_at, out_at}
+use Rattle.acct_rows.specs.Rows.{next_past}
+use Rattle.acct_rows.specs.Spelled.{stored_key, stored_value, key_of, pair_of, next_out_key, next_out_value, Fits}
+pub use Rattle.acct_rows.specs.PairRules.{has_value}
 use Rattle.acct_rows.specs.PairsOf.{ArePairsOf}
 use Rattle.acct_rows.specs.declared.plan.Plan.{Plan}
 use Rattle.acct_rows.specs.declared.row.Row.{Row}
@@ -27,6 +29,8 @@ row_at lists (keys.Account domain rid) = option_map (λ a. rows.Account a) (acco
 row_at lists (keys.Member group user) = option_map (λ m. rows.Member m) (member_at lists group user)
 row_at lists (keys.Alias domain alias member) = option_map (λ a. rows.Alias a) (alias_row_at lists domain alias member)
 row_at lists (keys.Lsa sid) = option_map (λ l. rows.Lsa l) (lsa_at lists sid)
+row_at lists (keys.Desc object) = option_map (λ d. rows.Desc d) (desc_at lists object)
+row_at lists (keys.Out number) = option_map (λ o. rows.Out o) (out_at lists number)
 
 -- the pair at the key of a row
 abbrev pub stored_at : Lists → RowKey → Option Pair
@@ -39,15 +43,13 @@ same_row_key (keys.Account a i) (keys.Account b j) = (a == b) && (i == j)
 same_row_key (keys.Member a i) (keys.Member b j) = (a == b) && (i == j)
 same_row_key (keys.Alias a i s) (keys.Alias b j t) = (a == b) && ((i == j) && sid_eq s t)
 same_row_key (keys.Lsa s) (keys.Lsa t) = sid_eq s t
+same_row_key (keys.Desc x) (keys.Desc y) = same_object x y
+same_row_key (keys.Out m) (keys.Out n) = m == n
 same_row_key _ _ = false
 
 -- whether one of the rows has the key
 abbrev pub is_put : List Row → RowKey → Bool
 is_put puts key = list_any (λ row. same_row_key key (key_of row)) puts
-
-abbrev pub has_value : List ℕ → Option Pair → Bool
-has_value value None = false
-has_value value (Some pair) = bytes_eq value pair.value
 
 abbrev pub where_so : Bool → Change → List Change
 where_so test change = if test then change ∷ [] else []
@@ -75,9 +77,15 @@ abbrev pub rows_written : Lists → List Row → List Change
 rows_written lists [] = []
 rows_written lists (row ∷ later) = last_written lists row later ++ rows_written lists later
 
+-- the next out number is written where it is another
+unfoldable pub next_out_written : ℕ → ℕ → List Change
+next_out_written next later =
+    where_so (not (later == next)) (record { key = next_out_key; value = Some (next_out_value later) })
+
 -- what a plan changes
 abbrev pub changes_of : Lists → Plan → List Change
-changes_of lists plan = removals lists plan.puts plan.removes ++ rows_written lists plan.puts
+changes_of lists plan = removals lists plan.puts plan.removes ++ (rows_written lists plan.puts
+    ++ next_out_written lists.next_out (next_past lists.next_out plan.puts))
 
 -- each row that counts has a spelling
 abbrev pub LastFit : List Row → Type 0

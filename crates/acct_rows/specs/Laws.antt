@@ -1,6 +1,6 @@
 -- What changes of rows keep: sound rows stay sound, and the objects that are there stay
-use Rattle.std.specs.Prelude.{◌≡◌, ◌≢◌, ℕ, ◌<◌, ◌≤◌, ◌==◌, Bool, true, false, ◌&&◌, ◌||◌, not, List, [], ◌∷◌, ◌++◌}
-use Rattle.std.specs.Prelude.{map, Some, None, is_some, All}
+use Rattle.std.specs.Prelude.{◌≡◌, ◌≢◌, ℕ, ◌^◌, ◌<◌, ◌≤◌, ◌==◌, Bool, true, false, ◌&&◌, ◌||◌, not, List, []}
+use Rattle.std.specs.Prelude.{◌∷◌, ◌++◌, map, Some, None, is_some, All}
 use Rattle.std.specs.List.{filter}
 use Rattle.acct_codes.specs.declared.kind.Kind.TheVariants.{Group, Alias, User}
 use Rattle.acct_codes.specs.Rids.{domain_group_rid_users}
@@ -9,12 +9,11 @@ use Rattle.dtyp_sid.specs.Order.{sid_eq}
 use Rattle.acct_calls.specs.Folding.{is_same}
 use Rattle.acct_rows.specs.Keyed.{without}
 use Rattle.acct_rows.specs.Rows.{account_key}
-use Rattle.acct_rows.specs.Rows.{Lists, domain_at, account_at, member_at, alias_row_at, lsa_at, find_name, same_kind}
-use Rattle.acct_rows.specs.Rows.{is_of}
-use Rattle.acct_rows.specs.Rows.{put_row, remove_row, removed}
+use Rattle.acct_rows.specs.Rows.{Lists, domain_at, account_at, member_at, alias_row_at, lsa_at, desc_at, out_at}
+use Rattle.acct_rows.specs.Rows.{find_name, same_kind, is_of, put_row, remove_row, removed}
 use Rattle.acct_rows.specs.Objects.{kind_of, domain_of, rid_of, exists, same_object}
 use Rattle.acct_rows.specs.Sound.{is_account_kind, next_rid_of, IsGoodDomain, IsGoodRow, IsGoodAccount}
-use Rattle.acct_rows.specs.Sound.{IsGoodMember, IsGoodLsa, IsSoundRows}
+use Rattle.acct_rows.specs.Sound.{IsGoodMember, IsGoodLsa, IsGoodDescriptor, IsGoodOut, IsSoundRows}
 use Rattle.acct_rows.specs.declared.object.Object.{Object}
 use Rattle.acct_rows.specs.declared.object.Object.TheVariants as objects
 use Rattle.acct_rows.specs.declared.row.DomainRow.{DomainRow}
@@ -22,6 +21,8 @@ use Rattle.acct_rows.specs.declared.row.AccountRow.{AccountRow}
 use Rattle.acct_rows.specs.declared.row.MemberRow.{MemberRow}
 use Rattle.acct_rows.specs.declared.row.AliasRow.{AliasRow}
 use Rattle.acct_rows.specs.declared.row.LsaRow.{LsaRow}
+use Rattle.acct_rows.specs.declared.row.DescRow.{DescRow}
+use Rattle.acct_rows.specs.declared.row.OutRow.{OutRow}
 use Rattle.acct_rows.specs.declared.row.Row.TheVariants as rows
 use Rattle.acct_rows.specs.declared.row.RowKey.{RowKey}
 use Rattle.acct_rows.specs.declared.row.RowKey.TheVariants as keys
@@ -41,6 +42,8 @@ pub record PutIsFound (lists : Lists) : Type 0 where
   pub member : (m : MemberRow) → member_at (put_row (rows.Member m) lists) m.group m.user ≡ Some m
   pub alias : (a : AliasRow) → alias_row_at (put_row (rows.Alias a) lists) a.domain a.alias a.member ≡ Some a
   pub lsa : (l : LsaRow) → lsa_at (put_row (rows.Lsa l) lists) l.sid ≡ Some l
+  pub desc : (d : DescRow) → desc_at (put_row (rows.Desc d) lists) d.object ≡ Some d
+  pub out : (o : OutRow) → out_at (put_row (rows.Out o) lists) o.number ≡ Some o
 
 abbrev pub PutsAreFound : Type 0
 PutsAreFound = (lists : Lists) → PutIsFound lists
@@ -128,14 +131,38 @@ abbrev pub RemovedAliasRowsStaySound : Type 0
 RemovedAliasRowsStaySound = (lists : Lists) (domain alias : ℕ) (member : SidValue) → IsSoundRows lists
     → Keeps nothing lists (remove_row (keys.Alias domain alias member) lists)
 
--- an account of the policy is put, or removed
+-- an account of the policy is put
 abbrev pub LsaAccountsStaySound : Type 0
 LsaAccountsStaySound = (lists : Lists) (l : LsaRow) → IsSoundRows lists → IsGoodLsa l
     → Keeps nothing lists (put_row (rows.Lsa l) lists)
 
+-- an account of the policy is removed with its descriptor
 abbrev pub RemovedLsaAccountsStaySound : Type 0
 RemovedLsaAccountsStaySound = (lists : Lists) (sid : SidValue) → IsSoundRows lists
-    → Keeps (λ x. same_object x (objects.Account sid)) lists (remove_row (keys.Lsa sid) lists)
+    → Keeps (λ x. same_object x (objects.Account sid)) lists
+    (removed (keys.Desc (objects.Account sid) ∷ keys.Lsa sid ∷ []) lists)
+
+-- a descriptor of an object that is there is put, or removed
+abbrev pub DescriptorsStaySound : Type 0
+DescriptorsStaySound = (lists : Lists) (d : DescRow) → IsSoundRows lists → IsGoodDescriptor d
+    → exists lists d.object ≡ true
+    → Keeps nothing lists (put_row (rows.Desc d) lists)
+
+abbrev pub RemovedDescriptorsStaySound : Type 0
+RemovedDescriptorsStaySound = (lists : Lists) (object : Object) → IsSoundRows lists
+    → Keeps nothing lists (remove_row (keys.Desc object) lists)
+
+-- a change with the next out number is put, or the one with the least number is removed
+abbrev pub OutsStaySound : Type 0
+OutsStaySound = (lists : Lists) (o : OutRow) → IsSoundRows lists → IsGoodOut o → o.number ≡ lists.next_out
+    → lists.next_out < 2 ^ 63
+    → Keeps nothing lists (put_row (rows.Out o) lists)
+
+abbrev pub RemovedOutsStaySound : Type 0
+RemovedOutsStaySound = (lists : Lists) (o : OutRow) (others : List OutRow) → IsSoundRows lists
+    → lists.outs ≡ o ∷ others
+    → Keeps nothing lists (remove_row (keys.Out o.number) lists)
+    × ((remove_row (keys.Out o.number) lists).outs ≡ others)
 
 -- whether a member row names an account of a domain
 abbrev pub is_member_of : ℕ → ℕ → MemberRow → Bool
@@ -169,13 +196,15 @@ OthersAreNoPrimary = (lists : Lists) (domain rid : ℕ) → IsSoundRows lists
     → is_of Group (account_at lists domain rid) ≡ false
     → IsNoPrimary lists domain rid
 
--- a user, a group or an alias that is there, except the group of all users, is removed with every row that names it
+-- a user, a group or an alias that is there, except the group of all users, is removed with its descriptor and every
+-- row that names it
 abbrev pub RemovedAccountsStaySound : Type 0
 RemovedAccountsStaySound = (lists : Lists) (object : Object) (sid : SidValue) → IsSoundRows lists
     → is_account_kind (kind_of object) ≡ true → exists lists object ≡ true
     → same_object object (objects.Group domain_group_rid_users) ≡ false
     → IsNoPrimary lists (domain_of object) (rid_of object)
-    → Keeps (λ x. same_object x object) lists (removed (naming lists (domain_of object) (rid_of object) sid) lists)
+    → Keeps (λ x. same_object x object) lists
+    (removed (keys.Desc object ∷ naming lists (domain_of object) (rid_of object) sid) lists)
 
 -- each domain and each account of sound rows stands at its key and keeps its rules, and what is found at a key has it
 pub record EachStands (lists : Lists) : Type 0 where
@@ -207,6 +236,23 @@ pub record EachLsaStands (lists : Lists) : Type 0 where
 abbrev pub EachLsaIsGood : Type 0
 EachLsaIsGood = (lists : Lists) → IsSoundRows lists → EachLsaStands lists
 
+-- so it is with each descriptor, whose object is there
+pub record EachDescStands (lists : Lists) : Type 0 where
+  pub descriptors : All (λ (d : DescRow). (desc_at lists d.object ≡ Some d) × IsGoodDescriptor d
+      × (exists lists d.object ≡ true)) lists.descriptors
+  pub object : (object : Object) (d : DescRow) → desc_at lists object ≡ Some d → d.object ≡ object
+
+abbrev pub EachDescriptorIsGood : Type 0
+EachDescriptorIsGood = (lists : Lists) → IsSoundRows lists → EachDescStands lists
+
+-- so it is with each change, whose number is below the next one
+pub record EachOutStands (lists : Lists) : Type 0 where
+  pub outs : All (λ (o : OutRow). (out_at lists o.number ≡ Some o) × IsGoodOut o × (o.number < lists.next_out)) lists.outs
+  pub number : (number : ℕ) (o : OutRow) → out_at lists number ≡ Some o → o.number ≡ number
+
+abbrev pub EachOutIsGood : Type 0
+EachOutIsGood = (lists : Lists) → IsSoundRows lists → EachOutStands lists
+
 -- An account and every row that names it are gone, and every other row is left as it was: neither the account's RID nor
 -- its name finds it.
 pub record IsWithout (domain rid : ℕ) (sid : SidValue) (lists later : Lists) : Type 0 where
@@ -215,6 +261,9 @@ pub record IsWithout (domain rid : ℕ) (sid : SidValue) (lists later : Lists) :
   pub members : later.members ≡ filter (λ m. not (is_member_of domain rid m)) lists.members
   pub aliases : later.aliases ≡ filter (λ a. not (is_alias_row_of domain rid sid a)) lists.aliases
   pub lsa : later.lsa ≡ lists.lsa
+  pub descriptors : later.descriptors ≡ lists.descriptors
+  pub outs : later.outs ≡ lists.outs
+  pub next_out : later.next_out ≡ lists.next_out
   pub rid_free : account_at later domain rid ≡ None
   pub name_free : (a : AccountRow) → account_at lists domain rid ≡ Some a → find_name later domain a.name ≡ None
 
@@ -235,6 +284,10 @@ pub record LeavesOthers (lists : Lists) : Type 0 where
       → ¬ ((domain ≡ a.domain) × (alias ≡ a.alias) × (member ≡ a.member))
       → alias_row_at (put_row (rows.Alias a) lists) domain alias member ≡ alias_row_at lists domain alias member
   pub lsa : (l : LsaRow) (sid : SidValue) → sid ≢ l.sid → lsa_at (put_row (rows.Lsa l) lists) sid ≡ lsa_at lists sid
+  pub desc : (d : DescRow) (object : Object) → object ≢ d.object
+      → desc_at (put_row (rows.Desc d) lists) object ≡ desc_at lists object
+  pub out : (o : OutRow) (number : ℕ) → number ≢ o.number
+      → out_at (put_row (rows.Out o) lists) number ≡ out_at lists number
 
 abbrev pub PutsLeaveOthers : Type 0
 PutsLeaveOthers = (lists : Lists) → LeavesOthers lists

@@ -5,6 +5,7 @@ pub mod Keyed
 pub mod Laws
 pub mod Loading
 pub mod Naming
+pub mod ObjectKeys
 pub mod Objects
 pub mod PairRules
 pub mod PairsOf

@@ -5,11 +5,12 @@ use Rattle.std.specs.Ordering.{is_lt}
 use Rattle.acct_keeper.specs.declared.pairs.Pair.{Pair}
 use Rattle.acct_keeper.specs.Pairs.{compare}
 use Rattle.acct_rows.specs.Keyed.{is_ascending}
+use Rattle.std.specs.Option.{unwrap_or}
 use Rattle.acct_rows.specs.PairRules.{pair_key, pair_at, domain_in, account_in, has_taken_name, is_broken_pair, needed}
-use Rattle.acct_rows.specs.PairRules.{IsSmallestBroken}
-use Rattle.acct_rows.specs.Rows.{Lists, domain_at, account_at, find_name, with_puts}
-use Rattle.acct_rows.specs.Spelled.{IsSpelled}
-use Rattle.acct_rows.specs.Stored.{row_of}
+use Rattle.acct_rows.specs.PairRules.{next_out_in, IsSmallestBroken}
+use Rattle.acct_rows.specs.Rows.{Lists, domain_at, account_at, find_name, place_row}
+use Rattle.acct_rows.specs.Spelled.{IsSpelled, next_out_value}
+use Rattle.acct_rows.specs.Stored.{row_of, next_out_of}
 use Rattle.acct_rows.specs.declared.pairs.loading.PairsError.{PairsError}
 use Rattle.acct_rows.specs.declared.pairs.loading.PairsError.TheVariants.{BadPair, Memory}
 use Rattle.acct_rows.specs.declared.row.AccountRow.{AccountRow}
@@ -21,13 +22,28 @@ abbrev pub BadPairs : List Pair → PairsError → Type 0
 BadPairs pairs (BadPair key) = IsSmallestBroken pairs key
 BadPairs pairs Memory = Unit {0}
 
--- the row that is read of the pair is what it spells
+-- the row that is read of the pair is what it spells, and so is the next out number that is read of its value
 abbrev pub IsReadWell : Pair → Type 0
-IsReadWell pair = (row : Row) → row_of pair ≡ Some row → IsSpelled pair row
+IsReadWell pair = ((row : Row) → row_of pair ≡ Some row → IsSpelled pair row)
+    × ((next : ℕ) → next_out_of pair.value ≡ Some next → pair.value ≡ next_out_value next)
 
--- no rows
-abbrev pub no_lists : Lists
-no_lists = record { domains = []; accounts = []; members = []; aliases = []; lsa = [] }
+-- no rows, with a next out number
+abbrev pub no_lists : ℕ → Lists
+no_lists next = record {
+  domains = [];
+  accounts = [];
+  members = [];
+  aliases = [];
+  lsa = [];
+  descriptors = [];
+  outs = [];
+  next_out = next;
+}
+
+-- with rows in their places
+abbrev pub placed : List Row → Lists → Lists
+placed [] lists = lists
+placed (row ∷ rows) lists = placed rows (place_row row lists)
 
 -- those that are there
 abbrev pub somes : List (Option Row) → List Row
@@ -37,7 +53,7 @@ somes (Some row ∷ os) = row ∷ somes os
 
 -- the rows that are loaded of pairs
 abbrev pub loaded : List Pair → Lists
-loaded pairs = with_puts (somes (map row_of pairs)) no_lists
+loaded pairs = placed (somes (map row_of pairs)) (no_lists (unwrap_or (next_out_in pairs) 1))
 
 -- the pairs ascend, each is read well, and the rows are those that are loaded of them
 pub record IsLoaded (pairs : List Pair) (lists : Lists) : Type 0 where

@@ -1,5 +1,6 @@
 -- Which pairs break a rule, and which key is the smallest of those that are broken
-use Rattle.std.specs.Prelude.{◌≡◌, ◌≢◌, ℕ, ◌==◌, nat_lt, nat_le, Bool, true, false, ◌&&◌, ◌||◌, not, List, [], ◌∷◌}
+use Rattle.std.specs.Prelude.{◌≡◌, ◌≢◌, ℕ, ◌+◌, ◌==◌, nat_lt, nat_le, Bool, true, false, ◌&&◌, ◌||◌, not, List, []}
+use Rattle.std.specs.Prelude.{◌∷◌}
 use Rattle.std.specs.Prelude.{length, Option, Some, None, is_some, bit_and}
 use Rattle.std.specs.List.{list_any, list_all}
 use Rattle.std.specs.Str.{bytes_eq}
@@ -19,9 +20,11 @@ use Rattle.acct_keeper.specs.Pairs.{compare, same_key}
 use Rattle.acct_rows.specs.Keyed.{at}
 use Rattle.acct_rows.specs.Rows.{same_kind}
 use Rattle.acct_rows.specs.Sound.{control_is_good, good_primary}
-use Rattle.acct_rows.specs.Spelled.{stored_key, format_key, format_value}
+use Rattle.acct_rows.specs.Spelled.{stored_key, format_key, format_value, old_format_value, next_out_key}
 use Rattle.acct_base.specs.Reading.{◌>>=◌}
-use Rattle.acct_rows.specs.Stored.{row_of}
+use Rattle.acct_rows.specs.Stored.{row_of, next_out_of}
+use Rattle.acct_rows.specs.declared.object.Object.{Object}
+use Rattle.acct_rows.specs.declared.object.Object.TheVariants as objects
 use Rattle.acct_rows.specs.declared.row.DomainRow.{DomainRow}
 use Rattle.acct_rows.specs.declared.row.AccountRow.{AccountRow}
 use Rattle.acct_rows.specs.declared.row.Held.{Held}
@@ -68,13 +71,30 @@ abbrev pub is_missing : Kind → List Pair → ℕ → ℕ → Bool
 is_missing kind pairs domain rid =
     not (is_there pairs (keys.Account domain rid)) || is_other kind (account_in pairs domain rid)
 
+abbrev pub has_value : List ℕ → Option Pair → Bool
+has_value value None = false
+has_value value (Some pair) = bytes_eq value pair.value
+
+-- whether the pairs are of format 1
+abbrev pub is_old : List Pair → Bool
+is_old pairs = has_value old_format_value (pair_at format_key pairs)
+
+-- the next out number: 1 where its pair isn't there, and none where that isn't exactly spelled
+abbrev pub next_in : Option Pair → Option ℕ
+next_in None = Some 1
+next_in (Some pair) = next_out_of pair.value
+
+abbrev pub next_out_in : List Pair → Option ℕ
+next_out_in pairs = next_in (pair_at next_out_key pairs)
+
 -- The rules, each as a test of a row that breaks it.
 
--- an account's name is none that its kind may have, or a text is too long
+-- the name of an account, or of a change of one, is none that its kind may have, or a text is too long
 abbrev pub has_bad_text : Row → Bool
 has_bad_text (rows.Domain d) = nat_lt most_text (length d.oem)
 has_bad_text (rows.Account a) =
     not (is_valid_name a.kind a.name) || (nat_lt most_text (length a.full_name) || nat_lt most_text (length a.comment))
+has_bad_text (rows.Out o) = not (is_valid_name o.kind o.name)
 has_bad_text _ = false
 
 -- a user's bits are no control
@@ -111,6 +131,11 @@ abbrev pub has_bad_next : Row → Bool
 has_bad_next (rows.Domain d) = nat_lt d.next_rid first_created_rid || nat_lt most_rid d.next_rid
 has_bad_next _ = false
 
+-- a change's action is none, or its RID none that a domain may have given out
+abbrev pub is_bad_change : Row → Bool
+is_bad_change (rows.Out o) = (o.action == 0) || (nat_lt 3 o.action || nat_le most_rid o.rid)
+is_bad_change _ = false
+
 -- an account of the domain with a smaller RID has the name
 abbrev pub is_earlier : AccountRow → Option Row → Bool
 is_earlier a (Some (rows.Account b)) = (b.domain == a.domain) && (nat_lt b.rid a.rid && is_same b.name a.name)
@@ -120,11 +145,12 @@ abbrev pub has_taken_name : List Pair → Row → Bool
 has_taken_name pairs (rows.Account a) = list_any (λ pair. is_earlier a (row_of pair)) pairs
 has_taken_name pairs _ = false
 
--- an account of BUILTIN isn't an alias, or that of all users isn't a group
+-- an account of BUILTIN, or one that was changed, isn't an alias, or the account of all users isn't a group
 abbrev pub is_misplaced : Row → Bool
 is_misplaced (rows.Account a) =
     ((a.domain == 1) && not (same_kind Alias a.kind))
     || ((a.domain == 0) && ((a.rid == domain_group_rid_users) && not (same_kind Group a.kind)))
+is_misplaced (rows.Out o) = (o.domain == 1) && not (same_kind Alias o.kind)
 is_misplaced _ = false
 
 -- a member row's group or user is missing
@@ -144,6 +170,35 @@ abbrev pub lacks_alias : List Pair → Row → Bool
 lacks_alias pairs (rows.Alias a) = is_missing Alias pairs a.domain a.alias
 lacks_alias pairs _ = false
 
+-- a descriptor's object is missing
+abbrev pub lacks : List Pair → Object → Bool
+lacks pairs (objects.Domain number) = not (is_there pairs (keys.Domain number))
+lacks pairs (objects.Group rid) = is_missing Group pairs 0 rid
+lacks pairs (objects.Alias domain rid) = is_missing Alias pairs domain rid
+lacks pairs (objects.User rid) = is_missing User pairs 0 rid
+lacks pairs (objects.Account sid) = not (is_there pairs (keys.Lsa sid))
+lacks pairs _ = false
+
+abbrev pub lacks_object : List Pair → Row → Bool
+lacks_object pairs (rows.Desc d) = lacks pairs d.object
+lacks_object pairs _ = false
+
+-- a change's number is 0 or not below the next one, or the change after it is missing
+abbrev pub is_out_of_turn : List Pair → ℕ → Option ℕ → Bool
+is_out_of_turn pairs number None = false
+is_out_of_turn pairs number (Some next) =
+    nat_le next number || (not (number + 1 == next) && not (is_there pairs (keys.Out (number + 1))))
+
+abbrev pub is_misnumbered : List Pair → Row → Bool
+is_misnumbered pairs (rows.Out o) = (o.number == 0) || is_out_of_turn pairs o.number (next_out_in pairs)
+is_misnumbered pairs _ = false
+
+-- format 1 had no descriptors and no changes
+abbrev pub is_too_new : List Pair → Row → Bool
+is_too_new pairs (rows.Desc d) = is_old pairs
+is_too_new pairs (rows.Out o) = is_old pairs
+is_too_new pairs _ = false
+
 -- the account domain's name or SID is none that a configuration may name
 abbrev pub is_bad_account_domain : Row → Bool
 is_bad_account_domain (rows.Domain d) = (d.number == 0) && not (is_domain_name d.name && is_domain_sid d.sid)
@@ -159,24 +214,33 @@ is_bad_builtin _ = false
 abbrev pub breaks_alone : Row → Bool
 breaks_alone row =
     has_bad_text row || (has_bad_control row || (has_needless_number row || (has_unknown_right row
-    || (has_bad_next row || (is_misplaced row || (is_bad_account_domain row || is_bad_builtin row))))))
+    || (has_bad_next row || (is_bad_change row || (is_misplaced row
+    || (is_bad_account_domain row || is_bad_builtin row)))))))
 
 abbrev pub breaks_among : List Pair → Row → Bool
 breaks_among pairs row =
     is_past_next pairs row || (has_taken_name pairs row || (lacks_group_or_user pairs row
-    || (lacks_primary pairs row || lacks_alias pairs row)))
+    || (lacks_primary pairs row || (lacks_object pairs row || (is_misnumbered pairs row || (is_too_new pairs row
+    || lacks_alias pairs row))))))
 
--- the pair says that the format is the one that is known
+-- the pair says that the format is one that is known
 abbrev pub is_format : Pair → Bool
-is_format pair = bytes_eq pair.key format_key && bytes_eq pair.value format_value
+is_format pair =
+    bytes_eq pair.key format_key && (bytes_eq pair.value format_value || bytes_eq pair.value old_format_value)
 
--- a pair breaks a rule: it spells no row exactly, or one that does
+-- the pair tells the next out number, which format 1 hadn't
+abbrev pub is_next_out : List Pair → Pair → Bool
+is_next_out pairs pair =
+    bytes_eq pair.key next_out_key && (is_some (next_out_of pair.value) && not (is_old pairs))
+
+-- a pair breaks a rule: it is neither of these, and spells no row exactly, or one that does
 abbrev pub breaks_rule : List Pair → Option Row → Bool
 breaks_rule pairs None = true
 breaks_rule pairs (Some row) = breaks_alone row || breaks_among pairs row
 
 abbrev pub is_broken_pair : List Pair → Pair → Bool
-is_broken_pair pairs pair = not (is_format pair) && breaks_rule pairs (row_of pair)
+is_broken_pair pairs pair =
+    not (is_format pair) && (not (is_next_out pairs pair) && breaks_rule pairs (row_of pair))
 
 -- the keys of which each has a pair, ascending: the group of all users, the two domains and the format
 abbrev pub needed : List (List ℕ)

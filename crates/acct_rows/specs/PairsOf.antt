@@ -1,19 +1,24 @@
 -- The pairs of the rows, and the laws between rows and pairs
-use Rattle.std.specs.Prelude.{◌≡◌, Bool, true, ◌&&◌, not, List, [], ◌∷◌, ◌++◌, map, All, ◌⊎◌, Some, ◌↔◌}
+use Rattle.std.specs.Prelude.{◌≡◌, ◌≢◌, ℕ, ◌^◌, ◌<◌, ◌==◌, Bool, true, ◌&&◌, not, List, [], ◌∷◌, ◌++◌, map, All, ◌⊎◌}
+use Rattle.std.specs.Prelude.{Some, ◌↔◌, if◌then◌else◌}
 use Rattle.std.specs.List.{list_any}
 use Rattle.acct_keeper.specs.declared.pairs.Pair.{Pair}
-use Rattle.acct_keeper.specs.Pairs.{same_key, is_ascending}
+use Rattle.acct_keeper.specs.declared.pairs.Change.{Change}
+use Rattle.acct_keeper.specs.Pairs.{same_key, is_ascending, after}
 use Rattle.acct_rows.specs.Keyed.{is_ascending as is_rising}
-use Rattle.acct_rows.specs.Rows.{Lists, domain_key, account_key, member_key, alias_key, lsa_key}
-use Rattle.acct_rows.specs.Rows.{domain_at, account_at, member_at, alias_row_at, lsa_at}
+use Rattle.acct_rows.specs.Rows.{Lists, domain_key, account_key, member_key, alias_key, lsa_key, desc_key, out_key}
+use Rattle.acct_rows.specs.Rows.{domain_at, account_at, member_at, alias_row_at, lsa_at, desc_at, out_at}
 use Rattle.acct_rows.specs.Sound.{IsSoundRows}
-use Rattle.acct_rows.specs.Spelled.{pair_of, format_pair, FitsDomain, FitsAccount, FitsMember, FitsAlias, FitsLsa}
-use Rattle.acct_rows.specs.PairRules.{pair_at, AreUnbroken}
+use Rattle.acct_rows.specs.Spelled.{pair_of, format_key, format_value, format_pair, next_out_pair}
+use Rattle.acct_rows.specs.Spelled.{FitsDomain, FitsAccount, FitsMember, FitsAlias, FitsLsa, FitsDesc, FitsOut}
+use Rattle.acct_rows.specs.PairRules.{pair_at, is_old, AreUnbroken}
 use Rattle.acct_rows.specs.declared.row.DomainRow.{DomainRow}
 use Rattle.acct_rows.specs.declared.row.AccountRow.{AccountRow}
 use Rattle.acct_rows.specs.declared.row.MemberRow.{MemberRow}
 use Rattle.acct_rows.specs.declared.row.AliasRow.{AliasRow}
 use Rattle.acct_rows.specs.declared.row.LsaRow.{LsaRow}
+use Rattle.acct_rows.specs.declared.row.DescRow.{DescRow}
+use Rattle.acct_rows.specs.declared.row.OutRow.{OutRow}
 use Rattle.acct_rows.specs.declared.row.Row.{Row}
 use Rattle.acct_rows.specs.declared.row.Row.TheVariants as rows
 
@@ -24,10 +29,17 @@ IsRowOf lists (rows.Account a) = account_at lists a.domain a.rid ≡ Some a
 IsRowOf lists (rows.Member m) = member_at lists m.group m.user ≡ Some m
 IsRowOf lists (rows.Alias a) = alias_row_at lists a.domain a.alias a.member ≡ Some a
 IsRowOf lists (rows.Lsa l) = lsa_at lists l.sid ≡ Some l
+IsRowOf lists (rows.Desc d) = desc_at lists d.object ≡ Some d
+IsRowOf lists (rows.Out o) = out_at lists o.number ≡ Some o
 
--- the pair is the format's, or that of one of the rows
+-- the pair tells the next out number, which is stored exactly where it isn't 1
+abbrev pub IsNextOut : ℕ → Pair → Type 0
+IsNextOut next pair = (next ≢ 1) × (pair ≡ next_out_pair next)
+
+-- the pair is the format's, that of the next out number, or that of one of the rows
 abbrev pub IsPairOf : Lists → Pair → Type 0
-IsPairOf lists pair = (pair ≡ format_pair) ⊎ ((row : Row) × IsRowOf lists row × (pair ≡ pair_of row))
+IsPairOf lists pair = (pair ≡ format_pair) ⊎ (IsNextOut lists.next_out pair
+    ⊎ ((row : Row) × IsRowOf lists row × (pair ≡ pair_of row)))
 
 -- the pairs are those of the rows, found at their keys, and no others
 abbrev pub HoldPairs : Lists → List Pair → Type 0
@@ -37,6 +49,17 @@ HoldPairs lists pairs = (pair : Pair) → (pair_at pair.key pairs ≡ Some pair)
 pub record ArePairsOf (lists : Lists) (pairs : List Pair) : Type 0 where
   pub ascending : is_ascending pairs ≡ true
   pub held : HoldPairs lists pairs
+
+-- The change that takes pairs of format 1 to format 2, and the pairs after it: those of format 2 are left as they are.
+abbrev pub migration : Change
+migration = record { key = format_key; value = Some format_value }
+
+abbrev pub migrated : List Pair → List Pair
+migrated pairs = if is_old pairs then after (migration ∷ []) pairs else pairs
+
+-- they ascend as they did
+abbrev pub MigratedPairsAscend : Type 0
+MigratedPairsAscend = (pairs : List Pair) → is_ascending pairs ≡ true → is_ascending (migrated pairs) ≡ true
 
 -- no key stands twice
 abbrev pub keys_differ : List Pair → Bool
@@ -50,6 +73,9 @@ pub record AllFit (lists : Lists) : Type 0 where
   pub members : All FitsMember lists.members
   pub aliases : All FitsAlias lists.aliases
   pub lsa : All FitsLsa lists.lsa
+  pub descriptors : All FitsDesc lists.descriptors
+  pub outs : All FitsOut lists.outs
+  pub next_out : lists.next_out < 2 ^ 64
 
 -- the pairs of the rows of each list, in their order
 abbrev pub domain_pairs : List DomainRow → List Pair
@@ -67,10 +93,20 @@ alias_pairs xs = map (λ a. pair_of (rows.Alias a)) xs
 abbrev pub lsa_pairs : List LsaRow → List Pair
 lsa_pairs xs = map (λ l. pair_of (rows.Lsa l)) xs
 
--- the pairs of all rows, list by list, after the format's
+abbrev pub desc_pairs : List DescRow → List Pair
+desc_pairs xs = map (λ d. pair_of (rows.Desc d)) xs
+
+abbrev pub out_pairs : List OutRow → List Pair
+out_pairs xs = map (λ o. pair_of (rows.Out o)) xs
+
+abbrev pub next_out_pairs : ℕ → List Pair
+next_out_pairs next = if next == 1 then [] else next_out_pair next ∷ []
+
+-- the pairs of all rows, list by list, after the format's and that of the next out number
 abbrev pub all_pairs : Lists → List Pair
-all_pairs lists = format_pair ∷ (domain_pairs lists.domains ++ (account_pairs lists.accounts
-    ++ (member_pairs lists.members ++ (alias_pairs lists.aliases ++ lsa_pairs lists.lsa))))
+all_pairs lists = format_pair ∷ (next_out_pairs lists.next_out ++ (domain_pairs lists.domains
+    ++ (account_pairs lists.accounts ++ (member_pairs lists.members ++ (alias_pairs lists.aliases
+    ++ (lsa_pairs lists.lsa ++ (desc_pairs lists.descriptors ++ out_pairs lists.outs)))))))
 
 -- rows by strictly ascending key, as tables hold them
 pub record AreTables (lists : Lists) : Type 0 where
@@ -79,6 +115,8 @@ pub record AreTables (lists : Lists) : Type 0 where
   pub members : is_rising member_key lists.members ≡ true
   pub aliases : is_rising alias_key lists.aliases ≡ true
   pub lsa : is_rising lsa_key lists.lsa ≡ true
+  pub descriptors : is_rising desc_key lists.descriptors ≡ true
+  pub outs : is_rising out_key lists.outs ≡ true
 
 -- the pairs of sound rows break no rule, and rows whose pairs break none are sound
 pub record SoundIsUnbroken : Type 0 where

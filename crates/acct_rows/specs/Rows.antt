@@ -1,18 +1,23 @@
 -- The rows of the account database as lists by ascending key, what is looked up in them, and a plan applied to them
-use Rattle.std.specs.Prelude.{ℕ, ◌+◌, ◌^◌, ◌<◌, ◌==◌, Bool, true, false, ◌&&◌, List, [], ◌∷◌, length, Option, Some}
-use Rattle.std.specs.Prelude.{None, map, if◌then◌else◌}
+use Rattle.std.specs.Prelude.{◌≡◌, ℕ, ◌+◌, ◌^◌, ◌<◌, ◌==◌, Bool, true, false, ◌&&◌, List, [], ◌∷◌, length, Option}
+use Rattle.std.specs.Prelude.{Some, None, map, option_map, if◌then◌else◌}
 use Rattle.std.specs.List.{filter, find, list_any}
 use Rattle.acct_codes.specs.declared.kind.Kind.{Kind}
 use Rattle.acct_codes.specs.declared.kind.Kind.TheVariants.{Server, Domain, Group, Alias, User, Policy, Account}
 use Rattle.dtyp_sid.specs.Value.{SidValue}
 use Rattle.dtyp_sid.specs.Order.{sid_eq}
+use Rattle.dtyp_access.specs.declared.descriptor.Descriptor.{Descriptor}
 use Rattle.acct_calls.specs.Folding.{is_same}
 use Rattle.acct_rows.specs.Keyed.{at, put, without}
+use Rattle.acct_rows.specs.ObjectKeys.{object_key}
+use Rattle.acct_rows.specs.declared.object.Object.{Object}
 use Rattle.acct_rows.specs.declared.row.DomainRow.{DomainRow}
 use Rattle.acct_rows.specs.declared.row.AccountRow.{AccountRow}
 use Rattle.acct_rows.specs.declared.row.MemberRow.{MemberRow}
 use Rattle.acct_rows.specs.declared.row.AliasRow.{AliasRow}
 use Rattle.acct_rows.specs.declared.row.LsaRow.{LsaRow}
+use Rattle.acct_rows.specs.declared.row.DescRow.{DescRow}
+use Rattle.acct_rows.specs.declared.row.OutRow.{OutRow}
 use Rattle.acct_rows.specs.declared.row.Row.{Row}
 use Rattle.acct_rows.specs.declared.row.Row.TheVariants as rows
 use Rattle.acct_rows.specs.declared.row.RowKey.{RowKey}
@@ -38,6 +43,12 @@ alias_key a = a.domain ∷ a.alias ∷ sid_key a.member
 abbrev pub lsa_key : LsaRow → List ℕ
 lsa_key l = sid_key l.sid
 
+abbrev pub desc_key : DescRow → List ℕ
+desc_key d = object_key d.object
+
+abbrev pub out_key : OutRow → List ℕ
+out_key o = o.number ∷ []
+
 -- the numbers of the account domain, which has every group and every user, and of BUILTIN, which has aliases alone
 abbrev pub account_domain : ℕ
 account_domain = 0
@@ -45,13 +56,18 @@ account_domain = 0
 abbrev pub builtin_domain : ℕ
 builtin_domain = 1
 
--- the rows: the domains, their accounts, the members of groups and of aliases, and the accounts of the policy
+-- The rows: the domains, their accounts, the members of groups and of aliases, the accounts of the policy, the security
+-- descriptors of objects, and the changes of accounts that are to be told to a program. Each change takes the next out
+-- number.
 pub record Lists : Type 0 where
   pub domains : List DomainRow
   pub accounts : List AccountRow
   pub members : List MemberRow
   pub aliases : List AliasRow
   pub lsa : List LsaRow
+  pub descriptors : List DescRow
+  pub outs : List OutRow
+  pub next_out : ℕ
 
 -- the lists, and for how many more rows there is room
 pub record Shown : Type 0 where
@@ -65,6 +81,8 @@ pub record HasRoom (lists : Lists) (more : ℕ) : Type 0 where
   pub members : length lists.members + more < 2 ^ 32
   pub aliases : length lists.aliases + more < 2 ^ 32
   pub lsa : length lists.lsa + more < 2 ^ 32
+  pub descriptors : length lists.descriptors + more < 2 ^ 32
+  pub outs : length lists.outs + more < 2 ^ 32
 
 abbrev pub domain_at : Lists → ℕ → Option DomainRow
 domain_at lists number = at domain_key (number ∷ []) lists.domains
@@ -80,6 +98,16 @@ alias_row_at lists domain alias member = at alias_key (domain ∷ alias ∷ sid_
 
 abbrev pub lsa_at : Lists → SidValue → Option LsaRow
 lsa_at lists sid = at lsa_key (sid_key sid) lists.lsa
+
+abbrev pub desc_at : Lists → Object → Option DescRow
+desc_at lists object = at desc_key (object_key object) lists.descriptors
+
+abbrev pub out_at : Lists → ℕ → Option OutRow
+out_at lists number = at out_key (number ∷ []) lists.outs
+
+-- the descriptor of an object that has a row
+abbrev pub descriptor_of : Lists → Object → Option Descriptor
+descriptor_of lists object = option_map (λ d. d.descriptor) (desc_at lists object)
 
 -- whether two kinds are one
 abbrev pub same_kind : Kind → Kind → Bool
@@ -151,12 +179,34 @@ each_once (n ∷ ns) = n ∷ each_once_after n ns
 abbrev pub aliases_of : Lists → ℕ → List SidValue → List ℕ
 aliases_of lists domain sids = each_once (map (λ a. a.alias) (filter (has_one domain sids) lists.aliases))
 
+-- with a row in its place: one with its key goes
+abbrev pub place_row : Row → Lists → Lists
+place_row (rows.Domain d) lists = record lists { domains = put domain_key d lists.domains }
+place_row (rows.Account a) lists = record lists { accounts = put account_key a lists.accounts }
+place_row (rows.Member m) lists = record lists { members = put member_key m lists.members }
+place_row (rows.Alias a) lists = record lists { aliases = put alias_key a lists.aliases }
+place_row (rows.Lsa l) lists = record lists { lsa = put lsa_key l lists.lsa }
+place_row (rows.Desc d) lists = record lists { descriptors = put desc_key d lists.descriptors }
+place_row (rows.Out o) lists = record lists { outs = put out_key o lists.outs }
+
+-- the next out number once a row is put: a change takes one
+abbrev pub next_after : Row → ℕ → ℕ
+next_after (rows.Out o) next = next + 1
+next_after _ next = next
+
 abbrev pub put_row : Row → Lists → Lists
-put_row (rows.Domain d) lists = record lists { domains = put domain_key d lists.domains }
-put_row (rows.Account a) lists = record lists { accounts = put account_key a lists.accounts }
-put_row (rows.Member m) lists = record lists { members = put member_key m lists.members }
-put_row (rows.Alias a) lists = record lists { aliases = put alias_key a lists.aliases }
-put_row (rows.Lsa l) lists = record lists { lsa = put lsa_key l lists.lsa }
+put_row row lists = record (place_row row lists) { next_out = next_after row lists.next_out }
+
+-- and once several are put
+abbrev pub next_past : ℕ → List Row → ℕ
+next_past next [] = next
+next_past next (row ∷ puts) = next_past (next_after row next) puts
+
+-- where rows are put, the changes of accounts among them take the next out numbers in order, each below 2^63
+abbrev pub TakeNumbers : ℕ → List Row → Type 0
+TakeNumbers next [] = Unit {0}
+TakeNumbers next (rows.Out o ∷ puts) = (o.number ≡ next) × (next < 2 ^ 63) × TakeNumbers (next + 1) puts
+TakeNumbers next (_ ∷ puts) = TakeNumbers next puts
 
 abbrev pub remove_row : RowKey → Lists → Lists
 remove_row (keys.Domain number) lists = record lists { domains = without domain_key (number ∷ []) lists.domains }
@@ -167,6 +217,9 @@ remove_row (keys.Member group user) lists =
 remove_row (keys.Alias domain alias member) lists =
     record lists { aliases = without alias_key (domain ∷ alias ∷ sid_key member) lists.aliases }
 remove_row (keys.Lsa sid) lists = record lists { lsa = without lsa_key (sid_key sid) lists.lsa }
+remove_row (keys.Desc object) lists =
+    record lists { descriptors = without desc_key (object_key object) lists.descriptors }
+remove_row (keys.Out number) lists = record lists { outs = without out_key (number ∷ []) lists.outs }
 
 abbrev pub removed : List RowKey → Lists → Lists
 removed [] lists = lists

@@ -111,7 +111,8 @@ seed_aliases sid =
     ∷ seed_alias_row domain_alias_rid_guests sid domain_group_rid_guests
     ∷ []
 
--- the rows for an account domain of that name and SID; the policy has no account
+-- the rows for an account domain of that name and SID; the policy has no account, no descriptor was set, and no account
+-- was changed
 abbrev pub seed_lists : List ℕ → SidValue → Lists
 seed_lists name sid = record {
   domains = seed_domains name sid;
@@ -119,4 +120,7 @@ seed_lists name sid = record {
   members = seed_members;
   aliases = seed_aliases sid;
   lsa = [];
+  descriptors = [];
+  outs = [];
+  next_out = 1;
 }

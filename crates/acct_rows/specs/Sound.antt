@@ -1,6 +1,7 @@
 -- Which rows are sound: each breaks no rule, by itself and among the others
 use Rattle.std.specs.Prelude.{◌≡◌, ℕ, ◌+◌, ◌^◌, ◌<◌, ◌≤◌, ◌==◌, nat_lt, Bool, true, false, ◌&&◌, ◌||◌}
 use Rattle.std.specs.Prelude.{List, [], ◌∷◌, length, All, Option, Some, None, is_some, bit_and}
+use Rattle.dtyp_access.specs.Limits.{IsDescriptor}
 use Rattle.acct_codes.specs.declared.kind.Kind.{Kind}
 use Rattle.acct_codes.specs.declared.kind.Kind.TheVariants.{Group, Alias, User}
 use Rattle.acct_codes.specs.Limits.{most_text}
@@ -15,13 +16,17 @@ use Rattle.acct_calls.specs.Domains.{builtin_name, builtin_sid, is_domain_name, 
 use Rattle.acct_calls.specs.Folding.{is_same}
 use Rattle.acct_calls.specs.Validity.{is_valid_name}
 use Rattle.acct_rows.specs.Keyed.{is_ascending}
-use Rattle.acct_rows.specs.Rows.{Lists, domain_key, account_key, member_key, alias_key, lsa_key, domain_at, account_at}
-use Rattle.acct_rows.specs.Rows.{member_at, alias_row_at, lsa_at, same_kind, is_of}
+use Rattle.acct_rows.specs.Objects.{exists}
+use Rattle.acct_rows.specs.Rows.{Lists, domain_key, account_key, member_key, alias_key, lsa_key, desc_key, out_key}
+use Rattle.acct_rows.specs.Rows.{domain_at, account_at, member_at, alias_row_at, lsa_at, desc_at, out_at, same_kind, is_of}
+use Rattle.acct_rows.specs.declared.object.Object.{Object}
 use Rattle.acct_rows.specs.declared.row.DomainRow.{DomainRow}
 use Rattle.acct_rows.specs.declared.row.AccountRow.{AccountRow}
 use Rattle.acct_rows.specs.declared.row.MemberRow.{MemberRow}
 use Rattle.acct_rows.specs.declared.row.AliasRow.{AliasRow}
 use Rattle.acct_rows.specs.declared.row.LsaRow.{LsaRow}
+use Rattle.acct_rows.specs.declared.row.DescRow.{DescRow}
+use Rattle.acct_rows.specs.declared.row.OutRow.{OutRow}
 use Rattle.acct_rows.specs.declared.row.Held.{Held}
 
 -- a domain by itself
@@ -134,6 +139,24 @@ pub record IsGoodLsa (l : LsaRow) : Type 0 where
   pub privileges_ascend : are_above 0 l.privileges ≡ true
   pub privileges_known : All IsKnown l.privileges
 
+-- a descriptor by itself: its SIDs are such, its masks have 32 bits, and its list has no more entries than are written
+abbrev pub IsGoodDescriptor : DescRow → Type 0
+IsGoodDescriptor d = IsDescriptor d.descriptor
+
+-- a change of an account by itself
+pub record IsGoodOut (o : OutRow) : Type 0 where
+  pub number_least : 1 ≤ o.number
+  -- an account was made, changed or removed
+  pub action_least : 1 ≤ o.action
+  pub action_most : o.action ≤ 3
+  -- the account's RID is one that a domain may have given out
+  pub rid_most : o.rid < most_rid
+  pub kind_known : is_account_kind o.kind ≡ true
+  pub place : good_place o.domain o.kind ≡ true
+  -- its name is one that its kind may have (MS-SAMR 3.1.1.8.4)
+  pub name_units : AreUnits o.name
+  pub named : is_valid_name o.kind o.name ≡ true
+
 -- the rows are sound
 pub record IsSoundRows (lists : Lists) : Type 0 where
   -- each list stands by strictly ascending key, so that no key stands twice
@@ -142,6 +165,8 @@ pub record IsSoundRows (lists : Lists) : Type 0 where
   pub members_ascend : is_ascending member_key lists.members ≡ true
   pub aliases_ascend : is_ascending alias_key lists.aliases ≡ true
   pub lsa_ascend : is_ascending lsa_key lists.lsa ≡ true
+  pub descriptors_ascend : is_ascending desc_key lists.descriptors ≡ true
+  pub outs_ascend : is_ascending out_key lists.outs ≡ true
   -- each domain keeps its rules
   pub domain_rules : (number : ℕ) (d : DomainRow) → domain_at lists number ≡ Some d → IsGoodDomain d
   -- the account domain and BUILTIN are there
@@ -168,3 +193,14 @@ pub record IsSoundRows (lists : Lists) : Type 0 where
       → is_of Alias (account_at lists domain alias) ≡ true
   -- each account of the policy keeps its rules
   pub lsa_rules : (sid : SidValue) (l : LsaRow) → lsa_at lists sid ≡ Some l → IsGoodLsa l
+  -- each descriptor keeps its rules, and its object is there
+  pub desc_rules : (object : Object) (d : DescRow) → desc_at lists object ≡ Some d → IsGoodDescriptor d
+  pub desc_objects : (object : Object) (d : DescRow) → desc_at lists object ≡ Some d → exists lists object ≡ true
+  -- each change keeps its rules, and its number is below the next one
+  pub out_rules : (number : ℕ) (o : OutRow) → out_at lists number ≡ Some o → IsGoodOut o
+  pub outs_below : (number : ℕ) (o : OutRow) → out_at lists number ≡ Some o → number < lists.next_out
+  -- no number is left out between a change and the next one
+  pub outs_run_on : (number : ℕ) (o : OutRow) → out_at lists number ≡ Some o → number + 1 < lists.next_out
+      → is_some (out_at lists (number + 1)) ≡ true
+  pub next_least : 1 ≤ lists.next_out
+  pub next_most : lists.next_out ≤ 2 ^ 63

@@ -1,12 +1,14 @@
 -- How rows are stored: each as one pair, with its key and its value in bytes. Numbers stand with the lowest byte first,
 -- except those in keys, which stand with the highest first, so that keys ascend as they do.
 use Rattle.std.specs.Prelude.{◌≡◌, ℕ, ◌^◌, ◌<◌, ◌≤◌, Bool, true, List, [], ◌∷◌, ◌++◌, length, All}
-use Rattle.std.specs.Int.{w16, w32, to_le_bytes, to_be_bytes}
+use Rattle.std.specs.Int.{w16, w32, w64, to_le_bytes, to_be_bytes}
 use Rattle.std.specs.List.{flat_map}
 use Rattle.acct_codes.specs.declared.kind.Kind.{Kind}
 use Rattle.acct_codes.specs.declared.kind.Kind.TheVariants.{Group, Alias, User}
 use Rattle.dtyp_sid.specs.Bytes.{bytes_of}
 use Rattle.dtyp_sid.specs.Value.{IsSid}
+use Rattle.dtyp_access.specs.Limits.{IsDescriptor}
+use Rattle.dtyp_access.specs.Written.{descriptor_bytes}
 use Rattle.acct_calls.specs.CodePoints.{AreUnits}
 use Rattle.acct_keeper.specs.declared.pairs.Pair.{Pair}
 use Rattle.acct_rows.specs.Sound.{is_account_kind, are_above}
@@ -14,7 +16,11 @@ use Rattle.acct_rows.specs.declared.row.DomainRow.{DomainRow}
 use Rattle.acct_rows.specs.declared.row.AccountRow.{AccountRow}
 use Rattle.acct_rows.specs.declared.row.MemberRow.{MemberRow}
 use Rattle.acct_rows.specs.declared.row.AliasRow.{AliasRow}
+use Rattle.acct_rows.specs.declared.object.Object.{Object}
+use Rattle.acct_rows.specs.declared.object.Object.TheVariants as objects
 use Rattle.acct_rows.specs.declared.row.LsaRow.{LsaRow}
+use Rattle.acct_rows.specs.declared.row.DescRow.{DescRow}
+use Rattle.acct_rows.specs.declared.row.OutRow.{OutRow}
 use Rattle.acct_rows.specs.declared.row.Held.{Held}
 use Rattle.acct_rows.specs.declared.row.Row.{Row}
 use Rattle.acct_rows.specs.declared.row.Row.TheVariants as rows
@@ -44,13 +50,29 @@ kind_byte _ = 0
 unfoldable pub held_bytes : Held → List ℕ
 held_bytes held = held.low ∷ number_bytes held.attributes
 
--- the first byte of a key is a letter: d, a, m, l or s
+-- the number of a change in a key
+unfoldable pub count_bytes : ℕ → List ℕ
+count_bytes number = to_be_bytes w64 number
+
+-- an object in a key: its kind, then its domain, its RID or its SID
+abbrev pub object_bytes : Object → List ℕ
+object_bytes objects.Server = 0 ∷ []
+object_bytes (objects.Domain number) = 1 ∷ number ∷ []
+object_bytes (objects.Group rid) = 2 ∷ rid_bytes rid
+object_bytes (objects.Alias domain rid) = 3 ∷ domain ∷ rid_bytes rid
+object_bytes (objects.User rid) = 4 ∷ rid_bytes rid
+object_bytes objects.Policy = 5 ∷ []
+object_bytes (objects.Account sid) = 6 ∷ bytes_of sid
+
+-- the first byte of a key is a letter: d, a, m, l, s, o or q
 abbrev pub stored_key : RowKey → List ℕ
 stored_key (keys.Domain number) = 0x64 ∷ number ∷ []
 stored_key (keys.Account domain rid) = 0x61 ∷ domain ∷ rid_bytes rid
 stored_key (keys.Member group user) = 0x6D ∷ rid_bytes group ++ rid_bytes user
 stored_key (keys.Alias domain alias member) = 0x6C ∷ domain ∷ rid_bytes alias ++ bytes_of member
 stored_key (keys.Lsa sid) = 0x73 ∷ bytes_of sid
+stored_key (keys.Desc object) = 0x6F ∷ object_bytes object
+stored_key (keys.Out number) = 0x71 ∷ count_bytes number
 
 unfoldable pub domain_value : DomainRow → List ℕ
 domain_value d = number_bytes d.next_rid
@@ -64,12 +86,17 @@ account_value a = kind_byte a.kind ∷ number_bytes a.bits ++ number_bytes a.pri
 unfoldable pub lsa_value : LsaRow → List ℕ
 lsa_value l = number_bytes l.access ++ length l.privileges ∷ flat_map held_bytes l.privileges
 
+unfoldable pub out_value : OutRow → List ℕ
+out_value o = o.action ∷ o.domain ∷ number_bytes o.rid ++ kind_byte o.kind ∷ text_bytes o.name
+
 abbrev pub stored_value : Row → List ℕ
 stored_value (rows.Domain d) = domain_value d
 stored_value (rows.Account a) = account_value a
 stored_value (rows.Member m) = number_bytes m.attributes
 stored_value (rows.Alias a) = []
 stored_value (rows.Lsa l) = lsa_value l
+stored_value (rows.Desc d) = descriptor_bytes d.descriptor
+stored_value (rows.Out o) = out_value o
 
 abbrev pub key_of : Row → RowKey
 key_of (rows.Domain d) = keys.Domain d.number
@@ -77,20 +104,36 @@ key_of (rows.Account a) = keys.Account a.domain a.rid
 key_of (rows.Member m) = keys.Member m.group m.user
 key_of (rows.Alias a) = keys.Alias a.domain a.alias a.member
 key_of (rows.Lsa l) = keys.Lsa l.sid
+key_of (rows.Desc d) = keys.Desc d.object
+key_of (rows.Out o) = keys.Out o.number
 
 -- the pair that a row is stored as
 abbrev pub pair_of : Row → Pair
 pair_of row = record { key = stored_key (key_of row); value = stored_value row }
 
--- the pair that says which format the others have: the letter f, and format 1
+-- the pair that says which format the others have: the letter f, and format 2
 abbrev pub format_key : List ℕ
 format_key = 0x66 ∷ []
 
 abbrev pub format_value : List ℕ
-format_value = 1 ∷ []
+format_value = 2 ∷ []
 
 abbrev pub format_pair : Pair
 format_pair = record { key = format_key; value = format_value }
+
+-- format 1 had no descriptors and no changes; it is read, and never written
+abbrev pub old_format_value : List ℕ
+old_format_value = 1 ∷ []
+
+-- the pair of the next out number: the letter n, and the number
+abbrev pub next_out_key : List ℕ
+next_out_key = 0x6E ∷ []
+
+unfoldable pub next_out_value : ℕ → List ℕ
+next_out_value next = to_le_bytes w64 next
+
+abbrev pub next_out_pair : ℕ → Pair
+next_out_pair next = record { key = next_out_key; value = next_out_value next }
 
 -- a text that has a spelling
 pub record FitsText (units : List ℕ) : Type 0 where
@@ -141,6 +184,26 @@ pub record FitsLsa (l : LsaRow) : Type 0 where
   pub privileges : All FitsHeld l.privileges
   pub privileges_ascend : ascend l.privileges ≡ true
 
+abbrev pub FitsObject : Object → Type 0
+FitsObject (objects.Domain number) = number ≤ 1
+FitsObject (objects.Group rid) = rid < 2 ^ 32
+FitsObject (objects.Alias domain rid) = (domain ≤ 1) × (rid < 2 ^ 32)
+FitsObject (objects.User rid) = rid < 2 ^ 32
+FitsObject (objects.Account sid) = IsSid sid
+FitsObject _ = Unit {0}
+
+pub record FitsDesc (d : DescRow) : Type 0 where
+  pub object : FitsObject d.object
+  pub descriptor : IsDescriptor d.descriptor
+
+pub record FitsOut (o : OutRow) : Type 0 where
+  pub number : o.number < 2 ^ 64
+  pub action : o.action < 2 ^ 8
+  pub domain : o.domain ≤ 1
+  pub rid : o.rid < 2 ^ 32
+  pub kind : is_account_kind o.kind ≡ true
+  pub name : FitsText o.name
+
 -- a row that has a spelling: each of its numbers is as wide as its bytes
 abbrev pub Fits : Row → Type 0
 Fits (rows.Domain d) = FitsDomain d
@@ -148,6 +211,8 @@ Fits (rows.Account a) = FitsAccount a
 Fits (rows.Member m) = FitsMember m
 Fits (rows.Alias a) = FitsAlias a
 Fits (rows.Lsa l) = FitsLsa l
+Fits (rows.Desc d) = FitsDesc d
+Fits (rows.Out o) = FitsOut o
 
 -- the pair spells the row exactly
 pub record IsSpelled (pair : Pair) (row : Row) : Type 0 where

@@ -1,7 +1,7 @@
 // Copies of rows that hold heap memory.
 ghost use Rattle.std.specs.Prelude.{◌≡◌, IfOk};
 
-use crate::row::{AccountRow, DomainRow, LsaRow, Privileges};
+use crate::row::{AccountRow, DescRow, DomainRow, LsaRow, OutRow, Privileges};
 use acct_base::Seq;
 use acct_calls::NoMemory;
 use std::alloc::Global;
@@ -52,6 +52,34 @@ impl LsaRow {
     }
 }
 
+impl DescRow {
+    /// An equal row of its own.
+    pub fn copy(&self, alloc: Global) -> Result<DescRow, NoMemory>
+        ensures { IfOk result (λ copy. copy ≡ self.now) }
+    {
+        Ok(DescRow {
+            object: self.object,
+            descriptor: self.descriptor.copy(alloc)?,
+        })
+    }
+}
+
+impl OutRow {
+    /// An equal row of its own.
+    pub fn copy(&self, alloc: Global) -> Result<OutRow, NoMemory>
+        ensures { IfOk result (λ copy. copy ≡ self.now) }
+    {
+        Ok(OutRow {
+            number: self.number,
+            action: self.action,
+            domain: self.domain,
+            rid: self.rid,
+            kind: self.kind,
+            name: self.name.copy(alloc)?,
+        })
+    }
+}
+
 fn copy_privileges(alloc: Global, privileges: &Privileges) -> Result<Privileges, NoMemory>
     ensures { IfOk result (λ copy. copy ≡ privileges.now) }
 {
@@ -79,6 +107,26 @@ pub fn copy_accounts(alloc: Global, rows: &[AccountRow]) -> Result<Vec<AccountRo
 }
 
 pub fn copy_lsa(alloc: Global, rows: &[LsaRow]) -> Result<Vec<LsaRow>, NoMemory>
+    ensures { IfOk result (λ copies. copies.items ≡ rows.now) }
+{
+    let mut copies = Vec::with_capacity(alloc, rows.len())?;
+    for row in rows {
+        copies.push(row.copy(alloc)?)?;
+    }
+    Ok(copies)
+}
+
+pub fn copy_descriptors(alloc: Global, rows: &[DescRow]) -> Result<Vec<DescRow>, NoMemory>
+    ensures { IfOk result (λ copies. copies.items ≡ rows.now) }
+{
+    let mut copies = Vec::with_capacity(alloc, rows.len())?;
+    for row in rows {
+        copies.push(row.copy(alloc)?)?;
+    }
+    Ok(copies)
+}
+
+pub fn copy_outs(alloc: Global, rows: &[OutRow]) -> Result<Vec<OutRow>, NoMemory>
     ensures { IfOk result (λ copies. copies.items ≡ rows.now) }
 {
     let mut copies = Vec::with_capacity(alloc, rows.len())?;

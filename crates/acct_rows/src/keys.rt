@@ -1,6 +1,8 @@
 // The keys of the tables.
 ghost use Rattle.std.specs.Prelude.{[], ◌∷◌};
+ghost use Rattle.acct_rows.specs.ObjectKeys.{object_key};
 ghost use Rattle.acct_rows.specs.Rows.{domain_key, account_key, member_key, alias_key, lsa_key, sid_key};
+ghost use Rattle.acct_rows.specs.Rows.{desc_key, out_key};
 ghost use Rattle.acct_rows.specs.Indexes.{held, membership_key};
 ghost use Rattle.acct_rows.specs.Primaries.{primary_key};
 ghost use Rattle.acct_rows.specs.Users.{user_key};
@@ -8,8 +10,9 @@ ghost use Rattle.acct_rows.specs.Users.{user_key};
 use crate::groups::ByUser;
 use crate::keyed::Keyed;
 use crate::membership::Membership;
+use crate::object::Object;
 use crate::primaries::ByPrimary;
-use crate::row::{AccountRow, AliasRow, DomainRow, LsaRow, MemberRow};
+use crate::row::{AccountRow, AliasRow, DescRow, DomainRow, LsaRow, MemberRow, OutRow};
 use dtyp_sid::Sid;
 use std::cmp::Ordering;
 
@@ -93,6 +96,38 @@ impl Keyed for LsaRow {
 
     fn order(row: &Self, key: &Sid) -> Ordering {
         row.sid.cmp(key)
+    }
+}
+
+impl Keyed for DescRow {
+    type Key = Object;
+
+    ghost key_of = { desc_key };
+
+    ghost path = { object_key };
+
+    fn key(&self) -> Object {
+        self.object
+    }
+
+    fn order(row: &Self, key: &Object) -> Ordering {
+        row.object.order(key)
+    }
+}
+
+impl Keyed for OutRow {
+    type Key = u64;
+
+    ghost key_of = { out_key };
+
+    ghost path = { λ number. number ∷ [] };
+
+    fn key(&self) -> u64 {
+        self.number
+    }
+
+    fn order(row: &Self, key: &u64) -> Ordering {
+        row.number.cmp(key)
     }
 }
 

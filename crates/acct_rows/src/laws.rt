@@ -6,7 +6,8 @@ ghost use Rattle.acct_rows.specs.Laws.{MembersStaySound, RemovedMembersStaySound
 ghost use Rattle.acct_rows.specs.Laws.{RemovedAliasRowsStaySound, LsaAccountsStaySound, RemovedLsaAccountsStaySound};
 ghost use Rattle.acct_rows.specs.Laws.{OthersAreNoPrimary, RemovedAccountsStaySound, EachIsGood, PutsAreFound};
 ghost use Rattle.acct_rows.specs.Laws.{PutsLeaveOthers, NamingIsRemoved, EachMemberIsFound, PutsAreUndone};
-ghost use Rattle.acct_rows.specs.Laws.{EachLsaIsGood};
+ghost use Rattle.acct_rows.specs.Laws.{EachLsaIsGood, DescriptorsStaySound, RemovedDescriptorsStaySound, OutsStaySound};
+ghost use Rattle.acct_rows.specs.Laws.{RemovedOutsStaySound, EachDescriptorIsGood, EachOutIsGood};
 
 /// A row that was put is found at its key.
 pub fn puts_are_found()
@@ -83,7 +84,7 @@ pub fn lsa_accounts_stay_sound()
     ensures { LsaAccountsStaySound }
 {}
 
-/// Rows stay sound when an account of the policy is removed.
+/// Rows stay sound when an account of the policy is removed with its descriptor.
 pub fn removed_lsa_accounts_stay_sound()
     ensures { RemovedLsaAccountsStaySound }
 {}
@@ -93,7 +94,27 @@ pub fn others_are_no_primary()
     ensures { OthersAreNoPrimary }
 {}
 
-/// Rows stay sound when a user, a group or an alias is removed with every row that names it.
+/// Rows stay sound when a descriptor of an object that is there is put.
+pub fn descriptors_stay_sound()
+    ensures { DescriptorsStaySound }
+{}
+
+/// Rows stay sound when a descriptor is removed.
+pub fn removed_descriptors_stay_sound()
+    ensures { RemovedDescriptorsStaySound }
+{}
+
+/// Rows stay sound when a change of an account is put with the next out number.
+pub fn outs_stay_sound()
+    ensures { OutsStaySound }
+{}
+
+/// Rows stay sound when the change with the least number is removed, and the others are left.
+pub fn removed_outs_stay_sound()
+    ensures { RemovedOutsStaySound }
+{}
+
+/// Rows stay sound when a user, a group or an alias is removed with its descriptor and every row that names it.
 pub fn removed_accounts_stay_sound()
     ensures { RemovedAccountsStaySound }
 {}
@@ -117,6 +138,16 @@ pub fn each_member_is_found()
 /// Each account of the policy of sound rows stands at its key and keeps its rules.
 pub fn each_lsa_is_good()
     ensures { EachLsaIsGood }
+{}
+
+/// Each descriptor of sound rows stands at its key and keeps its rules, and its object is there.
+pub fn each_descriptor_is_good()
+    ensures { EachDescriptorIsGood }
+{}
+
+/// Each change of sound rows stands at its key and keeps its rules, and its number is below the next one.
+pub fn each_out_is_good()
+    ensures { EachOutIsGood }
 {}
 
 /// A member row or an alias row that is put and removed again leaves the rows as they were.

@@ -1,11 +1,13 @@
-//! The rows of the account database: domains, accounts, members of groups and of aliases, and accounts of the policy.
+//! The rows of the account database: domains, accounts, members of groups and of aliases, accounts of the policy,
+//! security descriptors of objects, and changes of accounts that wait to be told to a program.
 //!
 //! It stands on the tables of `acct_tables`, the names of `acct_calls`, the kinds of `acct_codes`, the SIDs of
-//! `dtyp_sid`, the pairs of `acct_keeper` and the list type of `acct_base`. The layers above use that a contract sees
-//! `Rows` as five lists by strictly ascending key, that each look-up is its filter over them, that a plan changes the
-//! rows at its keys and nothing else, and what sound rows are. A store keeps rows as pairs of bytes (`pairs`): sound
-//! rows have their pairs, a plan's changes take these to the pairs of the rows after it, and of pairs that break no rule
-//! the same rows are read again; else the smallest broken key is told.
+//! `dtyp_sid`, the descriptors of `dtyp_access`, the pairs of `acct_keeper` and the list type of `acct_base`. The
+//! layers above use that a contract sees `Rows` as seven lists by strictly ascending key and the number that the next
+//! change takes, that each look-up is its filter over them, that a plan changes the rows at its keys and nothing else,
+//! and what sound rows are. A store keeps rows as pairs of bytes (`pairs`): sound rows have their pairs, a plan's
+//! changes take these to the pairs of the rows after it, and of pairs that break no rule the same rows are read again;
+//! else the smallest broken key is told.
 #![tactic(auto)]
 
 mod accounts;
@@ -30,10 +32,10 @@ mod seed;
 
 pub use groups::ByUser;
 pub use object::Object;
-pub use pairs::PairsError;
-pub use plan::Plan;
+pub use pairs::{PairsError, is_old, migration};
+pub use plan::{Plan, push_key};
 pub use row::{
-    ACCOUNT_DOMAIN, AccountRow, AliasRow, BUILTIN_DOMAIN, DomainRow, Held, LsaRow, MemberRow,
-    Privileges, Row, RowKey,
+    ACCOUNT_DOMAIN, AccountRow, AliasRow, BUILTIN_DOMAIN, DescRow, DomainRow, Held, LsaRow,
+    MOST_NEXT_OUT, MemberRow, OUT_CHANGED, OUT_MADE, OUT_REMOVED, OutRow, Privileges, Row, RowKey,
 };
 pub use rows::Rows;

@@ -8,6 +8,7 @@ ghost use Rattle.acct_rows.specs.Users.{row_of};
 
 use crate::groups::ByUser;
 use crate::membership::Membership;
+use crate::plan::push_key;
 use crate::row::{AliasRow, MemberRow, RowKey};
 use acct_base::Seq;
 use acct_calls::NoMemory;
@@ -38,10 +39,11 @@ pub fn push_members(keys: &mut Seq<RowKey>, rows: &[MemberRow]) -> Result<(), No
     ensures { OnOk result (keys.new ≡ keys.old ++ map key_of_member rows.now) }
 {
     for row in rows {
-        keys.push(RowKey::Member {
+        let key = RowKey::Member {
             group: row.group,
             user: row.user,
-        })?;
+        };
+        push_key(keys, key)?;
     }
     Ok(())
 }
@@ -58,10 +60,11 @@ pub fn push_groups(
 {
     for row in rows {
         if is_beside_group(row, group, above) {
-            keys.push(RowKey::Member {
+            let key = RowKey::Member {
                 group: row.row.group,
                 user: row.row.user,
-            })?;
+            };
+            push_key(keys, key)?;
         }
     }
     Ok(())
@@ -72,11 +75,12 @@ pub fn push_aliases(keys: &mut Seq<RowKey>, rows: &[AliasRow]) -> Result<(), NoM
     ensures { OnOk result (keys.new ≡ keys.old ++ map key_of_alias rows.now) }
 {
     for row in rows {
-        keys.push(RowKey::Alias {
+        let key = RowKey::Alias {
             domain: row.domain,
             alias: row.alias,
             member: row.member,
-        })?;
+        };
+        push_key(keys, key)?;
     }
     Ok(())
 }
@@ -94,11 +98,12 @@ pub fn push_memberships(
 {
     for row in rows {
         if is_beside_alias(row, domain, alias, above) {
-            keys.push(RowKey::Alias {
+            let key = RowKey::Alias {
                 domain: row.domain,
                 alias: row.alias,
                 member: row.member,
-            })?;
+            };
+            push_key(keys, key)?;
         }
     }
     Ok(())

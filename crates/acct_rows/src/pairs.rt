@@ -9,4 +9,4 @@ mod store;
 mod storing;
 mod writing;
 
-pub use loading::{PairsError, keys_differ};
+pub use loading::{PairsError, is_old, keys_differ, migration};

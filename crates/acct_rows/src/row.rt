@@ -1,7 +1,9 @@
 // What the rows are.
+use crate::object::Object;
 use acct_base::Seq;
 use acct_calls::Name;
 use acct_codes::Kind;
+use dtyp_access::Descriptor;
 use dtyp_sid::Sid;
 
 /// The number of the account domain, which has every group and every user.
@@ -68,6 +70,37 @@ pub struct LsaRow {
     pub privileges: Privileges,
 }
 
+/// The security descriptor of an object that was set (MS-DTYP 2.4.6).
+#[derive(Debug, Drop)]
+pub struct DescRow {
+    pub object: Object,
+    pub descriptor: Descriptor,
+}
+
+/// The action of a change by which an account was made.
+pub const OUT_MADE: u8 = 1;
+
+/// The action of a change by which an account was changed.
+pub const OUT_CHANGED: u8 = 2;
+
+/// The action of a change by which an account was removed.
+pub const OUT_REMOVED: u8 = 3;
+
+/// The number at which no change of an account takes one any more.
+pub const MOST_NEXT_OUT: u64 = 1 << 63;
+
+/// A change of an account of a domain that is to be told to a program, with the account's name after it, or its last
+/// one. Changes are numbered from 1 on.
+#[derive(Debug, Drop, PartialEq, Eq)]
+pub struct OutRow {
+    pub number: u64,
+    pub action: u8,
+    pub domain: u8,
+    pub rid: u32,
+    pub kind: Kind,
+    pub name: Name,
+}
+
 /// A row of one of the lists.
 #[derive(Debug, Drop)]
 pub enum Row {
@@ -76,6 +109,8 @@ pub enum Row {
     Member(MemberRow),
     Alias(AliasRow),
     Lsa(LsaRow),
+    Desc(DescRow),
+    Out(OutRow),
 }
 
 /// The key of a row in its list. The fields stand in the order in which keys are compared.
@@ -86,4 +121,6 @@ pub enum RowKey {
     Member { group: u32, user: u32 },
     Alias { domain: u8, alias: u32, member: Sid },
     Lsa(Sid),
+    Desc(Object),
+    Out(u64),
 }

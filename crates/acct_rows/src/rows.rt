@@ -8,10 +8,10 @@ ghost use Rattle.std.specs.Option.{option_copied};
 ghost use Rattle.acct_rows.specs.Keyed.{is_ascending};
 ghost use Rattle.acct_rows.specs.Laws.{is_member_of, is_alias_row_of, key_of_member, key_of_alias};
 ghost use Rattle.acct_rows.specs.Rows.{members_of, aliases_of, HasRoom, domain_key, account_key, member_key, alias_key};
-ghost use Rattle.acct_rows.specs.Rows.{lsa_key, domain_at};
+ghost use Rattle.acct_rows.specs.Rows.{lsa_key, desc_key, out_key, domain_at, descriptor_of, TakeNumbers};
 ghost use Rattle.acct_rows.specs.Ranges.{accounts_behind};
 ghost use Rattle.acct_rows.specs.Users.{row_of};
-ghost use Rattle.acct_rows.specs.Rows.{groups_of, alias_members_of, alias_row_at};
+ghost use Rattle.acct_rows.specs.Rows.{groups_of, alias_members_of, alias_row_at, desc_at, out_at};
 ghost use Rattle.acct_rows.specs.Rows.{account_at, is_primary, member_at, lsa_at, find_name, put_row, remove_row};
 ghost use Rattle.acct_rows.specs.Rows.{removed, with_puts, after};
 
@@ -19,14 +19,18 @@ pub mod tables;
 
 use crate::accounts::Accounts;
 use crate::aliases::Aliases;
-use crate::copies::{copy_domains, copy_lsa};
+use crate::copies::{copy_descriptors, copy_domains, copy_lsa, copy_outs};
 use crate::groups::{ByUser, Members};
 use crate::keyed::Table;
+use crate::object::Object;
 use crate::plan::Plan;
-use crate::row::{AccountRow, AliasRow, DomainRow, LsaRow, MemberRow, Row, RowKey};
+use crate::row::{
+    AccountRow, AliasRow, DescRow, DomainRow, LsaRow, MemberRow, OutRow, Row, RowKey,
+};
 use crate::rows::tables::Tables;
 use acct_base::Seq;
 use acct_calls::{Name, NoMemory, Rids, Sids};
+use dtyp_access::Descriptor;
 use dtyp_sid::Sid;
 use std::alloc::Global;
 use std::marker::Model;
@@ -40,6 +44,9 @@ pub struct Rows {
     members: Members,
     aliases: Aliases,
     lsa: Table<LsaRow>,
+    descriptors: Table<DescRow>,
+    outs: Table<OutRow>,
+    next_out: u64,
     spare: usize,
 }
 
@@ -56,6 +63,9 @@ impl Model for Rows {
         members = rows.members.0;
         aliases = rows.aliases.0;
         lsa = rows.lsa.0;
+        descriptors = rows.descriptors.0;
+        outs = rows.outs.0;
+        next_out = rows.next_out;
       };
       spare = rows.spare;
     } };
@@ -64,7 +74,9 @@ impl Model for Rows {
         × (rows.spare ≤ rows.accounts.1)
         × (rows.spare ≤ rows.members.1)
         × (rows.spare ≤ rows.aliases.1)
-        × (rows.spare ≤ rows.lsa.1) };
+        × (rows.spare ≤ rows.lsa.1)
+        × (rows.spare ≤ rows.descriptors.1)
+        × (rows.spare ≤ rows.outs.1) };
 }
 
 impl Rows {
@@ -85,19 +97,14 @@ impl Rows {
     pub fn copy(&self, alloc: Global) -> Result<Rows, NoMemory>
         ensures { IfOk result (λ copy. copy.lists ≡ self.now.lists) }
     {
-        let domains = Table::from_rows(copy_domains(alloc, self.domains.rows())?);
-        let lsa = match copy_lsa(alloc, self.lsa.rows()) {
-            Ok(rows) => Table::from_rows(rows),
-            Err(error) => {
-                drop(domains);
-                return Err(error);
-            }
-        };
+        let (domains, lsa, descriptors, outs) = self.copy_plain(alloc)?;
         let (accounts, members, aliases) = match self.copy_indexed(alloc) {
             Ok(copies) => copies,
             Err(error) => {
                 drop(domains);
                 drop(lsa);
+                drop(descriptors);
+                drop(outs);
                 return Err(error);
             }
         };
@@ -107,8 +114,41 @@ impl Rows {
             members,
             aliases,
             lsa,
+            descriptors,
+            outs,
+            next_out: self.next_out,
             spare: 0,
         })
+    }
+
+    // Copies of the lists that have no index.
+    fn copy_plain(
+        &self,
+        alloc: Global,
+    ) -> Result<
+        (
+            Table<DomainRow>,
+            Table<LsaRow>,
+            Table<DescRow>,
+            Table<OutRow>,
+        ),
+        NoMemory,
+    >
+        ensures domains { IfOk result (λ copies. copies.0.0 ≡ self.now.lists.domains) }
+        ensures lsa { IfOk result (λ copies. copies.1.0 ≡ self.now.lists.lsa) }
+        ensures descriptors { IfOk result (λ copies. copies.2.0 ≡ self.now.lists.descriptors) }
+        ensures outs { IfOk result (λ copies. copies.3.0 ≡ self.now.lists.outs) }
+    {
+        let domains = copy_domains(alloc, self.domains.rows())?;
+        let lsa = copy_lsa(alloc, self.lsa.rows())?;
+        let descriptors = copy_descriptors(alloc, self.descriptors.rows())?;
+        let outs = copy_outs(alloc, self.outs.rows())?;
+        Ok((
+            Table::from_rows(domains),
+            Table::from_rows(lsa),
+            Table::from_rows(descriptors),
+            Table::from_rows(outs),
+        ))
     }
 
     // Copies of the lists that have indexes.
@@ -165,6 +205,29 @@ impl Rows {
         self.lsa.rows()
     }
 
+    /// The descriptors by ascending object.
+    pub fn descriptor_rows(&self) -> &[DescRow]
+        ensures all { result.now ≡ self.now.lists.descriptors }
+        ensures ascending { is_ascending desc_key result.now ≡ true }
+    {
+        self.descriptors.rows()
+    }
+
+    /// The changes of accounts that wait to be told, by ascending number.
+    pub fn out_rows(&self) -> &[OutRow]
+        ensures all { result.now ≡ self.now.lists.outs }
+        ensures ascending { is_ascending out_key result.now ≡ true }
+    {
+        self.outs.rows()
+    }
+
+    /// The number that the next change of an account takes.
+    pub fn next_out(&self) -> u64
+        ensures { result ≡ self.now.lists.next_out }
+    {
+        self.next_out
+    }
+
     /// A law: with as many more rows as there is room for, each list has fewer than 2^32.
     pub fn has_few_rows(&self)
         ensures { HasRoom self.now.lists self.now.spare }
@@ -174,6 +237,8 @@ impl Rows {
         let _members = self.members.rows();
         let _aliases = self.aliases.rows();
         let _lsa = self.lsa.rows();
+        let _descriptors = self.descriptors.rows();
+        let _outs = self.outs.rows();
     }
 
     /// The domain with that number.
@@ -297,6 +362,30 @@ impl Rows {
     {
         self.lsa.find(sid)
     }
+
+    /// The descriptor row of an object.
+    pub fn descriptor_row(&self, object: &Object) -> Option<&DescRow>
+        ensures { option_copied result ≡ desc_at self.now.lists object.now }
+    {
+        self.descriptors.find(object)
+    }
+
+    /// The security descriptor that was set for an object.
+    pub fn descriptor_of(&self, object: &Object) -> Option<&Descriptor>
+        ensures { option_copied result ≡ descriptor_of self.now.lists object.now }
+    {
+        match self.descriptor_row(object) {
+            Some(row) => Some(&row.descriptor),
+            None => None,
+        }
+    }
+
+    /// The change of an account with that number.
+    pub fn out_row(&self, number: u64) -> Option<&OutRow>
+        ensures { option_copied result ≡ out_at self.now.lists number }
+    {
+        self.outs.find(&number)
+    }
 }
 
 impl Rows {
@@ -314,14 +403,18 @@ impl Rows {
             self.members.reserve(puts)?;
             self.aliases.reserve(puts)?;
             self.lsa.reserve(puts)?;
+            self.descriptors.reserve(puts)?;
+            self.outs.reserve(puts)?;
             self.spare = puts;
         }
         Ok(())
     }
 
-    /// Puts a row in its place; a row with its key goes. It takes no memory.
+    /// Puts a row in its place; a row with its key goes. A change of an account must have the next out number, below
+    /// 2^63, which is one higher afterwards. It takes no memory.
     pub fn put(&mut self, row: Row)
-        requires { 0 < self.old.spare }
+        requires room { 0 < self.old.spare }
+        requires number { TakeNumbers self.old.lists.next_out (row ∷ []) }
         ensures lists { self.new.lists ≡ put_row row self.old.lists }
         ensures spare { self.new.spare + 1 ≡ self.old.spare }
     {
@@ -331,6 +424,11 @@ impl Rows {
             Row::Member(member) => self.members.put(member),
             Row::Alias(alias) => self.aliases.put(alias),
             Row::Lsa(account) => self.lsa.put(account),
+            Row::Desc(row) => self.descriptors.put(row),
+            Row::Out(row) => {
+                self.outs.put(row);
+                self.next_out += 1;
+            }
         }
         self.spare -= 1;
     }
@@ -338,6 +436,7 @@ impl Rows {
     /// Removes the row with that key, if there is one. It takes no memory.
     pub fn remove(&mut self, key: &RowKey)
         ensures lists { self.new.lists ≡ remove_row key.now self.old.lists }
+        ensures next { self.new.lists.next_out ≡ self.old.lists.next_out }
         ensures spare { self.new.spare ≡ self.old.spare }
     {
         match *key {
@@ -350,12 +449,16 @@ impl Rows {
                 member,
             } => self.aliases.remove(&(domain, alias, member)),
             RowKey::Lsa(sid) => self.lsa.remove(&sid),
+            RowKey::Desc(object) => self.descriptors.remove(&object),
+            RowKey::Out(number) => self.outs.remove(&number),
         }
     }
 
-    /// Applies a plan: first its removes, then its puts, for which there must be room. It takes no memory.
+    /// Applies a plan: first its removes, then its puts, for which there must be room and of which changes of accounts
+    /// take the next out numbers in order. It takes no memory.
     pub fn apply(&mut self, plan: Plan)
-        requires { length plan.puts ≤ self.old.spare }
+        requires room { length plan.puts ≤ self.old.spare }
+        requires numbers { TakeNumbers self.old.lists.next_out plan.puts }
         ensures lists { self.new.lists ≡ after plan self.old.lists }
         ensures spare { self.new.spare + length plan.puts ≡ self.old.spare }
     {
@@ -366,6 +469,7 @@ impl Rows {
 
 fn remove_all(rows: &mut Rows, keys: &[RowKey])
     ensures lists { rows.new.lists ≡ removed keys.now rows.old.lists }
+    ensures next { rows.new.lists.next_out ≡ rows.old.lists.next_out }
     ensures spare { rows.new.spare ≡ rows.old.spare }
 {
     for key in keys {
@@ -374,7 +478,8 @@ fn remove_all(rows: &mut Rows, keys: &[RowKey])
 }
 
 fn put_all(rows: &mut Rows, puts: Vec<Row>)
-    requires { length puts.items ≤ rows.old.spare }
+    requires room { length puts.items ≤ rows.old.spare }
+    requires numbers { TakeNumbers rows.old.lists.next_out puts.items }
     ensures lists { rows.new.lists ≡ with_puts puts.items rows.old.lists }
     ensures spare { rows.new.spare + length puts.items ≡ rows.old.spare }
 {

@@ -2,13 +2,16 @@
 ghost use Rattle.std.specs.Prelude.{◌≡◌, ◌↔◌, ◌++◌, [], ◌∷◌, false, Some, is_some, IfOk, OnOk};
 ghost use Rattle.acct_rows.specs.Changes.{Follow, row_at, stored_at, same_row_key};
 ghost use Rattle.acct_rows.specs.Changes.{is_put, has_value, removal, removals};
-ghost use Rattle.acct_rows.specs.Changes.{row_written, last_written, rows_written, LastFit};
+ghost use Rattle.acct_rows.specs.Changes.{row_written, last_written, rows_written, next_out_written, LastFit};
 ghost use Rattle.acct_rows.specs.PairsOf.{AllFit};
-ghost use Rattle.acct_rows.specs.Rows.{after};
+ghost use Rattle.acct_rows.specs.Rows.{after, next_past, TakeNumbers};
 ghost use Rattle.acct_rows.specs.Sound.{IsSoundRows};
 ghost use Rattle.acct_rows.specs.Spelled.{key_of, pair_of, Fits};
 
-use super::writing::{account_pair, alias_pair, domain_pair, key_bytes, lsa_pair, member_pair};
+use super::writing::{
+    account_pair, alias_pair, desc_pair, domain_pair, key_bytes, lsa_pair, member_pair,
+    next_out_pair, out_pair,
+};
 use crate::plan::Plan;
 use crate::row::{Row, RowKey};
 use crate::rows::Rows;
@@ -39,6 +42,8 @@ fn row_key(row: &Row) -> RowKey
             member: alias.member,
         },
         Row::Lsa(account) => RowKey::Lsa(account.sid),
+        Row::Desc(row) => RowKey::Desc(row.object),
+        Row::Out(row) => RowKey::Out(row.number),
     }
 }
 
@@ -69,6 +74,8 @@ fn is_there(rows: &Rows, key: &RowKey) -> bool
             member,
         } => rows.alias_row(domain, alias, &member).is_some(),
         RowKey::Lsa(sid) => rows.lsa_account(&sid).is_some(),
+        RowKey::Desc(object) => rows.descriptor_row(&object).is_some(),
+        RowKey::Out(number) => rows.out_row(number).is_some(),
     }
 }
 
@@ -116,6 +123,8 @@ fn row_pair(alloc: Global, row: &Row) -> Result<Pair, NoMemory>
         Row::Member(member) => member_pair(alloc, member),
         Row::Alias(alias) => alias_pair(alloc, alias),
         Row::Lsa(account) => lsa_pair(alloc, account),
+        Row::Desc(row) => desc_pair(alloc, row),
+        Row::Out(row) => out_pair(alloc, row),
     }
 }
 
@@ -147,6 +156,14 @@ fn stored_at(alloc: Global, rows: &Rows, key: RowKey) -> Result<Option<Pair>, No
         },
         RowKey::Lsa(sid) => match rows.lsa_account(&sid) {
             Some(row) => Ok(Some(lsa_pair(alloc, row)?)),
+            None => Ok(None),
+        },
+        RowKey::Desc(object) => match rows.descriptor_row(&object) {
+            Some(row) => Ok(Some(desc_pair(alloc, row)?)),
+            None => Ok(None),
+        },
+        RowKey::Out(number) => match rows.out_row(number) {
+            Some(row) => Ok(Some(out_pair(alloc, row)?)),
             None => Ok(None),
         },
     }
@@ -238,7 +255,38 @@ fn push_rows(
     Ok(())
 }
 
+// The next out number once rows are put.
+fn next_past(next: u64, puts: &[Row]) -> u64
+    requires { TakeNumbers next puts.now }
+    ensures { result ≡ next_past next puts.now }
+{
+    let mut next = next;
+    for row in puts {
+        if let Row::Out(_) = row {
+            next += 1;
+        }
+    }
+    next
+}
+
+// The next out number is written where it is another.
+#[tactic(auto, unfolding(crate::specs::Changes::next_out_written))]
+fn push_next_out(
+    alloc: Global,
+    changes: &mut Vec<Change>,
+    next: u64,
+    later: u64,
+) -> Result<(), NoMemory>
+    ensures { OnOk result (changes.new.items ≡ changes.old.items ++ next_out_written next later) }
+{
+    if later == next {
+        return Ok(());
+    }
+    push_pair(changes, next_out_pair(alloc, later)?)
+}
+
 fn plan_changes(alloc: Global, rows: &Rows, plan: &Plan) -> Result<Vec<Change>, NoMemory>
+    requires numbers { TakeNumbers rows.now.lists.next_out plan.now.puts }
     requires before { IsSoundRows rows.now.lists }
     requires after { IsSoundRows (after plan.now rows.now.lists) }
     ensures follows { IfOk result (λ changes.
@@ -253,13 +301,17 @@ fn plan_changes(alloc: Global, rows: &Rows, plan: &Plan) -> Result<Vec<Change>, 
     let mut changes = Vec::new(alloc);
     push_removals(alloc, &mut changes, rows, puts, plan.removes.as_slice())?;
     push_rows(alloc, &mut changes, rows, puts)?;
+    let next = rows.next_out();
+    push_next_out(alloc, &mut changes, next, next_past(next, puts))?;
     Ok(changes)
 }
 
 impl Rows {
     /// The changes that take the pairs of these rows to those of the rows after a plan, each key once: none where the
-    /// rows stay as they are. Of the rows that the plan puts at a key only the last one is written.
+    /// rows stay as they are. Of the rows that the plan puts at a key only the last one is written. Changes of accounts
+    /// among them must take the next out numbers in order.
     pub fn changes(&self, alloc: Global, plan: &Plan) -> Result<Vec<Change>, NoMemory>
+        requires numbers { TakeNumbers self.now.lists.next_out plan.now.puts }
         requires before { IsSoundRows self.now.lists }
         requires after { IsSoundRows (after plan.now self.now.lists) }
         ensures follows { IfOk result (λ changes.

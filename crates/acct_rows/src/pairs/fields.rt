@@ -1,6 +1,6 @@
 // Reading the fields of stored rows.
 ghost use Rattle.acct_base.specs.Reading.{many, Reads, NeverMemory};
-ghost use Rattle.acct_rows.specs.Stored.{byte_at, unit_at, number_at, rid_at, text_at, sid_at, held_at};
+ghost use Rattle.acct_rows.specs.Stored.{byte_at, unit_at, number_at, rid_at, count_at, text_at, sid_at, held_at};
 
 use crate::row::{Held, Privileges};
 use acct_base::{Fields, Seq, Unread, front_u16, front_u32};
@@ -47,6 +47,18 @@ pub fn read_rid(fields: &mut Fields<'_>) -> Result<u32, Unread>
 {
     let front = fields.take(4)?;
     Ok(u32::from_be_bytes([front[0], front[1], front[2], front[3]]))
+}
+
+/// The number of a change in a key, its highest byte first.
+#[tactic(auto, unfolding(crate::specs::Stored::count_at))]
+pub fn read_count(fields: &mut Fields<'_>) -> Result<u64, Unread>
+    ensures value { Reads result fields.new (count_at fields.old) }
+    ensures frugal { NeverMemory result }
+{
+    let front = fields.take(8)?;
+    Ok(u64::from_be_bytes([
+        front[0], front[1], front[2], front[3], front[4], front[5], front[6], front[7],
+    ]))
 }
 
 fn read_units(alloc: Global, fields: &mut Fields<'_>, count: u16) -> Result<Seq<u16>, Unread>

@@ -2,7 +2,7 @@
 ghost use Rattle.std.specs.Prelude.{◌≡◌, IfOk, IfErr};
 ghost use Rattle.acct_rows.specs.declared.pairs.loading.PairsError.TheVariants.{Memory};
 ghost use Rattle.acct_rows.specs.Sound.{IsSoundRows};
-ghost use Rattle.acct_rows.specs.PairsOf.{SoundIsUnbroken, PairsAreOfOne, AscendingKeysDiffer};
+ghost use Rattle.acct_rows.specs.PairsOf.{SoundIsUnbroken, PairsAreOfOne, AscendingKeysDiffer, MigratedPairsAscend};
 ghost use Rattle.acct_rows.specs.Stored.{ReadRowsAreSpelled, SpelledRowsAreRead};
 
 use super::loading::PairsError;
@@ -54,6 +54,11 @@ pub fn pairs_are_of_one()
 /// Pairs that ascend hold no key twice.
 pub fn ascending_keys_differ()
     ensures { AscendingKeysDiffer }
+{}
+
+/// Pairs that ascend do so once they are migrated.
+pub fn migrated_pairs_ascend()
+    ensures { MigratedPairsAscend }
 {}
 
 /// The rows that are read of the pairs of sound rows are the same rows.

@@ -7,18 +7,18 @@ ghost use Rattle.std.specs.List.Sorted.{IsPermutation};
 ghost use Rattle.std.specs.Option.{option_copied};
 ghost use Rattle.acct_rows.specs.declared.pairs.loading.PairsError.TheVariants.{Memory};
 ghost use Rattle.acct_rows.specs.Keyed.{is_ascending};
-ghost use Rattle.acct_rows.specs.Loading.{BadPairs, IsReadWell, IsLoaded, somes, loaded, smaller, first_missing};
-ghost use Rattle.acct_rows.specs.Loading.{smallest_broken};
-ghost use Rattle.acct_rows.specs.PairRules.{pair_key, pair_at, is_format, breaks_rule, is_broken_pair, AreUnbroken};
-ghost use Rattle.acct_rows.specs.PairsOf.{HoldPairs, keys_differ};
-ghost use Rattle.acct_rows.specs.Rows.{with_puts};
+ghost use Rattle.acct_rows.specs.Loading.{BadPairs, IsReadWell, IsLoaded, somes, placed, loaded, smaller};
+ghost use Rattle.acct_rows.specs.Loading.{first_missing, smallest_broken};
+ghost use Rattle.acct_rows.specs.PairRules.{pair_key, pair_at, is_old, is_format, breaks_rule, is_broken_pair};
+ghost use Rattle.acct_rows.specs.PairRules.{AreUnbroken};
+ghost use Rattle.acct_rows.specs.PairsOf.{HoldPairs, migration, migrated, keys_differ};
 ghost use Rattle.acct_rows.specs.Sound.{IsSoundRows};
 ghost use Rattle.acct_rows.specs.Stored.{row_of};
 
 use super::laws::read_rows_are_spelled;
 use super::reading::read_row;
 use super::rules::breaks_alone;
-use super::store::Store;
+use super::store::{Store, next_out_in};
 use super::writing::{format_pair, key_bytes};
 use crate::row::{ACCOUNT_DOMAIN, BUILTIN_DOMAIN, Row, RowKey};
 use crate::rows::Rows;
@@ -27,7 +27,7 @@ use acct_base::{Seq, Unread, is_same};
 use acct_calls::NoMemory;
 use acct_calls::laws::same_is_equivalence;
 use acct_codes::rid::DOMAIN_GROUP_RID_USERS;
-use acct_keeper::{Pair, is_ascending};
+use acct_keeper::{Change, Pair, is_ascending};
 use dtyp_sid::laws::{
     equal_sids_are_one, read_bytes_are_written, written_bytes_are_read, written_bytes_have_lengths,
 };
@@ -60,13 +60,20 @@ fn are_bytes(bytes: &[u8])
     let _count = bytes.len();
 }
 
-fn read_one(alloc: Global, pair: &Pair) -> Result<Option<Row>, NoMemory>
-    ensures row { IfOk result (λ row. row ≡ row_of pair.now) }
-    ensures spelled { IsReadWell pair.now }
+// A law: what is read of a pair is what it spells.
+fn is_read_well(pair: &Pair)
+    ensures { IsReadWell pair.now }
 {
     read_rows_are_spelled();
     are_bytes(pair.key.as_slice());
     are_bytes(pair.value.as_slice());
+}
+
+fn read_one(alloc: Global, pair: &Pair) -> Result<Option<Row>, NoMemory>
+    ensures row { IfOk result (λ row. row ≡ row_of pair.now) }
+    ensures spelled { IsReadWell pair.now }
+{
+    is_read_well(pair);
     match read_row(alloc, pair) {
         Ok(row) => Ok(Some(row)),
         Err(Unread::Misspelled) => Ok(None),
@@ -77,7 +84,7 @@ fn read_one(alloc: Global, pair: &Pair) -> Result<Option<Row>, NoMemory>
 // The rows with the one that a pair spells, where it spells one, put in its place.
 fn put_read(alloc: Global, rows: &mut Tables, pair: &Pair) -> Result<(), NoMemory>
     requires { 0 < rows.old.spare }
-    ensures rows { OnOk result (rows.new.lists ≡ with_puts (somes (row_of pair.now ∷ [])) rows.old.lists) }
+    ensures rows { OnOk result (rows.new.lists ≡ placed (somes (row_of pair.now ∷ [])) rows.old.lists) }
     ensures spare { rows.old.spare ≤ rows.new.spare + 1 }
     ensures spelled { OnOk result (IsReadWell pair.now) }
 {
@@ -93,7 +100,7 @@ fn put_read(alloc: Global, rows: &mut Tables, pair: &Pair) -> Result<(), NoMemor
 // The rows with those that pairs spell, each put in its place, for which there must be room.
 fn put_reads(alloc: Global, rows: &mut Tables, pairs: &[Pair]) -> Result<(), NoMemory>
     requires { length pairs.now ≤ rows.old.spare }
-    ensures rows { OnOk result (rows.new.lists ≡ with_puts (somes (map row_of pairs.now)) rows.old.lists) }
+    ensures rows { OnOk result (rows.new.lists ≡ placed (somes (map row_of pairs.now)) rows.old.lists) }
     ensures spelled { OnOk result (All IsReadWell pairs.now) }
 {
     for pair in pairs {
@@ -104,7 +111,7 @@ fn put_reads(alloc: Global, rows: &mut Tables, pairs: &[Pair]) -> Result<(), NoM
 
 // The rows with those that pairs spell, for which room is made.
 fn fill(alloc: Global, rows: &mut Tables, pairs: &[Pair]) -> Result<(), NoMemory>
-    ensures rows { OnOk result (rows.new.lists ≡ with_puts (somes (map row_of pairs.now)) rows.old.lists) }
+    ensures rows { OnOk result (rows.new.lists ≡ placed (somes (map row_of pairs.now)) rows.old.lists) }
     ensures spelled { OnOk result (All IsReadWell pairs.now) }
 {
     rows.reserve(pairs.len())?;
@@ -113,10 +120,12 @@ fn fill(alloc: Global, rows: &mut Tables, pairs: &[Pair]) -> Result<(), NoMemory
 
 // The rows that the pairs spell, each put in its place, and then their indexes.
 fn load(alloc: Global, pairs: &[Pair]) -> Result<Rows, NoMemory>
+    requires { is_ascending pair_key pairs.now ≡ true }
     ensures rows { IfOk result (λ rows. rows.lists ≡ loaded pairs.now) }
     ensures spelled { OnOk result (All IsReadWell pairs.now) }
 {
-    let mut rows = Tables::new(alloc);
+    let next_out = next_out_in(pairs).unwrap_or(1);
+    let mut rows = Tables::new(alloc, next_out);
     match fill(alloc, &mut rows, pairs) {
         Ok(()) => rows.into_rows(alloc),
         Err(error) => {
@@ -129,7 +138,8 @@ fn load(alloc: Global, pairs: &[Pair]) -> Result<Rows, NoMemory>
 fn is_format(pair: &Pair) -> bool
     ensures { result ≡ is_format pair.now }
 {
-    is_same(pair.key.as_slice(), b"f") && is_same(pair.value.as_slice(), &[1])
+    is_same(pair.key.as_slice(), b"f")
+        && (is_same(pair.value.as_slice(), &[2]) || is_same(pair.value.as_slice(), &[1]))
 }
 
 // Whether a row breaks a rule, by itself or among the pairs.
@@ -142,7 +152,7 @@ fn breaks_rule(alloc: Global, store: &Store<'_>, row: &Row) -> Result<bool, NoMe
 fn is_broken(alloc: Global, store: &Store<'_>, pair: &Pair) -> Result<bool, NoMemory>
     ensures { IfOk result (λ broken. broken ≡ is_broken_pair store.now pair.now) }
 {
-    if is_format(pair) {
+    if is_format(pair) || store.is_next_out(pair) {
         return Ok(false);
     }
     match read_one(alloc, pair)? {
@@ -243,7 +253,7 @@ fn smallest_broken(alloc: Global, pairs: &[Pair], rows: &Rows) -> Result<Option<
 fn read_ascending(alloc: Global, pairs: &[Pair]) -> Result<Rows, PairsError>
     requires { is_ascending pair_key pairs.now ≡ true }
     ensures sound { IfOk result (λ rows. IsSoundRows rows.lists) }
-    ensures pairs { IfOk result (λ rows. HoldPairs rows.lists pairs.now) }
+    ensures pairs { IfOk result (λ rows. HoldPairs rows.lists (migrated pairs.now)) }
     ensures unbroken { OnOk result (AreUnbroken pairs.now) }
     ensures broken { IfErr result (BadPairs pairs.now) }
 {
@@ -273,6 +283,39 @@ fn has_key(pairs: &[Pair], key: &[u8]) -> bool
     pairs
         .iter()
         .any(|pair| key.cmp(pair.key.as_slice()).is_eq())
+}
+
+// The first pair with the key.
+fn first_at<'a>(pairs: &'a [Pair], key: &[u8]) -> Option<&'a Pair>
+    ensures { option_copied result ≡ pair_at key.now pairs.now }
+{
+    for pair in pairs {
+        if key.cmp(pair.key.as_slice()).is_eq() {
+            return Some(pair);
+        }
+    }
+    None
+}
+
+/// Whether the pairs are of format 1, which is read and never written.
+pub fn is_old(pairs: &[Pair]) -> bool
+    ensures { result ≡ is_old pairs.now }
+{
+    match first_at(pairs, b"f") {
+        Some(pair) => is_same(&[1], pair.value.as_slice()),
+        None => false,
+    }
+}
+
+/// The change that takes pairs of format 1 to the newest format.
+pub fn migration(alloc: Global) -> Result<Change, NoMemory>
+    ensures { IfOk result (λ change. change ≡ migration) }
+{
+    let pair = format_pair(alloc)?;
+    Ok(Change {
+        key: pair.key,
+        value: Some(pair.value),
+    })
 }
 
 /// Whether no key stands twice. It takes time as the square of how many pairs there are: pairs that ascend need no
@@ -314,7 +357,7 @@ fn copies(alloc: Global, pairs: &[Pair]) -> Result<Vec<Pair>, NoMemory>
 fn read_pairs(alloc: Global, pairs: &[Pair]) -> Result<Rows, PairsError>
     requires { keys_differ pairs.now ≡ true }
     ensures sound { IfOk result (λ rows. IsSoundRows rows.lists) }
-    ensures pairs { IfOk result (λ rows. HoldPairs rows.lists pairs.now) }
+    ensures pairs { IfOk result (λ rows. HoldPairs rows.lists (migrated pairs.now)) }
     ensures unbroken { OnOk result (AreUnbroken pairs.now) }
     ensures broken { IfErr result (BadPairs pairs.now) }
 {
@@ -327,11 +370,12 @@ fn read_pairs(alloc: Global, pairs: &[Pair]) -> Result<Rows, PairsError>
 
 impl Rows {
     /// The rows of pairs of which no key stands twice, in any order, where they break no rule. Else the smallest key
-    /// that is broken. Pairs by ascending key, as a keeper loads them, aren't sorted again.
+    /// that is broken. Pairs of format 1 are read too: the rows have the pairs that these are once they are migrated.
+    /// Pairs by ascending key, as a keeper loads them, aren't sorted again.
     pub fn from_pairs(alloc: Global, pairs: &[Pair]) -> Result<Rows, PairsError>
         requires { keys_differ pairs.now ≡ true }
         ensures sound { IfOk result (λ rows. IsSoundRows rows.lists) }
-        ensures pairs { IfOk result (λ rows. HoldPairs rows.lists pairs.now) }
+        ensures pairs { IfOk result (λ rows. HoldPairs rows.lists (migrated pairs.now)) }
         ensures unbroken { OnOk result (AreUnbroken pairs.now) }
         ensures broken { IfErr result (BadPairs pairs.now) }
     {

@@ -1,19 +1,34 @@
 // The rows that pairs spell.
-ghost use Rattle.std.specs.Prelude.{◌≡◌, List};
+ghost use Rattle.std.specs.Prelude.{◌≡◌, ◌&&◌, List, length, IfOk};
+ghost use Rattle.std.specs.Int.{w64, from_le_bytes};
+ghost use Rattle.std.specs.Result.{result_ok};
+ghost use Rattle.std.specs.Str.{bytes_eq};
+ghost use Rattle.dtyp_access.specs.Reading.{descriptor_of_bytes};
+ghost use Rattle.dtyp_access.specs.Written.{descriptor_bytes};
 ghost use Rattle.acct_rows.specs.Spelled.{ascend};
 ghost use Rattle.acct_rows.specs.Sound.{are_above};
 ghost use Rattle.acct_base.specs.Reading.{Reads, ReadsWhole, NeverMemory, is_end};
 ghost use Rattle.acct_rows.specs.Stored.{only_if, domain_number_at, whole_sid, kind_of_byte};
 ghost use Rattle.acct_rows.specs.Stored.{lettered, row_key};
 ghost use Rattle.acct_rows.specs.Stored.{domain_key_of, account_key_of, member_key_of, alias_key_of, lsa_key_of};
-ghost use Rattle.acct_rows.specs.Stored.{domain_of, account_of, member_of, alias_of, lsa_of, valued, row_of};
+ghost use Rattle.acct_rows.specs.Stored.{desc_key_of, out_key_of, object_of, domain_object, whole_rid, alias_object};
+ghost use Rattle.acct_rows.specs.Stored.{has_few, domain_of, account_of, member_of, alias_of, lsa_of, desc_of};
+ghost use Rattle.acct_rows.specs.Stored.{out_of, valued, row_of, next_out_of};
 ghost use Rattle.acct_rows.specs.Behind.{named_domain, named_account};
 
-use super::fields::{read_byte, read_number, read_privileges, read_rid, read_sid, read_text};
-use crate::row::{AccountRow, AliasRow, DomainRow, Held, LsaRow, MemberRow, Row, RowKey};
-use acct_base::{Fields, Unread};
+use super::fields::{
+    read_byte, read_count, read_number, read_privileges, read_rid, read_sid, read_text,
+};
+use crate::object::Object;
+use crate::row::{
+    AccountRow, AliasRow, DescRow, DomainRow, Held, LsaRow, MOST_NEXT_OUT, MemberRow, OutRow, Row,
+    RowKey,
+};
+use acct_base::{Fields, Unread, is_same};
+use acct_calls::NoMemory;
 use acct_codes::Kind;
 use acct_keeper::Pair;
+use dtyp_access::{DescError, Descriptor, has_few_aces, read_descriptor, write_descriptor};
 use dtyp_sid::Sid;
 use std::alloc::Global;
 
@@ -46,6 +61,8 @@ fn lettered(letter: u8, fields: Fields<'_>) -> Result<RowKey, Unread>
         b'd' => domain_key(fields),
         b'l' => alias_key(fields),
         b'm' => member_key(fields),
+        b'o' => desc_key(fields),
+        b'q' => out_key(fields),
         b's' => lsa_key(fields),
         _ => Err(Unread::Misspelled),
     }
@@ -90,7 +107,7 @@ fn domain_key(mut fields: Fields<'_>) -> Result<RowKey, Unread>
     ensures frugal { NeverMemory result }
 {
     let number = domain_number(&mut fields)?;
-    whole(RowKey::Domain(number), &fields)
+    Ok(RowKey::Domain(whole(number, &fields)?))
 }
 
 #[tactic(auto, unfolding(crate::specs::Stored::account_key_of))]
@@ -100,7 +117,8 @@ fn account_key(mut fields: Fields<'_>) -> Result<RowKey, Unread>
 {
     let domain = domain_number(&mut fields)?;
     let rid = read_rid(&mut fields)?;
-    whole(RowKey::Account { domain, rid }, &fields)
+    let rid = whole(rid, &fields)?;
+    Ok(RowKey::Account { domain, rid })
 }
 
 #[tactic(auto, unfolding(crate::specs::Stored::member_key_of))]
@@ -110,7 +128,8 @@ fn member_key(mut fields: Fields<'_>) -> Result<RowKey, Unread>
 {
     let group = read_rid(&mut fields)?;
     let user = read_rid(&mut fields)?;
-    whole(RowKey::Member { group, user }, &fields)
+    let user = whole(user, &fields)?;
+    Ok(RowKey::Member { group, user })
 }
 
 #[tactic(auto, unfolding(crate::specs::Stored::alias_key_of))]
@@ -137,6 +156,71 @@ fn lsa_key(fields: Fields<'_>) -> Result<RowKey, Unread>
     Ok(RowKey::Lsa(sid))
 }
 
+#[tactic(auto, unfolding(crate::specs::Stored::desc_key_of))]
+fn desc_key(mut fields: Fields<'_>) -> Result<RowKey, Unread>
+    ensures value { ReadsWhole result (desc_key_of fields.entry) }
+    ensures frugal { NeverMemory result }
+{
+    let kind = read_byte(&mut fields)?;
+    let object = read_object(kind, fields)?;
+    Ok(RowKey::Desc(object))
+}
+
+// An object, by the number of its kind.
+#[tactic(auto, unfolding(crate::specs::Stored::object_of))]
+fn read_object(kind: u8, fields: Fields<'_>) -> Result<Object, Unread>
+    ensures value { ReadsWhole result (object_of kind fields.entry) }
+    ensures frugal { NeverMemory result }
+{
+    match kind {
+        0 => whole(Object::Server, &fields),
+        1 => domain_object(fields),
+        2 => Ok(Object::Group(whole_rid(fields)?)),
+        3 => alias_object(fields),
+        4 => Ok(Object::User(whole_rid(fields)?)),
+        5 => whole(Object::Policy, &fields),
+        6 => Ok(Object::Account(whole_sid(fields)?)),
+        _ => Err(Unread::Misspelled),
+    }
+}
+
+#[tactic(auto, unfolding(crate::specs::Stored::domain_object))]
+fn domain_object(mut fields: Fields<'_>) -> Result<Object, Unread>
+    ensures value { ReadsWhole result (domain_object fields.entry) }
+    ensures frugal { NeverMemory result }
+{
+    let number = domain_number(&mut fields)?;
+    whole(Object::Domain(number), &fields)
+}
+
+#[tactic(auto, unfolding(crate::specs::Stored::whole_rid))]
+fn whole_rid(mut fields: Fields<'_>) -> Result<u32, Unread>
+    ensures value { ReadsWhole result (whole_rid fields.entry) }
+    ensures frugal { NeverMemory result }
+{
+    let rid = read_rid(&mut fields)?;
+    whole(rid, &fields)
+}
+
+#[tactic(auto, unfolding(crate::specs::Stored::alias_object))]
+fn alias_object(mut fields: Fields<'_>) -> Result<Object, Unread>
+    ensures value { ReadsWhole result (alias_object fields.entry) }
+    ensures frugal { NeverMemory result }
+{
+    let domain = domain_number(&mut fields)?;
+    let rid = read_rid(&mut fields)?;
+    whole(Object::Alias(domain, rid), &fields)
+}
+
+#[tactic(auto, unfolding(crate::specs::Stored::out_key_of))]
+fn out_key(mut fields: Fields<'_>) -> Result<RowKey, Unread>
+    ensures value { ReadsWhole result (out_key_of fields.entry) }
+    ensures frugal { NeverMemory result }
+{
+    let number = read_count(&mut fields)?;
+    Ok(RowKey::Out(whole(number, &fields)?))
+}
+
 #[tactic(auto, unfolding(crate::specs::Stored::valued))]
 fn read_value(alloc: Global, key: &RowKey, value: &[u8]) -> Result<Row, Unread>
     ensures { ReadsWhole result (valued key.now value.now) }
@@ -152,6 +236,8 @@ fn read_value(alloc: Global, key: &RowKey, value: &[u8]) -> Result<Row, Unread>
             member,
         } => read_alias(domain, alias, member, fields),
         RowKey::Lsa(sid) => read_lsa(alloc, sid, fields),
+        RowKey::Desc(object) => read_desc(alloc, object, value),
+        RowKey::Out(number) => read_out(alloc, number, fields),
     }
 }
 
@@ -311,4 +397,83 @@ fn read_lsa(alloc: Global, sid: Sid, mut fields: Fields<'_>) -> Result<Row, Unre
         privileges,
     };
     whole(Row::Lsa(row), &fields)
+}
+
+fn descriptor(alloc: Global, value: &[u8]) -> Result<Descriptor, Unread>
+    ensures { ReadsWhole result (result_ok (descriptor_of_bytes value.now)) }
+{
+    match read_descriptor(alloc, value) {
+        Ok(descriptor) => Ok(descriptor),
+        Err(DescError::Memory) => Err(Unread::Memory),
+        Err(_) => Err(Unread::Misspelled),
+    }
+}
+
+// Whether the bytes are those that are written of the descriptor, whose list has no more entries than may be written.
+fn is_written(alloc: Global, descriptor: &Descriptor, value: &[u8]) -> Result<bool, NoMemory>
+    ensures { IfOk result (λ is. is ≡ has_few descriptor.now.acl && bytes_eq (descriptor_bytes descriptor.now) value.now) }
+{
+    if !has_few_aces(&descriptor.acl) {
+        return Ok(false);
+    }
+    let written = write_descriptor(alloc, descriptor)?;
+    Ok(is_same(&written, value))
+}
+
+#[tactic(auto, unfolding(crate::specs::Stored::desc_of))]
+fn read_desc(alloc: Global, object: Object, value: &[u8]) -> Result<Row, Unread>
+    ensures { ReadsWhole result (desc_of object value.now) }
+{
+    let descriptor = descriptor(alloc, value)?;
+    if !is_written(alloc, &descriptor, value)? {
+        return Err(Unread::Misspelled);
+    }
+    Ok(Row::Desc(DescRow { object, descriptor }))
+}
+
+#[tactic(auto, unfolding(crate::specs::Stored::out_of))]
+fn read_out(alloc: Global, number: u64, mut fields: Fields<'_>) -> Result<Row, Unread>
+    ensures { ReadsWhole result (out_of number fields.entry) }
+{
+    let action = read_byte(&mut fields)?;
+    let domain = domain_number(&mut fields)?;
+    let rid = read_number(&mut fields)?;
+    let byte = read_byte(&mut fields)?;
+    let kind = kind_of_byte(byte)?;
+    let name = read_text(alloc, &mut fields)?;
+    let row = OutRow {
+        number,
+        action,
+        domain,
+        rid,
+        kind,
+        name,
+    };
+    whole(Row::Out(row), &fields)
+}
+
+// The number that the first eight bytes spell, the lowest byte first.
+fn front_u64(front: &[u8]) -> u64
+    requires { length front.now ≡ 8 }
+    ensures { result ≡ from_le_bytes w64 front.now }
+{
+    u64::from_le_bytes([
+        front[0], front[1], front[2], front[3], front[4], front[5], front[6], front[7],
+    ])
+}
+
+/// The next out number that a value spells.
+#[tactic(auto, unfolding(crate::specs::Stored::next_out_of))]
+pub fn read_next_out(value: &[u8]) -> Option<u64>
+    ensures { result ≡ next_out_of value.now }
+{
+    let mut fields = Fields::new(value);
+    let Ok(front) = fields.take(8) else {
+        return None;
+    };
+    let next = front_u64(front);
+    if fields.is_end() && 2 <= next && next <= MOST_NEXT_OUT {
+        return Some(next);
+    }
+    None
 }

@@ -4,9 +4,9 @@ ghost use Rattle.std.specs.List.{list_all};
 ghost use Rattle.acct_rows.specs.Sound.{control_is_good, is_user_type, good_primary};
 ghost use Rattle.acct_rows.specs.PairRules.{is_known_low, has_bad_text, has_bad_control, has_needless_number};
 ghost use Rattle.acct_rows.specs.PairRules.{has_unknown_right, has_bad_next, is_misplaced, is_bad_account_domain};
-ghost use Rattle.acct_rows.specs.PairRules.{is_bad_builtin, breaks_alone};
+ghost use Rattle.acct_rows.specs.PairRules.{is_bad_builtin, is_bad_change, breaks_alone};
 
-use crate::row::{ACCOUNT_DOMAIN, BUILTIN_DOMAIN, DomainRow, Held, Row};
+use crate::row::{ACCOUNT_DOMAIN, BUILTIN_DOMAIN, DomainRow, Held, OUT_REMOVED, Row};
 use acct_calls::domain::{BUILTIN_NAME, builtin_sid, is_domain_name, is_domain_sid};
 use acct_calls::{Name, NoMemory};
 use acct_codes::Kind;
@@ -30,6 +30,7 @@ fn has_bad_text(row: &Row) -> bool
                 || account.full_name.units().len() > MOST_TEXT
                 || account.comment.units().len() > MOST_TEXT
         }
+        Row::Out(change) => !change.name.is_valid(change.kind),
         _ => false,
     }
 }
@@ -108,6 +109,18 @@ fn is_misplaced(row: &Row) -> bool
                     && account.rid == DOMAIN_GROUP_RID_USERS
                     && account.kind != Kind::Group
         }
+        Row::Out(change) => change.domain == BUILTIN_DOMAIN && change.kind != Kind::Alias,
+        _ => false,
+    }
+}
+
+fn is_bad_change(row: &Row) -> bool
+    ensures { result ≡ is_bad_change row.now }
+{
+    match row {
+        Row::Out(change) => {
+            change.action == 0 || change.action > OUT_REMOVED || change.rid >= MOST_RID
+        }
         _ => false,
     }
 }
@@ -147,6 +160,7 @@ pub fn breaks_alone(alloc: Global, row: &Row) -> Result<bool, NoMemory>
             || has_needless_number(row)
             || has_unknown_right(row)
             || has_bad_next(row)
+            || is_bad_change(row)
             || is_misplaced(row)
             || is_bad_account_domain(alloc, row)?
             || is_bad_builtin(alloc, row)?,

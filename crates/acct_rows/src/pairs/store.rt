@@ -6,11 +6,15 @@ ghost use Rattle.acct_rows.specs.Keyed.{place, is_ascending};
 ghost use Rattle.acct_rows.specs.Loading.{IsLoaded, LoadedRowsAreFound, is_smaller};
 ghost use Rattle.acct_rows.specs.PairRules.{pair_key, pair_at, is_there, domain_in, account_in, is_missing};
 ghost use Rattle.acct_rows.specs.PairRules.{is_past_next, has_taken_name};
-ghost use Rattle.acct_rows.specs.PairRules.{lacks_group_or_user, lacks_primary, lacks_alias, breaks_among};
+ghost use Rattle.acct_rows.specs.PairRules.{lacks_group_or_user, lacks_primary, lacks_alias, lacks, is_old};
+ghost use Rattle.acct_rows.specs.PairRules.{next_out_in, is_misnumbered, is_next_out, breaks_among};
 
+use super::reading::read_next_out;
 use super::writing::key_bytes;
-use crate::row::{ACCOUNT_DOMAIN, AccountRow, DomainRow, Row, RowKey};
+use crate::object::Object;
+use crate::row::{ACCOUNT_DOMAIN, AccountRow, DomainRow, OutRow, Row, RowKey};
 use crate::rows::Rows;
+use acct_base::is_same;
 use acct_calls::NoMemory;
 use acct_codes::Kind;
 use acct_keeper::Pair;
@@ -58,13 +62,36 @@ fn place(pairs: &[Pair], key: &[u8]) -> Result<usize, usize>
     pairs.binary_search_by(|pair| pair.key.as_slice().cmp(key))
 }
 
-fn has(pairs: &[Pair], key: &[u8]) -> bool
+// The pair with the key.
+fn find<'a>(pairs: &'a [Pair], key: &[u8]) -> Option<&'a Pair>
     requires { is_ascending pair_key pairs.now ≡ true }
-    ensures { result ≡ is_some (pair_at key.now pairs.now) }
+    ensures { option_copied result ≡ pair_at key.now pairs.now }
 {
     match place(pairs, key) {
-        Ok(_) => true,
-        Err(_) => false,
+        Ok(i) => Some(&pairs[i]),
+        Err(_) => None,
+    }
+}
+
+/// The next out number of pairs that ascend: 1 where its pair isn't there, and none where that is misspelled.
+pub fn next_out_in(pairs: &[Pair]) -> Option<u64>
+    requires { is_ascending pair_key pairs.now ≡ true }
+    ensures { result ≡ next_out_in pairs.now }
+{
+    match find(pairs, b"n") {
+        Some(pair) => read_next_out(pair.value.as_slice()),
+        None => Some(1),
+    }
+}
+
+// Whether pairs that ascend are of format 1.
+fn is_old(pairs: &[Pair]) -> bool
+    requires { is_ascending pair_key pairs.now ≡ true }
+    ensures { result ≡ is_old pairs.now }
+{
+    match find(pairs, b"f") {
+        Some(pair) => is_same(&[1], pair.value.as_slice()),
+        None => false,
     }
 }
 
@@ -90,7 +117,16 @@ impl<'a> Store<'a> {
     pub fn has(&self, key: &[u8]) -> bool
         ensures { result ≡ is_some (pair_at key.now self.now) }
     {
-        has(self.pairs, key)
+        find(self.pairs, key).is_some()
+    }
+
+    /// Whether the pair tells the next out number, which format 1 hadn't.
+    pub fn is_next_out(&self, pair: &Pair) -> bool
+        ensures { result ≡ is_next_out self.now pair.now }
+    {
+        is_same(pair.key.as_slice(), b"n")
+            && read_next_out(pair.value.as_slice()).is_some()
+            && !is_old(self.pairs)
     }
 
     // Whether there is a pair with the key of a row, exactly spelled or not.
@@ -161,6 +197,37 @@ impl<'a> Store<'a> {
         Ok(!self.is_there(alloc, &key)?)
     }
 
+    // Whether a descriptor's object is missing.
+    fn lacks(&self, alloc: Global, object: &Object) -> Result<bool, NoMemory>
+        ensures { IfOk result (λ missing. missing ≡ lacks self.now object.now) }
+    {
+        match *object {
+            Object::Domain(number) => Ok(!self.is_there(alloc, &RowKey::Domain(number))?),
+            Object::Group(rid) => self.is_missing(alloc, Kind::Group, ACCOUNT_DOMAIN, rid),
+            Object::Alias(domain, rid) => self.is_missing(alloc, Kind::Alias, domain, rid),
+            Object::User(rid) => self.is_missing(alloc, Kind::User, ACCOUNT_DOMAIN, rid),
+            Object::Account(sid) => Ok(!self.is_there(alloc, &RowKey::Lsa(sid))?),
+            Object::Server | Object::Policy => Ok(false),
+        }
+    }
+
+    // Whether a change's number is 0 or not below the next one, or the change after it is missing.
+    fn is_misnumbered(&self, alloc: Global, row: &OutRow) -> Result<bool, NoMemory>
+        ensures { IfOk result (λ wrong. wrong ≡ is_misnumbered self.now (rows.Out row.now)) }
+    {
+        if row.number == 0 {
+            return Ok(true);
+        }
+        let Some(next) = next_out_in(self.pairs) else {
+            return Ok(false);
+        };
+        if next <= row.number {
+            return Ok(true);
+        }
+        let later = row.number + 1;
+        Ok(later != next && !self.is_there(alloc, &RowKey::Out(later))?)
+    }
+
     /// Whether a row breaks a rule among the pairs.
     pub fn breaks_among(&self, alloc: Global, row: &Row) -> Result<bool, NoMemory>
         ensures { IfOk result (λ broken. broken ≡ breaks_among self.now row.now) }
@@ -176,7 +243,9 @@ impl<'a> Store<'a> {
                     || self.is_missing(alloc, Kind::User, ACCOUNT_DOMAIN, member.user)?,
             ),
             Row::Alias(alias) => self.is_missing(alloc, Kind::Alias, alias.domain, alias.alias),
-            _ => Ok(false),
+            Row::Desc(row) => Ok(self.lacks(alloc, &row.object)? || is_old(self.pairs)),
+            Row::Out(row) => Ok(self.is_misnumbered(alloc, row)? || is_old(self.pairs)),
+            Row::Domain(_) | Row::Lsa(_) => Ok(false),
         }
     }
 }

@@ -1,12 +1,15 @@
 // The pairs of all rows.
 ghost use Rattle.std.specs.Prelude.{◌≡◌, ◌++◌, [], ◌∷◌, All, map, IfOk, OnOk};
 ghost use Rattle.acct_rows.specs.Sound.{IsSoundRows};
-ghost use Rattle.acct_rows.specs.Spelled.{FitsDomain, FitsAccount, FitsMember, FitsAlias, FitsLsa};
+ghost use Rattle.acct_rows.specs.Spelled.{FitsDomain, FitsAccount, FitsMember, FitsAlias, FitsLsa, FitsDesc, FitsOut};
 ghost use Rattle.acct_rows.specs.PairsOf.{ArePairsOf, AllFit, domain_pairs, account_pairs, member_pairs, alias_pairs};
-ghost use Rattle.acct_rows.specs.PairsOf.{lsa_pairs, all_pairs};
+ghost use Rattle.acct_rows.specs.PairsOf.{lsa_pairs, desc_pairs, out_pairs, next_out_pairs, all_pairs};
 
-use super::writing::{account_pair, alias_pair, domain_pair, format_pair, lsa_pair, member_pair};
-use crate::row::{AccountRow, AliasRow, DomainRow, LsaRow, MemberRow};
+use super::writing::{
+    account_pair, alias_pair, desc_pair, domain_pair, format_pair, lsa_pair, member_pair,
+    next_out_pair, out_pair,
+};
+use crate::row::{AccountRow, AliasRow, DescRow, DomainRow, LsaRow, MemberRow, OutRow};
 use crate::rows::Rows;
 use acct_calls::NoMemory;
 use acct_keeper::Pair;
@@ -61,6 +64,35 @@ fn push_lsa(alloc: Global, pairs: &mut Vec<Pair>, rows: &[LsaRow]) -> Result<(),
     Ok(())
 }
 
+fn push_descriptors(alloc: Global, pairs: &mut Vec<Pair>, rows: &[DescRow]) -> Result<(), NoMemory>
+    requires { All FitsDesc rows.now }
+    ensures { OnOk result (pairs.new.items ≡ pairs.old.items ++ desc_pairs rows.now) }
+{
+    for row in rows {
+        pairs.push(desc_pair(alloc, row)?)?;
+    }
+    Ok(())
+}
+
+fn push_outs(alloc: Global, pairs: &mut Vec<Pair>, rows: &[OutRow]) -> Result<(), NoMemory>
+    requires { All FitsOut rows.now }
+    ensures { OnOk result (pairs.new.items ≡ pairs.old.items ++ out_pairs rows.now) }
+{
+    for row in rows {
+        pairs.push(out_pair(alloc, row)?)?;
+    }
+    Ok(())
+}
+
+fn push_next_out(alloc: Global, pairs: &mut Vec<Pair>, next: u64) -> Result<(), NoMemory>
+    ensures { OnOk result (pairs.new.items ≡ pairs.old.items ++ next_out_pairs next) }
+{
+    if next != 1 {
+        pairs.push(next_out_pair(alloc, next)?)?;
+    }
+    Ok(())
+}
+
 // The pairs of all rows, list by list.
 fn all_pairs(alloc: Global, rows: &Rows) -> Result<Vec<Pair>, NoMemory>
     requires { AllFit rows.now.lists }
@@ -68,11 +100,14 @@ fn all_pairs(alloc: Global, rows: &Rows) -> Result<Vec<Pair>, NoMemory>
 {
     let mut pairs = Vec::new(alloc);
     pairs.push(format_pair(alloc)?)?;
+    push_next_out(alloc, &mut pairs, rows.next_out())?;
     push_domains(alloc, &mut pairs, rows.domains())?;
     push_accounts(alloc, &mut pairs, rows.accounts())?;
     push_members(alloc, &mut pairs, rows.member_rows())?;
     push_aliases(alloc, &mut pairs, rows.alias_rows())?;
     push_lsa(alloc, &mut pairs, rows.lsa_rows())?;
+    push_descriptors(alloc, &mut pairs, rows.descriptor_rows())?;
+    push_outs(alloc, &mut pairs, rows.out_rows())?;
     Ok(pairs)
 }
 

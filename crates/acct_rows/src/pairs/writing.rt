@@ -3,16 +3,22 @@ ghost use Rattle.std.specs.Prelude.{◌≡◌, ◌^◌, ◌<◌, ◌++◌, lengt
 ghost use Rattle.std.specs.Int.{w16, to_le_bytes};
 ghost use Rattle.std.specs.List.{flat_map};
 ghost use Rattle.dtyp_sid.specs.Bytes.{bytes_of};
-ghost use Rattle.acct_rows.specs.Spelled.{text_bytes, rid_bytes, number_bytes, kind_byte, held_bytes, stored_key};
-ghost use Rattle.acct_rows.specs.Spelled.{domain_value, account_value, lsa_value, pair_of, format_pair};
-ghost use Rattle.acct_rows.specs.Spelled.{FitsDomain, FitsAccount, FitsLsa, FitsHeld};
+ghost use Rattle.dtyp_access.specs.Written.{descriptor_bytes};
+ghost use Rattle.acct_rows.specs.Spelled.{text_bytes, rid_bytes, count_bytes, number_bytes, kind_byte, held_bytes};
+ghost use Rattle.acct_rows.specs.Spelled.{object_bytes, stored_key, domain_value, account_value, lsa_value, out_value};
+ghost use Rattle.acct_rows.specs.Spelled.{next_out_value, pair_of, format_pair, next_out_pair};
+ghost use Rattle.acct_rows.specs.Spelled.{FitsDomain, FitsAccount, FitsLsa, FitsHeld, FitsDesc, FitsOut};
 ghost use Rattle.acct_rows.specs.declared.row.Row.TheVariants as rows;
 
-use crate::row::{AccountRow, AliasRow, DomainRow, Held, LsaRow, MemberRow, RowKey};
+use crate::object::Object;
+use crate::row::{
+    AccountRow, AliasRow, DescRow, DomainRow, Held, LsaRow, MemberRow, OutRow, RowKey,
+};
 use acct_base::{Seq, push_u16, push_u32};
 use acct_calls::Name;
 use acct_codes::Kind;
 use acct_keeper::Pair;
+use dtyp_access::write_descriptor;
 use dtyp_sid::Sid;
 use dtyp_sid::laws::written_bytes_have_lengths;
 use std::alloc::{AllocError, Global};
@@ -59,6 +65,40 @@ fn push_sid(out: &mut Vec<u8>, sid: &Sid) -> Result<(), AllocError>
     out.extend_from_slice(&bytes[..size])
 }
 
+#[tactic(auto, unfolding(crate::specs::Spelled::count_bytes))]
+fn push_count(out: &mut Vec<u8>, number: u64) -> Result<(), AllocError>
+    ensures { OnOk result (out.new.items ≡ out.old.items ++ count_bytes number) }
+{
+    out.extend_from_slice(&number.to_be_bytes())
+}
+
+// The kind of an object by its rank, then its domain, its RID or its SID.
+fn push_object(out: &mut Vec<u8>, object: &Object) -> Result<(), AllocError>
+    ensures { OnOk result (out.new.items ≡ out.old.items ++ object_bytes object.now) }
+{
+    match *object {
+        Object::Server => out.extend_from_slice(&[0]),
+        Object::Domain(number) => out.extend_from_slice(&[1, number]),
+        Object::Group(rid) => {
+            out.push(2)?;
+            push_rid(out, rid)
+        }
+        Object::Alias(domain, rid) => {
+            out.extend_from_slice(&[3, domain])?;
+            push_rid(out, rid)
+        }
+        Object::User(rid) => {
+            out.push(4)?;
+            push_rid(out, rid)
+        }
+        Object::Policy => out.extend_from_slice(&[5]),
+        Object::Account(sid) => {
+            out.push(6)?;
+            push_sid(out, &sid)
+        }
+    }
+}
+
 fn push_key(out: &mut Vec<u8>, key: &RowKey) -> Result<(), AllocError>
     ensures { OnOk result (out.new.items ≡ out.old.items ++ stored_key key.now) }
 {
@@ -85,6 +125,14 @@ fn push_key(out: &mut Vec<u8>, key: &RowKey) -> Result<(), AllocError>
         RowKey::Lsa(sid) => {
             out.push(b's')?;
             push_sid(out, &sid)
+        }
+        RowKey::Desc(object) => {
+            out.push(b'o')?;
+            push_object(out, &object)
+        }
+        RowKey::Out(number) => {
+            out.push(b'q')?;
+            push_count(out, number)
         }
     }
 }
@@ -183,13 +231,44 @@ fn lsa_value(alloc: Global, account: &LsaRow) -> Result<Seq<u8>, AllocError>
     Ok(Seq::from_vec(out))
 }
 
+#[tactic(auto, unfolding(crate::specs::Spelled::out_value))]
+fn out_value(alloc: Global, row: &OutRow) -> Result<Seq<u8>, AllocError>
+    requires { length row.now.name < 2 ^ 16 }
+    ensures { IfOk result (λ bytes. bytes ≡ out_value row.now) }
+{
+    let mut out = Vec::new(alloc);
+    out.push(row.action)?;
+    out.push(row.domain)?;
+    push_number(&mut out, row.rid)?;
+    out.push(kind_byte(row.kind))?;
+    push_text(&mut out, &row.name)?;
+    Ok(Seq::from_vec(out))
+}
+
+#[tactic(auto, unfolding(crate::specs::Spelled::next_out_value))]
+fn next_out_value(alloc: Global, next: u64) -> Result<Seq<u8>, AllocError>
+    ensures { IfOk result (λ bytes. bytes ≡ next_out_value next) }
+{
+    Seq::copy_of(alloc, &next.to_le_bytes())
+}
+
+/// The pair that tells the next out number.
+pub fn next_out_pair(alloc: Global, next: u64) -> Result<Pair, AllocError>
+    ensures { IfOk result (λ pair. pair ≡ next_out_pair next) }
+{
+    Ok(Pair {
+        key: Seq::copy_of(alloc, b"n")?,
+        value: next_out_value(alloc, next)?,
+    })
+}
+
 /// The pair that says which format the others have.
 pub fn format_pair(alloc: Global) -> Result<Pair, AllocError>
     ensures { IfOk result (λ pair. pair ≡ format_pair) }
 {
     Ok(Pair {
         key: Seq::copy_of(alloc, b"f")?,
-        value: Seq::copy_of(alloc, &[1])?,
+        value: Seq::copy_of(alloc, &[2])?,
     })
 }
 
@@ -256,5 +335,27 @@ pub fn lsa_pair(alloc: Global, account: &LsaRow) -> Result<Pair, AllocError>
     Ok(Pair {
         key: key_bytes(alloc, &RowKey::Lsa(account.sid))?,
         value: lsa_value(alloc, account)?,
+    })
+}
+
+/// The pair that a descriptor is stored as.
+pub fn desc_pair(alloc: Global, row: &DescRow) -> Result<Pair, AllocError>
+    requires { FitsDesc row.now }
+    ensures { IfOk result (λ pair. pair ≡ pair_of (rows.Desc row.now)) }
+{
+    Ok(Pair {
+        key: key_bytes(alloc, &RowKey::Desc(row.object))?,
+        value: Seq::from_vec(write_descriptor(alloc, &row.descriptor)?),
+    })
+}
+
+/// The pair that a change of an account is stored as.
+pub fn out_pair(alloc: Global, row: &OutRow) -> Result<Pair, AllocError>
+    requires { FitsOut row.now }
+    ensures { IfOk result (λ pair. pair ≡ pair_of (rows.Out row.now)) }
+{
+    Ok(Pair {
+        key: key_bytes(alloc, &RowKey::Out(row.number))?,
+        value: out_value(alloc, row)?,
     })
 }

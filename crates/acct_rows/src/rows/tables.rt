@@ -2,7 +2,7 @@
 ghost use Rattle.std.specs.Prelude.{◌≡◌, ◌+◌, ◌<◌, ◌≤◌, true, IfOk, OnOk};
 ghost use Rattle.acct_calls.specs.Domains.{is_domain_name, is_domain_sid};
 ghost use Rattle.acct_rows.specs.Loading.{no_lists};
-ghost use Rattle.acct_rows.specs.Rows.{put_row};
+ghost use Rattle.acct_rows.specs.Rows.{place_row};
 ghost use Rattle.acct_rows.specs.Seed.{seed_lists};
 
 use super::Rows;
@@ -10,7 +10,7 @@ use crate::accounts::Accounts;
 use crate::aliases::Aliases;
 use crate::groups::Members;
 use crate::keyed::Table;
-use crate::row::{AccountRow, AliasRow, DomainRow, LsaRow, MemberRow, Row};
+use crate::row::{AccountRow, AliasRow, DescRow, DomainRow, LsaRow, MemberRow, OutRow, Row};
 use crate::seed::{seed_accounts, seed_aliases, seed_domains, seed_members};
 use acct_calls::{Name, NoMemory};
 use dtyp_sid::Sid;
@@ -26,6 +26,9 @@ pub struct Tables {
     members: Table<MemberRow>,
     aliases: Table<AliasRow>,
     lsa: Table<LsaRow>,
+    descriptors: Table<DescRow>,
+    outs: Table<OutRow>,
+    next_out: u64,
     spare: usize,
 }
 
@@ -42,6 +45,9 @@ impl Model for Tables {
         members = tables.members.0;
         aliases = tables.aliases.0;
         lsa = tables.lsa.0;
+        descriptors = tables.descriptors.0;
+        outs = tables.outs.0;
+        next_out = tables.next_out;
       };
       spare = tables.spare;
     } };
@@ -50,13 +56,15 @@ impl Model for Tables {
         × (tables.spare ≤ tables.accounts.1)
         × (tables.spare ≤ tables.members.1)
         × (tables.spare ≤ tables.aliases.1)
-        × (tables.spare ≤ tables.lsa.1) };
+        × (tables.spare ≤ tables.lsa.1)
+        × (tables.spare ≤ tables.descriptors.1)
+        × (tables.spare ≤ tables.outs.1) };
 }
 
 impl Tables {
-    /// No rows, which take no memory.
-    pub fn new(alloc: Global) -> Tables
-        ensures { result ≡ record { lists = no_lists; spare = 0 } }
+    /// No rows, which take no memory, with a next out number.
+    pub fn new(alloc: Global, next_out: u64) -> Tables
+        ensures { result ≡ record { lists = no_lists next_out; spare = 0 } }
     {
         Tables {
             domains: Table::new(alloc),
@@ -64,6 +72,9 @@ impl Tables {
             members: Table::new(alloc),
             aliases: Table::new(alloc),
             lsa: Table::new(alloc),
+            descriptors: Table::new(alloc),
+            outs: Table::new(alloc),
+            next_out,
             spare: 0,
         }
     }
@@ -84,6 +95,9 @@ impl Tables {
             members: Table::from_rows(members),
             aliases: Table::from_rows(aliases),
             lsa: Table::new(alloc),
+            descriptors: Table::new(alloc),
+            outs: Table::new(alloc),
+            next_out: 1,
             spare: 0,
         })
     }
@@ -99,15 +113,17 @@ impl Tables {
             self.members.reserve(puts)?;
             self.aliases.reserve(puts)?;
             self.lsa.reserve(puts)?;
+            self.descriptors.reserve(puts)?;
+            self.outs.reserve(puts)?;
             self.spare = puts;
         }
         Ok(())
     }
 
-    /// Puts a row in its place; a row with its key goes. It takes no memory.
+    /// Puts a row in its place; a row with its key goes, and the next out number stays. It takes no memory.
     pub fn put(&mut self, row: Row)
         requires { 0 < self.old.spare }
-        ensures lists { self.new.lists ≡ put_row row self.old.lists }
+        ensures lists { self.new.lists ≡ place_row row self.old.lists }
         ensures spare { self.new.spare + 1 ≡ self.old.spare }
     {
         match row {
@@ -116,6 +132,8 @@ impl Tables {
             Row::Member(member) => self.members.put(member),
             Row::Alias(alias) => self.aliases.put(alias),
             Row::Lsa(account) => self.lsa.put(account),
+            Row::Desc(row) => self.descriptors.put(row),
+            Row::Out(row) => self.outs.put(row),
         }
         self.spare -= 1;
     }
@@ -136,6 +154,9 @@ impl Tables {
             members,
             aliases,
             lsa: self.lsa,
+            descriptors: self.descriptors,
+            outs: self.outs,
+            next_out: self.next_out,
             spare: 0,
         })
     }

@@ -1,7 +1,9 @@
 -- A put is found at its key alone.
 use Rattle.std.proofs.Common.{◌≡◌, ℕ, List, [], ◌∷◌}
-use Rattle.acct_rows.specs.Rows.{domain_key, account_key, member_key, alias_key, lsa_key, sid_key}
+use Rattle.acct_rows.specs.Rows.{domain_key, account_key, member_key, alias_key, lsa_key, desc_key, out_key, sid_key}
+use Rattle.acct_rows.specs.ObjectKeys.{object_key}
 use Rattle.acct_rows.proofs.Moves.{one_sid}
+use Rattle.acct_rows.proofs.ObjectKeys.{one_object}
 use Rattle.acct_tables.proofs.Lookups.{put_elsewhere}
 use Rattle.acct_rows.proofs.laws.puts_leave_others.Goals as goal
 
@@ -28,4 +30,7 @@ returns c = λ r. record {
     one_sid s a.member (rest _ _ _ _ (rest _ _ _ _ same)),
   ));
   lsa = λ l s apart. put_elsewhere lsa_key (sid_key s) l r.lsa (λ same. apart (one_sid s l.sid same));
+  desc = λ d x apart. put_elsewhere desc_key (object_key x) d r.descriptors
+      (λ same. apart (one_object x d.object same));
+  out = λ o n apart. put_elsewhere out_key (n ∷ []) o r.outs (λ same. apart (first _ _ _ _ same));
 }

@@ -7,4 +7,5 @@ abbrev pub invariant-loop-key : goal.invariant-loop-key
 invariant-loop-key l = record {
   rest : removed (drop l.key-index l.keys) l.rows.lists ≡ removed l.keys l.fn.rows.lists;
   spare : l.rows.spare ≡ l.fn.rows.spare;
+  next : l.rows.lists.next_out ≡ l.fn.rows.lists.next_out;
 }

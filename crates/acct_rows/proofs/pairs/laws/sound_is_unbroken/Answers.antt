@@ -19,5 +19,5 @@ returns c =
           (ascending-kept pairs ∙ are.ascending);
       unbroken_is_sound = λ lists pairs tables fit are unbroken.
           unbroken_is_sound back sizes only sids names lists pairs (row_fits lists fit) are.held unbroken
-          tables.domains tables.accounts tables.members tables.aliases tables.lsa;
+          fit.next_out tables.domains tables.accounts tables.members tables.aliases tables.lsa tables.descriptors tables.outs;
     }

@@ -1,7 +1,7 @@
 -- `put_reads` meets its contract: pairs are read one by one.
-use Rattle.std.proofs.Common.{◌+◌, drop, map, sym, ap, ◌∙◌, rules}
-use Rattle.acct_rows.specs.Loading.{somes}
-use Rattle.acct_rows.specs.Rows.{Lists, with_puts}
+use Rattle.std.proofs.Common.{◌+◌, drop, map, sym, ap, ◌∙◌, arith, rules}
+use Rattle.acct_rows.specs.Loading.{somes, placed}
+use Rattle.acct_rows.specs.Rows.{Lists}
 use Rattle.acct_rows.specs.Stored.{row_of}
 use Rattle.acct_rows.proofs.Loaded.{next_loaded, all_loaded, next_read}
 use Rattle.acct_rows.proofs.pairs.loading.put_reads.Goals as goal
@@ -11,7 +11,7 @@ loop-pair-preserved c =
     let pairs = c.args.pairs.now in
     let i = c.loop-pair.pair-index in
     record {
-      rest = ap (λ (lists : Lists). with_puts (somes (map row_of (drop (i + 1) pairs))) lists)
+      rest = ap (λ (lists : Lists). placed (somes (map row_of (drop (i + 1) pairs))) lists)
           c.in_ok-put_read.ensures.rows
           ∙ next_loaded pairs i c.pair-item.result c.loop-pair.rows.lists c.loop-pair-test.true c.pair-item.is
           ∙ c.loop-pair.invariant.rest;
@@ -25,3 +25,6 @@ pub returns-clause-rows : goal.returns-clause-rows
 returns-clause-rows c =
     sym (all_loaded c.args.pairs.now c.loop-pair.pair-index c.loop-pair.rows.lists c.loop-pair-test.false)
     ∙ c.loop-pair.invariant.rest
+
+pub returns-clause-spelled : goal.returns-clause-spelled
+returns-clause-spelled c = λ k d lt. c.loop-pair.invariant.spelled k d (omega (arith, lt, c.loop-pair-test.false))

@@ -5,14 +5,14 @@ use Rattle.std.specs.List.Sorted.{IsPermutation}
 use Rattle.acct_keeper.specs.declared.pairs.Pair.{Pair}
 use Rattle.acct_rows.specs.Keyed.{is_ascending}
 use Rattle.acct_rows.specs.PairRules.{pair_key}
-use Rattle.acct_rows.specs.PairsOf.{HoldPairs}
+use Rattle.acct_rows.specs.PairsOf.{HoldPairs, migrated}
 use Rattle.acct_rows.proofs.Shuffled.{unbroken_alike, bad_alike, hold_alike}
 use Rattle.acct_rows.proofs.pairs.loading.read_pairs.Goals as goal
 
 pub returns-clause-pairs : goal.returns-clause-pairs
 returns-clause-pairs c =
-    IfOk-weaker c.read_ascending-2.result (λ rows. HoldPairs rows.lists c.deref.result.now)
-    (λ rows. HoldPairs rows.lists c.args.pairs.now)
+    IfOk-weaker c.read_ascending-2.result (λ rows. HoldPairs rows.lists (migrated c.deref.result.now))
+    (λ rows. HoldPairs rows.lists (migrated c.args.pairs.now))
     (λ rows held. hold_alike c.args.pairs.now c.deref.result.now c.requires
     (subst (λ (qs : List Pair). IsPermutation c.args.pairs.now qs) (sym c.deref.ensures.value)
     c.in_ok-ascending.ensures.same)

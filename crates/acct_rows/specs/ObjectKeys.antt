@@ -1,0 +1,59 @@
+-- The objects that are opened: their kinds, their domains and relative identifiers, and the order in which they stand
+use Rattle.std.specs.Prelude.{ℕ, ◌==◌, Bool, true, false, ◌&&◌, List, [], ◌∷◌}
+use Rattle.acct_codes.specs.declared.kind.Kind.{Kind}
+use Rattle.acct_codes.specs.declared.kind.Kind.TheVariants as kinds
+use Rattle.dtyp_sid.specs.Order.{sid_eq}
+use Rattle.acct_rows.specs.declared.object.Object.{Object}
+use Rattle.acct_rows.specs.declared.object.Object.TheVariants.{Server, Domain, Group, Alias, User, Policy, Account}
+
+abbrev pub kind_of : Object → Kind
+kind_of Server = kinds.Server
+kind_of (Domain number) = kinds.Domain
+kind_of (Group rid) = kinds.Group
+kind_of (Alias domain rid) = kinds.Alias
+kind_of (User rid) = kinds.User
+kind_of Policy = kinds.Policy
+kind_of (Account sid) = kinds.Account
+
+-- the domain that the object is, or is of: groups and users are of the account domain
+abbrev pub domain_of : Object → ℕ
+domain_of (Domain number) = number
+domain_of (Alias domain rid) = domain
+domain_of _ = 0
+
+-- the relative identifier of a group, an alias or a user
+abbrev pub rid_of : Object → ℕ
+rid_of (Group rid) = rid
+rid_of (Alias domain rid) = rid
+rid_of (User rid) = rid
+rid_of _ = 0
+
+-- whether two objects are one
+abbrev pub same_object : Object → Object → Bool
+same_object Server Server = true
+same_object (Domain a) (Domain b) = a == b
+same_object (Group a) (Group b) = a == b
+same_object (Alias a i) (Alias b j) = (a == b) && (i == j)
+same_object (User a) (User b) = a == b
+same_object Policy Policy = true
+same_object (Account a) (Account b) = sid_eq a b
+same_object _ _ = false
+
+-- objects of one kind have one rank
+abbrev pub rank_of : Object → ℕ
+rank_of Server = 0
+rank_of (Domain number) = 1
+rank_of (Group rid) = 2
+rank_of (Alias domain rid) = 3
+rank_of (User rid) = 4
+rank_of Policy = 5
+rank_of (Account sid) = 6
+
+-- the authority and the sub-authorities of an account of the policy
+abbrev pub sid_part : Object → List ℕ
+sid_part (Account sid) = sid.authority ∷ sid.subs
+sid_part _ = []
+
+-- the kind of an object, then its domain, its relative identifier and its SID, where it has them
+abbrev pub object_key : Object → List ℕ
+object_key object = rank_of object ∷ domain_of object ∷ rid_of object ∷ sid_part object
