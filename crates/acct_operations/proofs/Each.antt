@@ -1,7 +1,8 @@
--- What holds of each operation of the four crates, and of those that connect and close, holds of each of the table.
+-- What holds of each operation of the four crates, and of those of this one, holds of each of the table.
 use Rattle.acct_rules.specs.Operations.{Operation}
 use Rattle.acct_operations.specs.Table.{operation, connect2, connect4, connect5, close_handle, open_policy2}
-use Rattle.acct_operations.specs.Table.{close_policy}
+use Rattle.acct_operations.specs.Table.{close_policy, samr_set_security, samr_query_security, lsar_query_security}
+use Rattle.acct_operations.specs.Table.{lsar_set_security}
 use Rattle.acct_operations.specs.declared.table.Work.{Work}
 use Rattle.acct_operations.specs.declared.table.Work.TheVariants as works
 use Rattle.lsad_rights.specs.Laws.{Each as Rights}
@@ -9,7 +10,7 @@ use Rattle.lsat_translate.specs.Laws.{Each as Translations}
 use Rattle.samr_members.specs.Laws.{Each as Members}
 use Rattle.samr_objects.specs.Laws.{Each as Objects}
 
--- those that connect and close
+-- those that connect and close, and that read and set descriptors
 pub record Own (P : Operation → Type 0) : Type 0 where
   pub connect2 : P connect2
   pub connect4 : P connect4
@@ -17,6 +18,10 @@ pub record Own (P : Operation → Type 0) : Type 0 where
   pub close_handle : P close_handle
   pub open_policy2 : P open_policy2
   pub close_policy : P close_policy
+  pub samr_set_security : P samr_set_security
+  pub samr_query_security : P samr_query_security
+  pub lsar_query_security : P lsar_query_security
+  pub lsar_set_security : P lsar_set_security
 
 pub each : (P : Operation → Type 0) → Own P → Objects P → Members P → Rights P → Translations P → (work : Work)
     → P (operation work)
@@ -25,6 +30,8 @@ each P own objects members rights translations works.SamrConnect2 = own.connect2
 each P own objects members rights translations works.SamrConnect4 = own.connect4
 each P own objects members rights translations works.SamrConnect5 = own.connect5
 each P own objects members rights translations works.SamrCloseHandle = own.close_handle
+each P own objects members rights translations works.SamrSetSecurityObject = own.samr_set_security
+each P own objects members rights translations works.SamrQuerySecurityObject = own.samr_query_security
 each P own objects members rights translations works.SamrLookupDomainInSamServer = objects.look_domain
 each P own objects members rights translations works.SamrEnumerateDomainsInSamServer = objects.list_domains
 each P own objects members rights translations works.SamrOpenDomain = objects.open_domain
@@ -66,6 +73,8 @@ each P own objects members rights translations works.SamrSetInformationUser2 = o
 each P own objects members rights translations works.SamrRidToSid = objects.rid_to_sid
 each P own objects members rights translations works.LsarOpenPolicy2 = own.open_policy2
 each P own objects members rights translations works.LsarClose = own.close_policy
+each P own objects members rights translations works.LsarQuerySecurityObject = own.lsar_query_security
+each P own objects members rights translations works.LsarSetSecurityObject = own.lsar_set_security
 each P own objects members rights translations works.LsarEnumeratePrivileges = rights.list_privileges
 each P own objects members rights translations works.LsarQueryInformationPolicy = rights.query_policy
 each P own objects members rights translations works.LsarCreateAccount = rights.create_account

@@ -12,7 +12,7 @@ use Rattle.acct_rows.specs.Sound.{IsSoundRows}
 use Rattle.acct_rules.specs.declared.profile.Kinds.{Kinds}
 use Rattle.acct_calls.specs.Calls.{zero_handle}
 use Rattle.acct_rules.specs.Planned.{opens, closes}
-use Rattle.acct_rules.specs.Operations.{IsRight, Keeps, KeepsRows}
+use Rattle.acct_rules.specs.Operations.{IsRight, Keeps, KeepsRows, undescribed}
 use Rattle.acct_operations.specs.Openings.{connect, open_policy}
 use Rattle.acct_operations.specs.Closings.{close}
 use Rattle.acct_operations.specs.Table.{opening, closing}
@@ -22,34 +22,37 @@ abbrev GivesHandle : Face → ℕ → Type 0
 GivesHandle face opnum = HasShape face opnum (Done 0 (outs.Handle zero_handle))
 
 pub connect-right : (face : Face) (opnum : ℕ) → is_some (layout_of face opnum) ≡ true → GivesHandle face opnum
-    → IsRight (record { profile = opening face opnum; rule = connect })
+    → IsRight (record { profile = opening face opnum; rule = undescribed connect })
 connect-right face opnum laid shaped = record {
   laid_out = laid;
-  refuses = λ r object asked. refl;
-  succeeds = λ r object asked. refl;
-  frugal = λ r object asked. refl;
-  shaped = λ r object call few is none. shaped;
+  refuses = λ r described object asked. refl;
+  succeeds = λ r described object asked. refl;
+  frugal = λ r described object asked. refl;
+  modest = λ r described object asked. refl;
+  shaped = λ r described object call few is none. shaped;
 }
 
 pub open_policy-right : (face : Face) (opnum : ℕ) → is_some (layout_of face opnum) ≡ true → GivesHandle face opnum
-    → IsRight (record { profile = opening face opnum; rule = open_policy })
+    → IsRight (record { profile = opening face opnum; rule = undescribed open_policy })
 open_policy-right face opnum laid shaped = record {
   laid_out = laid;
-  refuses = λ r object asked. refl;
-  succeeds = λ r object asked. refl;
-  frugal = λ r object asked. refl;
-  shaped = λ r object call few is none. shaped;
+  refuses = λ r described object asked. refl;
+  succeeds = λ r described object asked. refl;
+  frugal = λ r described object asked. refl;
+  modest = λ r described object asked. refl;
+  shaped = λ r described object call few is none. shaped;
 }
 
 pub close-right : (face : Face) (opnum : ℕ) (kinds : Kinds) → is_some (layout_of face opnum) ≡ true
     → GivesHandle face opnum
-    → IsRight (record { profile = closing face opnum kinds; rule = close })
+    → IsRight (record { profile = closing face opnum kinds; rule = undescribed close })
 close-right face opnum kinds laid shaped = record {
   laid_out = laid;
-  refuses = λ r object asked. refl;
-  succeeds = λ r object asked. refl;
-  frugal = λ r object asked. refl;
-  shaped = λ r object call few is none. shaped;
+  refuses = λ r described object asked. refl;
+  succeeds = λ r described object asked. refl;
+  frugal = λ r described object asked. refl;
+  modest = λ r described object asked. refl;
+  shaped = λ r described object call few is none. shaped;
 }
 
 -- an opening of an object that is there changes no row
@@ -67,13 +70,14 @@ opens-keeps r object desired sound there = record {
 closes-keeps : (r : Lists) → IsSoundRows r → Keeps r closes
 closes-keeps r sound = record { sound = sound; stays = λ x was other. was; opens = λ opening is. cc }
 
-pub connect-keeps : (face : Face) (opnum : ℕ) → KeepsRows (record { profile = opening face opnum; rule = connect })
-connect-keeps face opnum r object call is none = opens-keeps r _ _ is.rows refl
+pub connect-keeps : (face : Face) (opnum : ℕ)
+    → KeepsRows (record { profile = opening face opnum; rule = undescribed connect })
+connect-keeps face opnum r described object call is none = opens-keeps r _ _ is.rows refl
 
 pub open_policy-keeps : (face : Face) (opnum : ℕ)
-    → KeepsRows (record { profile = opening face opnum; rule = open_policy })
-open_policy-keeps face opnum r object call is none = opens-keeps r _ _ is.rows refl
+    → KeepsRows (record { profile = opening face opnum; rule = undescribed open_policy })
+open_policy-keeps face opnum r described object call is none = opens-keeps r _ _ is.rows refl
 
 pub close-keeps : (face : Face) (opnum : ℕ) (kinds : Kinds)
-    → KeepsRows (record { profile = closing face opnum kinds; rule = close })
-close-keeps face opnum kinds r object call is none = closes-keeps r is.rows
+    → KeepsRows (record { profile = closing face opnum kinds; rule = undescribed close })
+close-keeps face opnum kinds r described object call is none = closes-keeps r is.rows

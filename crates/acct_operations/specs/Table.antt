@@ -4,19 +4,22 @@ use Rattle.std.specs.List.{find}
 use Rattle.acct_calls.specs.declared.calls.Face.{Face}
 use Rattle.acct_calls.specs.declared.calls.Face.TheVariants.{Samr, Lsa}
 use Rattle.acct_codes.specs.Opnums.{samr_connect2, samr_connect4, samr_connect5, samr_close_handle, lsar_open_policy2}
-use Rattle.acct_codes.specs.Opnums.{lsar_close, samr_rid_to_sid, lsar_lookup_names3}
+use Rattle.acct_codes.specs.Opnums.{lsar_close, samr_rid_to_sid, lsar_lookup_names3, samr_set_security_object}
+use Rattle.acct_codes.specs.Opnums.{samr_query_security_object, lsar_query_security_object, lsar_set_security_object}
+use Rattle.acct_codes.specs.Rights.{read_control}
 use Rattle.acct_rules.specs.declared.profile.Brings.TheVariants as brings
 use Rattle.acct_rules.specs.declared.profile.Kinds.{Kinds}
 use Rattle.acct_rules.specs.declared.profile.Kinds.TheVariants as kinds
 use Rattle.acct_rules.specs.declared.profile.Needs.TheVariants as needs
 use Rattle.acct_rules.specs.declared.profile.Memory.TheVariants as memory
 use Rattle.acct_rules.specs.declared.profile.Profile.{Profile}
-use Rattle.acct_rules.specs.Operations.{Operation}
+use Rattle.acct_rules.specs.Operations.{Operation, undescribed}
 use Rattle.acct_rules.specs.Profiles.{asking}
 use Rattle.acct_operations.specs.declared.table.Work.{Work}
 use Rattle.acct_operations.specs.declared.table.Work.TheVariants as works
 use Rattle.acct_operations.specs.Openings.{connect, open_policy}
 use Rattle.acct_operations.specs.Closings.{close}
+use Rattle.acct_operations.specs.Security.{query_security, set_security}
 use Rattle.lsad_rights.specs.Table as rights
 use Rattle.lsat_translate.specs.Table as translations
 use Rattle.samr_members.specs.Table as members
@@ -29,32 +32,53 @@ opening face opnum = record {
   opnum = opnum;
   brings = brings.Nothing;
   needs = needs.Bits 0;
-  memory = memory.BehindConditions;
+  memory = memory.AfterConditions;
 }
 
--- It brings a handle to an object of these kinds and needs no bit, and memory never wants.
+-- It brings a handle to an object of these kinds and needs no bit, and memory never runs out.
 abbrev pub closing : Face → ℕ → Kinds → Profile
 closing face opnum taken = asking face opnum taken 0 memory.Never
+
+-- It brings a handle to an object of these kinds, whose descriptor it reads or sets.
+abbrev pub querying : Face → ℕ → Kinds → Profile
+querying face opnum taken = asking face opnum taken read_control memory.Anywhere
+
+abbrev pub setting : Face → ℕ → Kinds → Profile
+setting face opnum taken = record (asking face opnum taken 0 memory.Anywhere) { needs = needs.ByParts }
 
 -- ---- those that connect and close
 
 abbrev pub connect2 : Operation
-connect2 = record { profile = opening Samr samr_connect2; rule = connect }
+connect2 = record { profile = opening Samr samr_connect2; rule = undescribed connect }
 
 abbrev pub connect4 : Operation
-connect4 = record { profile = opening Samr samr_connect4; rule = connect }
+connect4 = record { profile = opening Samr samr_connect4; rule = undescribed connect }
 
 abbrev pub connect5 : Operation
-connect5 = record { profile = opening Samr samr_connect5; rule = connect }
+connect5 = record { profile = opening Samr samr_connect5; rule = undescribed connect }
 
 abbrev pub close_handle : Operation
-close_handle = record { profile = closing Samr samr_close_handle kinds.Samr; rule = close }
+close_handle = record { profile = closing Samr samr_close_handle kinds.Samr; rule = undescribed close }
 
 abbrev pub open_policy2 : Operation
-open_policy2 = record { profile = opening Lsa lsar_open_policy2; rule = open_policy }
+open_policy2 = record { profile = opening Lsa lsar_open_policy2; rule = undescribed open_policy }
 
 abbrev pub close_policy : Operation
-close_policy = record { profile = closing Lsa lsar_close kinds.Lsa; rule = close }
+close_policy = record { profile = closing Lsa lsar_close kinds.Lsa; rule = undescribed close }
+
+-- ---- those that read and set security descriptors
+
+abbrev pub samr_set_security : Operation
+samr_set_security = record { profile = setting Samr samr_set_security_object kinds.Samr; rule = set_security }
+
+abbrev pub samr_query_security : Operation
+samr_query_security = record { profile = querying Samr samr_query_security_object kinds.Samr; rule = query_security }
+
+abbrev pub lsar_query_security : Operation
+lsar_query_security = record { profile = querying Lsa lsar_query_security_object kinds.Lsa; rule = query_security }
+
+abbrev pub lsar_set_security : Operation
+lsar_set_security = record { profile = setting Lsa lsar_set_security_object kinds.Lsa; rule = set_security }
 
 -- ---- the table
 
@@ -64,6 +88,8 @@ operation works.SamrConnect2 = connect2
 operation works.SamrConnect4 = connect4
 operation works.SamrConnect5 = connect5
 operation works.SamrCloseHandle = close_handle
+operation works.SamrSetSecurityObject = samr_set_security
+operation works.SamrQuerySecurityObject = samr_query_security
 operation works.SamrLookupDomainInSamServer = objects.lookup_domain_in_sam_server
 operation works.SamrEnumerateDomainsInSamServer = objects.enumerate_domains_in_sam_server
 operation works.SamrOpenDomain = objects.open_domain_in_sam_server
@@ -105,6 +131,8 @@ operation works.SamrSetInformationUser2 = objects.set_information_user2
 operation works.SamrRidToSid = objects.sid_of_rid_in_domain
 operation works.LsarOpenPolicy2 = open_policy2
 operation works.LsarClose = close_policy
+operation works.LsarQuerySecurityObject = lsar_query_security
+operation works.LsarSetSecurityObject = lsar_set_security
 operation works.LsarEnumeratePrivileges = rights.enumerate_privileges
 operation works.LsarQueryInformationPolicy = rights.query_information_policy
 operation works.LsarCreateAccount = rights.create_account_in_policy
@@ -136,6 +164,8 @@ all_works =
     ∷ works.SamrConnect4
     ∷ works.SamrConnect5
     ∷ works.SamrCloseHandle
+    ∷ works.SamrSetSecurityObject
+    ∷ works.SamrQuerySecurityObject
     ∷ works.SamrLookupDomainInSamServer
     ∷ works.SamrEnumerateDomainsInSamServer
     ∷ works.SamrOpenDomain
@@ -177,6 +207,8 @@ all_works =
     ∷ works.SamrRidToSid
     ∷ works.LsarOpenPolicy2
     ∷ works.LsarClose
+    ∷ works.LsarQuerySecurityObject
+    ∷ works.LsarSetSecurityObject
     ∷ works.LsarEnumeratePrivileges
     ∷ works.LsarQueryInformationPolicy
     ∷ works.LsarCreateAccount

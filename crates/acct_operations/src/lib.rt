@@ -1,5 +1,5 @@
 //! The operations of the two interfaces (MS-SAMR, MS-LSAD, MS-LSAT): the table of all that are built, and the rules of
-//! those that connect and close.
+//! those that connect and close, and that read and set security descriptors, whatever object they are of.
 //!
 //! It stands on `acct_rules`, which says what an operation is, and on the crates that decide the others. The layer
 //! above uses the table alone: `work_of` finds an operation by its interface and opnum, if there is one, and
@@ -11,7 +11,10 @@
 mod closings;
 mod laws;
 mod openings;
+mod security;
 mod table;
 
-pub use laws::{calls_have_operations, operations_are_right, operations_keep_rows};
+pub use laws::{
+    calls_have_operations, operations_are_frugal, operations_are_right, operations_keep_rows,
+};
 pub use table::{Work, decide, profile_of, work_of};

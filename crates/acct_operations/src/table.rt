@@ -1,5 +1,5 @@
 // The table of operations.
-ghost use Rattle.std.specs.Prelude.{◌≡◌, ◌+◌, true, None, map, get_or, IfOk, OnErr};
+ghost use Rattle.std.specs.Prelude.{◌≡◌, ◌+◌, true, Some, None, map, get_or, IfOk, OnErr};
 ghost use Rattle.std.specs.List.{range_with_len};
 ghost use Rattle.acct_calls.specs.declared.calls.Face.TheVariants.{Samr, Lsa};
 ghost use Rattle.acct_rules.specs.Planned.{decision};
@@ -8,13 +8,17 @@ ghost use Rattle.acct_codes.specs.Rights.{domain_lookup, policy_lookup_names, po
 ghost use Rattle.acct_codes.specs.declared.kind.Kind.TheVariants as kind;
 ghost use Rattle.acct_rules.specs.declared.profile.Kinds.TheVariants.{Only};
 ghost use Rattle.acct_rules.specs.declared.profile.Needs.TheVariants as needs;
-ghost use Rattle.acct_rules.specs.declared.profile.Memory.TheVariants.{Anywhere, BehindConditions};
-ghost use Rattle.acct_operations.specs.Table.{opening, closing, operation, work_of, opnum_count};
+ghost use Rattle.acct_rules.specs.declared.profile.Memory.TheVariants.{Anywhere};
+ghost use Rattle.dtyp_access.specs.Limits.{IsDescriptor};
+ghost use Rattle.acct_operations.specs.Frugal.{taken_by};
+ghost use Rattle.acct_operations.specs.Table.{opening, closing, querying, setting, operation, work_of, opnum_count};
 ghost use Rattle.samr_objects.specs.Table.{asking_user};
 
 use crate::closings::close;
 use crate::openings::connect;
 use crate::openings::open_policy;
+use crate::security::query_security;
+use crate::security::set_security;
 use acct_calls::Args;
 use acct_calls::Face;
 use acct_codes::Kind;
@@ -48,6 +52,7 @@ use acct_codes::samr_opnum;
 use acct_codes::server_rights::SAM_SERVER_ENUMERATE_DOMAINS;
 use acct_codes::server_rights::SAM_SERVER_LOOKUP_DOMAIN;
 use acct_codes::standard_rights::DELETE;
+use acct_codes::standard_rights::READ_CONTROL;
 use acct_codes::user_rights::USER_LIST_GROUPS;
 use acct_codes::user_rights::USER_READ_ACCOUNT;
 use acct_codes::user_rights::USER_READ_GENERAL;
@@ -62,6 +67,7 @@ use acct_rules::NoMemory;
 use acct_rules::Planned;
 use acct_rules::Profile;
 use acct_rules::asking;
+use dtyp_access::Descriptor;
 use lsad_rights::account_privileges;
 use lsad_rights::account_rights;
 use lsad_rights::accounts_with_right;
@@ -123,6 +129,8 @@ pub enum Work {
     SamrConnect4,
     SamrConnect5,
     SamrCloseHandle,
+    SamrSetSecurityObject,
+    SamrQuerySecurityObject,
     SamrLookupDomainInSamServer,
     SamrEnumerateDomainsInSamServer,
     SamrOpenDomain,
@@ -164,6 +172,8 @@ pub enum Work {
     SamrRidToSid,
     LsarOpenPolicy2,
     LsarClose,
+    LsarQuerySecurityObject,
+    LsarSetSecurityObject,
     LsarEnumeratePrivileges,
     LsarQueryInformationPolicy,
     LsarCreateAccount,
@@ -197,8 +207,8 @@ fn samr_works() -> &'static [Option<Work>]
     &[
         None,
         Some(Work::SamrCloseHandle),
-        None,
-        None,
+        Some(Work::SamrSetSecurityObject),
+        Some(Work::SamrQuerySecurityObject),
         None,
         Some(Work::SamrLookupDomainInSamServer),
         Some(Work::SamrEnumerateDomainsInSamServer),
@@ -273,8 +283,8 @@ fn lsa_works() -> &'static [Option<Work>]
         Some(Work::LsarClose),
         None,
         Some(Work::LsarEnumeratePrivileges),
-        None,
-        None,
+        Some(Work::LsarQuerySecurityObject),
+        Some(Work::LsarSetSecurityObject),
         None,
         None,
         Some(Work::LsarQueryInformationPolicy),
@@ -373,7 +383,7 @@ fn opening(face: Face, opnum: u16) -> Profile
         opnum,
         brings: Brings::Nothing,
         needs: Needs::Bits(0),
-        memory: Memory::BehindConditions,
+        memory: Memory::AfterConditions,
     }
 }
 
@@ -382,6 +392,23 @@ fn closing(face: Face, opnum: u16, kinds: Kinds) -> Profile
     ensures { result ≡ closing face opnum kinds }
 {
     asking(face, opnum, kinds, 0, Memory::Never)
+}
+
+// An operation that reads the descriptor of an object of these kinds.
+fn querying(face: Face, opnum: u16, kinds: Kinds) -> Profile
+    ensures { result ≡ querying face opnum kinds }
+{
+    asking(face, opnum, kinds, READ_CONTROL, Memory::Anywhere)
+}
+
+// One that sets it.
+fn setting(face: Face, opnum: u16, kinds: Kinds) -> Profile
+    ensures { result ≡ setting face opnum kinds }
+{
+    Profile {
+        needs: Needs::ByParts,
+        ..asking(face, opnum, kinds, 0, Memory::Anywhere)
+    }
 }
 
 // An operation that takes a handle to an object of a kind of the account database, whose grant has these bits.
@@ -397,23 +424,10 @@ fn on_domain(opnum: u16, bits: u32) -> Profile
     on(Kind::Domain, opnum, bits)
 }
 
-// An operation that opens an object by a handle to another: memory may run out for the new handle alone.
-fn opening_by(kind: Kind, opnum: u16, bits: u32) -> Profile
-    ensures { result ≡ asking Samr opnum (Only kind) bits BehindConditions }
-{
-    asking(
-        Face::Samr,
-        opnum,
-        Kinds::Only(kind),
-        bits,
-        Memory::BehindConditions,
-    )
-}
-
 fn opening_account(opnum: u16) -> Profile
-    ensures { result ≡ asking Samr opnum (Only kind.Domain) domain_lookup BehindConditions }
+    ensures { result ≡ asking Samr opnum (Only kind.Domain) domain_lookup Anywhere }
 {
-    opening_by(Kind::Domain, opnum, DOMAIN_LOOKUP)
+    on_domain(opnum, DOMAIN_LOOKUP)
 }
 
 // An operation that shows a user: its control needs another right than all else.
@@ -488,19 +502,27 @@ pub fn profile_of(work: Work) -> Profile
         Work::SamrConnect4 => opening(Face::Samr, samr_opnum::SAMR_CONNECT4),
         Work::SamrConnect5 => opening(Face::Samr, samr_opnum::SAMR_CONNECT5),
         Work::SamrCloseHandle => closing(Face::Samr, samr_opnum::SAMR_CLOSE_HANDLE, Kinds::Samr),
-        Work::SamrLookupDomainInSamServer => asking(
+        Work::SamrSetSecurityObject => setting(
             Face::Samr,
+            samr_opnum::SAMR_SET_SECURITY_OBJECT,
+            Kinds::Samr,
+        ),
+        Work::SamrQuerySecurityObject => querying(
+            Face::Samr,
+            samr_opnum::SAMR_QUERY_SECURITY_OBJECT,
+            Kinds::Samr,
+        ),
+        Work::SamrLookupDomainInSamServer => on(
+            Kind::Server,
             samr_opnum::SAMR_LOOKUP_DOMAIN_IN_SAM_SERVER,
-            Kinds::Only(Kind::Server),
             SAM_SERVER_LOOKUP_DOMAIN,
-            Memory::Never,
         ),
         Work::SamrEnumerateDomainsInSamServer => on(
             Kind::Server,
             samr_opnum::SAMR_ENUMERATE_DOMAINS_IN_SAM_SERVER,
             SAM_SERVER_ENUMERATE_DOMAINS,
         ),
-        Work::SamrOpenDomain => opening_by(
+        Work::SamrOpenDomain => on(
             Kind::Server,
             samr_opnum::SAMR_OPEN_DOMAIN,
             SAM_SERVER_LOOKUP_DOMAIN,
@@ -639,10 +661,20 @@ pub fn profile_of(work: Work) -> Profile
             samr_opnum::SAMR_RID_TO_SID,
             Kinds::InDomain,
             0,
-            Memory::Never,
+            Memory::Anywhere,
         ),
         Work::LsarOpenPolicy2 => opening(Face::Lsa, lsa_opnum::LSAR_OPEN_POLICY2),
         Work::LsarClose => closing(Face::Lsa, lsa_opnum::LSAR_CLOSE, Kinds::Lsa),
+        Work::LsarQuerySecurityObject => querying(
+            Face::Lsa,
+            lsa_opnum::LSAR_QUERY_SECURITY_OBJECT,
+            Kinds::Lsa,
+        ),
+        Work::LsarSetSecurityObject => setting(
+            Face::Lsa,
+            lsa_opnum::LSAR_SET_SECURITY_OBJECT,
+            Kinds::Lsa,
+        ),
         Work::LsarEnumeratePrivileges => on_policy(
             lsa_opnum::LSAR_ENUMERATE_PRIVILEGES,
             POLICY_VIEW_LOCAL_INFORMATION,
@@ -656,12 +688,9 @@ pub fn profile_of(work: Work) -> Profile
             lsa_opnum::LSAR_ENUMERATE_ACCOUNTS,
             POLICY_VIEW_LOCAL_INFORMATION,
         ),
-        Work::LsarOpenAccount => asking(
-            Face::Lsa,
+        Work::LsarOpenAccount => on_policy(
             lsa_opnum::LSAR_OPEN_ACCOUNT,
-            Kinds::Only(Kind::Policy),
             POLICY_VIEW_LOCAL_INFORMATION,
-            Memory::BehindConditions,
         ),
         Work::LsarEnumeratePrivilegesAccount => on_policy_account(
             lsa_opnum::LSAR_ENUMERATE_PRIVILEGES_ACCOUNT,
@@ -675,13 +704,9 @@ pub fn profile_of(work: Work) -> Profile
             lsa_opnum::LSAR_REMOVE_PRIVILEGES_FROM_ACCOUNT,
             ACCOUNT_ADJUST_PRIVILEGES,
         ),
-        Work::LsarGetSystemAccessAccount => asking(
-            Face::Lsa,
-            lsa_opnum::LSAR_GET_SYSTEM_ACCESS_ACCOUNT,
-            Kinds::Only(Kind::Account),
-            ACCOUNT_VIEW,
-            Memory::Never,
-        ),
+        Work::LsarGetSystemAccessAccount => {
+            on_policy_account(lsa_opnum::LSAR_GET_SYSTEM_ACCESS_ACCOUNT, ACCOUNT_VIEW)
+        }
         Work::LsarSetSystemAccessAccount => on_policy_account(
             lsa_opnum::LSAR_SET_SYSTEM_ACCESS_ACCOUNT,
             ACCOUNT_ADJUST_SYSTEM_ACCESS,
@@ -720,24 +745,28 @@ pub fn profile_of(work: Work) -> Profile
     }
 }
 
-/// What an operation decides on rows, the object of the handle that was brought, and the arguments.
+/// What an operation decides on rows, the object of the handle that was brought with its descriptor, and the arguments.
 #[tactic(auto, unfolding(crate::specs::Table::operation))]
 pub fn decide(
     alloc: Global,
     work: Work,
     rows: &Rows,
+    described: &Descriptor,
     object: Object,
     args: &Args,
 ) -> Result<Planned, NoMemory>
+    requires { IsDescriptor described.now }
     ensures decided { IfOk result (λ planned.
-        planned ≡ decision ((operation work).rule rows.now.lists object args.now)) }
-    ensures wants { OnErr result (is_anywhere (operation work).profile.memory ≡ true) }
+        planned ≡ decision ((operation work).rule rows.now.lists (Some described.now) object args.now)) }
+    ensures frugal { OnErr result (is_anywhere (taken_by work) ≡ true) }
 {
     match work {
         Work::SamrConnect2 => Ok(connect(alloc, rows, object, args)),
         Work::SamrConnect4 => Ok(connect(alloc, rows, object, args)),
         Work::SamrConnect5 => Ok(connect(alloc, rows, object, args)),
         Work::SamrCloseHandle => Ok(close(alloc, rows, object, args)),
+        Work::SamrSetSecurityObject => set_security(alloc, rows, described, object, args),
+        Work::SamrQuerySecurityObject => query_security(alloc, rows, described, object, args),
         Work::SamrLookupDomainInSamServer => look_domain(alloc, rows, object, args),
         Work::SamrEnumerateDomainsInSamServer => list_domains(alloc, rows, object, args),
         Work::SamrOpenDomain => open_domain(alloc, rows, object, args),
@@ -779,6 +808,8 @@ pub fn decide(
         Work::SamrRidToSid => rid_to_sid(alloc, rows, object, args),
         Work::LsarOpenPolicy2 => Ok(open_policy(alloc, rows, object, args)),
         Work::LsarClose => Ok(close(alloc, rows, object, args)),
+        Work::LsarQuerySecurityObject => query_security(alloc, rows, described, object, args),
+        Work::LsarSetSecurityObject => set_security(alloc, rows, described, object, args),
         Work::LsarEnumeratePrivileges => list_privileges(alloc, rows, object, args),
         Work::LsarQueryInformationPolicy => query_policy(alloc, rows, object, args),
         Work::LsarCreateAccount => create_account(alloc, rows, object, args),

@@ -81,6 +81,19 @@ abbrev pub asked_count : Args → ℕ
 asked_count (args.Display class index count preferred) = count
 asked_count _ = 0
 
+-- ---- security descriptors
+
+-- which parts of a descriptor are asked for, or set (SECURITY_INFORMATION, MS-DTYP 2.4.7)
+abbrev pub named_info : Args → ℕ
+named_info (args.Bits info) = info
+named_info (args.Security info bytes) = info
+named_info _ = 0
+
+-- the bytes of the parts that are set
+abbrev pub set_bytes : Args → List ℕ
+set_bytes (args.Security info bytes) = bytes
+set_bytes _ = []
+
 -- ---- what a creation asks for
 
 -- the name of the new account

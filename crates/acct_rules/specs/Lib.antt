@@ -1,6 +1,7 @@
 pub mod Asked
 pub mod Profiles
 pub mod Planned
+pub mod Touched
 pub mod Filled
 pub mod Mapped
 pub mod Operations

@@ -1,6 +1,8 @@
 -- What an operation is, and what each owes.
-use Rattle.std.specs.Prelude.{◌≡◌, ℕ, ◌^◌, ◌==◌, nat_lt, Bool, true, false, ◌&&◌, not, ⊤, is_some}
+use Rattle.std.specs.Prelude.{◌≡◌, ℕ, ◌^◌, ◌==◌, nat_lt, Bool, true, false, ◌&&◌, not, ⊤, Option, IfSome, is_some}
 use Rattle.std.specs.List.{list_all}
+use Rattle.dtyp_access.specs.declared.descriptor.Descriptor.{Descriptor}
+use Rattle.dtyp_access.specs.Limits.{IsDescriptor}
 use Rattle.acct_calls.specs.declared.calls.Args.{Args}
 use Rattle.acct_calls.specs.declared.calls.Call.{Call}
 use Rattle.acct_calls.specs.declared.replies.Reply.TheVariants.{Done}
@@ -22,11 +24,17 @@ use Rattle.acct_rules.specs.declared.planned.Effect.TheVariants as effects
 use Rattle.acct_rules.specs.declared.planned.Planned.{Planned}
 use Rattle.acct_rules.specs.Profiles.{takes, is_never}
 use Rattle.acct_rules.specs.Planned.{Condition, Ruled, none_fails, takes_room}
+use Rattle.acct_rules.specs.Touched.{is_modest}
 
--- its profile, and its rule on the rows, the object of the handle that was brought, and the arguments
+-- its profile, and its rule on the rows, the security descriptor and the object of the handle that was brought, and the
+-- arguments
 pub record Operation : Type 0 where
   pub profile : Profile
-  pub rule : Lists → Object → Args → Ruled
+  pub rule : Lists → Option Descriptor → Object → Args → Ruled
+
+-- a rule that no descriptor decides
+abbrev pub undescribed : (Lists → Object → Args → Ruled) → Lists → Option Descriptor → Object → Args → Ruled
+undescribed rule r described object asked = rule r object asked
 
 -- ---- where a call of an operation is decided
 
@@ -35,12 +43,15 @@ abbrev pub IsTaken : Brings → Object → Type 0
 IsTaken brings.Nothing object = ⊤
 IsTaken (brings.Handle kinds) object = takes kinds (kind_of object) ≡ true
 
--- Some served stub spells the call, the rows are sound, and the object is there and of a kind that is taken.
-pub record IsAsked (o : Operation) (r : Lists) (object : Object) (call : Call) : Type 0 where
+-- Some served stub spells the call, the rows are sound, the descriptor keeps the limits of its parts, and the object is
+-- there and of a kind that is taken.
+pub record IsAsked (o : Operation) (r : Lists) (described : Option Descriptor) (object : Object) (call : Call)
+    : Type 0 where
   pub face : call.face ≡ o.profile.face
   pub opnum : call.opnum ≡ o.profile.opnum
   pub spelled : CanBeSpelled call
   pub rows : IsSoundRows r
+  pub limits : IfSome described IsDescriptor
   pub there : exists r object ≡ true
   pub taken : IsTaken o.profile.brings object
 
@@ -56,17 +67,22 @@ abbrev pub IsShaped : Operation → Planned → Type 0
 IsShaped o planned = HasShape o.profile.face o.profile.opnum (Done planned.status planned.outs)
 
 -- The operation has a layout, its conditions answer refusals and what it plans none, memory may run out where the
--- profile says, and what it plans has its outputs, while each list of rows has fewer than 2^32.
+-- profile says, one account row is touched at most and no row of the outbox, and what it plans has its outputs, while
+-- each list of rows has fewer than 2^32.
 pub record IsRight (o : Operation) : Type 0 where
   pub laid_out : is_some (layout_of o.profile.face o.profile.opnum) ≡ true
-  pub refuses : (r : Lists) (object : Object) (asked : Args)
-      → list_all (λ (c : Condition). is_condition_status c.status) (o.rule r object asked).conditions ≡ true
-  pub succeeds : (r : Lists) (object : Object) (asked : Args)
-      → is_refusal (o.rule r object asked).planned.status ≡ false
-  pub frugal : (r : Lists) (object : Object) (asked : Args)
-      → (is_never o.profile.memory && takes_room (o.rule r object asked).planned) ≡ false
-  pub shaped : (r : Lists) (object : Object) (call : Call) → HasRoom r 0 → IsAsked o r object call
-      → none_fails (o.rule r object call.args).conditions ≡ true → IsShaped o (o.rule r object call.args).planned
+  pub refuses : (r : Lists) (described : Option Descriptor) (object : Object) (asked : Args)
+      → list_all (λ (c : Condition). is_condition_status c.status) (o.rule r described object asked).conditions ≡ true
+  pub succeeds : (r : Lists) (described : Option Descriptor) (object : Object) (asked : Args)
+      → is_refusal (o.rule r described object asked).planned.status ≡ false
+  pub frugal : (r : Lists) (described : Option Descriptor) (object : Object) (asked : Args)
+      → (is_never o.profile.memory && takes_room (o.rule r described object asked).planned) ≡ false
+  pub modest : (r : Lists) (described : Option Descriptor) (object : Object) (asked : Args)
+      → is_modest (o.rule r described object asked).planned.plan ≡ true
+  pub shaped : (r : Lists) (described : Option Descriptor) (object : Object) (call : Call) → HasRoom r 0
+      → IsAsked o r described object call
+      → none_fails (o.rule r described object call.args).conditions ≡ true
+      → IsShaped o (o.rule r described object call.args).planned
 
 -- ---- what it keeps
 
@@ -89,5 +105,6 @@ pub record Keeps (r : Lists) (planned : Planned) : Type 0 where
 -- so it is with what an operation plans where no condition fails
 abbrev pub KeepsRows : Operation → Type 0
 KeepsRows o =
-    (r : Lists) (object : Object) (call : Call) → IsAsked o r object call
-    → none_fails (o.rule r object call.args).conditions ≡ true → Keeps r (o.rule r object call.args).planned
+    (r : Lists) (described : Option Descriptor) (object : Object) (call : Call) → IsAsked o r described object call
+    → none_fails (o.rule r described object call.args).conditions ≡ true
+    → Keeps r (o.rule r described object call.args).planned

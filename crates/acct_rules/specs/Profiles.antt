@@ -1,5 +1,9 @@
 -- The words of an operation's profile: which handles it takes, and which bits their grants must have.
-use Rattle.std.specs.Prelude.{ℕ, ◌==◌, Bool, true, false, not, if◌then◌else◌}
+use Rattle.std.specs.Prelude.{ℕ, ◌+◌, ◌==◌, Bool, true, false, not, if◌then◌else◌}
+use Rattle.acct_codes.specs.Rights.{write_dac, write_owner}
+use Rattle.acct_codes.specs.SecurityInformation.{owner_security_information, group_security_information}
+use Rattle.acct_codes.specs.SecurityInformation.{dacl_security_information}
+use Rattle.dtyp_access.specs.Granted.{shares}
 use Rattle.acct_codes.specs.declared.kind.Kind.{Kind}
 use Rattle.acct_codes.specs.declared.kind.Kind.TheVariants as kind
 use Rattle.acct_calls.specs.declared.calls.Args.{Args}
@@ -13,7 +17,7 @@ use Rattle.acct_rules.specs.declared.profile.Memory.TheVariants as memory
 use Rattle.acct_rules.specs.declared.profile.Needs.{Needs}
 use Rattle.acct_rules.specs.declared.profile.Needs.TheVariants as needs
 use Rattle.acct_rules.specs.declared.profile.Profile.{Profile}
-use Rattle.acct_rules.specs.Asked.{class_of, has_account}
+use Rattle.acct_rules.specs.Asked.{class_of, has_account, named_info}
 
 -- the kinds of the policy (MS-LSAD); the others are those of the account database (MS-SAMR)
 abbrev pub is_lsa : Kind → Bool
@@ -36,21 +40,29 @@ takes kinds.Samr k = not (is_lsa k)
 takes kinds.InDomain k = is_in_domain k
 takes kinds.Lsa k = is_lsa k
 
+-- the bits that a change of the named parts of a descriptor needs: WRITE_OWNER for the owner and the group, WRITE_DAC
+-- for the list (MS-SAMR 3.1.5.12.1, MS-LSAD 3.1.4.9.2)
+abbrev pub change_bits : ℕ → ℕ
+change_bits info =
+    (if shares info (owner_security_information + group_security_information) then write_owner else 0)
+    + (if shares info dacl_security_information then write_dac else 0)
+
 -- the bits that the handle's grant must have, by the rows and the arguments
 abbrev pub needed : Needs → Lists → Args → ℕ
 needed (needs.Bits bits) r asked = bits
 needed (needs.ByClass class bits others) r asked = if class_of asked == class then bits else others
 needed (needs.ByAccount bits missing) r asked = if has_account r asked then bits else missing
+needed needs.ByParts r asked = change_bits (named_info asked)
 
 -- memory may run out wherever the handle passed
 abbrev pub is_anywhere : Memory → Bool
 is_anywhere memory.Anywhere = true
-is_anywhere memory.BehindConditions = false
+is_anywhere memory.AfterConditions = false
 is_anywhere memory.Never = false
 
 abbrev pub is_never : Memory → Bool
 is_never memory.Never = true
-is_never memory.BehindConditions = false
+is_never memory.AfterConditions = false
 is_never memory.Anywhere = false
 
 -- An operation that brings a handle to an object of these kinds, whose grant has these bits.

@@ -4,7 +4,7 @@ ghost use Rattle.std.specs.Option.{option_copied};
 ghost use Rattle.acct_rules.specs.Asked.{class_of, desired_access, has_account, asked_sid, asked_rid, asked_name};
 ghost use Rattle.acct_rules.specs.Asked.{asked_names, asked_rids, asked_context, asked_length, asked_filter};
 ghost use Rattle.acct_rules.specs.Asked.{asked_index, asked_count, made_name, made_bits, put_text, put_number};
-ghost use Rattle.acct_rules.specs.Asked.{units_in, or_empty};
+ghost use Rattle.acct_rules.specs.Asked.{units_in, or_empty, named_info, set_bytes};
 
 use acct_calls::{Args, Info, Name, NoMemory};
 use acct_rows::Rows;
@@ -147,6 +147,27 @@ pub fn asked_count(args: &Args) -> u32
     match args {
         Args::Display { count, .. } => *count,
         _ => 0,
+    }
+}
+
+/// Which parts of a security descriptor are asked for, or set (SECURITY_INFORMATION, MS-DTYP 2.4.7).
+pub fn named_info(args: &Args) -> u32
+    ensures { result ≡ named_info args.now }
+{
+    match args {
+        Args::Bits(info) => *info,
+        Args::Security { info, .. } => *info,
+        _ => 0,
+    }
+}
+
+/// The bytes of the parts of a security descriptor that are set.
+pub fn set_bytes(args: &Args) -> &[u8]
+    ensures { result.now ≡ set_bytes args.now }
+{
+    match args {
+        Args::Security { bytes, .. } => bytes.as_slice(),
+        _ => &[],
     }
 }
 

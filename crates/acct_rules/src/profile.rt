@@ -1,10 +1,14 @@
 // What is fixed for an operation before its conditions: its profile.
 ghost use Rattle.std.specs.Prelude.{◌≡◌};
-ghost use Rattle.acct_rules.specs.Profiles.{needed, asking};
+ghost use Rattle.acct_rules.specs.Profiles.{needed, change_bits, asking};
 
-use crate::asked::{class_of, has_account};
+use crate::asked::{class_of, has_account, named_info};
 use acct_calls::{Args, Face};
 use acct_codes::Kind;
+use acct_codes::security_information::{
+    DACL_SECURITY_INFORMATION, GROUP_SECURITY_INFORMATION, OWNER_SECURITY_INFORMATION,
+};
+use acct_codes::standard_rights::{WRITE_DAC, WRITE_OWNER};
 use acct_rows::Rows;
 
 /// The kinds of objects whose handles an operation takes.
@@ -54,6 +58,8 @@ pub enum Needs {
     ByClass { class: u16, bits: u32, others: u32 },
     /// Some where the policy has an account of the SID that is asked for, and others where it has none.
     ByAccount { bits: u32, missing: u32 },
+    /// WRITE_OWNER where the owner or the group of a security descriptor is set, WRITE_DAC where its list is.
+    ByParts,
 }
 
 /// Where memory may run out, of a call whose handle passed.
@@ -61,7 +67,7 @@ pub enum Needs {
 pub enum Memory {
     Never,
     /// Only where no condition fails, that of an opening included.
-    BehindConditions,
+    AfterConditions,
     Anywhere,
 }
 
@@ -89,6 +95,24 @@ pub fn asking(face: Face, opnum: u16, kinds: Kinds, bits: u32, memory: Memory) -
     }
 }
 
+// The bits that a change of the named parts of a descriptor needs.
+#[tactic(auto, unfolding(dtyp_access::specs::Granted::shares))]
+fn change_bits(info: u32) -> u32
+    ensures { result ≡ change_bits info }
+{
+    let owner = if info & (OWNER_SECURITY_INFORMATION + GROUP_SECURITY_INFORMATION) != 0 {
+        WRITE_OWNER
+    } else {
+        0
+    };
+    let list = if info & DACL_SECURITY_INFORMATION != 0 {
+        WRITE_DAC
+    } else {
+        0
+    };
+    owner + list
+}
+
 /// The bits that the handle's grant must have.
 pub fn needed_bits(needs: Needs, rows: &Rows, args: &Args) -> u32
     ensures { result ≡ needed needs rows.now.lists args.now }
@@ -113,5 +137,6 @@ pub fn needed_bits(needs: Needs, rows: &Rows, args: &Args) -> u32
                 missing
             }
         }
+        Needs::ByParts => change_bits(named_info(args)),
     }
 }

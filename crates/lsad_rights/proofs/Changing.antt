@@ -72,7 +72,7 @@ creates-keep stay found r (Some sid) desired sound whole =
     the-opening opening is = cc
 
 pub create_account-keeps : LsaAccountsStaySound → PutsAreFound → KeepsRows create_account_in_policy
-create_account-keeps stay found r object call is none =
+create_account-keeps stay found r described object call is none =
     creates-keep stay found r (asked_sid call.args) (desired_access call.args) is.rows
     (created-sid call is.face is.opnum is.spelled)
 
@@ -82,7 +82,7 @@ account-there r None there = cc
 account-there r (Some sid) there = there
 
 pub open_account-keeps : KeepsRows open_account_in_policy
-open_account-keeps r object call is none = record {
+open_account-keeps r described object call is none = record {
   sound = is.rows;
   stays = λ x was other. was;
   opens = λ opening e. subst (λ (o : Opening). exists r o.object ≡ true) (the-opening opening e)
@@ -102,19 +102,19 @@ open_account-keeps r object call is none = record {
 -- ---- deletions
 
 pub delete_account-keeps : RemovedLsaAccountsStaySound → KeepsRows delete_object
-delete_account-keeps removed r objects.Server call is none =
+delete_account-keeps removed r described objects.Server call is none =
     record { sound = is.rows; stays = λ x was other. was; opens = λ opening e. cc }
-delete_account-keeps removed r (objects.Domain n) call is none =
+delete_account-keeps removed r described (objects.Domain n) call is none =
     record { sound = is.rows; stays = λ x was other. was; opens = λ opening e. cc }
-delete_account-keeps removed r (objects.Group n) call is none =
+delete_account-keeps removed r described (objects.Group n) call is none =
     record { sound = is.rows; stays = λ x was other. was; opens = λ opening e. cc }
-delete_account-keeps removed r (objects.Alias m n) call is none =
+delete_account-keeps removed r described (objects.Alias m n) call is none =
     record { sound = is.rows; stays = λ x was other. was; opens = λ opening e. cc }
-delete_account-keeps removed r (objects.User n) call is none =
+delete_account-keeps removed r described (objects.User n) call is none =
     record { sound = is.rows; stays = λ x was other. was; opens = λ opening e. cc }
-delete_account-keeps removed r objects.Policy call is none =
+delete_account-keeps removed r described objects.Policy call is none =
     record { sound = is.rows; stays = λ x was other. was; opens = λ opening e. cc }
-delete_account-keeps removed r (objects.Account sid) call is none =
+delete_account-keeps removed r described (objects.Account sid) call is none =
     let law = removed r sid is.rows in
     record { sound = law.sound; stays = law.stays; opens = λ opening e. cc }
 
@@ -139,18 +139,18 @@ change-keeps stay r change (Some l) sound good =
     record { sound = law.sound; stays = λ x was other. law.stays x was refl; opens = λ opening e. cc }
 
 pub add_privileges-keeps : LsaAccountsStaySound → KeepsRows add_privileges_to_account
-add_privileges-keeps stay r object call is none =
+add_privileges-keeps stay r described object call is none =
     change-keeps stay r (with_privileges call.args) (account_of r object) is.rows
     (λ l found. adds-good call.args l (found-good r object l is.rows found)
     (added-privileges call is.face is.opnum is.spelled) (first-holds _ true none))
 
 pub remove_privileges-keeps : LsaAccountsStaySound → KeepsRows remove_privileges_from_account
-remove_privileges-keeps stay r object call is none =
+remove_privileges-keeps stay r described object call is none =
     change-keeps stay r (without_privileges call.args) (account_of r object) is.rows
     (λ l found. removes-good call.args l (found-good r object l is.rows found))
 
 pub set_system_access-keeps : LsaAccountsStaySound → KeepsRows set_system_access_account
-set_system_access-keeps stay r object call is none =
+set_system_access-keeps stay r described object call is none =
     change-keeps stay r (with_access call.args) (account_of r object) is.rows
     (λ l found. sets-good call.args l (found-good r object l is.rows found) (first-holds _ true none))
 
@@ -172,7 +172,7 @@ adds-keep stay r (Some sid) names sound whole =
     record { sound = law.sound; stays = λ x was other. law.stays x was refl; opens = λ opening e. cc }
 
 pub add_rights-keeps : LsaAccountsStaySound → KeepsRows add_account_rights
-add_rights-keeps stay r object call is none =
+add_rights-keeps stay r described object call is none =
     adds-keep stay r (brought_sid call.args) (brought_names call.args) is.rows
     (added-sid call is.face is.opnum is.spelled)
 
@@ -190,6 +190,6 @@ left-keep stay r sid asked (Some l) sound good =
     record { sound = law.sound; stays = λ x was other. law.stays x was refl; opens = λ opening e. cc }
 
 pub remove_rights-keeps : LsaAccountsStaySound → KeepsRows remove_account_rights
-remove_rights-keeps stay r object call is none =
+remove_rights-keeps stay r described object call is none =
     left-keep stay r (brought_sid call.args) call.args (account_of_sid r (brought_sid call.args)) is.rows
     (λ l found. of-sid-good r (brought_sid call.args) l is.rows found)

@@ -12,6 +12,7 @@ use Rattle.acct_rows.specs.Laws.{PutsAreFound, PutsLeaveOthers, EachLsaIsGood}
 use Rattle.acct_rows.specs.Rows.{Lists, lsa_key, sid_key, lsa_at, after, put_row, remove_row}
 use Rattle.acct_rows.specs.Sound.{IsSoundRows}
 use Rattle.acct_rows.specs.declared.object.Object.{Object}
+use Rattle.acct_rows.specs.declared.object.Object.TheVariants as objects
 use Rattle.acct_rows.specs.declared.row.LsaRow.{LsaRow}
 use Rattle.acct_rows.specs.declared.row.Row.TheVariants as rows
 use Rattle.acct_rows.specs.declared.row.RowKey.TheVariants as keys
@@ -19,7 +20,7 @@ use Rattle.acct_rules.specs.Asked.{asked_sid}
 use Rattle.acct_rules.specs.Planned.{none_fails}
 use Rattle.dtyp_sid.specs.Order.{sid_eq, sid_cmp, EqualSidsAreOne}
 use Rattle.dtyp_sid.specs.Value.{SidValue}
-use Rattle.lsad_rights.specs.AccountObjects.{new_account, new_rows}
+use Rattle.lsad_rights.specs.AccountObjects.{new_account, new_rows, create_account}
 use Rattle.lsad_rights.specs.Found.{account_of_sid}
 use Rattle.lsad_rights.specs.Held.{held_at}
 use Rattle.lsad_rights.specs.Holdings.{takes_all}
@@ -30,8 +31,7 @@ use Rattle.lsad_rights.specs.ChangeLaws.{held_by}
 use Rattle.lsad_rights.specs.Listings.{sid_of_row}
 use Rattle.lsad_rights.specs.Rights.{holds}
 use Rattle.lsad_rights.specs.RightsChanges.{brought_sid, brought_names, account_or_new, with_rights, added_rows}
-use Rattle.lsad_rights.specs.RightsChanges.{left_of, left_rows, adjusts, is_no_right}
-use Rattle.lsad_rights.specs.Table.{create_account_in_policy, add_account_rights, remove_account_rights}
+use Rattle.lsad_rights.specs.RightsChanges.{left_of, left_rows, adjusts, is_no_right, add_rights, remove_rights}
 use Rattle.lsad_rights.specs.declared.holders.Wanted.TheVariants.{Holders}
 use Rattle.lsad_rights.specs.declared.rights.AccountRight.{AccountRight}
 use Rattle.lsad_rights.proofs.RightsHeld.{rights-added, rights-left, new-holds, attributes-kept, sid-with, sid-left}
@@ -75,7 +75,8 @@ left-at j k (x ∷ xs) apart =
       | false ↦ λ is. ap (λ o. cond (same_key j (lsa_key x)) (Some x) o) rest
     ] refl
 
-pub account-gone : EqualSidsAreOne → (r : Lists) (sid : SidValue) → IsGone sid r (remove_row (keys.Lsa sid) r)
+pub account-gone : EqualSidsAreOne → (r : Lists) (sid : SidValue)
+    → IsGone sid r (remove_row (keys.Lsa sid) (remove_row (keys.Desc (objects.Account sid)) r))
 account-gone one r sid = record {
   gone = gone-at (sid_key sid) r.lsa;
   stay = record {
@@ -150,8 +151,8 @@ none-there None h = refl
 none-there (Some x) h = cc
 
 pub account-made : PutsAreFound → PutsLeaveOthers → (r : Lists) (object : Object) (asked : Args) (sid : SidValue)
-    → asked_sid asked ≡ Some sid → none_fails (create_account_in_policy.rule r object asked).conditions ≡ true
-    → IsMade sid r (rows_after create_account_in_policy r object asked)
+    → asked_sid asked ≡ Some sid → none_fails (create_account r object asked).conditions ≡ true
+    → IsMade sid r (rows_after create_account r object asked)
 account-made found leave r object asked sid is =
     subst (λ o. (not (is_some (account_of_sid r o)) && true) ≡ true
     → IsMade sid r (after (record { puts = new_rows o; removes = [] }) r)) (sym is)
@@ -199,7 +200,7 @@ added each found leave one r sid names sound =
 
 pub rights-are-added : EachLsaIsGood → PutsAreFound → PutsLeaveOthers → EqualSidsAreOne → (r : Lists)
     (object : Object) (asked : Args) (sid : SidValue) → IsSoundRows r → brought_sid asked ≡ Some sid
-    → RightsAreAdded sid (brought_names asked) r (rows_after add_account_rights r object asked)
+    → RightsAreAdded sid (brought_names asked) r (rows_after add_rights r object asked)
 rights-are-added each found leave one r object asked sid sound is =
     subst (λ o. RightsAreAdded sid (brought_names asked) r
     (after (adjusts o (added_rows r o (brought_names asked))).plan r)) (sym is)
@@ -228,8 +229,8 @@ left each found leave r sid asked (Some l) sound was there =
 
 pub rights-are-taken : EachLsaIsGood → PutsAreFound → PutsLeaveOthers → (r : Lists) (object : Object) (asked : Args)
     (sid : SidValue) → IsSoundRows r → brought_sid asked ≡ Some sid
-    → none_fails (remove_account_rights.rule r object asked).conditions ≡ true
-    → RightsAreTaken sid asked r (rows_after remove_account_rights r object asked)
+    → none_fails (remove_rights r object asked).conditions ≡ true
+    → RightsAreTaken sid asked r (rows_after remove_rights r object asked)
 rights-are-taken each found leave r object asked sid sound is =
     subst (λ o. (not (not (is_some (account_of_sid r o)))
     && (not (list_any is_no_right (brought_names asked)) && true)) ≡ true

@@ -9,6 +9,7 @@ pub mod Continuing
 pub mod Finding
 pub mod Keeping
 pub mod Listing
+pub mod Modest
 pub mod Naming
 pub mod Numbers
 pub mod Placing

@@ -45,18 +45,19 @@ open_account r object asked = record {
   planned = opens (object_of_sid (asked_sid asked)) (desired_access asked);
 }
 
-abbrev pub key_of : Object → List RowKey
-key_of (Account sid) = keys.Lsa sid ∷ []
-key_of _ = []
+-- the keys of an account and of its security descriptor
+abbrev pub keys_of : Object → List RowKey
+keys_of (Account sid) = keys.Desc (Account sid) ∷ keys.Lsa sid ∷ []
+keys_of _ = []
 
--- LsarDeleteObject (MS-LSAD 3.1.4.9.3): the account goes, and every handle to it; the zero handle goes back in place of
--- the one that was brought
+-- LsarDeleteObject (MS-LSAD 3.1.4.9.3): the account and its descriptor go, and every handle to it; the zero handle goes
+-- back in place of the one that was brought
 abbrev pub delete_account : Lists → Object → Args → Ruled
 delete_account r account asked = record {
   conditions = [];
   planned =
       record (answers status_success (outs.Handle zero_handle)) {
-        plan = record { puts = []; removes = key_of account };
+        plan = record { puts = []; removes = keys_of account };
         effect = effects.Deletes account;
       };
 }

@@ -10,22 +10,20 @@ use Rattle.acct_rows.specs.declared.object.Object.TheVariants.{Account}
 use Rattle.acct_rows.specs.declared.row.Held.{Held}
 use Rattle.acct_rows.specs.declared.row.LsaRow.{LsaRow}
 use Rattle.acct_rules.specs.Asked.{asked_sid}
-use Rattle.acct_rules.specs.Operations.{Operation}
-use Rattle.acct_rules.specs.Planned.{none_fails}
+use Rattle.acct_rules.specs.Planned.{Ruled, none_fails}
 use Rattle.dtyp_sid.specs.Order.{sid_eq}
 use Rattle.dtyp_sid.specs.Value.{SidValue}
-use Rattle.lsad_rights.specs.AccountObjects.{new_account}
+use Rattle.lsad_rights.specs.AccountObjects.{new_account, create_account, delete_account}
 use Rattle.lsad_rights.specs.Held.{with_held, without_held, held_at}
 use Rattle.lsad_rights.specs.Holders.{accounts_wanted}
 use Rattle.lsad_rights.specs.Holdings.{takes_all}
 use Rattle.lsad_rights.specs.LogonRights.{bit_of}
 use Rattle.lsad_rights.specs.Privileges.{low_of}
 use Rattle.lsad_rights.specs.Rights.{right_named, holds}
-use Rattle.lsad_rights.specs.RightsChanges.{brought_sid, brought_names}
+use Rattle.lsad_rights.specs.RightsChanges.{brought_sid, brought_names, add_rights, remove_rights}
 use Rattle.lsad_rights.specs.declared.holders.Wanted.TheVariants.{Holders}
 use Rattle.lsad_rights.specs.declared.rights.AccountRight.{AccountRight}
 use Rattle.lsad_rights.specs.declared.rights.AccountRight.TheVariants.{Privilege, Logon}
-use Rattle.lsad_rights.specs.Table.{create_account_in_policy, delete_object, add_account_rights, remove_account_rights}
 
 -- ---- accounts that are made and deleted
 
@@ -48,16 +46,16 @@ pub record IsGone (sid : SidValue) (r later : Lists) : Type 0 where
   pub gone : lsa_at later sid ≡ None
   pub stay : OthersStay sid r later
 
--- the rows after what an operation plans
-abbrev pub rows_after : Operation → Lists → Object → Args → Lists
-rows_after o r object asked = after (o.rule r object asked).planned.plan r
+-- the rows after what a rule plans
+abbrev pub rows_after : (Lists → Object → Args → Ruled) → Lists → Object → Args → Lists
+rows_after rule r object asked = after (rule r object asked).planned.plan r
 
 pub record AccountsComeAndGo : Type 0 where
   pub made : (r : Lists) (object : Object) (asked : Args) (sid : SidValue) → asked_sid asked ≡ Some sid
-      → none_fails (create_account_in_policy.rule r object asked).conditions ≡ true
-      → IsMade sid r (rows_after create_account_in_policy r object asked)
+      → none_fails (create_account r object asked).conditions ≡ true
+      → IsMade sid r (rows_after create_account r object asked)
   pub deleted : (r : Lists) (sid : SidValue) (asked : Args)
-      → IsGone sid r (rows_after delete_object r (Account sid) asked)
+      → IsGone sid r (rows_after delete_account r (Account sid) asked)
 
 -- ---- rights that are added and taken away
 
@@ -106,11 +104,11 @@ pub record RightsAreTaken (sid : SidValue) (asked : Args) (r later : Lists) : Ty
 pub record RightsChange : Type 0 where
   pub added : (r : Lists) (object : Object) (asked : Args) (sid : SidValue) → IsSoundRows r
       → brought_sid asked ≡ Some sid
-      → RightsAreAdded sid (brought_names asked) r (rows_after add_account_rights r object asked)
+      → RightsAreAdded sid (brought_names asked) r (rows_after add_rights r object asked)
   pub taken : (r : Lists) (object : Object) (asked : Args) (sid : SidValue) → IsSoundRows r
       → brought_sid asked ≡ Some sid
-      → none_fails (remove_account_rights.rule r object asked).conditions ≡ true
-      → RightsAreTaken sid asked r (rows_after remove_account_rights r object asked)
+      → none_fails (remove_rights r object asked).conditions ≡ true
+      → RightsAreTaken sid asked r (rows_after remove_rights r object asked)
 
 -- ---- privileges as a set
 

@@ -13,7 +13,7 @@ use Rattle.acct_codes.specs.Opnums.{lsar_delete_object, lsar_add_account_rights,
 use Rattle.acct_codes.specs.Rights.{delete, policy_create_account, account_adjust_privileges}
 use Rattle.acct_codes.specs.Rights.{account_adjust_system_access}
 use Rattle.acct_codes.specs.declared.kind.Kind.TheVariants as kind
-use Rattle.acct_rules.specs.Operations.{Operation}
+use Rattle.acct_rules.specs.Operations.{Operation, undescribed}
 use Rattle.acct_rules.specs.Profiles.{asking}
 use Rattle.acct_rules.specs.declared.profile.Kinds.TheVariants as kinds
 use Rattle.acct_rules.specs.declared.profile.Memory.TheVariants as memory
@@ -34,39 +34,39 @@ abbrev pub enumerate_privileges : Operation
 enumerate_privileges = record {
   profile =
       asking Lsa lsar_enumerate_privileges (kinds.Only kind.Policy) policy_view_local_information memory.Anywhere;
-  rule = list_privileges;
+  rule = undescribed list_privileges;
 }
 
 abbrev pub query_information_policy : Operation
 query_information_policy = record {
   profile =
       asking Lsa lsar_query_information_policy (kinds.Only kind.Policy) policy_view_local_information memory.Anywhere;
-  rule = query_policy;
+  rule = undescribed query_policy;
 }
 
 abbrev pub query_information_policy2 : Operation
 query_information_policy2 = record {
   profile =
       asking Lsa lsar_query_information_policy2 (kinds.Only kind.Policy) policy_view_local_information memory.Anywhere;
-  rule = query_policy;
+  rule = undescribed query_policy;
 }
 
 abbrev pub enumerate_accounts : Operation
 enumerate_accounts = record {
   profile = asking Lsa lsar_enumerate_accounts (kinds.Only kind.Policy) policy_view_local_information memory.Anywhere;
-  rule = list_accounts;
+  rule = undescribed list_accounts;
 }
 
 abbrev pub lookup_privilege_value : Operation
 lookup_privilege_value = record {
   profile = asking Lsa lsar_lookup_privilege_value (kinds.Only kind.Policy) policy_lookup_names memory.Anywhere;
-  rule = privilege_value;
+  rule = undescribed privilege_value;
 }
 
 abbrev pub lookup_privilege_name : Operation
 lookup_privilege_name = record {
   profile = asking Lsa lsar_lookup_privilege_name (kinds.Only kind.Policy) policy_lookup_names memory.Anywhere;
-  rule = privilege_name;
+  rule = undescribed privilege_name;
 }
 
 abbrev pub enumerate_accounts_with_user_right : Operation
@@ -74,13 +74,13 @@ enumerate_accounts_with_user_right = record {
   profile =
       asking Lsa lsar_enumerate_accounts_with_user_right (kinds.Only kind.Policy)
       (policy_view_local_information + policy_lookup_names) memory.Anywhere;
-  rule = accounts_with_right;
+  rule = undescribed accounts_with_right;
 }
 
 abbrev pub enumerate_account_rights : Operation
 enumerate_account_rights = record {
   profile = asking Lsa lsar_enumerate_account_rights (kinds.Only kind.Policy) policy_lookup_names memory.Anywhere;
-  rule = account_rights;
+  rule = undescribed account_rights;
 }
 
 -- ---- by a handle to an account
@@ -88,13 +88,13 @@ enumerate_account_rights = record {
 abbrev pub enumerate_privileges_account : Operation
 enumerate_privileges_account = record {
   profile = asking Lsa lsar_enumerate_privileges_account (kinds.Only kind.Account) account_view memory.Anywhere;
-  rule = account_privileges;
+  rule = undescribed account_privileges;
 }
 
 abbrev pub get_system_access_account : Operation
 get_system_access_account = record {
-  profile = asking Lsa lsar_get_system_access_account (kinds.Only kind.Account) account_view memory.Never;
-  rule = system_access;
+  profile = asking Lsa lsar_get_system_access_account (kinds.Only kind.Account) account_view memory.Anywhere;
+  rule = undescribed system_access;
 }
 
 -- ---- changes, by a handle to the policy
@@ -102,14 +102,14 @@ get_system_access_account = record {
 abbrev pub create_account_in_policy : Operation
 create_account_in_policy = record {
   profile = asking Lsa lsar_create_account (kinds.Only kind.Policy) policy_create_account memory.Anywhere;
-  rule = create_account;
+  rule = undescribed create_account;
 }
 
 abbrev pub open_account_in_policy : Operation
 open_account_in_policy = record {
   profile =
-      asking Lsa lsar_open_account (kinds.Only kind.Policy) policy_view_local_information memory.BehindConditions;
-  rule = open_account;
+      asking Lsa lsar_open_account (kinds.Only kind.Policy) policy_view_local_information memory.Anywhere;
+  rule = undescribed open_account;
 }
 
 -- An account that is made where there is none needs another right to the policy besides.
@@ -119,13 +119,13 @@ add_account_rights = record {
       record (asking Lsa lsar_add_account_rights (kinds.Only kind.Policy) 0 memory.Anywhere) {
         needs = needs.ByAccount policy_lookup_names (policy_lookup_names + policy_create_account);
       };
-  rule = add_rights;
+  rule = undescribed add_rights;
 }
 
 abbrev pub remove_account_rights : Operation
 remove_account_rights = record {
   profile = asking Lsa lsar_remove_account_rights (kinds.Only kind.Policy) policy_lookup_names memory.Anywhere;
-  rule = remove_rights;
+  rule = undescribed remove_rights;
 }
 
 -- ---- changes, by a handle to an account
@@ -134,7 +134,7 @@ abbrev pub add_privileges_to_account : Operation
 add_privileges_to_account = record {
   profile =
       asking Lsa lsar_add_privileges_to_account (kinds.Only kind.Account) account_adjust_privileges memory.Anywhere;
-  rule = add_privileges;
+  rule = undescribed add_privileges;
 }
 
 abbrev pub remove_privileges_from_account : Operation
@@ -142,7 +142,7 @@ remove_privileges_from_account = record {
   profile =
       asking Lsa lsar_remove_privileges_from_account (kinds.Only kind.Account) account_adjust_privileges
       memory.Anywhere;
-  rule = remove_privileges;
+  rule = undescribed remove_privileges;
 }
 
 abbrev pub set_system_access_account : Operation
@@ -150,11 +150,11 @@ set_system_access_account = record {
   profile =
       asking Lsa lsar_set_system_access_account (kinds.Only kind.Account) account_adjust_system_access
       memory.Anywhere;
-  rule = set_system_access;
+  rule = undescribed set_system_access;
 }
 
 abbrev pub delete_object : Operation
 delete_object = record {
   profile = asking Lsa lsar_delete_object (kinds.Only kind.Account) delete memory.Anywhere;
-  rule = delete_account;
+  rule = undescribed delete_account;
 }

@@ -2,7 +2,7 @@
 ghost use Rattle.std.specs.Prelude.{◌≡◌, true, IfOk, OnErr};
 ghost use Rattle.acct_rules.specs.Asked.{asked_sid};
 ghost use Rattle.acct_rules.specs.Planned.{decision, none_fails};
-ghost use Rattle.lsad_rights.specs.AccountObjects.{new_account, new_rows, key_of, create_account, open_account};
+ghost use Rattle.lsad_rights.specs.AccountObjects.{new_account, new_rows, keys_of, create_account, open_account};
 ghost use Rattle.lsad_rights.specs.AccountObjects.{delete_account};
 
 use crate::found::{account_of_sid, object_of_sid};
@@ -84,11 +84,12 @@ pub fn open_account(
     Ok(opens(alloc, account, desired_access(args)))
 }
 
-fn key_of(alloc: Global, account: &Object) -> Result<Seq<RowKey>, NoMemory>
-    ensures { IfOk result (λ keys. keys ≡ key_of account.now) }
+fn keys_of(alloc: Global, account: &Object) -> Result<Seq<RowKey>, NoMemory>
+    ensures { IfOk result (λ keys. keys ≡ keys_of account.now) }
 {
     let mut keys = Seq::new(alloc);
     if let Object::Account(sid) = account {
+        keys.push(RowKey::Desc(*account))?;
         keys.push(RowKey::Lsa(*sid))?;
     }
     Ok(keys)
@@ -104,7 +105,7 @@ pub fn delete_account(
     ensures decided { IfOk result (λ p. p ≡ decision (delete_account rows.now.lists account args.now)) }
     ensures frugal { OnErr result (none_fails (delete_account rows.now.lists account args.now).conditions ≡ true) }
 {
-    let removes = key_of(alloc, &account)?;
+    let removes = keys_of(alloc, &account)?;
     let puts = Seq::new(alloc);
     Ok(Planned {
         plan: Plan { puts, removes },

@@ -4,7 +4,7 @@ use Rattle.acct_codes.specs.Opnums.{lsar_lookup_names, lsar_lookup_names2, lsar_
 use Rattle.acct_codes.specs.Opnums.{lsar_lookup_sids2}
 use Rattle.acct_codes.specs.Rights.{policy_lookup_names}
 use Rattle.acct_codes.specs.declared.kind.Kind.TheVariants as kind
-use Rattle.acct_rules.specs.Operations.{Operation}
+use Rattle.acct_rules.specs.Operations.{Operation, undescribed}
 use Rattle.acct_rules.specs.Profiles.{asking}
 use Rattle.acct_rules.specs.declared.profile.Kinds.TheVariants as kinds
 use Rattle.acct_rules.specs.declared.profile.Memory.TheVariants as memory
@@ -15,29 +15,29 @@ use Rattle.lsat_translate.specs.Translations.{look_names, look_names2, look_name
 abbrev pub lookup_names : Operation
 lookup_names = record {
   profile = asking Lsa lsar_lookup_names (kinds.Only kind.Policy) policy_lookup_names memory.Anywhere;
-  rule = look_names;
+  rule = undescribed look_names;
 }
 
 abbrev pub lookup_names2 : Operation
 lookup_names2 = record {
   profile = asking Lsa lsar_lookup_names2 (kinds.Only kind.Policy) policy_lookup_names memory.Anywhere;
-  rule = look_names2;
+  rule = undescribed look_names2;
 }
 
 abbrev pub lookup_names3 : Operation
 lookup_names3 = record {
   profile = asking Lsa lsar_lookup_names3 (kinds.Only kind.Policy) policy_lookup_names memory.Anywhere;
-  rule = look_names3;
+  rule = undescribed look_names3;
 }
 
 abbrev pub lookup_sids : Operation
 lookup_sids = record {
   profile = asking Lsa lsar_lookup_sids (kinds.Only kind.Policy) policy_lookup_names memory.Anywhere;
-  rule = look_sids;
+  rule = undescribed look_sids;
 }
 
 abbrev pub lookup_sids2 : Operation
 lookup_sids2 = record {
   profile = asking Lsa lsar_lookup_sids2 (kinds.Only kind.Policy) policy_lookup_names memory.Anywhere;
-  rule = look_sids2;
+  rule = undescribed look_sids2;
 }

@@ -64,7 +64,7 @@ alias-there r (objects.Account sid) taken there = cc
 -- ---- members of groups
 
 pub add_group_member-keeps : MembersStaySound → KeepsRows add_member_to_group
-add_group_member-keeps members r object call is none =
+add_group_member-keeps members r described object call is none =
     let law = members r (added_member object call.args) is.rows
     (long-attributes call is.face is.opnum is.spelled) (group-there r object is.taken is.there)
     (first-is (is_user r (added_rid call.args)) _ none) in
@@ -81,7 +81,7 @@ no-primary r group user other a there of-kind same =
     cc (other, is, yes)
 
 pub remove_group_member-keeps : RemovedMembersStaySound → KeepsRows remove_member_from_group
-remove_group_member-keeps removed r object call is none =
+remove_group_member-keeps removed r described object call is none =
     let rid = asked_rid call.args in
     let law = removed r (rid_of object) rid is.rows (no-primary r (rid_of object) rid
     (third-is (is_user r rid) (is_member r (rid_of object) rid) (is_primary r (rid_of object) rid) none)) in
@@ -99,7 +99,7 @@ adds-keep aliases r object (Some sid) sound whole there =
     record { sound = law.sound; stays = λ x was other. law.stays x was refl; opens = λ opening e. cc }
 
 pub add_alias_member-keeps : AliasRowsStaySound → KeepsRows add_member_to_alias
-add_alias_member-keeps aliases r object call is none =
+add_alias_member-keeps aliases r described object call is none =
     adds-keep aliases r object (asked_sid call.args) is.rows (whole-sid call is.face is.opnum is.spelled)
     (alias-there r object is.taken is.there)
 
@@ -112,5 +112,5 @@ removes-keep removed r object (Some sid) sound =
     record { sound = law.sound; stays = λ x was other. law.stays x was refl; opens = λ opening e. cc }
 
 pub remove_alias_member-keeps : RemovedAliasRowsStaySound → KeepsRows remove_member_from_alias
-remove_alias_member-keeps removed r object call is none =
+remove_alias_member-keeps removed r described object call is none =
     removes-keep removed r object (asked_sid call.args) is.rows

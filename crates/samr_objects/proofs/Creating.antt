@@ -59,6 +59,7 @@ use Rattle.samr_objects.specs.Naming.{gives_no_rid}
 use Rattle.samr_objects.specs.Table.{create_group_in_domain, create_alias_in_domain, create_user_in_domain}
 use Rattle.samr_objects.specs.Table.{create_user2_in_domain}
 use Rattle.samr_objects.proofs.Asking.{arguments}
+use Rattle.samr_objects.proofs.Modest.{modest-account, modest-user}
 use Rattle.samr_objects.proofs.Shaping.{next-long}
 
 -- ---- statuses
@@ -460,10 +461,12 @@ pub create_group-right : IsRight create_group_in_domain
 unfolding HasShape samr_layout lsa_layout
 create_group-right = record {
   laid_out = refl;
-  refuses = λ r object asked. known-there _ (exists-known (holder r (domain_of object) (made_name asked)));
-  succeeds = λ r object asked. refl;
-  frugal = λ r object asked. refl;
-  shaped = λ r object call few is none.
+  refuses = λ r described object asked. known-there _ (exists-known (holder r (domain_of object) (made_name asked)));
+  succeeds = λ r described object asked. refl;
+  frugal = λ r described object asked. refl;
+  modest = λ r described object asked.
+      modest-account (domain_at r (domain_of object)) (new_group r (domain_of object) asked);
+  shaped = λ r described object call few is none.
       (lit< tt, (lit< tt, refl, long-rid r (domain_of object) is.rows), λ refused. refl);
 }
 
@@ -471,10 +474,12 @@ pub create_alias-right : IsRight create_alias_in_domain
 unfolding HasShape samr_layout lsa_layout
 create_alias-right = record {
   laid_out = refl;
-  refuses = λ r object asked. known-there _ (exists-known (holder r (domain_of object) (made_name asked)));
-  succeeds = λ r object asked. refl;
-  frugal = λ r object asked. refl;
-  shaped = λ r object call few is none.
+  refuses = λ r described object asked. known-there _ (exists-known (holder r (domain_of object) (made_name asked)));
+  succeeds = λ r described object asked. refl;
+  frugal = λ r described object asked. refl;
+  modest = λ r described object asked.
+      modest-account (domain_at r (domain_of object)) (new_account r kind.Alias (domain_of object) asked);
+  shaped = λ r described object call few is none.
       (lit< tt, (lit< tt, refl, long-rid r (domain_of object) is.rows), λ refused. refl);
 }
 
@@ -482,10 +487,13 @@ pub create_user-right : IsRight create_user_in_domain
 unfolding HasShape samr_layout lsa_layout
 create_user-right = record {
   laid_out = refl;
-  refuses = λ r object asked. known-there _ (exists-known (holder r (domain_of object) (made_name asked)));
-  succeeds = λ r object asked. refl;
-  frugal = λ r object asked. refl;
-  shaped = λ r object call few is none.
+  refuses = λ r described object asked. known-there _ (exists-known (holder r (domain_of object) (made_name asked)));
+  succeeds = λ r described object asked. refl;
+  frugal = λ r described object asked. refl;
+  modest = λ r described object asked.
+      modest-user (domain_at r (domain_of object)) (new_user r (domain_of object) asked)
+      (new_member (new_rid r (domain_of object)));
+  shaped = λ r described object call few is none.
       (lit< tt, (lit< tt, refl, long-rid r (domain_of object) is.rows), λ refused. refl);
 }
 
@@ -493,10 +501,13 @@ pub create_user2-right : IsRight create_user2_in_domain
 unfolding HasShape samr_layout lsa_layout
 create_user2-right = record {
   laid_out = refl;
-  refuses = λ r object asked. known-there _ (exists-known (holder r (domain_of object) (made_name asked)));
-  succeeds = λ r object asked. refl;
-  frugal = λ r object asked. refl;
-  shaped = λ r object call few is none.
+  refuses = λ r described object asked. known-there _ (exists-known (holder r (domain_of object) (made_name asked)));
+  succeeds = λ r described object asked. refl;
+  frugal = λ r described object asked. refl;
+  modest = λ r described object asked.
+      modest-user (domain_at r (domain_of object)) (new_user r (domain_of object) asked)
+      (new_member (new_rid r (domain_of object)));
+  shaped = λ r described object call few is none.
       (lit< tt, (lit< tt, lit< tt, long-rid r (domain_of object) is.rows), λ refused. refl);
 }
 
@@ -522,26 +533,26 @@ user-in l r n d asked sound there units none =
     (may-be r kind.User n (made_name asked) (second-of _ _ (second-of _ _ none)))
 
 pub create_group-keeps : RowLaws → KeepsRows create_group_in_domain
-create_group-keeps l r object call is none =
+create_group-keeps l r described object call is none =
     creates-keep r _ _ _ _ (with-domain _ r (domain_of object) (domain-is r object is.taken is.there) (λ d there.
     group-in l r (domain_of object) d call.args is.rows there
     (creation-units creation.Account call.args (group-asks call is.face is.opnum is.spelled)) none))
 
 pub create_alias-keeps : RowLaws → KeepsRows create_alias_in_domain
-create_alias-keeps l r object call is none =
+create_alias-keeps l r described object call is none =
     creates-keep r _ _ _ _ (with-domain _ r (domain_of object) (domain-is r object is.taken is.there) (λ d there.
     alias-made l r (domain_of object) d call.args is.rows there
     (creation-units creation.Account call.args (alias-asks call is.face is.opnum is.spelled))
     (may-be r kind.Alias (domain_of object) (made_name call.args) none)))
 
 pub create_user-keeps : RowLaws → KeepsRows create_user_in_domain
-create_user-keeps l r object call is none =
+create_user-keeps l r described object call is none =
     creates-keep r _ _ _ _ (with-domain _ r (domain_of object) (domain-is r object is.taken is.there) (λ d there.
     user-in l r (domain_of object) d call.args is.rows there
     (creation-units creation.User call.args (user-asks call is.face is.opnum is.spelled)) none))
 
 pub create_user2-keeps : RowLaws → KeepsRows create_user2_in_domain
-create_user2-keeps l r object call is none =
+create_user2-keeps l r described object call is none =
     creates-keep r _ _ _ _ (with-domain _ r (domain_of object) (domain-is r object is.taken is.there) (λ d there.
     user-in l r (domain_of object) d call.args is.rows there
     (creation-units creation.TypedUser call.args (user2-asks call is.face is.opnum is.spelled)) none))
@@ -654,25 +665,25 @@ user-created l r n d asked sound there units none =
     (may-be r kind.User n (made_name asked) (second-of _ _ (second-of _ _ none))))))
 
 pub create_group-found : FoundLaws → Creates kind.Group create_group_in_domain
-create_group-found l r object call is none =
+create_group-found l r described object call is none =
     with-domain _ r (domain_of object) (domain-is r object is.taken is.there) (λ d there.
     group-created l r (domain_of object) d call.args is.rows there
     (creation-units creation.Account call.args (group-asks call is.face is.opnum is.spelled)) none)
 
 pub create_alias-found : FoundLaws → Creates kind.Alias create_alias_in_domain
-create_alias-found l r object call is none =
+create_alias-found l r described object call is none =
     with-domain _ r (domain_of object) (domain-is r object is.taken is.there) (λ d there.
     alias-created l r (domain_of object) d call.args is.rows there
     (creation-units creation.Account call.args (alias-asks call is.face is.opnum is.spelled)) none)
 
 pub create_user-found : FoundLaws → Creates kind.User create_user_in_domain
-create_user-found l r object call is none =
+create_user-found l r described object call is none =
     with-domain _ r (domain_of object) (domain-is r object is.taken is.there) (λ d there.
     user-created l r (domain_of object) d call.args is.rows there
     (creation-units creation.User call.args (user-asks call is.face is.opnum is.spelled)) none)
 
 pub create_user2-found : FoundLaws → Creates kind.User create_user2_in_domain
-create_user2-found l r object call is none =
+create_user2-found l r described object call is none =
     with-domain _ r (domain_of object) (domain-is r object is.taken is.there) (λ d there.
     user-created l r (domain_of object) d call.args is.rows there
     (creation-units creation.TypedUser call.args (user2-asks call is.face is.opnum is.spelled)) none)

@@ -17,15 +17,16 @@ use Rattle.acct_layouts.specs.ReplyShapes.{HasShape}
 use Rattle.acct_layouts.specs.Table.{samr_layout, lsa_layout}
 use Rattle.acct_rows.specs.Keyed.{same_key, at}
 use Rattle.acct_rows.specs.Laws.{EachIsGood, IsNoPrimary, OthersAreNoPrimary, RemovedAccountsStaySound, NamingIsRemoved}
-use Rattle.acct_rows.specs.Laws.{IsWithout}
+use Rattle.acct_rows.specs.Laws.{IsWithout, RemovedDescriptorsStaySound}
 use Rattle.acct_rows.specs.Objects.{kind_of, domain_of, rid_of, exists, same_object}
 use Rattle.acct_rows.specs.Rows.{Lists, domain_key, account_key, domain_at, account_at, is_of, same_kind, after}
-use Rattle.acct_rows.specs.Rows.{has_primary, is_primary}
+use Rattle.acct_rows.specs.Rows.{has_primary, is_primary, remove_row}
 use Rattle.acct_rows.specs.Sound.{IsSoundRows, IsGoodDomain, is_account_kind, next_rid_of}
 use Rattle.acct_rows.specs.declared.object.Object.{Object}
 use Rattle.acct_rows.specs.declared.object.Object.TheVariants as objects
 use Rattle.acct_rows.specs.declared.row.AccountRow.{AccountRow}
 use Rattle.acct_rows.specs.declared.row.DomainRow.{DomainRow}
+use Rattle.acct_rows.specs.declared.row.RowKey.TheVariants as keys
 use Rattle.acct_rules.specs.Operations.{IsRight, KeepsRows, Keeps}
 use Rattle.acct_calls.specs.Calls.{zero_handle}
 use Rattle.acct_rules.specs.Planned.{answers}
@@ -37,6 +38,7 @@ use Rattle.samr_objects.specs.Deletions.{is_special, account_sid, keys_of, delet
 use Rattle.samr_objects.specs.Domains.{sid_of_rid}
 use Rattle.samr_objects.specs.Laws.{IsGone, Deletes}
 use Rattle.samr_objects.specs.Table.{delete_group_in_domain, delete_alias_in_domain, delete_user_in_domain}
+use Rattle.samr_objects.proofs.Modest.{modest-keys}
 
 -- ---- statuses and outputs
 
@@ -44,30 +46,33 @@ pub delete_group-right : IsRight delete_group_in_domain
 unfolding HasShape samr_layout lsa_layout
 delete_group-right = record {
   laid_out = refl;
-  refuses = λ r object asked. refl;
-  succeeds = λ r object asked. refl;
-  frugal = λ r object asked. refl;
-  shaped = λ r object call few is none. (lit< tt, lit< tt, λ refused. refl);
+  refuses = λ r described object asked. refl;
+  succeeds = λ r described object asked. refl;
+  frugal = λ r described object asked. refl;
+  modest = λ r described object asked. modest-keys r object (account_sid r object);
+  shaped = λ r described object call few is none. (lit< tt, lit< tt, λ refused. refl);
 }
 
 pub delete_alias-right : IsRight delete_alias_in_domain
 unfolding HasShape samr_layout lsa_layout
 delete_alias-right = record {
   laid_out = refl;
-  refuses = λ r object asked. refl;
-  succeeds = λ r object asked. refl;
-  frugal = λ r object asked. refl;
-  shaped = λ r object call few is none. (lit< tt, lit< tt, λ refused. refl);
+  refuses = λ r described object asked. refl;
+  succeeds = λ r described object asked. refl;
+  frugal = λ r described object asked. refl;
+  modest = λ r described object asked. modest-keys r object (account_sid r object);
+  shaped = λ r described object call few is none. (lit< tt, lit< tt, λ refused. refl);
 }
 
 pub delete_user-right : IsRight delete_user_in_domain
 unfolding HasShape samr_layout lsa_layout
 delete_user-right = record {
   laid_out = refl;
-  refuses = λ r object asked. refl;
-  succeeds = λ r object asked. refl;
-  frugal = λ r object asked. refl;
-  shaped = λ r object call few is none. (lit< tt, lit< tt, λ refused. refl);
+  refuses = λ r described object asked. refl;
+  succeeds = λ r described object asked. refl;
+  frugal = λ r described object asked. refl;
+  modest = λ r described object asked. modest-keys r object (account_sid r object);
+  shaped = λ r described object call few is none. (lit< tt, lit< tt, λ refused. refl);
 }
 
 -- ---- conditions
@@ -221,16 +226,17 @@ keeps removed each r object sound account there special primary =
     subst (λ o. Keeps r (deletes-of r object o)) (sym sid.1)
     (record { sound = law.sound; stays = law.stays; opens = λ opening is. cc })
 
-gone : NamingIsRemoved → EachIsGood → (r : Lists) (object : Object) → IsSoundRows r
+gone : NamingIsRemoved → RemovedDescriptorsStaySound → EachIsGood → (r : Lists) (object : Object) → IsSoundRows r
     → is_account_kind (kind_of object) ≡ true → exists r object ≡ true
     → IsGone object r (after (deletes r object).plan r)
-gone removed each r object sound account there =
+gone removed dropped each r object sound account there =
     let sid = sid-there each r object sound account there in
     let a = account-there r object account there in
+    let left : Lists = remove_row (keys.Desc object) r in
     let without : (s : SidValue) → account_sid r object ≡ Some s
-    → IsWithout (domain_of object) (rid_of object) s r (after (deletes r object).plan r) = λ s is.
-    subst (λ o. IsWithout (domain_of object) (rid_of object) s r (after (deletes-of r object o).plan r)) (sym is)
-    (removed r (domain_of object) (rid_of object) s sound) in
+    → IsWithout (domain_of object) (rid_of object) s left (after (deletes r object).plan r) = λ s is.
+    subst (λ o. IsWithout (domain_of object) (rid_of object) s left (after (deletes-of r object o).plan r)) (sym is)
+    (removed left (domain_of object) (rid_of object) s (dropped r object sound).sound) in
     record {
       sid_there = ap is_some sid.1;
       rows = without;
@@ -254,32 +260,32 @@ other-keeps others k account other r object sound there taken =
 -- ---- the three operations
 
 pub delete_group-keeps : RemovedAccountsStaySound → EachIsGood → KeepsRows delete_group_in_domain
-delete_group-keeps removed each r object call is none =
+delete_group-keeps removed each r described object call is none =
     keeps removed each r object is.rows (is-account kind.Group object refl is.taken) is.there
     (first-holds (is_special object) _ none)
     (no-primary r (domain_of object) (rid_of object)
     (second-holds (is_special object) (is_primary r (rid_of object)) none))
 
 pub delete_alias-keeps : RemovedAccountsStaySound → OthersAreNoPrimary → EachIsGood → KeepsRows delete_alias_in_domain
-delete_alias-keeps removed others each r object call is none =
+delete_alias-keeps removed others each r described object call is none =
     keeps removed each r object is.rows (is-account kind.Alias object refl is.taken) is.there
     (first-holds (is_special object) _ none)
     (other-keeps others kind.Alias refl refl r object is.rows is.there is.taken)
 
 pub delete_user-keeps : RemovedAccountsStaySound → OthersAreNoPrimary → EachIsGood → KeepsRows delete_user_in_domain
-delete_user-keeps removed others each r object call is none =
+delete_user-keeps removed others each r described object call is none =
     keeps removed each r object is.rows (is-account kind.User object refl is.taken) is.there
     (first-holds (is_special object) _ none)
     (other-keeps others kind.User refl refl r object is.rows is.there is.taken)
 
-pub groups-go : NamingIsRemoved → EachIsGood → Deletes delete_group_in_domain
-groups-go removed each r object call is none =
-    gone removed each r object is.rows (is-account kind.Group object refl is.taken) is.there
+pub groups-go : NamingIsRemoved → RemovedDescriptorsStaySound → EachIsGood → Deletes delete_group_in_domain
+groups-go removed dropped each r described object call is none =
+    gone removed dropped each r object is.rows (is-account kind.Group object refl is.taken) is.there
 
-pub aliases-go : NamingIsRemoved → EachIsGood → Deletes delete_alias_in_domain
-aliases-go removed each r object call is none =
-    gone removed each r object is.rows (is-account kind.Alias object refl is.taken) is.there
+pub aliases-go : NamingIsRemoved → RemovedDescriptorsStaySound → EachIsGood → Deletes delete_alias_in_domain
+aliases-go removed dropped each r described object call is none =
+    gone removed dropped each r object is.rows (is-account kind.Alias object refl is.taken) is.there
 
-pub users-go : NamingIsRemoved → EachIsGood → Deletes delete_user_in_domain
-users-go removed each r object call is none =
-    gone removed each r object is.rows (is-account kind.User object refl is.taken) is.there
+pub users-go : NamingIsRemoved → RemovedDescriptorsStaySound → EachIsGood → Deletes delete_user_in_domain
+users-go removed dropped each r described object call is none =
+    gone removed dropped each r object is.rows (is-account kind.User object refl is.taken) is.there

@@ -178,10 +178,11 @@ pub query_display-right : EachIsGood → IsRight query_display_information
 unfolding HasShape samr_layout lsa_layout
 query_display-right each = record {
   laid_out = refl;
-  refuses = λ r object asked. refl;
-  succeeds = λ r object asked. page-full (leaves_some (page-of r object asked) (left-of r object asked));
-  frugal = λ r object asked. refl;
-  shaped = λ r object call few is none. (
+  refuses = λ r described object asked. refl;
+  succeeds = λ r described object asked. page-full (leaves_some (page-of r object asked) (left-of r object asked));
+  frugal = λ r described object asked. refl;
+  modest = λ r described object asked. refl;
+  shaped = λ r described object call few is none. (
     page-long (leaves_some (page-of r object call.args) (left-of r object call.args)),
     (
       class-short call.args (arguments call Samr samr_query_display_information is.face is.opnum is.spelled).1,

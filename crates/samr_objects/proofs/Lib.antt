@@ -8,6 +8,7 @@ pub mod DisplayShapes
 pub mod Displaying
 pub mod Keeping
 pub mod Listing
+pub mod Modest
 pub mod Paging
 pub mod Querying
 pub mod Setting

@@ -92,10 +92,11 @@ pub list_groups-right : EachIsGood → IsRight enumerate_groups_in_domain
 unfolding HasShape samr_layout lsa_layout
 list_groups-right each = record {
   laid_out = refl;
-  refuses = λ r object asked. refl;
-  succeeds = λ r object asked. page-full (more-left (wanted kind.Group 0 object asked) asked r);
-  frugal = λ r object asked. refl;
-  shaped = λ r object call few is none. (
+  refuses = λ r described object asked. refl;
+  succeeds = λ r described object asked. page-full (more-left (wanted kind.Group 0 object asked) asked r);
+  frugal = λ r described object asked. refl;
+  modest = λ r described object asked. refl;
+  shaped = λ r described object call few is none. (
     page-long (more-left (wanted kind.Group 0 object call.args) call.args r),
     listed-shaped each (wanted kind.Group 0 object call.args) (asked_length call.args) r few is.rows
         (context-long call.args
@@ -108,10 +109,11 @@ pub list_aliases-right : EachIsGood → IsRight enumerate_aliases_in_domain
 unfolding HasShape samr_layout lsa_layout
 list_aliases-right each = record {
   laid_out = refl;
-  refuses = λ r object asked. refl;
-  succeeds = λ r object asked. page-full (more-left (wanted kind.Alias 0 object asked) asked r);
-  frugal = λ r object asked. refl;
-  shaped = λ r object call few is none. (
+  refuses = λ r described object asked. refl;
+  succeeds = λ r described object asked. page-full (more-left (wanted kind.Alias 0 object asked) asked r);
+  frugal = λ r described object asked. refl;
+  modest = λ r described object asked. refl;
+  shaped = λ r described object call few is none. (
     page-long (more-left (wanted kind.Alias 0 object call.args) call.args r),
     listed-shaped each (wanted kind.Alias 0 object call.args) (asked_length call.args) r few is.rows
         (context-long call.args
@@ -124,10 +126,11 @@ pub list_users-right : EachIsGood → IsRight enumerate_users_in_domain
 unfolding HasShape samr_layout lsa_layout
 list_users-right each = record {
   laid_out = refl;
-  refuses = λ r object asked. refl;
-  succeeds = λ r object asked. page-full (more-left (wanted kind.User (asked_filter asked) object asked) asked r);
-  frugal = λ r object asked. refl;
-  shaped = λ r object call few is none. (
+  refuses = λ r described object asked. refl;
+  succeeds = λ r described object asked. page-full (more-left (wanted kind.User (asked_filter asked) object asked) asked r);
+  frugal = λ r described object asked. refl;
+  modest = λ r described object asked. refl;
+  shaped = λ r described object call few is none. (
     page-long (more-left (wanted kind.User (asked_filter call.args) object call.args) call.args r),
     listed-shaped each (wanted kind.User (asked_filter call.args) object call.args) (asked_length call.args) r few
         is.rows

@@ -150,10 +150,11 @@ pub query_domain-right : IsRight query_information_domain
 unfolding HasShape samr_layout lsa_layout
 query_domain-right = record {
   laid_out = refl;
-  refuses = λ r o asked. refl;
-  succeeds = λ r o asked. refl;
-  frugal = λ r o asked. refl;
-  shaped = λ r o call few is none.
+  refuses = λ r described o asked. refl;
+  succeeds = λ r described o asked. refl;
+  frugal = λ r described o asked. refl;
+  modest = λ r described o asked. refl;
+  shaped = λ r described o call few is none.
       (lit< tt, domain-shown r (domain_of o) (class_of call.args) is.rows (holds _ none), λ refused. refl);
 }
 
@@ -161,10 +162,11 @@ pub query_domain2-right : IsRight query_information_domain2
 unfolding HasShape samr_layout lsa_layout
 query_domain2-right = record {
   laid_out = refl;
-  refuses = λ r o asked. refl;
-  succeeds = λ r o asked. refl;
-  frugal = λ r o asked. refl;
-  shaped = λ r o call few is none.
+  refuses = λ r described o asked. refl;
+  succeeds = λ r described o asked. refl;
+  frugal = λ r described o asked. refl;
+  modest = λ r described o asked. refl;
+  shaped = λ r described o call few is none.
       (lit< tt, domain-shown r (domain_of o) (class_of call.args) is.rows (holds _ none), λ refused. refl);
 }
 
@@ -172,10 +174,11 @@ pub query_group-right : IsRight query_information_group
 unfolding HasShape samr_layout lsa_layout
 query_group-right = record {
   laid_out = refl;
-  refuses = λ r o asked. refl;
-  succeeds = λ r o asked. refl;
-  frugal = λ r o asked. refl;
-  shaped = λ r o call few is none. (
+  refuses = λ r described o asked. refl;
+  succeeds = λ r described o asked. refl;
+  frugal = λ r described o asked. refl;
+  modest = λ r described o asked. refl;
+  shaped = λ r described o call few is none. (
     lit< tt,
     account-shown subject.Group (group_classes r) r o (class_of call.args) (group-shaped r few) is.rows (holds _ none),
     λ refused. refl,
@@ -186,10 +189,11 @@ pub query_alias-right : IsRight query_information_alias
 unfolding HasShape samr_layout lsa_layout
 query_alias-right = record {
   laid_out = refl;
-  refuses = λ r o asked. refl;
-  succeeds = λ r o asked. refl;
-  frugal = λ r o asked. refl;
-  shaped = λ r o call few is none. (
+  refuses = λ r described o asked. refl;
+  succeeds = λ r described o asked. refl;
+  frugal = λ r described o asked. refl;
+  modest = λ r described o asked. refl;
+  shaped = λ r described o call few is none. (
     lit< tt,
     account-shown subject.Alias (alias_classes r) r o (class_of call.args) (alias-shaped r few) is.rows (holds _ none),
     λ refused. refl,
@@ -200,10 +204,11 @@ pub query_user-right : EachIsGood → IsRight query_information_user
 unfolding HasShape samr_layout lsa_layout
 query_user-right each = record {
   laid_out = refl;
-  refuses = λ r o asked. refl;
-  succeeds = λ r o asked. refl;
-  frugal = λ r o asked. refl;
-  shaped = λ r o call few is none. (
+  refuses = λ r described o asked. refl;
+  succeeds = λ r described o asked. refl;
+  frugal = λ r described o asked. refl;
+  modest = λ r described o asked. refl;
+  shaped = λ r described o call few is none. (
     lit< tt,
     account-shown subject.User user_classes r o (class_of call.args) (user-shaped each r is.rows) is.rows
         (holds _ none),
@@ -215,10 +220,11 @@ pub query_user2-right : EachIsGood → IsRight query_information_user2
 unfolding HasShape samr_layout lsa_layout
 query_user2-right each = record {
   laid_out = refl;
-  refuses = λ r o asked. refl;
-  succeeds = λ r o asked. refl;
-  frugal = λ r o asked. refl;
-  shaped = λ r o call few is none. (
+  refuses = λ r described o asked. refl;
+  succeeds = λ r described o asked. refl;
+  frugal = λ r described o asked. refl;
+  modest = λ r described o asked. refl;
+  shaped = λ r described o call few is none. (
     lit< tt,
     account-shown subject.User user_classes r o (class_of call.args) (user-shaped each r is.rows) is.rows
         (holds _ none),

@@ -52,6 +52,7 @@ use Rattle.samr_objects.specs.Table.{set_information_user, set_information_user2
 use Rattle.samr_objects.specs.declared.settings.Field.{Field}
 use Rattle.samr_objects.specs.declared.settings.Field.TheVariants as field
 use Rattle.samr_objects.proofs.Asking.{arguments}
+use Rattle.samr_objects.proofs.Modest.{modest-set, modest-domain}
 use Rattle.samr_objects.proofs.Deleting.{account-there, is-account, kind-there, one-kind, first-holds, second-holds}
 
 -- ---- statuses and outputs
@@ -83,50 +84,59 @@ pub set_domain-right : IsRight set_information_domain
 unfolding HasShape samr_layout lsa_layout
 set_domain-right = record {
   laid_out = refl;
-  refuses = λ r object asked. refl;
-  succeeds = λ r object asked. refl;
-  frugal = λ r object asked. refl;
-  shaped = λ r object call few is none. (lit< tt, tt, λ refused. refl);
+  refuses = λ r described object asked. refl;
+  succeeds = λ r described object asked. refl;
+  frugal = λ r described object asked. refl;
+  modest = λ r described object asked. modest-domain asked (domain_at r (domain_of object));
+  shaped = λ r described object call few is none. (lit< tt, tt, λ refused. refl);
 }
 
 pub set_group-right : IsRight set_information_group
 unfolding HasShape samr_layout lsa_layout
 set_group-right = record {
   laid_out = refl;
-  refuses = λ r object asked. field-refuses r kind.Group object asked (set_field kind.Group (class_of asked));
-  succeeds = λ r object asked. refl;
-  frugal = λ r object asked. refl;
-  shaped = λ r object call few is none. (lit< tt, tt, λ refused. refl);
+  refuses = λ r described object asked. field-refuses r kind.Group object asked (set_field kind.Group (class_of asked));
+  succeeds = λ r described object asked. refl;
+  frugal = λ r described object asked. refl;
+  modest = λ r described object asked. modest-set (set_field kind.Group (class_of asked)) asked
+      (account_at r (domain_of object) (rid_of object));
+  shaped = λ r described object call few is none. (lit< tt, tt, λ refused. refl);
 }
 
 pub set_alias-right : IsRight set_information_alias
 unfolding HasShape samr_layout lsa_layout
 set_alias-right = record {
   laid_out = refl;
-  refuses = λ r object asked. field-refuses r kind.Alias object asked (set_field kind.Alias (class_of asked));
-  succeeds = λ r object asked. refl;
-  frugal = λ r object asked. refl;
-  shaped = λ r object call few is none. (lit< tt, tt, λ refused. refl);
+  refuses = λ r described object asked. field-refuses r kind.Alias object asked (set_field kind.Alias (class_of asked));
+  succeeds = λ r described object asked. refl;
+  frugal = λ r described object asked. refl;
+  modest = λ r described object asked. modest-set (set_field kind.Alias (class_of asked)) asked
+      (account_at r (domain_of object) (rid_of object));
+  shaped = λ r described object call few is none. (lit< tt, tt, λ refused. refl);
 }
 
 pub set_user-right : IsRight set_information_user
 unfolding HasShape samr_layout lsa_layout
 set_user-right = record {
   laid_out = refl;
-  refuses = λ r object asked. field-refuses r kind.User object asked (set_field kind.User (class_of asked));
-  succeeds = λ r object asked. refl;
-  frugal = λ r object asked. refl;
-  shaped = λ r object call few is none. (lit< tt, tt, λ refused. refl);
+  refuses = λ r described object asked. field-refuses r kind.User object asked (set_field kind.User (class_of asked));
+  succeeds = λ r described object asked. refl;
+  frugal = λ r described object asked. refl;
+  modest = λ r described object asked. modest-set (set_field kind.User (class_of asked)) asked
+      (account_at r (domain_of object) (rid_of object));
+  shaped = λ r described object call few is none. (lit< tt, tt, λ refused. refl);
 }
 
 pub set_user2-right : IsRight set_information_user2
 unfolding HasShape samr_layout lsa_layout
 set_user2-right = record {
   laid_out = refl;
-  refuses = λ r object asked. field-refuses r kind.User object asked (set_field kind.User (class_of asked));
-  succeeds = λ r object asked. refl;
-  frugal = λ r object asked. refl;
-  shaped = λ r object call few is none. (lit< tt, tt, λ refused. refl);
+  refuses = λ r described object asked. field-refuses r kind.User object asked (set_field kind.User (class_of asked));
+  succeeds = λ r described object asked. refl;
+  frugal = λ r described object asked. refl;
+  modest = λ r described object asked. modest-set (set_field kind.User (class_of asked)) asked
+      (account_at r (domain_of object) (rid_of object));
+  shaped = λ r described object call few is none. (lit< tt, tt, λ refused. refl);
 }
 
 -- ---- what is asked for: a text of units, and a number of 32 bits
@@ -463,22 +473,22 @@ account-keeps laws r k object asked sound account there taken asks none =
     (record { sound = law.sound; stays = λ x was other. law.stays x was refl; opens = λ opening is. cc })
 
 pub set_group-keeps : SetLaws → KeepsRows set_information_group
-set_group-keeps laws r object call is none =
+set_group-keeps laws r described object call is none =
     account-keeps laws r kind.Group object call.args is.rows refl is.there is.taken
     (group-asks call is.face is.opnum is.spelled) none
 
 pub set_alias-keeps : SetLaws → KeepsRows set_information_alias
-set_alias-keeps laws r object call is none =
+set_alias-keeps laws r described object call is none =
     account-keeps laws r kind.Alias object call.args is.rows refl is.there is.taken
     (alias-asks call is.face is.opnum is.spelled) none
 
 pub set_user-keeps : SetLaws → KeepsRows set_information_user
-set_user-keeps laws r object call is none =
+set_user-keeps laws r described object call is none =
     account-keeps laws r kind.User object call.args is.rows refl is.there is.taken
     (user-asks call is.face is.opnum is.spelled) none
 
 pub set_user2-keeps : SetLaws → KeepsRows set_information_user2
-set_user2-keeps laws r object call is none =
+set_user2-keeps laws r described object call is none =
     account-keeps laws r kind.User object call.args is.rows refl is.there is.taken
     (user2-asks call is.face is.opnum is.spelled) none
 
@@ -517,7 +527,7 @@ oem-good d o good text short = record {
 }
 
 pub set_domain-keeps : DomainsStaySound → EachIsGood → KeepsRows set_information_domain
-set_domain-keeps stay each r object call is none =
+set_domain-keeps stay each r described object call is none =
     let w = domain-there each r object is.rows is.there is.taken in
     let asks = domain-asks call is.face is.opnum is.spelled in
     let stands : domain_at r w.0.number ≡ Some w.0 = subst (λ n. domain_at r n ≡ Some w.0) (sym w.2) w.1 in
@@ -584,31 +594,31 @@ account-set found leave each r k object asked sound account there taken =
     (key-domain f asked w.0 ∙ w.1.domain) (key-rid f asked w.0 ∙ w.1.rid))
 
 pub group-set : PutsAreFound → PutsLeaveOthers → EachIsGood → SetsAccount kind.Group set_information_group
-group-set found leave each r object call is none = (
+group-set found leave each r described object call is none = (
   some-field r kind.Group object call.args (set_field kind.Group (class_of call.args)) none,
   account-set found leave each r kind.Group object call.args is.rows refl is.there is.taken,
 )
 
 pub alias-set : PutsAreFound → PutsLeaveOthers → EachIsGood → SetsAccount kind.Alias set_information_alias
-alias-set found leave each r object call is none = (
+alias-set found leave each r described object call is none = (
   some-field r kind.Alias object call.args (set_field kind.Alias (class_of call.args)) none,
   account-set found leave each r kind.Alias object call.args is.rows refl is.there is.taken,
 )
 
 pub user-set : PutsAreFound → PutsLeaveOthers → EachIsGood → SetsAccount kind.User set_information_user
-user-set found leave each r object call is none = (
+user-set found leave each r described object call is none = (
   some-field r kind.User object call.args (set_field kind.User (class_of call.args)) none,
   account-set found leave each r kind.User object call.args is.rows refl is.there is.taken,
 )
 
 pub user2-set : PutsAreFound → PutsLeaveOthers → EachIsGood → SetsAccount kind.User set_information_user2
-user2-set found leave each r object call is none = (
+user2-set found leave each r described object call is none = (
   some-field r kind.User object call.args (set_field kind.User (class_of call.args)) none,
   account-set found leave each r kind.User object call.args is.rows refl is.there is.taken,
 )
 
 pub domain-set : PutsAreFound → PutsLeaveOthers → EachIsGood → SetsDomain set_information_domain
-domain-set found leave each r object call is none =
+domain-set found leave each r described object call is none =
     let w = domain-there each r object is.rows is.there is.taken in
     let later = with_oem call.args w.0 in
     subst (λ o. DomainIsSet object (with_oem call.args) r (after (puts (domain_puts call.args o)).plan r)) (sym w.1)

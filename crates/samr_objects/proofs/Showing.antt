@@ -177,9 +177,9 @@ module _ (s : Subject) (k : Kind) (classes : Lists → AccountRow → Classes)
 
 pub group-shown : FieldsAreSet → ShowsWhatIsSet set_information_group query_group
 unfolding samr_layout
-group-shown laws r object call class value is same none =
-    let set = laws.group r object call is none in
-    let later = after (set_information_group.rule r object call.args).planned.plan r in
+group-shown laws r described object call class value is same none =
+    let set = laws.group r described object call is none in
+    let later = after (set_information_group.rule r described object call.args).planned.plan r in
     account-answered subject.Group kind.Group group_classes group-put later (kind_of object) call.args class value
     (account_of r object) (account_of later object) same
     (arguments call Samr samr_set_information_group is.face is.opnum is.spelled).1
@@ -187,9 +187,9 @@ group-shown laws r object call class value is same none =
 
 pub alias-shown : FieldsAreSet → ShowsWhatIsSet set_information_alias query_alias
 unfolding samr_layout
-alias-shown laws r object call class value is same none =
-    let set = laws.alias r object call is none in
-    let later = after (set_information_alias.rule r object call.args).planned.plan r in
+alias-shown laws r described object call class value is same none =
+    let set = laws.alias r described object call is none in
+    let later = after (set_information_alias.rule r described object call.args).planned.plan r in
     account-answered subject.Alias kind.Alias alias_classes alias-put later (kind_of object) call.args class value
     (account_of r object) (account_of later object) same
     (arguments call Samr samr_set_information_alias is.face is.opnum is.spelled).1
@@ -197,9 +197,9 @@ alias-shown laws r object call class value is same none =
 
 pub user-shown : FieldsAreSet → ShowsWhatIsSet set_information_user query_user
 unfolding samr_layout
-user-shown laws r object call class value is same none =
-    let set = laws.user r object call is none in
-    let later = after (set_information_user.rule r object call.args).planned.plan r in
+user-shown laws r described object call class value is same none =
+    let set = laws.user r described object call is none in
+    let later = after (set_information_user.rule r described object call.args).planned.plan r in
     account-answered subject.User kind.User user_table user-put later (kind_of object) call.args class value
     (account_of r object) (account_of later object) same
     (arguments call Samr samr_set_information_user is.face is.opnum is.spelled).1
@@ -207,9 +207,9 @@ user-shown laws r object call class value is same none =
 
 pub user2-shown : FieldsAreSet → ShowsWhatIsSet set_information_user2 query_user
 unfolding samr_layout
-user2-shown laws r object call class value is same none =
-    let set = laws.user2 r object call is none in
-    let later = after (set_information_user2.rule r object call.args).planned.plan r in
+user2-shown laws r described object call class value is same none =
+    let set = laws.user2 r described object call is none in
+    let later = after (set_information_user2.rule r described object call.args).planned.plan r in
     account-answered subject.User kind.User user_table user-put later (kind_of object) call.args class value
     (account_of r object) (account_of later object) same
     (arguments call Samr samr_set_information_user2 is.face is.opnum is.spelled).1
@@ -252,8 +252,8 @@ is-true false h = cc
 
 pub domain-shown : FieldsAreSet → ShowsWhatIsSet set_information_domain query_domain
 unfolding samr_layout
-domain-shown laws r object call class value is same none =
-    let later = after (set_information_domain.rule r object call.args).planned.plan r in
+domain-shown laws r described object call class value is same none =
+    let later = after (set_information_domain.rule r described object call.args).planned.plan r in
     let was = domain_at r (domain_of object) in
     let now = domain_at later (domain_of object) in
     let put : AreArguments (fields.Put subject.Domain) (args.Put class value) =
@@ -263,4 +263,4 @@ domain-shown laws r object call class value is same none =
     (domain-row class value was now put.1 (domain-some r object is.there is.taken)
     (subst (λ x. sets_oem (class_of x) ≡ true) same
     (is-true (sets_oem (class_of call.args)) (first-holds (not (sets_oem (class_of call.args))) _ none)))
-    (subst (λ x. now ≡ option_map (with_oem x) was) same (laws.domain r object call is none).row))
+    (subst (λ x. now ≡ option_map (with_oem x) was) same (laws.domain r described object call is none).row))

@@ -9,6 +9,7 @@ use Rattle.acct_rows.specs.Objects.{domain_of, rid_of}
 use Rattle.acct_rows.specs.Rows.{Lists, domain_at, is_primary}
 use Rattle.acct_rows.specs.declared.object.Object.{Object}
 use Rattle.acct_rows.specs.declared.row.RowKey.{RowKey}
+use Rattle.acct_rows.specs.declared.row.RowKey.TheVariants as keys
 use Rattle.acct_calls.specs.Calls.{zero_handle}
 use Rattle.acct_rules.specs.Planned.{Ruled, when, answers}
 use Rattle.acct_rules.specs.declared.planned.Effect.TheVariants as effects
@@ -28,11 +29,12 @@ is_special object = nat_lt (rid_of object) first_created_rid
 abbrev pub account_sid : Lists → Object → Option SidValue
 account_sid r object = sid_of_rid (domain_at r (domain_of object)) (rid_of object)
 
--- The keys of an account of a SID and of every row that names it: the member rows that have it as a group or a user,
--- the alias rows that are of it or have the SID. Among sound rows each account has a SID.
+-- The keys of an account of a SID and of every row that names it: the row of its security descriptor, the member rows
+-- that have it as a group or a user, the alias rows that are of it or have the SID. Among sound rows each account has a
+-- SID.
 abbrev pub keys_of : Lists → Object → Option SidValue → List RowKey
 keys_of r object None = []
-keys_of r object (Some sid) = naming r (domain_of object) (rid_of object) sid
+keys_of r object (Some sid) = keys.Desc object ∷ naming r (domain_of object) (rid_of object) sid
 
 -- These rows go, and every handle to the account; the zero handle goes back in place of the one that was brought.
 abbrev pub deletes : Lists → Object → Planned

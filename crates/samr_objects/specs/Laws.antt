@@ -1,9 +1,11 @@
 -- What holds of each operation, and what they leave.
-use Rattle.std.specs.Prelude.{◌≡◌, ℕ, nat_lt, List, [], ◌∷◌, ◌++◌, length, ◌≢◌, ◌<◌, true, Some, is_some, ◌+◌, None}
+use Rattle.std.specs.Prelude.{◌≡◌, ℕ, nat_lt, List, [], ◌∷◌, ◌++◌, length, ◌≢◌, ◌<◌, true, Some, is_some, ◌+◌}
+use Rattle.std.specs.Prelude.{None, Option}
 use Rattle.std.specs.Prelude.{take, drop}
 use Rattle.acct_calls.specs.declared.lists.DisplayRow.{DisplayRow}
 use Rattle.acct_calls.specs.declared.lists.RidName.{RidName}
-use Rattle.acct_rows.specs.Rows.{Lists, domain_at, account_at, after, find_name}
+use Rattle.acct_rows.specs.Rows.{Lists, domain_at, account_at, after, find_name, remove_row}
+use Rattle.acct_rows.specs.declared.row.RowKey.TheVariants as keys
 use Rattle.acct_rows.specs.Sound.{IsSoundRows, next_rid_of}
 use Rattle.acct_rules.specs.Operations.{IsRight, KeepsRows, Operation, IsAsked}
 use Rattle.acct_calls.specs.declared.calls.Args.{Args}
@@ -42,6 +44,7 @@ use Rattle.acct_rows.specs.Laws.{IsWithout}
 use Rattle.acct_rows.specs.declared.object.Object.{Object}
 use Rattle.acct_rows.specs.declared.row.AccountRow.{AccountRow}
 use Rattle.acct_rows.specs.declared.row.DomainRow.{DomainRow}
+use Rattle.dtyp_access.specs.declared.descriptor.Descriptor.{Descriptor}
 use Rattle.dtyp_sid.specs.Value.{SidValue}
 use Rattle.samr_objects.specs.Deletions.{account_sid}
 use Rattle.samr_objects.specs.Settings.{set_field, with_field, with_oem}
@@ -141,20 +144,20 @@ DisplaysGoOn = (all : List DisplayRow) → DisplayGoesOn all
 
 -- ---- deletions
 
--- An account is gone: no row names it or its SID, every other row is as it was, and neither its RID nor its name finds
--- it. Its RID is below the next one, so that no creation gives it again.
+-- An account is gone with its descriptor: no row names it or its SID, every other row is as it was, and neither its RID
+-- nor its name finds it. Its RID is below the next one, so that no creation gives it again.
 pub record IsGone (object : Object) (r later : Lists) : Type 0 where
   pub sid_there : is_some (account_sid r object) ≡ true
   pub rows : (sid : SidValue) → account_sid r object ≡ Some sid
-      → IsWithout (domain_of object) (rid_of object) sid r later
+      → IsWithout (domain_of object) (rid_of object) sid (remove_row (keys.Desc object) r) later
   pub below : rid_of object < next_rid_of (domain_at later (domain_of object))
 
 -- so it is after what the operation plans, where no condition fails
 abbrev pub Deletes : Operation → Type 0
 Deletes o =
-    (r : Lists) (object : Object) (call : Call) → IsAsked o r object call
-    → none_fails (o.rule r object call.args).conditions ≡ true
-    → IsGone object r (after (o.rule r object call.args).planned.plan r)
+    (r : Lists) (described : Option Descriptor) (object : Object) (call : Call) → IsAsked o r described object call
+    → none_fails (o.rule r described object call.args).conditions ≡ true
+    → IsGone object r (after (o.rule r described object call.args).planned.plan r)
 
 pub record AccountsGo : Type 0 where
   pub group : Deletes delete_group_in_domain
@@ -186,17 +189,17 @@ pub record DomainIsSet (object : Object) (change : DomainRow → DomainRow) (r l
 -- asked for.
 abbrev pub SetsAccount : Kind → Operation → Type 0
 SetsAccount k o =
-    (r : Lists) (object : Object) (call : Call) → IsAsked o r object call
-    → none_fails (o.rule r object call.args).conditions ≡ true
+    (r : Lists) (described : Option Descriptor) (object : Object) (call : Call) → IsAsked o r described object call
+    → none_fails (o.rule r described object call.args).conditions ≡ true
     → (is_some (set_field k (class_of call.args)) ≡ true)
     × AccountIsSet object (with_field (set_field k (class_of call.args)) call.args) r
-    (after (o.rule r object call.args).planned.plan r)
+    (after (o.rule r described object call.args).planned.plan r)
 
 abbrev pub SetsDomain : Operation → Type 0
 SetsDomain o =
-    (r : Lists) (object : Object) (call : Call) → IsAsked o r object call
-    → none_fails (o.rule r object call.args).conditions ≡ true
-    → DomainIsSet object (with_oem call.args) r (after (o.rule r object call.args).planned.plan r)
+    (r : Lists) (described : Option Descriptor) (object : Object) (call : Call) → IsAsked o r described object call
+    → none_fails (o.rule r described object call.args).conditions ≡ true
+    → DomainIsSet object (with_oem call.args) r (after (o.rule r described object call.args).planned.plan r)
 
 pub record FieldsAreSet : Type 0 where
   pub domain : SetsDomain set_information_domain
@@ -209,9 +212,10 @@ pub record FieldsAreSet : Type 0 where
 -- that was brought.
 abbrev pub ShowsWhatIsSet : Operation → (Lists → Object → Args → Ruled) → Type 0
 ShowsWhatIsSet o query =
-    (r : Lists) (object : Object) (call : Call) (class : ℕ) (value : Info) → IsAsked o r object call
-    → call.args ≡ args.Put class value → none_fails (o.rule r object call.args).conditions ≡ true
-    → decision (query (after (o.rule r object call.args).planned.plan r) object (args.Class class))
+    (r : Lists) (described : Option Descriptor) (object : Object) (call : Call) (class : ℕ) (value : Info)
+    → IsAsked o r described object call
+    → call.args ≡ args.Put class value → none_fails (o.rule r described object call.args).conditions ≡ true
+    → decision (query (after (o.rule r described object call.args).planned.plan r) object (args.Class class))
     ≡ answers status_success (outs.Shown class (Some value))
 
 pub record SetsAreShown : Type 0 where
@@ -259,10 +263,10 @@ pub record IsCreated (k : Kind) (r later : Lists) (domain : ℕ) (name : List �
 -- so it is after what a creation plans where none of its conditions fails
 abbrev pub Creates : Kind → Operation → Type 0
 Creates k o =
-    (r : Lists) (object : Object) (call : Call) → IsAsked o r object call
-    → none_fails (o.rule r object call.args).conditions ≡ true
-    → IsCreated k r (after (o.rule r object call.args).planned.plan r) (domain_of object)
-    (or_empty (made_name call.args)) (o.rule r object call.args).planned.outs
+    (r : Lists) (described : Option Descriptor) (object : Object) (call : Call) → IsAsked o r described object call
+    → none_fails (o.rule r described object call.args).conditions ≡ true
+    → IsCreated k r (after (o.rule r described object call.args).planned.plan r) (domain_of object)
+    (or_empty (made_name call.args)) (o.rule r described object call.args).planned.outs
 
 pub record CreationsAreFound : Type 0 where
   pub create_group : Creates kind.Group create_group_in_domain

@@ -1,6 +1,5 @@
 // The operations that delete an account of a domain.
-ghost use Rattle.std.specs.Prelude.{◌≡◌, true, IfOk, OnErr};
-ghost use Rattle.acct_rows.specs.Laws.{naming};
+ghost use Rattle.std.specs.Prelude.{◌≡◌, true, Some, IfOk, OnErr};
 ghost use Rattle.acct_rows.specs.Objects.{rid_of};
 ghost use Rattle.acct_rules.specs.Planned.{decision, none_fails};
 ghost use Rattle.samr_objects.specs.Deletions.{is_special, account_sid, keys_of, deletes};
@@ -22,17 +21,14 @@ fn is_special(object: &Object) -> bool
     object.rid() < FIRST_CREATED_RID
 }
 
-// The keys of an account of a SID and of every row that names it.
-fn naming(
-    alloc: Global,
-    rows: &Rows,
-    domain: u8,
-    rid: u32,
-    sid: Sid,
-) -> Result<Seq<RowKey>, NoMemory>
-    ensures { IfOk result (λ keys. keys ≡ naming rows.now.lists domain rid sid) }
+// The keys of an account of a SID, of its security descriptor, and of every row that names it.
+fn naming(alloc: Global, rows: &Rows, object: &Object, sid: Sid) -> Result<Seq<RowKey>, NoMemory>
+    ensures { IfOk result (λ keys. keys ≡ keys_of rows.now.lists object.now (Some sid)) }
 {
+    let domain = object.domain();
+    let rid = object.rid();
     let mut keys = Seq::new(alloc);
+    keys.push(RowKey::Desc(*object))?;
     rows.push_member_keys(&mut keys, domain, rid)?;
     rows.push_alias_keys(&mut keys, domain, rid, &sid)?;
     keys.push(RowKey::Account { domain, rid })?;
@@ -53,7 +49,7 @@ fn keys_of(alloc: Global, rows: &Rows, object: &Object) -> Result<Seq<RowKey>, N
         IfOk result (λ keys. keys ≡ keys_of rows.now.lists object.now sid) }
 {
     match account_sid(rows, object) {
-        Some(sid) => naming(alloc, rows, object.domain(), object.rid(), sid),
+        Some(sid) => naming(alloc, rows, object, sid),
         None => Ok(Seq::new(alloc)),
     }
 }

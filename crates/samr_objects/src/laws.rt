@@ -6,8 +6,8 @@ use acct_calls::laws::same_is_equivalence;
 use acct_rows::laws::{
     added_accounts_stay_sound, added_users_stay_sound, domains_stay_sound, each_is_good,
     name_found_is_free, naming_is_removed, next_is_free, others_are_no_primary, own_name_is_free,
-    puts_are_found, puts_leave_others, removed_accounts_stay_sound, replaced_accounts_stay_sound,
-    unused_name_is_free,
+    puts_are_found, puts_leave_others, removed_accounts_stay_sound, removed_descriptors_stay_sound,
+    replaced_accounts_stay_sound, unused_name_is_free,
 };
 
 /// Each operation has a layout at its interface and opnum, answers refusals where a condition fails and the outputs of
@@ -47,12 +47,13 @@ pub fn created_accounts_are_found()
     next_is_free();
 }
 
-/// Where an account is deleted, it is gone with every row that names it, and nothing else is.
+/// Where an account is deleted, it is gone with its descriptor and every row that names it, and nothing else is.
 pub fn accounts_go()
     ensures { AccountsGo }
 {
     each_is_good();
     naming_is_removed();
+    removed_descriptors_stay_sound();
 }
 
 /// What is set is there afterwards, and nothing else is changed.

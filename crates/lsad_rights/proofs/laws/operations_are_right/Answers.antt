@@ -43,10 +43,11 @@ list_privileges : IsRight enumerate_privileges
 unfolding HasShape samr_layout lsa_layout
 list_privileges = record {
   laid_out = refl;
-  refuses = λ r object asked. refl;
-  succeeds = λ r object asked. listed-full (privileges_given asked) (privileges_left (asked_context asked));
-  frugal = λ r object asked. refl;
-  shaped = λ r object call few is none. (
+  refuses = λ r described object asked. refl;
+  succeeds = λ r described object asked. listed-full (privileges_given asked) (privileges_left (asked_context asked));
+  frugal = λ r described object asked. refl;
+  modest = λ r described object asked. refl;
+  shaped = λ r described object call few is none. (
     listed-long (privileges_given call.args) (privileges_left (asked_context call.args)),
     privileges-shaped (asked_context call.args) (asked_length call.args)
         (context-long call.args (arguments call Lsa lsar_enumerate_privileges is.face is.opnum is.spelled).1),
@@ -58,10 +59,11 @@ list_accounts : EachLsaIsGood → IsRight enumerate_accounts
 unfolding HasShape samr_layout lsa_layout
 list_accounts each = record {
   laid_out = refl;
-  refuses = λ r object asked. refl;
-  succeeds = λ r object asked. listed-full (accounts_given asked r) (accounts_left (asked_context asked) r);
-  frugal = λ r object asked. refl;
-  shaped = λ r object call few is none. (
+  refuses = λ r described object asked. refl;
+  succeeds = λ r described object asked. listed-full (accounts_given asked r) (accounts_left (asked_context asked) r);
+  frugal = λ r described object asked. refl;
+  modest = λ r described object asked. refl;
+  shaped = λ r described object call few is none. (
     listed-long (accounts_given call.args r) (accounts_left (asked_context call.args) r),
     accounts-shaped each r (asked_context call.args) (asked_length call.args) few is.rows
         (context-long call.args (arguments call Lsa lsar_enumerate_accounts is.face is.opnum is.spelled).1),
@@ -73,10 +75,11 @@ query_policy : EachIsGood → IsRight query_information_policy
 unfolding HasShape samr_layout lsa_layout
 query_policy each = record {
   laid_out = refl;
-  refuses = λ r object asked. refl;
-  succeeds = λ r object asked. refl;
-  frugal = λ r object asked. refl;
-  shaped = λ r object call few is none. (
+  refuses = λ r described object asked. refl;
+  succeeds = λ r described object asked. refl;
+  frugal = λ r described object asked. refl;
+  modest = λ r described object asked. refl;
+  shaped = λ r described object call few is none. (
     lit< tt,
     policy-shaped each r (class_of call.args) is.rows (class-is-shown (is_shown (class_of call.args)) none),
     λ refused. refl,
@@ -87,10 +90,11 @@ query_policy2 : EachIsGood → IsRight query_information_policy2
 unfolding HasShape samr_layout lsa_layout
 query_policy2 each = record {
   laid_out = refl;
-  refuses = λ r object asked. refl;
-  succeeds = λ r object asked. refl;
-  frugal = λ r object asked. refl;
-  shaped = λ r object call few is none. (
+  refuses = λ r described object asked. refl;
+  succeeds = λ r described object asked. refl;
+  frugal = λ r described object asked. refl;
+  modest = λ r described object asked. refl;
+  shaped = λ r described object call few is none. (
     lit< tt,
     policy-shaped each r (class_of call.args) is.rows (class-is-shown (is_shown (class_of call.args)) none),
     λ refused. refl,
@@ -101,10 +105,11 @@ privilege_value : IsRight lookup_privilege_value
 unfolding HasShape samr_layout lsa_layout
 privilege_value = record {
   laid_out = refl;
-  refuses = λ r object asked. refl;
-  succeeds = λ r object asked. refl;
-  frugal = λ r object asked. refl;
-  shaped = λ r object call few is none. (
+  refuses = λ r described object asked. refl;
+  succeeds = λ r described object asked. refl;
+  frugal = λ r described object asked. refl;
+  modest = λ r described object asked. refl;
+  shaped = λ r described object call few is none. (
     lit< tt,
     (low-in-long (privilege_asked (asked_name call.args)), lit< tt),
     λ refused. refl,
@@ -115,10 +120,11 @@ privilege_name : IsRight lookup_privilege_name
 unfolding HasShape samr_layout lsa_layout
 privilege_name = record {
   laid_out = refl;
-  refuses = λ r object asked. refl;
-  succeeds = λ r object asked. refl;
-  frugal = λ r object asked. refl;
-  shaped = λ r object call few is none. (
+  refuses = λ r described object asked. refl;
+  succeeds = λ r described object asked. refl;
+  frugal = λ r described object asked. refl;
+  modest = λ r described object asked. refl;
+  shaped = λ r described object call few is none. (
     lit< tt,
     name-there (privilege_of_luid call.args),
     λ refused. refl,
@@ -129,10 +135,11 @@ accounts_with_right : EachLsaIsGood → IsRight enumerate_accounts_with_user_rig
 unfolding HasShape samr_layout lsa_layout
 accounts_with_right each = record {
   laid_out = refl;
-  refuses = λ r object asked. refl;
-  succeeds = λ r object asked. holders-full (accounts_wanted (accounts_asked (asked_name asked)) r);
-  frugal = λ r object asked. refl;
-  shaped = λ r object call few is none. (
+  refuses = λ r described object asked. refl;
+  succeeds = λ r described object asked. holders-full (accounts_wanted (accounts_asked (asked_name asked)) r);
+  frugal = λ r described object asked. refl;
+  modest = λ r described object asked. refl;
+  shaped = λ r described object call few is none. (
     holders-long (accounts_wanted (accounts_asked (asked_name call.args)) r),
     holders-shaped each r (accounts_asked (asked_name call.args)) few is.rows,
     λ refused. refl,
@@ -143,10 +150,11 @@ account_rights : IsRight enumerate_account_rights
 unfolding HasShape samr_layout lsa_layout
 account_rights = record {
   laid_out = refl;
-  refuses = λ r object asked. refl;
-  succeeds = λ r object asked. refl;
-  frugal = λ r object asked. refl;
-  shaped = λ r object call few is none. (
+  refuses = λ r described object asked. refl;
+  succeeds = λ r described object asked. refl;
+  frugal = λ r described object asked. refl;
+  modest = λ r described object asked. refl;
+  shaped = λ r described object call few is none. (
     lit< tt,
     names-shaped (account_of_sid r (asked_sid call.args)) (asked-good r (asked_sid call.args) is.rows),
     λ refused. refl,
@@ -157,10 +165,11 @@ account_privileges : IsRight enumerate_privileges_account
 unfolding HasShape samr_layout lsa_layout
 account_privileges = record {
   laid_out = refl;
-  refuses = λ r object asked. refl;
-  succeeds = λ r object asked. refl;
-  frugal = λ r object asked. refl;
-  shaped = λ r object call few is none. (
+  refuses = λ r described object asked. refl;
+  succeeds = λ r described object asked. refl;
+  frugal = λ r described object asked. refl;
+  modest = λ r described object asked. refl;
+  shaped = λ r described object call few is none. (
     lit< tt,
     privileges-held (account_of r object) (object-good r object is.rows),
     λ refused. refl,
@@ -171,10 +180,11 @@ system_access : IsRight get_system_access_account
 unfolding HasShape samr_layout lsa_layout
 system_access = record {
   laid_out = refl;
-  refuses = λ r object asked. refl;
-  succeeds = λ r object asked. refl;
-  frugal = λ r object asked. refl;
-  shaped = λ r object call few is none. (
+  refuses = λ r described object asked. refl;
+  succeeds = λ r described object asked. refl;
+  frugal = λ r described object asked. refl;
+  modest = λ r described object asked. refl;
+  shaped = λ r described object call few is none. (
     lit< tt,
     access-long (account_of r object) (object-good r object is.rows),
     λ refused. refl,

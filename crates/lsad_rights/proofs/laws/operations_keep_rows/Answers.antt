@@ -7,16 +7,16 @@ use Rattle.lsad_rights.proofs.laws.operations_keep_rows.Goals as goal
 
 pub returns : goal.returns
 returns c = record {
-  list_privileges = λ r object call is none. answers-keep r _ _ is.rows;
-  query_policy = λ r object call is none. answers-keep r _ _ is.rows;
-  query_policy2 = λ r object call is none. answers-keep r _ _ is.rows;
-  list_accounts = λ r object call is none. answers-keep r _ _ is.rows;
-  privilege_value = λ r object call is none. answers-keep r _ _ is.rows;
-  privilege_name = λ r object call is none. answers-keep r _ _ is.rows;
-  accounts_with_right = λ r object call is none. answers-keep r _ _ is.rows;
-  account_rights = λ r object call is none. guarded-keep r _ _ _ _ is.rows;
-  account_privileges = λ r object call is none. answers-keep r _ _ is.rows;
-  system_access = λ r object call is none. answers-keep r _ _ is.rows;
+  list_privileges = λ r described object call is none. answers-keep r _ _ is.rows;
+  query_policy = λ r described object call is none. answers-keep r _ _ is.rows;
+  query_policy2 = λ r described object call is none. answers-keep r _ _ is.rows;
+  list_accounts = λ r described object call is none. answers-keep r _ _ is.rows;
+  privilege_value = λ r described object call is none. answers-keep r _ _ is.rows;
+  privilege_name = λ r described object call is none. answers-keep r _ _ is.rows;
+  accounts_with_right = λ r described object call is none. answers-keep r _ _ is.rows;
+  account_rights = λ r described object call is none. guarded-keep r _ _ _ _ is.rows;
+  account_privileges = λ r described object call is none. answers-keep r _ _ is.rows;
+  system_access = λ r described object call is none. answers-keep r _ _ is.rows;
   create_account = create_account-keeps c.lsa_accounts_stay_sound.ensures c.puts_are_found.ensures;
   open_account = open_account-keeps;
   delete_account = delete_account-keeps c.removed_lsa_accounts_stay_sound.ensures;

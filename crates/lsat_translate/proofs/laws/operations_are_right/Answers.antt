@@ -44,10 +44,11 @@ look_names : EachIsGood → IsRight lookup_names
 unfolding HasShape samr_layout lsa_layout
 look_names each = record {
   laid_out = refl;
-  refuses = λ r object asked. refl;
-  succeeds = λ r object asked. mapped-full (map use_in (map (match_of_name r) (asked_names asked)));
-  frugal = λ r object asked. refl;
-  shaped = λ r object call few is none.
+  refuses = λ r described object asked. refl;
+  succeeds = λ r described object asked. mapped-full (map use_in (map (match_of_name r) (asked_names asked)));
+  frugal = λ r described object asked. refl;
+  modest = λ r described object asked. refl;
+  shaped = λ r described object call few is none.
       let names = asked_names call.args in
       let most = few-names call.args (arguments call Lsa lsar_lookup_names is.face is.opnum is.spelled).1 in
       answered each r (map (match_of_name r) names) is.rows (sids-shaped each r names is.rows most);
@@ -57,10 +58,11 @@ look_names2 : EachIsGood → IsRight lookup_names2
 unfolding HasShape samr_layout lsa_layout
 look_names2 each = record {
   laid_out = refl;
-  refuses = λ r object asked. refl;
-  succeeds = λ r object asked. mapped-full (map use_in (map (match_of_name r) (asked_names asked)));
-  frugal = λ r object asked. refl;
-  shaped = λ r object call few is none.
+  refuses = λ r described object asked. refl;
+  succeeds = λ r described object asked. mapped-full (map use_in (map (match_of_name r) (asked_names asked)));
+  frugal = λ r described object asked. refl;
+  modest = λ r described object asked. refl;
+  shaped = λ r described object call few is none.
       let names = asked_names call.args in
       let most = few-names call.args (arguments call Lsa lsar_lookup_names2 is.face is.opnum is.spelled).1 in
       answered each r (map (match_of_name r) names) is.rows (sids-shaped each r names is.rows most);
@@ -70,10 +72,11 @@ look_names3 : EachIsGood → IsRight lookup_names3
 unfolding HasShape samr_layout lsa_layout
 look_names3 each = record {
   laid_out = refl;
-  refuses = λ r object asked. refl;
-  succeeds = λ r object asked. mapped-full (map use_in (map (match_of_name r) (asked_names asked)));
-  frugal = λ r object asked. refl;
-  shaped = λ r object call few is none.
+  refuses = λ r described object asked. refl;
+  succeeds = λ r described object asked. mapped-full (map use_in (map (match_of_name r) (asked_names asked)));
+  frugal = λ r described object asked. refl;
+  modest = λ r described object asked. refl;
+  shaped = λ r described object call few is none.
       let names = asked_names call.args in
       let most = few-names call.args (arguments call Lsa lsar_lookup_names3 is.face is.opnum is.spelled).1 in
       answered each r (map (match_of_name r) names) is.rows (refs-shaped each r names is.rows most);
@@ -83,10 +86,11 @@ look_sids : EachIsGood → IsRight lookup_sids
 unfolding HasShape samr_layout lsa_layout
 look_sids each = record {
   laid_out = refl;
-  refuses = λ r object asked. refl;
-  succeeds = λ r object asked. mapped-full (map use_in (map (match_of_sid r) (asked_sids asked)));
-  frugal = λ r object asked. refl;
-  shaped = λ r object call few is none.
+  refuses = λ r described object asked. refl;
+  succeeds = λ r described object asked. mapped-full (map use_in (map (match_of_sid r) (asked_sids asked)));
+  frugal = λ r described object asked. refl;
+  modest = λ r described object asked. refl;
+  shaped = λ r described object call few is none.
       let sids = asked_sids call.args in
       let most = few-sids call.args (arguments call Lsa lsar_lookup_sids is.face is.opnum is.spelled).1 in
       answered each r (map (match_of_sid r) sids) is.rows (names-shaped each r sids is.rows most.0 most.1);
@@ -96,10 +100,11 @@ look_sids2 : EachIsGood → IsRight lookup_sids2
 unfolding HasShape samr_layout lsa_layout
 look_sids2 each = record {
   laid_out = refl;
-  refuses = λ r object asked. refl;
-  succeeds = λ r object asked. mapped-full (map use_in (map (match_of_sid r) (asked_sids asked)));
-  frugal = λ r object asked. refl;
-  shaped = λ r object call few is none.
+  refuses = λ r described object asked. refl;
+  succeeds = λ r described object asked. mapped-full (map use_in (map (match_of_sid r) (asked_sids asked)));
+  frugal = λ r described object asked. refl;
+  modest = λ r described object asked. refl;
+  shaped = λ r described object call few is none.
       let sids = asked_sids call.args in
       let most = few-sids call.args (arguments call Lsa lsar_lookup_sids2 is.face is.opnum is.spelled).1 in
       answered each r (map (match_of_sid r) sids) is.rows (names-shaped each r sids is.rows most.0 most.1);

@@ -7,10 +7,10 @@ pub returns : goal.returns
 returns c = record {
   add_group_member = add_group_member-keeps c.members_stay_sound.ensures;
   remove_group_member = remove_group_member-keeps c.removed_members_stay_sound.ensures;
-  group_members = λ r object call is none. answers-keep r _ _ is.rows;
+  group_members = λ r described object call is none. answers-keep r _ _ is.rows;
   add_alias_member = add_alias_member-keeps c.alias_rows_stay_sound.ensures;
   remove_alias_member = remove_alias_member-keeps c.removed_alias_rows_stay_sound.ensures;
-  alias_members = λ r object call is none. answers-keep r _ _ is.rows;
-  user_groups = λ r object call is none. answers-keep r _ _ is.rows;
-  alias_membership = λ r object call is none. answers-keep r _ _ is.rows;
+  alias_members = λ r described object call is none. answers-keep r _ _ is.rows;
+  user_groups = λ r described object call is none. answers-keep r _ _ is.rows;
+  alias_membership = λ r described object call is none. answers-keep r _ _ is.rows;
 }

@@ -64,10 +64,11 @@ look_domain : EachIsGood → IsRight lookup_domain_in_sam_server
 unfolding HasShape samr_layout lsa_layout
 look_domain each = record {
   laid_out = refl;
-  refuses = λ r object asked. refl;
-  succeeds = λ r object asked. refl;
-  frugal = λ r object asked. refl;
-  shaped = λ r object call few is none. (lit< tt, sid-shaped each r (asked_name call.args) is.rows, λ refused. refl);
+  refuses = λ r described object asked. refl;
+  succeeds = λ r described object asked. refl;
+  frugal = λ r described object asked. refl;
+  modest = λ r described object asked. refl;
+  shaped = λ r described object call few is none. (lit< tt, sid-shaped each r (asked_name call.args) is.rows, λ refused. refl);
 }
 
 abbrev left-of : Lists → Args → List RidName
@@ -80,10 +81,11 @@ list_domains : EachIsGood → IsRight enumerate_domains_in_sam_server
 unfolding HasShape samr_layout lsa_layout
 list_domains each = record {
   laid_out = refl;
-  refuses = λ r object asked. refl;
-  succeeds = λ r object asked. page-full (leaves_some (page-of r asked) (left-of r asked));
-  frugal = λ r object asked. refl;
-  shaped = λ r object call few is none. (
+  refuses = λ r described object asked. refl;
+  succeeds = λ r described object asked. page-full (leaves_some (page-of r asked) (left-of r asked));
+  frugal = λ r described object asked. refl;
+  modest = λ r described object asked. refl;
+  shaped = λ r described object call few is none. (
     page-long (leaves_some (page-of r call.args) (left-of r call.args)),
     (
       context-long (asked_context call.args) (asked_length call.args) r.domains few.domains
@@ -101,20 +103,22 @@ open_domain : IsRight open_domain_in_sam_server
 unfolding HasShape samr_layout lsa_layout
 open_domain = record {
   laid_out = refl;
-  refuses = λ r object asked. refl;
-  succeeds = λ r object asked. refl;
-  frugal = λ r object asked. refl;
-  shaped = λ r object call few is none. (lit< tt, lit< tt, λ refused. refl);
+  refuses = λ r described object asked. refl;
+  succeeds = λ r described object asked. refl;
+  frugal = λ r described object asked. refl;
+  modest = λ r described object asked. refl;
+  shaped = λ r described object call few is none. (lit< tt, lit< tt, λ refused. refl);
 }
 
 look_names : EachIsGood → IsRight lookup_names_in_domain
 unfolding HasShape samr_layout lsa_layout
 look_names each = record {
   laid_out = refl;
-  refuses = λ r object asked. refl;
-  succeeds = λ r object asked. mapped-full (map use_in (map (find_name r (domain_of object)) (asked_names asked)));
-  frugal = λ r object asked. refl;
-  shaped = λ r object call few is none.
+  refuses = λ r described object asked. refl;
+  succeeds = λ r described object asked. mapped-full (map use_in (map (find_name r (domain_of object)) (asked_names asked)));
+  frugal = λ r described object asked. refl;
+  modest = λ r described object asked. refl;
+  shaped = λ r described object call few is none.
       let most = few-names call is.face is.opnum is.spelled in (
         mapped-long (map use_in (map (find_name r (domain_of object)) (asked_names call.args))),
         (
@@ -129,10 +133,11 @@ look_ids : IsRight lookup_ids_in_domain
 unfolding HasShape samr_layout lsa_layout
 look_ids = record {
   laid_out = refl;
-  refuses = λ r object asked. refl;
-  succeeds = λ r object asked. mapped-full (map use_in (map (account_at r (domain_of object)) (asked_rids asked)));
-  frugal = λ r object asked. refl;
-  shaped = λ r object call few is none.
+  refuses = λ r described object asked. refl;
+  succeeds = λ r described object asked. mapped-full (map use_in (map (account_at r (domain_of object)) (asked_rids asked)));
+  frugal = λ r described object asked. refl;
+  modest = λ r described object asked. refl;
+  shaped = λ r described object call few is none.
       let most = few-rids call is.face is.opnum is.spelled in (
         mapped-long (map use_in (map (account_at r (domain_of object)) (asked_rids call.args))),
         (
@@ -147,40 +152,44 @@ open_group : IsRight open_group_in_domain
 unfolding HasShape samr_layout lsa_layout
 open_group = record {
   laid_out = refl;
-  refuses = λ r object asked. refl;
-  succeeds = λ r object asked. refl;
-  frugal = λ r object asked. refl;
-  shaped = λ r object call few is none. (lit< tt, lit< tt, λ refused. refl);
+  refuses = λ r described object asked. refl;
+  succeeds = λ r described object asked. refl;
+  frugal = λ r described object asked. refl;
+  modest = λ r described object asked. refl;
+  shaped = λ r described object call few is none. (lit< tt, lit< tt, λ refused. refl);
 }
 
 open_alias : IsRight open_alias_in_domain
 unfolding HasShape samr_layout lsa_layout
 open_alias = record {
   laid_out = refl;
-  refuses = λ r object asked. refl;
-  succeeds = λ r object asked. refl;
-  frugal = λ r object asked. refl;
-  shaped = λ r object call few is none. (lit< tt, lit< tt, λ refused. refl);
+  refuses = λ r described object asked. refl;
+  succeeds = λ r described object asked. refl;
+  frugal = λ r described object asked. refl;
+  modest = λ r described object asked. refl;
+  shaped = λ r described object call few is none. (lit< tt, lit< tt, λ refused. refl);
 }
 
 open_user : IsRight open_user_in_domain
 unfolding HasShape samr_layout lsa_layout
 open_user = record {
   laid_out = refl;
-  refuses = λ r object asked. refl;
-  succeeds = λ r object asked. refl;
-  frugal = λ r object asked. refl;
-  shaped = λ r object call few is none. (lit< tt, lit< tt, λ refused. refl);
+  refuses = λ r described object asked. refl;
+  succeeds = λ r described object asked. refl;
+  frugal = λ r described object asked. refl;
+  modest = λ r described object asked. refl;
+  shaped = λ r described object call few is none. (lit< tt, lit< tt, λ refused. refl);
 }
 
 rid_to_sid : IsRight sid_of_rid_in_domain
 unfolding HasShape samr_layout lsa_layout
 rid_to_sid = record {
   laid_out = refl;
-  refuses = λ r object asked. refl;
-  succeeds = λ r object asked. refl;
-  frugal = λ r object asked. refl;
-  shaped = λ r object call few is none. (
+  refuses = λ r described object asked. refl;
+  succeeds = λ r described object asked. refl;
+  frugal = λ r described object asked. refl;
+  modest = λ r described object asked. refl;
+  shaped = λ r described object call few is none. (
     lit< tt,
     rid-shaped r (domain_of object) (asked_rid call.args) is.rows (long-rid call is.face is.opnum is.spelled),
     λ refused. refl,

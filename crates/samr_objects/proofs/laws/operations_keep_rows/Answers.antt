@@ -28,24 +28,24 @@ returns c =
       users = c.added_users_stay_sound.ensures;
     } in
     record {
-      look_domain = λ r object call is none. answers-keep r _ _ is.rows;
-      list_domains = λ r object call is none. answers-keep r _ _ is.rows;
-      open_domain = λ r object call is none.
+      look_domain = λ r described object call is none. answers-keep r _ _ is.rows;
+      list_domains = λ r described object call is none. answers-keep r _ _ is.rows;
+      open_domain = λ r described object call is none.
           opens-keep r _ _ is.rows (domain-there c.each_is_good.ensures r (asked_sid call.args) is.rows (holds _ none));
-      look_names = λ r object call is none. answers-keep r _ _ is.rows;
-      look_ids = λ r object call is none. answers-keep r _ _ is.rows;
-      open_group = λ r object call is none.
+      look_names = λ r described object call is none. answers-keep r _ _ is.rows;
+      look_ids = λ r described object call is none. answers-keep r _ _ is.rows;
+      open_group = λ r described object call is none.
           opens-keep r _ _ is.rows
           (group-there c.each_is_good.ensures r (domain_of object) (asked_rid call.args) is.rows (holds _ none));
-      open_alias = λ r object call is none. opens-keep r _ _ is.rows (holds _ none);
-      open_user = λ r object call is none.
+      open_alias = λ r described object call is none. opens-keep r _ _ is.rows (holds _ none);
+      open_user = λ r described object call is none.
           opens-keep r _ _ is.rows
           (user-there c.each_is_good.ensures r (domain_of object) (asked_rid call.args) is.rows (holds _ none));
-      rid_to_sid = λ r object call is none. answers-keep r _ _ is.rows;
-      list_groups = λ r object call is none. answers-keep r _ _ is.rows;
-      list_aliases = λ r object call is none. answers-keep r _ _ is.rows;
-      list_users = λ r object call is none. answers-keep r _ _ is.rows;
-      query_display = λ r object call is none. answers-keep r _ _ is.rows;
+      rid_to_sid = λ r described object call is none. answers-keep r _ _ is.rows;
+      list_groups = λ r described object call is none. answers-keep r _ _ is.rows;
+      list_aliases = λ r described object call is none. answers-keep r _ _ is.rows;
+      list_users = λ r described object call is none. answers-keep r _ _ is.rows;
+      query_display = λ r described object call is none. answers-keep r _ _ is.rows;
       delete_group = delete_group-keeps c.removed_accounts_stay_sound.ensures c.each_is_good.ensures;
       delete_alias =
           delete_alias-keeps c.removed_accounts_stay_sound.ensures c.others_are_no_primary.ensures
@@ -62,10 +62,10 @@ returns c =
       create_alias = create_alias-keeps adds;
       create_user = create_user-keeps adds;
       create_user2 = create_user2-keeps adds;
-      query_domain = λ r object call is none. answers-keep r _ _ is.rows;
-      query_domain2 = λ r object call is none. answers-keep r _ _ is.rows;
-      query_group = λ r object call is none. answers-keep r _ _ is.rows;
-      query_alias = λ r object call is none. answers-keep r _ _ is.rows;
-      query_user = λ r object call is none. answers-keep r _ _ is.rows;
-      query_user2 = λ r object call is none. answers-keep r _ _ is.rows;
+      query_domain = λ r described object call is none. answers-keep r _ _ is.rows;
+      query_domain2 = λ r described object call is none. answers-keep r _ _ is.rows;
+      query_group = λ r described object call is none. answers-keep r _ _ is.rows;
+      query_alias = λ r described object call is none. answers-keep r _ _ is.rows;
+      query_user = λ r described object call is none. answers-keep r _ _ is.rows;
+      query_user2 = λ r described object call is none. answers-keep r _ _ is.rows;
     }
