@@ -6,6 +6,7 @@ use Rattle.std.proofs.lemmas.Bool.Decides.{nat_tests}
 use Rattle.acct_codes.specs.Statuses.{status_access_denied}
 use Rattle.dtyp_access.specs.Laws.{GrantsAreValid}
 use Rattle.acct_config.specs.declared.config.Config.{Config}
+use Rattle.acct_config.specs.Right as configs
 use Rattle.acct_calls.specs.declared.calls.Call.{Call}
 use Rattle.acct_calls.specs.declared.calls.Face.{Face}
 use Rattle.acct_calls.specs.declared.replies.Outs.{Outs}
@@ -25,7 +26,7 @@ use Rattle.acct_rules.specs.declared.planned.Effect.{Effect}
 use Rattle.acct_rules.specs.declared.planned.Effect.TheVariants as effects
 use Rattle.acct_rules.specs.declared.planned.Planned.{Planned}
 use Rattle.acct_rules.specs.Planned.{Ruled, refusal}
-use Rattle.acct_rules.specs.Operations.{Operation, is_condition_status, IsAsked, IsRight}
+use Rattle.acct_rules.specs.Operations.{Operation, is_condition_status, IsRight}
 use Rattle.acct_operations.specs.Table.{work_of}
 use Rattle.acct_operations.specs.Laws.{AreRight}
 use Rattle.acct_machine.specs.declared.checks.Access.{Access}
@@ -36,7 +37,7 @@ use Rattle.acct_machine.specs.declared.entry.Entry.{Entry}
 use Rattle.acct_machine.specs.State.{State, Start, last_serial}
 use Rattle.acct_machine.specs.Opening.{grant_of}
 use Rattle.acct_machine.specs.Calls.{operation_of}
-use Rattle.acct_machine.specs.Access.{access, held_by, object_of}
+use Rattle.acct_machine.specs.Access.{access}
 use Rattle.acct_machine.specs.Outcome.{refused, refusal_outs, filled_by, done, opened_to, by_grant, by_effect}
 use Rattle.acct_machine.specs.Outcome.{concluded, next_handle, ruled_of, planned_of}
 use Rattle.acct_machine.specs.Step.{by_access, by_operation, state_at}
@@ -45,6 +46,7 @@ use Rattle.acct_machine.specs.Sound.{IsSound, KeepsSound}
 use Rattle.acct_machine.specs.Shapes.{IsAnswer, RepliesAreShaped}
 use Rattle.acct_machine.proofs.Deciding.{of-work, both, Decision, decides}
 use Rattle.acct_machine.proofs.Handles.{is-asked}
+use Rattle.acct_machine.proofs.Ruling.{Asks, ruled-refuses, ruled-succeeds, ruled-shaped}
 use Rattle.acct_machine.proofs.Passing.{live-within}
 use Rattle.acct_machine.proofs.Serials.{serial-at}
 use Rattle.acct_machine.proofs.Shapes.{refusal-shaped, filled-shaped, grant-long}
@@ -138,46 +140,46 @@ fits-of o call planned face opnum same-face same-opnum other shaped = record {
 }
 
 outcome-by : (o : Operation) (s : State) (conn : ℕ) (call : Call) → IsRight o → HasRoom s.rows 0 → Known s conn call
-    → IsAsked o s.rows (object_of (held_by s conn call)) call
+    → Asks o s conn call
     → Decision is_condition_status (ruled_of o s conn call).conditions (ruled_of o s conn call).planned
     → IsAnswer call (concluded s conn call (planned_of o s conn call)).1
-outcome-by o s conn call right few known asked (inl fails) =
+outcome-by o s conn call right few known asks (inl fails) =
     subst (λ (p : Planned). IsAnswer call (concluded s conn call p).1) (sym fails.refuses)
-    (fails-answers s conn call known fails.status
-    (fails.tested (right.refuses s.rows (object_of (held_by s conn call)) call.args)))
-outcome-by o s conn call right few known asked (inr passes) =
+    (fails-answers s conn call known fails.status (fails.tested (ruled-refuses o s conn call right)))
+outcome-by o s conn call right few known asks (inr passes) =
     let planned : Planned = (ruled_of o s conn call).planned in
-    let object : Object = object_of (held_by s conn call) in
-    let fits : Fits call planned = fits-of o call planned o.profile.face o.profile.opnum asked.face asked.opnum
-    (right.succeeds s.rows object call.args) (right.shaped s.rows object call few asked passes.none) in
+    let fits : Fits call planned = fits-of o call planned o.profile.face o.profile.opnum asks.face asks.opnum
+    (ruled-succeeds o s conn call right) (ruled-shaped o s conn call right few asks passes.none) in
     subst (λ (p : Planned). IsAnswer call (concluded s conn call p).1) (sym passes.plans)
     (effect-answers s conn call planned known fits planned.effect)
 
-access-answers : AreRight → (config : Config) (o : Operation) (s : State) (conn : ℕ) (call : Call) → IsSound config s
-    → HasRoom s.rows 0
-    → CanBeSpelled call → Known s conn call → operation_of call ≡ Some o → (answer : Access)
-    → access o s conn call ≡ answer
+access-answers : AreRight → (config : Config) (o : Operation) (s : State) (conn : ℕ) (call : Call)
+    → configs.IsRight s.config → IsSound config s → HasRoom s.rows 0 → CanBeSpelled call → Known s conn call
+    → operation_of call ≡ Some o → (answer : Access) → access o s conn call ≡ answer
     → IsAnswer call (by_access o s conn call answer).1
-access-answers right config o s conn call sound few spelled known found Passed is =
+access-answers right config o s conn call configured sound few spelled known found Passed is =
     let ruled : Ruled = ruled_of o s conn call in
     let passed : HasPassed o s conn call = record { found = found; passed = is } in
     let itself : IsRight o = of-work IsRight right.right (work_of call.face call.opnum) o found in
-    outcome-by o s conn call itself few known (is-asked right config s conn call o sound spelled passed)
+    outcome-by o s conn call itself few known (is-asked right config s conn call o configured sound spelled passed)
     (decides is_condition_status ruled.conditions ruled.planned)
-access-answers right config o s conn call sound few spelled known found Unknown is = tt
-access-answers right config o s conn call sound few spelled known found WrongKind is = known.refusals _ (omega arith)
-access-answers right config o s conn call sound few spelled known found Denied is = known.refusals _ (omega arith)
+access-answers right config o s conn call configured sound few spelled known found Unknown is = tt
+access-answers right config o s conn call configured sound few spelled known found WrongKind is =
+    known.refusals _ (omega arith)
+access-answers right config o s conn call configured sound few spelled known found Denied is =
+    known.refusals _ (omega arith)
 
 operation-answers : AreRight → (config : Config) (s : State) (conn : ℕ) (call : Call) (verdict : Verdict)
-    → IsSound config s → HasRoom s.rows 0
+    → configs.IsRight s.config → IsSound config s → HasRoom s.rows 0
     → CanBeSpelled call → Known s conn call → (o : Option Operation) → operation_of call ≡ o
     → IsAnswer call (by_operation o s conn call verdict).1
-operation-answers right config s conn call verdict sound few spelled known None is = tt
-operation-answers right config s conn call Ran sound few spelled known (Some o) is =
-    access-answers right config o s conn call sound few spelled known is (access o s conn call) refl
-operation-answers right config s conn call (StoreFault n) sound few spelled known (Some o) is =
+operation-answers right config s conn call verdict configured sound few spelled known None is = tt
+operation-answers right config s conn call Ran configured sound few spelled known (Some o) is =
+    access-answers right config o s conn call configured sound few spelled known is (access o s conn call) refl
+operation-answers right config s conn call (StoreFault n) configured sound few spelled known (Some o) is =
     known.refusals _ (omega arith)
-operation-answers right config s conn call NoMemory sound few spelled known (Some o) is = known.refusals _ (omega arith)
+operation-answers right config s conn call NoMemory configured sound few spelled known (Some o) is =
+    known.refusals _ (omega arith)
 
 -- ---- what is known along a legal history
 
@@ -195,10 +197,13 @@ known-at refusals within start before conn call sound spelled small short =
     }
 
 pub answers-in-history : AreRight → RefusalsHaveShape → GrantsAreValid → KeepsSound → RepliesAreShaped
-answers-in-history right refusals within keeps start before conn call verdict bytes rows legal may short few =
+answers-in-history right refusals within keeps start before conn call verdict bytes configured rows legal may short
+    few =
     let s : State = state_at start before in
-    let sound : IsSound start.config s = keeps start before rows legal in
+    let sound : IsSound start.config s = keeps start before configured rows legal in
+    let here : configs.IsRight s.config =
+    subst (λ (c : Config). configs.IsRight c) (sym sound.connected.configuration) configured in
     let small : conn < 2 ^ 32 =
     omega (arith, live-within 1 conn s.conns sound.connected.numbered may.0, sound.connected.few) in
-    operation-answers right start.config s conn call verdict sound few may.1.1
+    operation-answers right start.config s conn call verdict here sound few may.1.1
     (known-at refusals within start before conn call sound may.1.1 small short) (operation_of call) refl

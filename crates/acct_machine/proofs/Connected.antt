@@ -6,7 +6,7 @@ use Rattle.acct_config.specs.declared.config.Config.{Config}
 use Rattle.acct_calls.specs.declared.calls.Call.{Call}
 use Rattle.acct_machine.specs.declared.entry.Verdict.{Verdict}
 use Rattle.acct_machine.specs.declared.entry.Entry.{Entry}
-use Rattle.acct_machine.specs.declared.entry.Entry.TheVariants.{Opened, Called, Gone}
+use Rattle.acct_machine.specs.declared.entry.Entry.TheVariants.{Opened, Called, Gone, Hooked}
 use Rattle.acct_machine.specs.declared.state.Conn.{Conn}
 use Rattle.acct_machine.specs.State.{State, Start, first, last_serial}
 use Rattle.acct_machine.specs.Outcome.{serial_set}
@@ -75,6 +75,12 @@ connected-step start before (Opened conn listener) was may =
 connected-step start before (Called conn call verdict bytes) was may =
     connected-called start.config (state_at start before) conn call verdict was
 connected-step start before (Gone conn) was may = connected-gone start.config (state_at start before) conn was
+connected-step start before (Hooked number) was may = record {
+  configuration = was.configuration;
+  numbered = was.numbered;
+  configured = was.configured;
+  few = was.few;
+}
 
 connected-after : (start : Start) (before es : List Entry) → LegalAfter start before es → (s : State)
     → state_at start before ≡ s → AreConnected start.config s

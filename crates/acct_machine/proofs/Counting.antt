@@ -8,10 +8,11 @@ use Rattle.std.proofs.lemmas.List.{append-nil}
 use Rattle.acct_config.specs.declared.config.Config.{Config}
 use Rattle.acct_config.specs.Right.{IsRight}
 use Rattle.acct_machine.specs.declared.entry.Entry.{Entry}
-use Rattle.acct_machine.specs.declared.entry.Entry.TheVariants.{Opened, Called, Gone}
+use Rattle.acct_machine.specs.declared.entry.Entry.TheVariants.{Opened, Called, Gone, Hooked}
 use Rattle.acct_machine.specs.State.{State, Start, first, is_live}
 use Rattle.acct_machine.specs.Step.{new_conn, step, state_after, state_at}
-use Rattle.acct_machine.specs.Room.{opened_count, call_count, stub_bytes, conns_full, calls_full, bytes_full}
+use Rattle.acct_machine.specs.Room.{opened_count, call_count, stub_bytes, hooked_count, conns_full, calls_full}
+use Rattle.acct_machine.specs.Room.{bytes_full}
 use Rattle.acct_machine.specs.Room.{IsWithin}
 use Rattle.acct_machine.specs.Legal.{May, LegalAfter, Legal, LimitsAreKept}
 use Rattle.acct_machine.specs.Shown.{live_count}
@@ -27,6 +28,7 @@ opened-push [] e = omega arith
 opened-push (Opened conn listener ∷ history) e = omega (arith, opened-push history e)
 opened-push (Called conn call verdict bytes ∷ history) e = opened-push history e
 opened-push (Gone conn ∷ history) e = opened-push history e
+opened-push (Hooked number ∷ history) e = opened-push history e
 
 pub calls-push : (history : List Entry) (e : Entry)
     → call_count (history ++ e ∷ []) ≡ call_count history + call_count (e ∷ [])
@@ -34,6 +36,7 @@ calls-push [] e = omega arith
 calls-push (Opened conn listener ∷ history) e = calls-push history e
 calls-push (Called conn call verdict bytes ∷ history) e = omega (arith, calls-push history e)
 calls-push (Gone conn ∷ history) e = calls-push history e
+calls-push (Hooked number ∷ history) e = calls-push history e
 
 pub bytes-push : (history : List Entry) (e : Entry)
     → stub_bytes (history ++ e ∷ []) ≡ stub_bytes history + stub_bytes (e ∷ [])
@@ -41,6 +44,15 @@ bytes-push [] e = omega arith
 bytes-push (Opened conn listener ∷ history) e = bytes-push history e
 bytes-push (Called conn call verdict bytes ∷ history) e = omega (arith, bytes-push history e)
 bytes-push (Gone conn ∷ history) e = bytes-push history e
+bytes-push (Hooked number ∷ history) e = bytes-push history e
+
+pub hooked-push : (history : List Entry) (e : Entry)
+    → hooked_count (history ++ e ∷ []) ≡ hooked_count history + hooked_count (e ∷ [])
+hooked-push [] e = omega arith
+hooked-push (Opened conn listener ∷ history) e = hooked-push history e
+hooked-push (Called conn call verdict bytes ∷ history) e = hooked-push history e
+hooked-push (Gone conn ∷ history) e = hooked-push history e
+hooked-push (Hooked number ∷ history) e = omega (arith, hooked-push history e)
 
 -- ---- tests of the limits
 
@@ -158,6 +170,11 @@ within-push start history (Gone conn) was may = record {
   calls = omega (arith, calls-push history (Gone conn), was.calls);
   bytes = omega (arith, bytes-push history (Gone conn), was.bytes);
 }
+within-push start history (Hooked number) was may = record {
+  conns = omega (arith, opened-push history (Hooked number), was.conns);
+  calls = omega (arith, calls-push history (Hooked number), was.calls);
+  bytes = omega (arith, bytes-push history (Hooked number), was.bytes);
+}
 
 within-after : (start : Start) (before es : List Entry) → IsWithin start.config.limits before
     → LegalAfter start before es → IsWithin start.config.limits (before ++ es)
@@ -184,19 +201,21 @@ opened-after s (Called conn call verdict bytes ∷ es) = omega (
   (same_live-acted s conn call verdict).count,
 )
 opened-after s (Gone conn ∷ es) = omega (arith, opened-after (step s (Gone conn)) es, length-ended conn s.conns)
+opened-after s (Hooked number ∷ es) = opened-after (step s (Hooked number)) es
 
 pub opened-at : (start : Start) (history : List Entry)
     → opened_count history ≡ length (state_at start history).conns
 opened-at start history = omega (arith, opened-after (first start) history)
 
--- ---- the entries of a legal history, with the end of each live connection, aren't more than most_entries
+-- ---- the entries of a legal history, with the end of each live connection, aren't more than most_entries and those
+-- that take an out row out
 
 ends-by : (start : Start) (before : List Entry) (e : Entry) (es : List Entry) → May start before e → (s : State)
     → state_at start before ≡ s
     → length es + live_count (state_after (step s e) es).conns
-    ≤ call_count es + 2 * opened_count es + live_count (step s e).conns
+    ≤ call_count es + 2 * opened_count es + hooked_count es + live_count (step s e).conns
     → length (e ∷ es) + live_count (state_after s (e ∷ es)).conns
-    ≤ call_count (e ∷ es) + 2 * opened_count (e ∷ es) + live_count s.conns
+    ≤ call_count (e ∷ es) + 2 * opened_count (e ∷ es) + hooked_count (e ∷ es) + live_count s.conns
 ends-by start before (Opened conn listener) es may s is rest =
     omega (arith, rest, count-push (new_conn conn listener) s.conns)
 ends-by start before (Called conn call verdict bytes) es may s is rest =
@@ -207,10 +226,12 @@ ends-by start before (Gone conn) es may s is rest =
       rest,
       count-ended-live conn s.conns (subst (λ (x : State). is_live conn x.conns ≡ true) is may),
     )
+ends-by start before (Hooked number) es may s is rest = omega (arith, rest)
 
 ends-after : (start : Start) (before es : List Entry) → LegalAfter start before es → (s : State)
     → state_at start before ≡ s
-    → length es + live_count (state_after s es).conns ≤ call_count es + 2 * opened_count es + live_count s.conns
+    → length es + live_count (state_after s es).conns
+    ≤ call_count es + 2 * opened_count es + hooked_count es + live_count s.conns
 ends-after start before [] legal s is = omega arith
 ends-after start before (e ∷ es) legal s is =
     let next : state_at start (before ++ e ∷ []) ≡ step s e =
@@ -219,7 +240,8 @@ ends-after start before (e ∷ es) legal s is =
 
 -- room for one more entry where a connection is live, or where one may be opened or a call be made
 pub ends-at : (start : Start) (history : List Entry) → Legal start history
-    → length history + live_count (state_at start history).conns ≤ call_count history + 2 * opened_count history
+    → length history + live_count (state_at start history).conns
+    ≤ call_count history + 2 * opened_count history + hooked_count history
 ends-at start history legal = omega (arith, ends-after start [] history legal (first start) refl)
 
 -- ---- the ranges of the limits

@@ -15,11 +15,12 @@ use Rattle.acct_machine.specs.declared.checks.Access.{Access}
 use Rattle.acct_machine.specs.declared.checks.Access.TheVariants.{Passed, Unknown, WrongKind, Denied}
 use Rattle.acct_machine.specs.State.{State}
 use Rattle.acct_machine.specs.Opening.{grant_of, is_opening_refused}
-use Rattle.acct_machine.specs.Access.{access, held_by, object_of}
+use Rattle.acct_machine.specs.Access.{access}
 use Rattle.acct_machine.specs.Outcome.{refused, done, opened_to, by_grant, by_effect, concluded, ruled_of, planned_of}
 use Rattle.acct_machine.specs.Step.{by_access}
 use Rattle.acct_machine.specs.Denial.{HasStatus, IsOpeningDenied, IsDenied}
 use Rattle.acct_machine.proofs.Deciding.{Decision, decides}
+use Rattle.acct_machine.proofs.Ruling.{ruled-refuses, ruled-succeeds}
 
 -- no condition answers with the status, and no plan does
 condition-other : (status : ℕ) → is_condition_status status ≡ true → status ≡ status_access_denied → ⊥
@@ -67,7 +68,7 @@ outcome-by o s conn call right passed (inl fails) (inl refused) =
     ap (λ (p : Planned). is_opening_refused s conn (opening_of p.effect)) fails.refuses in
     absurd (let e : true ≡ false = sym refused ∙ open-none in cc)
 outcome-by o s conn call right passed (inl fails) (inr is) =
-    let all = right.refuses s.rows (object_of (held_by s conn call)) call.args in
+    let all = ruled-refuses o s conn call right in
     absurd (condition-other fails.status (fails.tested all) (sym (ap (λ (p : Planned). p.status) fails.refuses) ∙ is))
 outcome-by o s conn call right passed (inr passes) (inl refused) = record {
   passed = passed;
@@ -75,8 +76,7 @@ outcome-by o s conn call right passed (inr passes) (inl refused) = record {
   opening = subst (λ (p : Planned). is_opening_refused s conn (opening_of p.effect) ≡ true) passes.plans refused;
 }
 outcome-by o s conn call right passed (inr passes) (inr is) =
-    absurd (planned-other (ruled_of o s conn call).planned.status
-    (right.succeeds s.rows (object_of (held_by s conn call)) call.args)
+    absurd (planned-other (ruled_of o s conn call).planned.status (ruled-succeeds o s conn call right)
     (sym (ap (λ (p : Planned). p.status) passes.plans) ∙ is))
 
 pub denied-is : (o : Operation) (s : State) (conn : ℕ) (call : Call) → IsRight o → (answer : Access)

@@ -11,7 +11,7 @@ use Rattle.acct_rows.specs.Objects.{same_object}
 use Rattle.acct_machine.specs.declared.entry.Verdict.{Verdict}
 use Rattle.acct_machine.specs.declared.entry.Verdict.TheVariants.{Ran}
 use Rattle.acct_machine.specs.declared.entry.Entry.{Entry}
-use Rattle.acct_machine.specs.declared.entry.Entry.TheVariants.{Opened, Called, Gone}
+use Rattle.acct_machine.specs.declared.entry.Entry.TheVariants.{Opened, Called, Gone, Hooked}
 use Rattle.acct_machine.specs.declared.state.Held.{Held}
 use Rattle.acct_machine.specs.State.{State, Start, first, last_serial, is_handle}
 use Rattle.acct_machine.specs.Outcome.{left, planned_of}
@@ -99,6 +99,7 @@ granted-step start history s (Called conn call verdict bytes) is was =
 granted-step start history s (Gone conn) is was =
     All-filter (λ h. not (h.conn == conn)) (IsGrantedIn start (history ++ Gone conn ∷ [])) s.handles
     (all-later start history (Gone conn) s.handles was)
+granted-step start history s (Hooked number) is was = all-later start history (Hooked number) s.handles was
 
 pub granted-after : (start : Start) (before es : List Entry) (s : State) → state_at start before ≡ s
     → All (IsGrantedIn start before) s.handles

@@ -5,7 +5,9 @@ use Rattle.std.proofs.Common.{None, option_map, refl, subst, sym, arith}
 use Rattle.std.specs.List.{All, find}
 use Rattle.acct_calls.specs.declared.calls.Call.{Call}
 use Rattle.acct_config.specs.declared.config.Config.{Config}
+use Rattle.acct_config.specs.Right as configs
 use Rattle.acct_layouts.specs.CallShapes.{CanBeSpelled}
+use Rattle.acct_rows.specs.Laws.{OutsStaySound, PutsAreFound}
 use Rattle.acct_rows.specs.Objects.{kind_of, exists}
 use Rattle.acct_rows.specs.Rows.{Lists}
 use Rattle.acct_rows.specs.Sound.{IsSoundRows}
@@ -15,7 +17,7 @@ use Rattle.acct_rules.specs.declared.profile.Kinds.{Kinds}
 use Rattle.acct_rules.specs.declared.planned.Planned.{Planned}
 use Rattle.acct_rules.specs.Profiles.{takes, needed}
 use Rattle.acct_rules.specs.Planned.{Ruled, refusal}
-use Rattle.acct_rules.specs.Operations.{Operation, IsTaken, IsAsked, Keeps, KeepsRows}
+use Rattle.acct_rules.specs.Operations.{Operation, IsTaken, IsRight, Keeps, KeepsRows}
 use Rattle.acct_operations.specs.declared.table.Work.{Work}
 use Rattle.acct_operations.specs.Table.{operation, work_of}
 use Rattle.acct_operations.specs.Laws.{AreRight, KeepRows}
@@ -27,6 +29,8 @@ use Rattle.acct_machine.specs.Outcome.{ruled_of, planned_of}
 use Rattle.acct_machine.specs.Legal.{HasPassed}
 use Rattle.acct_machine.specs.Sound.{IsHeldSoundly, IsSound}
 use Rattle.acct_machine.proofs.Deciding.{of-work, Decision, decides}
+use Rattle.acct_machine.proofs.Describing.{described-limits}
+use Rattle.acct_machine.proofs.Ruling.{asked_of, Asks, ruled-keeps}
 
 found-by : (P : Held → Type 0) (here : Bool) (h held : Held) (rest : Option Held) → P h → (rest ≡ Some held → P held)
     → cond here (Some h) rest ≡ Some held → P held
@@ -77,14 +81,14 @@ opnum-by right call o (Some work) is found =
     let same : operation work ≡ o = cc in
     subst (λ (p : Operation). call.opnum ≡ p.profile.opnum) same (sym (right.opnum call.face call.opnum work is))
 
-pub is-asked : AreRight → (config : Config) (s : State) (conn : ℕ) (call : Call) (o : Operation) → IsSound config s
-    → CanBeSpelled call
-    → HasPassed o s conn call → IsAsked o s.rows (object_of (held_by s conn call)) call
-is-asked right config s conn call o sound spelled passed = record {
+pub is-asked : AreRight → (config : Config) (s : State) (conn : ℕ) (call : Call) (o : Operation)
+    → configs.IsRight s.config → IsSound config s → CanBeSpelled call → HasPassed o s conn call → Asks o s conn call
+is-asked right config s conn call o configured sound spelled passed = record {
   face = face-by right call o (work_of call.face call.opnum) refl passed.found;
   opnum = opnum-by right call o (work_of call.face call.opnum) refl passed.found;
   spelled = spelled;
   rows = sound.rows;
+  limits = described-limits s.config s.rows (asked_of s conn call) configured sound.rows;
   there = object-there s (held_by s conn call)
       (λ h is. find-all (IsHeldSoundly s) (is_handle conn call.handle.number) s.handles h sound.held is);
   taken = passed-taken o.profile.brings (needed o.profile.needs s.rows call.args) (held_by s conn call) passed.passed;
@@ -95,22 +99,23 @@ is-asked right config s conn call o sound spelled passed = record {
 refusal-keeps : (r : Lists) (status : ℕ) → IsSoundRows r → Keeps r (refusal status)
 refusal-keeps r status sound = record { sound = sound; stays = λ x was other. was; opens = λ opening is. cc }
 
-keeps-by : AreRight → KeepRows → (config : Config) (s : State) (conn : ℕ) (call : Call) (o : Operation)
-    → IsSound config s → CanBeSpelled call
-    → HasPassed o s conn call
+keeps-by : OutsStaySound → PutsAreFound → AreRight → KeepRows → (config : Config) (s : State) (conn : ℕ) (call : Call)
+    (o : Operation) → configs.IsRight s.config → IsSound config s → CanBeSpelled call → HasPassed o s conn call
     → Decision (λ status. true) (ruled_of o s conn call).conditions (ruled_of o s conn call).planned
     → Keeps s.rows (planned_of o s conn call)
-keeps-by right each config s conn call o sound spelled passed (inl fails) =
+keeps-by stay found right each config s conn call o configured sound spelled passed (inl fails) =
     subst (λ (p : Planned). Keeps s.rows p) (sym fails.refuses) (refusal-keeps s.rows fails.status sound.rows)
-keeps-by right each config s conn call o sound spelled passed (inr passes) =
+keeps-by stay found right each config s conn call o configured sound spelled passed (inr passes) =
+    let work : Option Work = work_of call.face call.opnum in
     subst (λ (p : Planned). Keeps s.rows p) (sym passes.plans)
-    (of-work KeepsRows each (work_of call.face call.opnum) o passed.found s.rows (object_of (held_by s conn call)) call
-    (is-asked right config s conn call o sound spelled passed) passes.none)
+    (ruled-keeps stay found o s conn call (of-work IsRight right.right work o passed.found)
+    (of-work KeepsRows each work o passed.found) sound.rows
+    (is-asked right config s conn call o configured sound spelled passed) passes.none)
 
-pub keeps : AreRight → KeepRows → (config : Config) (s : State) (conn : ℕ) (call : Call) (o : Operation)
-    → IsSound config s → CanBeSpelled call
-    → HasPassed o s conn call → Keeps s.rows (planned_of o s conn call)
-keeps right each config s conn call o sound spelled passed =
+pub keeps : OutsStaySound → PutsAreFound → AreRight → KeepRows → (config : Config) (s : State) (conn : ℕ) (call : Call)
+    (o : Operation) → configs.IsRight s.config → IsSound config s → CanBeSpelled call → HasPassed o s conn call
+    → Keeps s.rows (planned_of o s conn call)
+keeps stay found right each config s conn call o configured sound spelled passed =
     let ruled : Ruled = ruled_of o s conn call in
-    keeps-by right each config s conn call o sound spelled passed
+    keeps-by stay found right each config s conn call o configured sound spelled passed
     (decides (λ status. true) ruled.conditions ruled.planned)

@@ -3,7 +3,7 @@ use Rattle.std.proofs.Common.{◌≡◌, ℕ, ◌==◌, Bool, true, false, cond,
 use Rattle.std.proofs.Common.{append_assoc, length, arith}
 use Rattle.std.proofs.lemmas.List.{append-nil}
 use Rattle.acct_machine.specs.declared.entry.Entry.{Entry}
-use Rattle.acct_machine.specs.declared.entry.Entry.TheVariants.{Opened, Called, Gone}
+use Rattle.acct_machine.specs.declared.entry.Entry.TheVariants.{Opened, Called, Gone, Hooked}
 use Rattle.acct_machine.specs.State.{State, Start}
 use Rattle.acct_machine.specs.Step.{acted, step, state_after}
 use Rattle.acct_machine.specs.Legal.{May, LegalAfter, calls_of, replies_from}
@@ -36,6 +36,7 @@ pub calls_of-append : (k : ℕ) (history es : List Entry)
 calls_of-append k [] es = refl
 calls_of-append k (Opened conn listener ∷ history) es = calls_of-append k history es
 calls_of-append k (Gone conn ∷ history) es = calls_of-append k history es
+calls_of-append k (Hooked number ∷ history) es = calls_of-append k history es
 calls_of-append k (Called conn call verdict bytes ∷ history) es =
     one_more (conn == k) (call, bytes) (calls_of k (history ++ es)) (calls_of k history) (calls_of k es)
     (calls_of-append k history es)
@@ -45,6 +46,7 @@ pub replies-append : (s : State) (k : ℕ) (history es : List Entry)
 replies-append s k [] es = refl
 replies-append s k (Opened conn listener ∷ history) es = replies-append (step s (Opened conn listener)) k history es
 replies-append s k (Gone conn ∷ history) es = replies-append (step s (Gone conn)) k history es
+replies-append s k (Hooked number ∷ history) es = replies-append (step s (Hooked number)) k history es
 replies-append s k (Called conn call verdict bytes ∷ history) es =
     let next : State = step s (Called conn call verdict bytes) in
     one_more (conn == k) (acted s conn call verdict).1 (replies_from next k (history ++ es))
@@ -61,6 +63,7 @@ pub length-replies : (s : State) (k : ℕ) (history : List Entry)
 length-replies s k [] = refl
 length-replies s k (Opened conn listener ∷ history) = length-replies (step s (Opened conn listener)) k history
 length-replies s k (Gone conn ∷ history) = length-replies (step s (Gone conn)) k history
+length-replies s k (Hooked number ∷ history) = length-replies (step s (Hooked number)) k history
 length-replies s k (Called conn call verdict bytes ∷ history) =
     let next : State = step s (Called conn call verdict bytes) in
     longer (conn == k) (acted s conn call verdict).1 (call, bytes) (replies_from next k history) (calls_of k history)

@@ -4,22 +4,25 @@ use Rattle.std.proofs.Common.{subst}
 use Rattle.std.proofs.Common.{arith}
 use Rattle.std.proofs.lemmas.List.{append-nil}
 use Rattle.acct_config.specs.declared.config.Config.{Config}
+use Rattle.acct_config.specs.Right.{IsRight}
 use Rattle.acct_rows.specs.Rows.{Lists}
+use Rattle.acct_rows.specs.Sound.{IsSoundRows}
 use Rattle.acct_calls.specs.declared.calls.Call.{Call}
 use Rattle.acct_machine.specs.declared.entry.Verdict.{Verdict}
 use Rattle.acct_machine.specs.declared.entry.Entry.{Entry}
-use Rattle.acct_machine.specs.declared.entry.Entry.TheVariants.{Opened, Called, Gone}
+use Rattle.acct_machine.specs.declared.entry.Entry.TheVariants.{Opened, Called, Gone, Hooked}
 use Rattle.acct_machine.specs.State.{State, Start, first, is_live}
 use Rattle.acct_machine.specs.Step.{new_conn, acted, step, state_at}
 use Rattle.acct_machine.specs.Calls.{IsCall}
-use Rattle.acct_machine.specs.Room.{opened_count, call_count, stub_bytes, conns_full, TakesCall}
+use Rattle.acct_machine.specs.Room.{opened_count, call_count, stub_bytes, hooked_count, most_entries, conns_full}
+use Rattle.acct_machine.specs.Room.{TakesCall}
 use Rattle.acct_machine.specs.Legal.{MayHave, Rises, May, Legal, calls_of, replies}
 use Rattle.acct_machine.specs.Sound.{AreConnected, KeepsConnected}
 use Rattle.acct_machine.specs.Shown.{Past, IsKept, begins, live_count}
 use Rattle.acct_machine.specs.Machine.{state_of, with_entry, SameLive, OneMoreLive, OneLessLive, SameCalls, OneMoreCall}
 use Rattle.acct_machine.proofs.Conns.{live-ended-same, live-ended-other, length-ended, live-push, length-push}
 use Rattle.acct_machine.proofs.Conns.{live-above, live-new, count-ended-live}
-use Rattle.acct_machine.proofs.Counting.{calls-push, bytes-push, opened-at, ends-at, limits-are-kept}
+use Rattle.acct_machine.proofs.Counting.{calls-push, bytes-push, hooked-push, opened-at, ends-at, limits-are-kept}
 use Rattle.acct_machine.proofs.Counting.{takes-calls, takes-bytes}
 use Rattle.acct_machine.proofs.Cases.{acted-cases}
 use Rattle.acct_machine.proofs.Lives.{same_live-acted}
@@ -29,7 +32,8 @@ use Rattle.acct_machine.proofs.History.{state_after-push, LegalAfter-push, calls
 pub IsKept-push : (start : Start) (history : List Entry) (s : State) (calls bytes capacity : ℕ) (e : Entry) (s' : State)
     (calls' bytes' capacity' : ℕ)
     → IsKept start history s calls bytes capacity → May start history e → step s e ≡ s'
-    → calls + call_count (e ∷ []) ≡ calls' → bytes + stub_bytes (e ∷ []) ≡ bytes' → capacity ≤ capacity'
+    → calls + call_count (e ∷ []) ≡ calls' → bytes + stub_bytes (e ∷ []) ≡ bytes'
+    → capacity + hooked_count (e ∷ []) ≤ capacity'
     → IsKept start (history ++ e ∷ []) s' calls' bytes' capacity'
 IsKept-push start history s calls bytes capacity e s' calls' bytes' capacity' kept may is more longer grows = record {
   right = kept.right;
@@ -38,7 +42,7 @@ IsKept-push start history s calls bytes capacity e s' calls' bytes' capacity' ke
   state = state_after-push (first start) history e ∙ ap (λ (x : State). step x e) kept.state ∙ is;
   calls_are = omega (arith, calls-push history e, kept.calls_are, more);
   bytes_are = omega (arith, bytes-push history e, kept.bytes_are, longer);
-  room = omega (arith, kept.room, grows);
+  room = omega (arith, hooked-push history e, kept.room, grows);
 }
 
 -- the live connections after one more event of a history
@@ -138,12 +142,31 @@ config-step : (s : State) (e : Entry) → (step s e).config ≡ s.config
 config-step s (Opened conn listener) = refl
 config-step s (Called conn call verdict bytes) = config-acted s conn call verdict
 config-step s (Gone conn) = refl
+config-step s (Hooked number) = refl
 
-begins-same : (s s' : State) (rows : Lists) (since : ℕ) (e : Entry) → s' ≡ step s e
+pub begins-same : (s s' : State) (rows : Lists) (since : ℕ) (e : Entry) → s' ≡ step s e
     → begins s rows since ≡ begins s' rows since
 begins-same s s' rows since e is =
     ap (λ (x : Config). let y : Start = record { config = x; rows = rows; faults = since } in y)
     (sym (config-step s e) ∙ ap (λ (x : State). x.config) (sym is))
+
+-- nothing has happened
+pub kept-new : (s : State) (config : Config) (rows lists : Lists) (history : List Entry) (since capacity : ℕ)
+    → s ≡ record { config = config; rows = rows; conns = []; handles = [] } → lists ≡ rows → history ≡ []
+    → IsRight config → IsSoundRows rows → most_entries config.limits ≤ capacity
+    → IsKept (begins s lists since) history s 0 0 capacity
+kept-new s config rows lists history since capacity is same none right sound fits =
+    subst (λ (h : List Entry). IsKept (begins s lists since) h s 0 0 capacity) (sym none)
+    (subst (λ (l : Lists). IsKept (begins s l since) [] s 0 0 capacity) (sym same)
+    (subst (λ (x : State). IsKept (begins x rows since) [] x 0 0 capacity) (sym is) (record {
+      right = right;
+      rows = sound;
+      legal = tt;
+      state = refl;
+      calls_are = refl;
+      bytes_are = refl;
+      room = omega (arith, fits);
+    })))
 
 -- with one more entry
 pub shown-more : (old : Past) (s s' : State) (rows : Lists) (since : ℕ) (history more : List Entry) (e : Entry)
@@ -159,7 +182,8 @@ pub kept-more : (s s' : State) (rows : Lists) (since : ℕ) (history more : List
     (calls bytes capacity calls' bytes' capacity' : ℕ) (e : Entry)
     → IsKept (begins s rows since) history s calls bytes capacity
     → May (begins s rows since) history e → s' ≡ step s e → more ≡ history ++ e ∷ []
-    → calls + call_count (e ∷ []) ≡ calls' → bytes + stub_bytes (e ∷ []) ≡ bytes' → capacity ≤ capacity'
+    → calls + call_count (e ∷ []) ≡ calls' → bytes + stub_bytes (e ∷ []) ≡ bytes'
+    → capacity + hooked_count (e ∷ []) ≤ capacity'
     → IsKept (begins s' rows since) more s' calls' bytes' capacity'
 kept-more s s' rows since history more calls bytes capacity calls' bytes' capacity' e kept may is longer counts adds
     grows =

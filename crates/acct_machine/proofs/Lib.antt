@@ -1,5 +1,12 @@
 pub mod Conns
 pub mod Deciding
+pub mod Telling
+pub mod Outboxing
+pub mod Changing
+pub mod Adding
+pub mod Scanning
+pub mod Describing
+pub mod Ruling
 pub mod Cases
 pub mod Lives
 pub mod History
@@ -8,6 +15,7 @@ pub mod Places
 pub mod Connected
 pub mod Passing
 pub mod Granting
+pub mod Coming
 pub mod Handles
 pub mod Sounds
 pub mod Wanting
@@ -18,6 +26,9 @@ pub mod Answering
 pub mod Storing
 pub mod Puts
 pub mod Kept
+pub mod Leaving
 pub mod Loaded
 pub mod Indexes
 pub mod Committing
+pub mod Gating
+pub mod Texts

@@ -3,7 +3,7 @@ use Rattle.std.proofs.Common.{◌≡◌, inl, inr, ℕ, ◌+◌, ◌≤◌, List
 use Rattle.std.specs.List.{AllByRecursion}
 use Rattle.std.proofs.lemmas.Bool.{cases_eq}
 use Rattle.acct_machine.specs.declared.entry.Entry.{Entry}
-use Rattle.acct_machine.specs.declared.entry.Entry.TheVariants.{Opened, Called, Gone}
+use Rattle.acct_machine.specs.declared.entry.Entry.TheVariants.{Opened, Called, Gone, Hooked}
 use Rattle.acct_machine.specs.declared.state.Conn.{Conn}
 use Rattle.acct_machine.specs.State.{State, Start, first, last_serial}
 use Rattle.acct_machine.specs.Outcome.{serial_set}
@@ -56,6 +56,7 @@ Serials-step s (Called conn call verdict bytes) n h =
           Serials-set conn (last_serial conn s.conns + 1) n s.conns h (omega (arith, last_serial-le conn n s.conns h));
     })
 Serials-step s (Gone conn) n h = Serials-ended conn n s.conns h
+Serials-step s (Hooked number) n h = weaker n s.conns h
 
 Serials-after : (s : State) (es : List Entry) (n : ℕ) → Serials n s.conns
     → Serials (n + length es) (state_after s es).conns

@@ -13,27 +13,33 @@ use Rattle.dtyp_access.specs.declared.descriptor.Descriptor.{Descriptor}
 use Rattle.dtyp_access.specs.Laws.{GrantsAreValid}
 use Rattle.acct_config.specs.declared.config.Config.{Config}
 use Rattle.acct_config.specs.declared.config.Listener.{Listener}
+use Rattle.acct_config.specs.Right.{IsRight}
 use Rattle.acct_calls.specs.declared.calls.Call.{Call}
 use Rattle.acct_layouts.specs.CallShapes.{CanBeSpelled}
 use Rattle.acct_rows.specs.declared.object.Object.{Object}
+use Rattle.acct_rows.specs.Laws.{OutsStaySound, RemovedOutsStaySound, PutsAreFound}
 use Rattle.acct_rows.specs.Objects.{kind_of, same_object, exists}
+use Rattle.acct_rows.specs.Rows.{Lists, remove_row}
 use Rattle.acct_rows.specs.Sound.{IsSoundRows}
+use Rattle.acct_rows.specs.declared.row.OutRow.{OutRow}
+use Rattle.acct_rows.specs.declared.row.RowKey.TheVariants as keys
 use Rattle.acct_rules.specs.declared.planned.Effect.{Effect}
 use Rattle.acct_rules.specs.declared.planned.Effect.TheVariants as effects
 use Rattle.acct_rules.specs.declared.planned.Planned.{Planned}
-use Rattle.acct_rules.specs.Operations.{is_deleted, Keeps}
+use Rattle.acct_rules.specs.Operations.{Operation, is_deleted, Keeps}
 use Rattle.acct_operations.specs.Laws.{AreRight, KeepRows}
 use Rattle.acct_machine.specs.declared.entry.Verdict.{Verdict}
 use Rattle.acct_machine.specs.declared.entry.Entry.{Entry}
-use Rattle.acct_machine.specs.declared.entry.Entry.TheVariants.{Opened, Called, Gone}
+use Rattle.acct_machine.specs.declared.entry.Entry.TheVariants.{Opened, Called, Gone, Hooked}
 use Rattle.acct_machine.specs.declared.state.Conn.{Conn}
 use Rattle.acct_machine.specs.declared.state.Held.{Held}
 use Rattle.acct_machine.specs.State.{State, Start, first, find_conn, is_live, last_serial, is_handle, without_conn}
-use Rattle.acct_machine.specs.Opening.{descriptor_of, listener_of, checked, grant_of}
+use Rattle.acct_machine.specs.Opening.{described, listener_of, checked, grant_of}
+use Rattle.acct_machine.specs.Outbox.{least_in}
 use Rattle.acct_machine.specs.Outcome.{serial_set, left, changed, with_handle, planned_of}
 use Rattle.acct_machine.specs.Step.{new_conn, acted, step, state_after, state_at}
-use Rattle.acct_machine.specs.Legal.{May, LegalAfter, Legal}
-use Rattle.acct_machine.specs.Sound.{IsHeldSoundly, AreApart, AreConnected, KeepsConnected, IsSound}
+use Rattle.acct_machine.specs.Legal.{HasPassed, May, LegalAfter, Legal}
+use Rattle.acct_machine.specs.Sound.{IsHeldSoundly, AreApart, AreConnected, KeepsConnected, IsSound, KeepsSound}
 use Rattle.acct_machine.proofs.Conns.{live-set, serial-set-same, serial-set-other, live-ended-other, serial-ended}
 use Rattle.acct_machine.proofs.Conns.{live-push, serial-push, live-above}
 use Rattle.acct_machine.proofs.Cases.{acted-cases}
@@ -54,7 +60,7 @@ pub grant-valid : GrantsAreValid → (s : State) (conn : ℕ) (object : Object) 
     → grant_of s conn object desired ≡ Some granted
     → bit_and granted (valid_rights (kind_of object)) ≡ granted
 grant-valid within s conn object desired granted is =
-    checked-valid within (kind_of object) (descriptor_of s.config (kind_of object))
+    checked-valid within (kind_of object) (described s object)
     (listener_of s.config (find_conn conn s.conns)) desired granted is
 
 -- ---- changes
@@ -169,22 +175,31 @@ sound-opened config s conn object granted sound live there valid connected =
 abbrev With : Config → State → Type 0
 With config s = AreConnected config s → IsSound config s
 
-sound-called : GrantsAreValid → AreRight → KeepRows
-    → (config : Config) (s : State) (conn : ℕ) (call : Call) (verdict : Verdict) → IsSound config s
-    → is_live conn s.conns ≡ true → CanBeSpelled call → With config (acted s conn call verdict).0
-sound-called within right each config s conn call verdict sound live spelled =
+-- What the operations and the rows promise, on which the soundness of what calls leave stands.
+record Promised : Type 0 where
+  within : GrantsAreValid
+  right : AreRight
+  each : KeepRows
+  stay : OutsStaySound
+  taken : RemovedOutsStaySound
+  found : PutsAreFound
+
+sound-called : Promised → (config : Config) (s : State) (conn : ℕ) (call : Call) (verdict : Verdict) → IsRight s.config
+    → IsSound config s → is_live conn s.conns ≡ true → CanBeSpelled call → With config (acted s conn call verdict).0
+sound-called laws config s conn call verdict configured sound live spelled =
+    let kept : (o : Operation) → HasPassed o s conn call → Keeps s.rows (planned_of o s conn call) = λ o passed.
+    keeps laws.stay laws.found laws.right laws.each config s conn call o configured sound spelled passed in
     acted-cases (With config) s conn call verdict (record {
       same = λ connected. sound;
       planned = λ o passed connected.
-          sound-changed config s conn call (planned_of o s conn call) sound
-          (keeps right each config s conn call o sound spelled passed);
+          sound-changed config s conn call (planned_of o s conn call) sound (kept o passed);
       opened = λ o opening granted ran passed effect grant connected.
           let planned : Planned = planned_of o s conn call in
-          let kept : Keeps s.rows planned = keeps right each config s conn call o sound spelled passed in
+          let now : Keeps s.rows planned = kept o passed in
           sound-opened config (changed s conn call planned) conn opening.object granted
-          (sound-changed config s conn call planned sound kept) live
-          (kept.opens opening effect)
-          (grant-valid within s conn opening.object opening.desired granted grant) connected;
+          (sound-changed config s conn call planned sound now) live
+          (now.opens opening effect)
+          (grant-valid laws.within s conn opening.object opening.desired granted grant) connected;
     })
 
 -- a connection was opened
@@ -224,22 +239,53 @@ sound-gone config s conn sound connected =
       distinct = AllPairs-filter AreApart (λ h. not (h.conn == conn)) s.handles sound.distinct;
     }
 
-sound-step : GrantsAreValid → AreRight → KeepRows → (start : Start) (before : List Entry) (e : Entry)
+-- an out row was taken out
+removed-keeps : RemovedOutsStaySound → (r : Lists) (outs : List OutRow) (number : ℕ) → IsSoundRows r → r.outs ≡ outs
+    → least_in outs ≡ Some number
+    → IsSoundRows (remove_row (keys.Out number) r)
+    × ((x : Object) → exists r x ≡ true → exists (remove_row (keys.Out number) r) x ≡ true)
+removed-keeps taken r [] number sound are is = cc
+removed-keeps taken r (o ∷ others) number sound are is =
+    let same : o.number ≡ number = cc in
+    let law = (taken r o others sound are).0 in
+    subst (λ (n : ℕ). IsSoundRows (remove_row (keys.Out n) r)
+    × ((x : Object) → exists r x ≡ true → exists (remove_row (keys.Out n) r) x ≡ true)) same
+    (law.sound, λ x was. law.stays x was refl)
+
+sound-hooked : RemovedOutsStaySound → (config : Config) (s : State) (number : ℕ) → IsSound config s
+    → least_in s.rows.outs ≡ Some number → With config (step s (Hooked number))
+sound-hooked taken config s number sound least connected =
+    let new : State = step s (Hooked number) in
+    let rows = removed-keeps taken s.rows s.rows.outs number sound.rows refl least in
+    let stays : (h : Held) → IsHeldSoundly s h → IsHeldSoundly new h = λ h was.
+    held-kept s new h was refl (omega arith) (rows.1 h.object was.there) in
+    record {
+      connected = connected;
+      rows = rows.0;
+      held = λ k d lt. stays (get_or s.handles k d) (sound.held k d lt);
+      distinct = sound.distinct;
+    }
+
+sound-step : Promised → (start : Start) (before : List Entry) (e : Entry) → IsRight start.config
     → IsSound start.config (state_at start before)
     → May start before e → With start.config (step (state_at start before) e)
-sound-step within right each start before (Opened conn listener) sound may =
+sound-step laws start before (Opened conn listener) configured sound may =
     sound-arrived start.config (state_at start before) conn listener sound may.0
-sound-step within right each start before (Called conn call verdict bytes) sound may =
-    sound-called within right each start.config (state_at start before) conn call verdict sound may.0 may.1.1
-sound-step within right each start before (Gone conn) sound may =
+sound-step laws start before (Called conn call verdict bytes) configured sound may =
+    let here : IsRight (state_at start before).config =
+    subst (λ (c : Config). IsRight c) (sym sound.connected.configuration) configured in
+    sound-called laws start.config (state_at start before) conn call verdict here sound may.0 may.1.1
+sound-step laws start before (Gone conn) configured sound may =
     sound-gone start.config (state_at start before) conn sound
+sound-step laws start before (Hooked number) configured sound may =
+    sound-hooked laws.taken start.config (state_at start before) number sound may
 
-sound-after : GrantsAreValid → KeepsConnected → AreRight → KeepRows → (start : Start) (before es : List Entry)
+sound-after : Promised → KeepsConnected → (start : Start) (before es : List Entry) → IsRight start.config
     → Legal start before
     → LegalAfter start before es → (s : State) → state_at start before ≡ s → IsSound start.config s
     → IsSound start.config (state_after s es)
-sound-after within connected right each start before [] was legal s is sound = sound
-sound-after within connected right each start before (e ∷ es) was legal s is sound =
+sound-after laws connected start before [] configured was legal s is sound = sound
+sound-after laws connected start before (e ∷ es) configured was legal s is sound =
     let now : IsSound start.config (state_at start before) =
     subst (λ (x : State). IsSound start.config x) (sym is) sound in
     let longer : Legal start (before ++ e ∷ []) = LegalAfter-push start [] before e was legal.0 in
@@ -249,15 +295,22 @@ sound-after within connected right each start before (e ∷ es) was legal s is s
     subst (λ (x : State). AreConnected start.config x) next (connected start (before ++ e ∷ []) longer) in
     let stepped : IsSound start.config (step s e) =
     subst (λ (x : State). IsSound start.config (step x e)) is
-    (sound-step within right each start before e now legal.0 there) in
-    sound-after within connected right each start (before ++ e ∷ []) es longer legal.1 (step s e)
+    (sound-step laws start before e configured now legal.0 there) in
+    sound-after laws connected start (before ++ e ∷ []) es configured longer legal.1 (step s e)
     (next ∙ ap (λ (x : State). step x e) is) stepped
 
-pub are-sound : GrantsAreValid → KeepsConnected → AreRight → KeepRows → (start : Start) (history : List Entry)
-    → IsSoundRows start.rows
-    → Legal start history → IsSound start.config (state_at start history)
-are-sound within connected right each start history rows legal =
-    sound-after within connected right each start [] history tt legal (first start) refl (record {
+pub are-sound : GrantsAreValid → KeepsConnected → AreRight → KeepRows → OutsStaySound → RemovedOutsStaySound
+    → PutsAreFound → KeepsSound
+are-sound within connected right each stay taken found start history configured rows legal =
+    let laws : Promised = record {
+      within = within;
+      right = right;
+      each = each;
+      stay = stay;
+      taken = taken;
+      found = found;
+    } in
+    sound-after laws connected start [] history configured tt legal (first start) refl (record {
       connected = connected start [] tt;
       rows = rows;
       held = λ k d lt. absurd (omega (arith, lt));

@@ -11,15 +11,15 @@ use Rattle.acct_rows.specs.Objects.{kind_of}
 use Rattle.acct_machine.specs.declared.entry.Entry.{Entry}
 use Rattle.acct_machine.specs.declared.state.Conn.{Conn}
 use Rattle.acct_machine.specs.State.{State, Start, find_conn}
-use Rattle.acct_machine.specs.Opening.{descriptor_of, grant_of}
+use Rattle.acct_machine.specs.Opening.{described, grant_of}
 use Rattle.acct_machine.specs.Step.{state_at}
 use Rattle.acct_machine.specs.Legal.{Legal}
 
--- the configuration has both, and each opening grants what the check gives over them
+-- there are both, and each opening grants what the check gives over them
 pub record IsDecided (config : Config) (s : State) (conn : ℕ) (object : Object) (c : Conn) : Type 0 where
   pub descriptor : Descriptor
   pub listener : Listener
-  pub configured : descriptor_of config (kind_of object) ≡ Some descriptor
+  pub has : described s object ≡ Some descriptor
   pub connected : slice_get config.listeners c.listener ≡ Some listener
   pub grants : (desired : ℕ)
       → grant_of s conn object desired ≡ opened (kind_of object) descriptor listener.token desired

@@ -12,11 +12,12 @@ use Rattle.acct_machine.specs.declared.checks.Access.TheVariants.{Passed}
 use Rattle.acct_machine.specs.declared.entry.Verdict.{Verdict}
 use Rattle.acct_machine.specs.declared.entry.Verdict.TheVariants.{Ran, StoreFault, NoMemory}
 use Rattle.acct_machine.specs.declared.entry.Entry.{Entry}
-use Rattle.acct_machine.specs.declared.entry.Entry.TheVariants.{Opened, Called, Gone}
+use Rattle.acct_machine.specs.declared.entry.Entry.TheVariants.{Opened, Called, Gone, Hooked}
 use Rattle.acct_machine.specs.State.{State, Start, first, is_live}
 use Rattle.acct_machine.specs.Opening.{is_opening_refused}
 use Rattle.acct_machine.specs.Calls.{operation_of, IsCall}
 use Rattle.acct_machine.specs.Access.{access}
+use Rattle.acct_machine.specs.Outbox.{least_out}
 use Rattle.acct_machine.specs.Outcome.{ruled_of, outcome}
 use Rattle.acct_machine.specs.Step.{acted, step, state_at}
 use Rattle.acct_machine.specs.Room.{conns_full, TakesCall, IsWithin}
@@ -33,10 +34,11 @@ pub record HasCommit (o : Operation) (s : State) (conn : ℕ) (call : Call) : Ty
   pub none : NoneFails o s conn call
   pub differs : (outcome o s conn call).0.rows ≢ s.rows
 
--- where memory may run out, by the profile of the operation
+-- Where memory may run out, by the profile of the operation: never of a closing, only where no condition fails of a
+-- call that brings no handle, and anywhere of each other.
 abbrev pub MayWant : Memory → Operation → State → ℕ → Call → Type 0
 MayWant memory.Never o s conn call = ⊥
-MayWant memory.BehindConditions o s conn call = NoneFails o s conn call
+MayWant memory.AfterConditions o s conn call = NoneFails o s conn call
 MayWant memory.Anywhere o s conn call = ⊤
 
 -- the handle of the call passed
@@ -61,6 +63,7 @@ faults_of (Called conn call Ran bytes ∷ es) = faults_of es
 faults_of (Called conn call (StoreFault n) bytes ∷ es) = n ∷ faults_of es
 faults_of (Called conn call NoMemory bytes ∷ es) = faults_of es
 faults_of (Gone conn ∷ es) = faults_of es
+faults_of (Hooked number ∷ es) = faults_of es
 
 -- the store's counts of faults: where the history began, and at each commit that failed
 abbrev pub counts_of : Start → List Entry → List ℕ
@@ -76,7 +79,8 @@ Rises start before NoMemory = ⊤
 
 -- What may come after some events: the connections are numbered from 1 in the order of their opening, each at a
 -- listener of the configuration; calls and ends are of live connections, and each call is one of an operation and
--- spelled by some served stub. The store's count of faults rises. The limits of the configuration are kept.
+-- spelled by some served stub. The store's count of faults rises. The limits of the configuration are kept. Out rows
+-- are taken out by ascending number.
 abbrev pub May : Start → List Entry → Entry → Type 0
 May start before (Opened conn listener) =
     (conn ≡ length (state_at start before).conns + 1) × (conn < 2 ^ 32) × (listener < length start.config.listeners)
@@ -85,6 +89,7 @@ May start before (Called conn call verdict bytes) =
     (is_live conn (state_at start before).conns ≡ true) × IsCall call × (bytes < 2 ^ 32)
     × MayHave (state_at start before) conn call verdict × TakesCall start before bytes × Rises start before verdict
 May start before (Gone conn) = is_live conn (state_at start before).conns ≡ true
+May start before (Hooked number) = least_out (state_at start before).rows ≡ Some number
 
 -- each event may come after those before it
 abbrev pub LegalAfter : Start → List Entry → List Entry → Type 0
@@ -112,6 +117,7 @@ replies_from s k (Called conn call verdict bytes ∷ es) =
     if conn == k then (acted s conn call verdict).1 ∷ rest else rest
 replies_from s k (Opened conn listener ∷ es) = replies_from (step s (Opened conn listener)) k es
 replies_from s k (Gone conn ∷ es) = replies_from (step s (Gone conn)) k es
+replies_from s k (Hooked number ∷ es) = replies_from (step s (Hooked number)) k es
 
 abbrev pub replies : Start → ℕ → List Entry → List Reply
 replies start k history = replies_from (first start) k history
@@ -122,6 +128,7 @@ calls_of k [] = []
 calls_of k (Called conn call verdict bytes ∷ es) = if conn == k then (call, bytes) ∷ calls_of k es else calls_of k es
 calls_of k (Opened conn listener ∷ es) = calls_of k es
 calls_of k (Gone conn ∷ es) = calls_of k es
+calls_of k (Hooked number ∷ es) = calls_of k es
 
 -- each call has a reply
 abbrev pub RepliesToEach : Type 0

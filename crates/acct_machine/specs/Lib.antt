@@ -4,6 +4,7 @@ pub mod Indexed
 pub mod Opening
 pub mod Calls
 pub mod Access
+pub mod Outbox
 pub mod Outcome
 pub mod Step
 pub mod Room
@@ -12,6 +13,8 @@ pub mod Wants
 pub mod Sound
 pub mod Denial
 pub mod Grants
+pub mod Given
+pub mod Coming
 pub mod Shapes
 pub mod Passing
 pub mod Storing
@@ -19,4 +22,9 @@ pub mod Concluding
 pub mod Shown
 pub mod Machine
 pub mod Decided
+pub mod Outs
+pub mod Hooking
+pub mod Jobs
+pub mod Gates
+pub mod Moving
 pub mod Opened

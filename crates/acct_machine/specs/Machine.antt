@@ -16,6 +16,7 @@ use Rattle.acct_machine.specs.Step.{state_at, acted}
 use Rattle.acct_machine.specs.Room.{conns_full, calls_full, bytes_full, TakesCall}
 use Rattle.acct_machine.specs.Legal.{replies, calls_of}
 use Rattle.acct_machine.specs.Shapes.{IsAnswer}
+use Rattle.acct_machine.specs.Wants.{IsFrugal}
 use Rattle.acct_machine.specs.Passing.{AreOfOthers}
 use Rattle.acct_machine.specs.Storing.{HoldsRows, Counts}
 use Rattle.acct_machine.specs.Shown.{Past, Shown}
@@ -53,6 +54,17 @@ Acts old conn call bytes (acts.Reply reply) new = Enters old conn call bytes rep
 Acts old conn call bytes (acts.FullCalls count) new = (calls_full old.start old.history ≡ Some count) × (new ≡ old)
 Acts old conn call bytes (acts.FullBytes sum) new =
     (calls_full old.start old.history ≡ None) × (bytes_full old.start old.history bytes ≡ Some sum) × (new ≡ old)
+
+-- A call was entered, and ran out of memory only where its operation takes some.
+pub record EntersFrugally (old : Past) (conn : ℕ) (call : Call) (bytes : ℕ) (new : Past) : Type 0 where
+  pub verdict : Verdict
+  pub entered : new ≡ with_entry old (Called conn call verdict bytes)
+  pub frugal : IsFrugal (state_of old) conn call verdict
+
+abbrev pub Frugal : Past → ℕ → Call → ℕ → Acted → Past → Type 0
+Frugal old conn call bytes (acts.Reply reply) new = EntersFrugally old conn call bytes new
+Frugal old conn call bytes (acts.FullCalls count) new = ⊤
+Frugal old conn call bytes (acts.FullBytes sum) new = ⊤
 
 -- a reply that is no fault has the shape of its operation
 abbrev pub Shaped : Call → Acted → Type 0

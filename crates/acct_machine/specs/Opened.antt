@@ -13,21 +13,39 @@ use Rattle.acct_keeper.specs.Causes.{Rose}
 use Rattle.acct_keeper.specs.Counts.{one_more}
 use Rattle.acct_machine.specs.declared.opened.OpenError.{OpenError}
 use Rattle.acct_machine.specs.declared.opened.OpenError.TheVariants.{StoreFault, StoredPair, Memory}
-use Rattle.acct_rows.specs.PairsOf.{ArePairsOf}
+use Rattle.acct_rows.specs.PairsOf.{ArePairsOf, migrated}
 use Rattle.acct_rows.specs.PairRules.{AreUnbroken, IsSmallestBroken}
 
 -- The rows that a store is opened with: the seed rows of the configured domain where it has no pair, and else those
--- whose pairs it has, which break no rule.
+-- whose pairs it has, which break no rule; pairs of format 1 stand for what they are in format 2.
 abbrev pub OpensRows : Config → List Pair → Lists → Type 0
 OpensRows config [] rows = rows ≡ seed_lists config.name config.sid
-OpensRows config (pair ∷ pairs) rows = AreUnbroken (pair ∷ pairs) × ArePairsOf rows (pair ∷ pairs)
+OpensRows config (pair ∷ pairs) rows = AreUnbroken (pair ∷ pairs) × ArePairsOf rows (migrated (pair ∷ pairs))
 
--- Why a store isn't opened: the keeper failed and its count of faults rose, or its pairs break a rule, and this is the
--- smallest key that is broken. Running out of memory is free.
+-- What a store that had pairs has once it is opened: these pairs, in format 2. Where they were of that format nothing
+-- was committed, and else the one pair that tells the format.
+abbrev pub IsMigrated : List Pair → Option (List Pair) → Type 0
+IsMigrated [] held = ⊤
+IsMigrated (pair ∷ pairs) held = held ≡ Some (migrated (pair ∷ pairs))
+
+-- Why a store isn't opened: the keeper failed in loading, in seeding or in migrating, and its count of faults rose, or
+-- its pairs break a rule, and this is the smallest key that is broken. Running out of memory is free.
 abbrev pub OpenCause : Option (List Pair) → ℕ → ℕ → OpenError → Type 0
 OpenCause told before now StoreFault = Rose before now
 OpenCause told before now (StoredPair key) = IfSome told (λ pairs. (pairs ≢ []) × IsSmallestBroken pairs key)
 OpenCause told before now Memory = ⊤
+
+-- the same for pairs that there are, whether the keeper tells them or not
+abbrev pub LoadCause : List Pair → ℕ → ℕ → OpenError → Type 0
+LoadCause pairs before now StoreFault = Rose before now
+LoadCause pairs before now (StoredPair key) = IsSmallestBroken pairs key
+LoadCause pairs before now Memory = ⊤
+
+-- the refusal is of no pair
+abbrev pub IsNoPair : OpenError → Type 0
+IsNoPair StoreFault = ⊤
+IsNoPair (StoredPair key) = ⊥
+IsNoPair Memory = ⊤
 
 -- how many calls of the keeper have failed after an opening: one more where it answers a fault, and else as many
 abbrev pub count_after : {T : Type 0} → ℕ → Result T OpenError → ℕ

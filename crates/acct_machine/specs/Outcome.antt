@@ -26,8 +26,9 @@ use Rattle.acct_machine.specs.declared.entry.Verdict.TheVariants.{Ran, StoreFaul
 use Rattle.acct_machine.specs.declared.state.Conn.{Conn}
 use Rattle.acct_machine.specs.declared.state.Held.{Held}
 use Rattle.acct_machine.specs.State.{State, last_serial, number_of, without_handle, without_object}
-use Rattle.acct_machine.specs.Opening.{grant_of}
+use Rattle.acct_machine.specs.Opening.{described, grant_of}
 use Rattle.acct_machine.specs.Access.{held_by, object_of}
+use Rattle.acct_machine.specs.Outbox.{outboxed}
 
 -- ---- replies
 
@@ -136,9 +137,13 @@ concluded_by s conn call planned Ran = concluded s conn call planned
 concluded_by s conn call planned (StoreFault n) = refused s call status_internal_db_error
 concluded_by s conn call planned NoMemory = refused s call status_no_memory
 
--- what the operation of a call has to say
+-- what the operation of a call decides, by the rows, the object of the handle and its descriptor
+abbrev pub decided_of : Operation → State → Object → Call → Ruled
+decided_of o s object call = o.rule s.rows (described s object) object call.args
+
+-- what the machine does with it
 abbrev pub ruled_of : Operation → State → ℕ → Call → Ruled
-ruled_of o s conn call = o.rule s.rows (object_of (held_by s conn call)) call.args
+ruled_of o s conn call = outboxed s.config s.rows (decided_of o s (object_of (held_by s conn call)) call)
 
 abbrev pub planned_of : Operation → State → ℕ → Call → Planned
 planned_of o s conn call = decision (ruled_of o s conn call)

@@ -3,7 +3,7 @@ use Rattle.std.specs.Prelude.{◌≡◌, ℕ, suc, ◌+◌, ◌*◌, ◌≤◌, 
 use Rattle.std.specs.Prelude.{if◌then◌else◌}
 use Rattle.acct_config.specs.declared.limits.Limits.{Limits}
 use Rattle.acct_machine.specs.declared.entry.Entry.{Entry}
-use Rattle.acct_machine.specs.declared.entry.Entry.TheVariants.{Opened, Called, Gone}
+use Rattle.acct_machine.specs.declared.entry.Entry.TheVariants.{Opened, Called, Gone, Hooked}
 use Rattle.acct_machine.specs.State.{Start}
 
 -- how many connections were opened
@@ -12,6 +12,7 @@ opened_count [] = 0
 opened_count (Opened conn listener ∷ es) = suc (opened_count es)
 opened_count (Called conn call verdict bytes ∷ es) = opened_count es
 opened_count (Gone conn ∷ es) = opened_count es
+opened_count (Hooked number ∷ es) = opened_count es
 
 -- how many calls were made
 abbrev pub call_count : List Entry → ℕ
@@ -19,6 +20,7 @@ call_count [] = 0
 call_count (Opened conn listener ∷ es) = call_count es
 call_count (Called conn call verdict bytes ∷ es) = suc (call_count es)
 call_count (Gone conn ∷ es) = call_count es
+call_count (Hooked number ∷ es) = call_count es
 
 -- how many bytes the stubs of these calls had
 abbrev pub stub_bytes : List Entry → ℕ
@@ -26,6 +28,15 @@ stub_bytes [] = 0
 stub_bytes (Opened conn listener ∷ es) = stub_bytes es
 stub_bytes (Called conn call verdict bytes ∷ es) = bytes + stub_bytes es
 stub_bytes (Gone conn ∷ es) = stub_bytes es
+stub_bytes (Hooked number ∷ es) = stub_bytes es
+
+-- how many out rows were taken out
+abbrev pub hooked_count : List Entry → ℕ
+hooked_count [] = 0
+hooked_count (Opened conn listener ∷ es) = hooked_count es
+hooked_count (Called conn call verdict bytes ∷ es) = hooked_count es
+hooked_count (Gone conn ∷ es) = hooked_count es
+hooked_count (Hooked number ∷ es) = suc (hooked_count es)
 
 -- Where a history takes no further connection: how many it has.
 abbrev pub conns_full : Start → List Entry → Option ℕ
@@ -58,7 +69,7 @@ pub record TakesCall (start : Start) (history : List Entry) (bytes : ℕ) : Type
   pub few : calls_full start history ≡ None
   pub short : bytes_full start history bytes ≡ None
 
--- the most entries of a history: each connection is opened and goes
+-- the most entries of a history, besides those that take an out row out: each connection is opened and goes
 abbrev pub most_entries : Limits → ℕ
 most_entries limits = limits.max_calls + 2 * limits.max_conns
 

@@ -3,6 +3,7 @@ use Rattle.std.specs.Prelude.{ℕ, ◌^◌, ◌<◌, List, length, ⊤}
 use Rattle.acct_calls.specs.declared.calls.Call.{Call}
 use Rattle.acct_calls.specs.declared.replies.Reply.{Reply}
 use Rattle.acct_calls.specs.declared.replies.Reply.TheVariants.{Fault, Done}
+use Rattle.acct_config.specs.Right.{IsRight}
 use Rattle.acct_layouts.specs.ReplyShapes.{HasShape}
 use Rattle.acct_rows.specs.Rows.{HasRoom}
 use Rattle.acct_rows.specs.Sound.{IsSoundRows}
@@ -18,12 +19,12 @@ abbrev pub IsAnswer : Call → Reply → Type 0
 IsAnswer call (Fault fault) = ⊤
 IsAnswer call (Done status outs) = HasShape call.face call.opnum (Done status outs)
 
--- So it is with the reply of each call of a legal history that begins with sound rows, as long as it has fewer than
--- 2^64 events and each list of rows fewer than 2^32.
+-- So it is with the reply of each call of a legal history that begins with sound rows under a right configuration, as
+-- long as it has fewer than 2^64 events and each list of rows fewer than 2^32.
 abbrev pub RepliesAreShaped : Type 0
 RepliesAreShaped =
     (start : Start) (before : List Entry) (conn : ℕ) (call : Call) (verdict : Verdict) (bytes : ℕ)
-    → IsSoundRows start.rows → Legal start before
+    → IsRight start.config → IsSoundRows start.rows → Legal start before
     → May start before (Called conn call verdict bytes) → length before < 2 ^ 64
     → HasRoom (state_at start before).rows 0
     → IsAnswer call (acted (state_at start before) conn call verdict).1

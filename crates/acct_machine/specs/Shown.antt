@@ -9,7 +9,7 @@ use Rattle.acct_machine.specs.declared.entry.Entry.{Entry}
 use Rattle.acct_machine.specs.declared.state.Conn.{Conn}
 use Rattle.acct_machine.specs.State.{State, Start}
 use Rattle.acct_machine.specs.Step.{state_at}
-use Rattle.acct_machine.specs.Room.{call_count, stub_bytes, most_entries}
+use Rattle.acct_machine.specs.Room.{call_count, stub_bytes, hooked_count, most_entries}
 use Rattle.acct_machine.specs.Legal.{Legal}
 use Rattle.acct_machine.specs.Sound.{IsNumberedFrom}
 
@@ -46,7 +46,7 @@ pub record IsKept (start : Start) (history : List Entry) (s : State) (calls byte
   pub state : state_at start history ≡ s
   pub calls_are : call_count history ≡ calls
   pub bytes_are : stub_bytes history ≡ bytes
-  pub room : most_entries start.config.limits ≤ capacity
+  pub room : most_entries start.config.limits + hooked_count history ≤ capacity
 
 -- The configuration is right, the connections are numbered in order, and there is room for as many as it says.
 pub record HasRoom (config : Config) (conns : List Conn) (capacity : ℕ) : Type 0 where

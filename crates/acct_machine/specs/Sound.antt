@@ -3,6 +3,7 @@
 use Rattle.std.specs.Prelude.{◌≡◌, ◌≢◌, ℕ, ◌+◌, ◌^◌, ◌≤◌, ◌<◌, true, bit_and, List, [], ◌∷◌, length, ⊤, All, AllPairs}
 use Rattle.acct_codes.specs.Mappings.{valid_rights}
 use Rattle.acct_config.specs.declared.config.Config.{Config}
+use Rattle.acct_config.specs.Right.{IsRight}
 use Rattle.acct_rows.specs.Objects.{kind_of, exists}
 use Rattle.acct_rows.specs.Sound.{IsSoundRows}
 use Rattle.acct_machine.specs.declared.state.Conn.{Conn}
@@ -49,8 +50,8 @@ abbrev pub KeepsConnected : Type 0
 KeepsConnected =
     (start : Start) (history : List Entry) → Legal start history → AreConnected start.config (state_at start history)
 
--- every state of a legal history that begins with sound rows is sound
+-- under a right configuration every state of a legal history that begins with sound rows is sound
 abbrev pub KeepsSound : Type 0
 KeepsSound =
-    (start : Start) (history : List Entry) → IsSoundRows start.rows → Legal start history
+    (start : Start) (history : List Entry) → IsRight start.config → IsSoundRows start.rows → Legal start history
     → IsSound start.config (state_at start history)

@@ -12,7 +12,9 @@ use Rattle.acct_machine.specs.declared.checks.Access.TheVariants.{Passed, Unknow
 use Rattle.acct_machine.specs.declared.entry.Verdict.{Verdict}
 use Rattle.acct_machine.specs.declared.entry.Verdict.TheVariants.{Ran, StoreFault, NoMemory}
 use Rattle.acct_machine.specs.declared.entry.Entry.{Entry}
-use Rattle.acct_machine.specs.declared.entry.Entry.TheVariants.{Opened, Called, Gone}
+use Rattle.acct_machine.specs.declared.entry.Entry.TheVariants.{Opened, Called, Gone, Hooked}
+use Rattle.acct_rows.specs.Rows.{remove_row}
+use Rattle.acct_rows.specs.declared.row.RowKey.TheVariants as keys
 use Rattle.acct_machine.specs.declared.state.Conn.{Conn}
 use Rattle.acct_machine.specs.State.{State, Start, first, without_conn}
 use Rattle.acct_machine.specs.Calls.{operation_of}
@@ -57,6 +59,7 @@ abbrev pub step : State → Entry → State
 step s (Opened conn listener) = record s { conns = s.conns ++ new_conn conn listener ∷ [] }
 step s (Called conn call verdict bytes) = (acted s conn call verdict).0
 step s (Gone conn) = record s { conns = map (live_ended conn) s.conns; handles = without_conn conn s.handles }
+step s (Hooked number) = record s { rows = remove_row (keys.Out number) s.rows }
 
 -- the state after some events
 abbrev pub state_after : State → List Entry → State

@@ -1,5 +1,5 @@
 // The machine: one history, and the state after it.
-ghost use Rattle.std.specs.Prelude.{◌≡◌, ◌<◌, ◌≤◌, ◌++◌, ◌∷◌, true, [], length, IfOk, IfErr};
+ghost use Rattle.std.specs.Prelude.{◌≡◌, ◌^◌, ◌<◌, ◌≤◌, ◌++◌, ◌∷◌, true, [], length, IfOk, IfErr};
 ghost use Rattle.acct_config.specs.Right.{IsRight};
 ghost use Rattle.acct_rows.specs.Sound.{IsSoundRows};
 ghost use Rattle.acct_machine.specs.State.{is_live};
@@ -7,18 +7,29 @@ ghost use Rattle.acct_machine.specs.Calls.{IsCall};
 ghost use Rattle.acct_machine.specs.Legal.{Legal};
 ghost use Rattle.acct_machine.specs.Sound.{IsSound};
 ghost use Rattle.acct_machine.specs.Machine.{state_of, Opens, OpensFresh, OpensLive, Acts, ActsCalls, SameLive};
-ghost use Rattle.acct_machine.specs.Machine.{SameCalls, Ends, OneLessLive, Shaped, Stored, Commits};
+ghost use Rattle.acct_machine.specs.Machine.{SameCalls, Ends, OneLessLive, Shaped, Frugal, Stored, Commits};
+ghost use Rattle.acct_machine.specs.Hooking.{Hooks, HookCommits};
+ghost use Rattle.acct_machine.specs.Outbox.{has_hook};
 ghost use Rattle.acct_machine.specs.Room.{most_entries};
+ghost use Rattle.std.specs.List.{slice_get};
+ghost use Rattle.std.specs.Option.{option_copied};
 ghost use Rattle.acct_machine.specs.Storing.{HoldsRows, AreCounted};
 ghost use Rattle.std.specs.Vec.{vec_capacity};
+ghost use Rattle.acct_machine.specs.State.{last_serial, number_of};
+ghost use Rattle.acct_machine.specs.Given.{given, needed_of, passed_handle};
 
+use crate::given::{given, needed, passed_handle};
+use crate::hooking::{hook_room, least_out};
 use crate::laws::{
     connections_are_numbered, connections_are_opened_once, kept_states_are_sound, limits_are_kept,
     replies_are_shaped,
 };
 use crate::room::most_entries;
 use crate::store::Store;
-use crate::{Call, Config, Entry, Keeper, Limits, NoMemory, Reply, Rows};
+use crate::{Call, Config, Entry, Handle, Held, Keeper, Limits, NoMemory, Object, Reply, Rows};
+use account_hooks::HookedEnd;
+use acct_keeper::KeepError;
+use acct_rows::OutRow;
 use std::alloc::Global;
 use std::fmt;
 use std::marker::Model;
@@ -223,6 +234,33 @@ impl<K: Keeper + Drop> Machine<K> {
         self.store.rows()
     }
 
+    // What allocates.
+    pub(crate) fn allocator(&self) -> Global {
+        self.alloc
+    }
+
+    // A law: there are fewer than 2^64 entries.
+    pub(crate) fn has_few_entries(&self)
+        ensures { length self.now.past.history < 2 ^ 64 }
+    {
+        let _count = self.history.len();
+    }
+
+    /// The rows where the history began, which are sound.
+    pub fn opening_rows(&self) -> &Rows
+        ensures all { result.now.lists ≡ self.now.past.start.rows }
+        ensures sound { IsSoundRows result.now.lists }
+    {
+        &self.opening
+    }
+
+    /// The first row of the outbox, which has the least number; none where the outbox is empty. It takes no memory.
+    pub fn first_out(&self) -> Option<&OutRow>
+        ensures { option_copied result ≡ slice_get (state_of self.now.past).rows.outs 0 }
+    {
+        self.store.rows().out_rows().first()
+    }
+
     /// What happened, in order. The keeper's count has risen by one at each commit that failed there.
     pub fn history(&self) -> &[Entry]
         ensures all { result.now ≡ self.now.past.history }
@@ -290,6 +328,7 @@ impl<K: Keeper + Drop> Machine<K> {
         ensures live { SameLive (state_of self.old.past) (state_of self.new.past) }
         ensures calls { ActsCalls self.old.past conn call bytes result self.new.past }
         ensures shaped { Shaped call result }
+        ensures frugal { Frugal self.old.past conn call bytes result self.new.past }
         ensures legal { Legal self.new.past.start self.new.past.history }
         ensures stored { Stored self.new }
     {
@@ -333,5 +372,73 @@ impl<K: Keeper + Drop> Machine<K> {
         limits_are_kept();
         enter(&mut self.history, Entry::Gone { conn });
         self.store.end_conn(conn);
+    }
+
+    /// Takes the first row of the outbox out, if it has this number: its removal is committed to the keeper, and then
+    /// entered. The room for calls and for ends of connections stays.
+    pub fn hooked(&mut self, number: u64) -> HookedEnd
+        requires { has_hook self.old.past.start.config ≡ true }
+        ensures start { self.new.past.start ≡ self.old.past.start }
+        ensures hooks { Hooks self.old.past result number self.new.past }
+        ensures keeper { HookCommits self.old.keeper result self.new.keeper }
+        ensures live { SameLive (state_of self.old.past) (state_of self.new.past) }
+        ensures calls { SameCalls self.old.past self.new.past }
+        ensures legal { Legal self.new.past.start self.new.past.history }
+        ensures stored { Stored self.new }
+    {
+        kept_states_are_sound();
+        limits_are_kept();
+        let Some(first) = least_out(self.store.rows()) else {
+            return HookedEnd::Past(0);
+        };
+        if first != number {
+            return HookedEnd::Past(first);
+        }
+        let more = hook_room(&self.store.config().limits, self.calls, self.store.count());
+        if self.history.reserve(more).is_err() {
+            return HookedEnd::NoMemory;
+        }
+        match self.store.take_out(self.alloc, &mut self.keeper, number) {
+            Ok(()) => {
+                enter(&mut self.history, Entry::Hooked { number });
+                HookedEnd::Done
+            }
+            Err(KeepError::Failed) => HookedEnd::StoreFault(self.keeper.faults()),
+            Err(KeepError::NoMemory) => HookedEnd::NoMemory,
+        }
+    }
+
+    /// The object of a connection's handle and the access that its opening granted, if the connection has a handle of
+    /// that number. It takes no memory.
+    pub fn grant_of(&self, conn: u32, handle: &Handle) -> Option<(Object, u32)>
+        ensures { result ≡ given (state_of self.now.past) conn handle.now.number }
+    {
+        given(&self.store, conn, handle.number)
+    }
+
+    /// The bits that a call needs of the grant of its handle; 0 where it brings no handle. It takes no memory.
+    pub fn needed(&self, call: &Call) -> u32
+        ensures { result ≡ needed_of (state_of self.now.past) call.now }
+    {
+        needed(&self.store, call)
+    }
+
+    /// The handle that a call of a connection brings, where it brings one and the check lets it pass: the handle is of
+    /// that connection, its object is of a kind that the operation takes, and its grant has each bit that is needed.
+    /// It takes no memory.
+    pub fn passed_handle(&self, conn: u32, call: &Call) -> Option<Held>
+        ensures { result ≡ passed_handle (state_of self.now.past) conn call.now }
+    {
+        passed_handle(&self.store, conn, call)
+    }
+
+    /// The last handle that a connection was given, whether it is still there or not; before the first the one of its
+    /// serial 0, which no connection has. It takes no memory.
+    pub fn last_handle(&self, conn: u32) -> Handle
+        ensures { result.number ≡ number_of conn (last_serial conn (state_of self.now.past).conns) }
+    {
+        Handle {
+            number: self.store.last_number(conn),
+        }
     }
 }

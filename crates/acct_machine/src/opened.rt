@@ -1,19 +1,22 @@
 // Opening a store: the rows whose pairs a keeper holds.
-ghost use Rattle.std.specs.Prelude.{◌≡◌, ◌≢◌, ◌≤◌, [], Some, map, IfOk, IfErr, IfSome, OnErr};
+ghost use Rattle.std.specs.Prelude.{◌≡◌, ◌≤◌, true, [], ◌∷◌, Some, None, map, option_map, IfOk, IfErr, IfSome};
+ghost use Rattle.std.specs.Prelude.{OnOk, OnErr};
 ghost use Rattle.acct_config.specs.Right.{IsRight};
 ghost use Rattle.acct_keeper.specs.Causes.{KeepCause};
-ghost use Rattle.acct_keeper.specs.Pairs.{after};
+ghost use Rattle.acct_keeper.specs.Pairs.{after, is_ascending};
 ghost use Rattle.acct_rows.specs.Seed.{seed_lists};
 ghost use Rattle.acct_rows.specs.Sound.{IsSoundRows};
-ghost use Rattle.acct_machine.specs.Opened.{OpensRows, OpenCause, count_after, put_of, unopened, unloaded};
-ghost use Rattle.acct_rows.specs.PairsOf.{ArePairsOf};
+ghost use Rattle.acct_machine.specs.Opened.{OpensRows, OpenCause, LoadCause, IsNoPair, IsMigrated, count_after, put_of};
+ghost use Rattle.acct_machine.specs.Opened.{unopened, unloaded};
+ghost use Rattle.acct_rows.specs.PairRules.{AreUnbroken};
+ghost use Rattle.acct_rows.specs.PairsOf.{ArePairsOf, migration, migrated};
 ghost use Rattle.acct_machine.specs.Storing.{HoldsRows};
 
 use crate::{Config, Keeper, NoMemory, Rows, seed_rows};
 use acct_base::Seq;
 use acct_keeper::{Change, KeepError, Pair};
-use acct_rows::PairsError;
-use acct_rows::pairs::laws::ascending_keys_differ;
+use acct_rows::pairs::laws::{ascending_keys_differ, migrated_pairs_ascend};
+use acct_rows::{PairsError, is_old, migration};
 use std::alloc::Global;
 use thiserror::Error;
 
@@ -108,8 +111,66 @@ fn seed_store<K: Keeper>(alloc: Global, config: &Config, keeper: &mut K) -> Resu
     }
 }
 
+// The change that takes pairs of format 1 to format 2.
+fn migrations(alloc: Global) -> Result<Vec<Change>, NoMemory>
+    ensures { IfOk result (λ changes. changes.items ≡ migration ∷ []) }
+{
+    let mut changes = Vec::new(alloc);
+    changes.push(migration(alloc)?)?;
+    Ok(changes)
+}
+
+// Takes the keeper's pairs of format 1 to format 2, in one commit of the one pair that tells the format.
+fn migrate<K: Keeper>(alloc: Global, keeper: &mut K) -> Result<(), OpenError>
+    ensures ok { OnOk result (K.held keeper.new ≡ option_map (after (migration ∷ [])) (K.held keeper.old)) }
+    ensures err { OnErr result (K.held keeper.new ≡ K.held keeper.old) }
+    ensures cause { IfErr result (OpenCause None (K.faults keeper.old) (K.faults keeper.new)) }
+    ensures no_pair { IfErr result IsNoPair }
+    ensures later { K.faults keeper.old ≤ K.faults keeper.new }
+    ensures count { K.faults keeper.new ≡ count_after (K.faults keeper.old) result }
+{
+    let Ok(changes) = migrations(alloc) else {
+        return Err(OpenError::Memory);
+    };
+    let committed = keeper.commit(&changes);
+    drop(changes);
+    match committed {
+        Ok(()) => Ok(()),
+        Err(e) => Err(OpenError::from(e)),
+    }
+}
+
+// The rows of the pairs that a keeper holds, which are taken to format 2 where they are of format 1.
+fn load_store<K: Keeper>(alloc: Global, keeper: &mut K, pairs: &[Pair]) -> Result<Rows, OpenError>
+    requires ascending { is_ascending pairs.now ≡ true }
+    requires held { IfSome (K.held keeper.old) (λ told. told ≡ pairs.now) }
+    ensures unbroken { OnOk result (AreUnbroken pairs.now) }
+    ensures pairs { IfOk result (λ rows. ArePairsOf rows.lists (migrated pairs.now)) }
+    ensures sound { IfOk result (λ rows. IsSoundRows rows.lists) }
+    ensures kept { OnOk result (IfSome (K.held keeper.old) (λ told. K.held keeper.new ≡ Some (migrated pairs.now))) }
+    ensures tells { K.held keeper.old ≡ None → K.held keeper.new ≡ None }
+    ensures err { OnErr result (K.held keeper.new ≡ K.held keeper.old) }
+    ensures cause { IfErr result (LoadCause pairs.now (K.faults keeper.old) (K.faults keeper.new)) }
+    ensures later { K.faults keeper.old ≤ K.faults keeper.new }
+    ensures count { K.faults keeper.new ≡ count_after (K.faults keeper.old) result }
+{
+    ascending_keys_differ();
+    migrated_pairs_ascend();
+    let rows = Rows::from_pairs(alloc, pairs)?;
+    if !is_old(pairs) {
+        return Ok(rows);
+    }
+    match migrate(alloc, keeper) {
+        Ok(()) => Ok(rows),
+        Err(e) => {
+            drop(rows);
+            Err(e)
+        }
+    }
+}
+
 /// The rows whose pairs the keeper holds. One that holds no pair gets those of the seed rows of the configured domain,
-/// in one commit.
+/// in one commit; one whose pairs are of format 1 gets the pair of format 2, in one commit of nothing else.
 pub fn open_store<K: Keeper>(
     alloc: Global,
     config: &Config,
@@ -117,7 +178,7 @@ pub fn open_store<K: Keeper>(
 ) -> Result<Rows, OpenError>
     requires { IsRight config.now }
     ensures opened { IfOk result (λ rows. IfSome (K.held keeper.old) (λ told. OpensRows config.now told rows.lists)) }
-    ensures kept { IfSome (K.held keeper.old) (λ told. told ≢ [] → K.held keeper.new ≡ Some told) }
+    ensures kept { OnOk result (IfSome (K.held keeper.old) (λ told. IsMigrated told (K.held keeper.new))) }
     ensures sound { IfOk result (λ rows. IsSoundRows rows.lists) }
     ensures stored { IfOk result (λ rows. HoldsRows (K.held keeper.new) rows.lists) }
     ensures err { OnErr result (K.held keeper.new ≡ K.held keeper.old) }
@@ -129,6 +190,5 @@ pub fn open_store<K: Keeper>(
     if pairs.is_empty() {
         return seed_store(alloc, config, keeper);
     }
-    ascending_keys_differ();
-    Ok(Rows::from_pairs(alloc, &pairs)?)
+    load_store(alloc, keeper, &pairs)
 }

@@ -1,10 +1,21 @@
 // What an opening of an object grants.
-ghost use Rattle.std.specs.Prelude.{◌≡◌, option_map};
+ghost use Rattle.std.specs.Prelude.{◌≡◌, Some, option_map};
 ghost use Rattle.acct_config.specs.Right.{IsRight};
-ghost use Rattle.acct_machine.specs.Opening.{listener_of, granted_to};
+ghost use Rattle.acct_machine.specs.Opening.{described_in, listener_of, granted_to};
 
-use crate::{Config, Conn, Listener, Object};
-use dtyp_access::opening;
+use crate::{Config, Conn, Listener, Object, Rows};
+use dtyp_access::{Descriptor, opening};
+
+/// The descriptor of an object: that of its row, where it has one, and else the one that is configured for its kind.
+pub fn described<'a>(config: &'a Config, rows: &'a Rows, object: &Object) -> &'a Descriptor
+    requires { IsRight config.now }
+    ensures { Some result.now ≡ described_in config.now rows.now.lists object.now }
+{
+    match rows.descriptor_of(object) {
+        Some(descriptor) => descriptor,
+        None => config.descriptor(object.kind()),
+    }
+}
 
 /// The listener at which a connection was opened.
 fn listener_of<'a>(config: &'a Config, conn: Option<Conn>) -> Option<&'a Listener>
@@ -15,11 +26,15 @@ fn listener_of<'a>(config: &'a Config, conn: Option<Conn>) -> Option<&'a Listene
 
 /// What the opening of an object grants a connection that asks for the desired access: what the access check gives over
 /// the descriptor of the object and the token of the connection's listener. It takes no memory.
-pub fn granted(config: &Config, conn: Option<Conn>, object: Object, desired: u32) -> Option<u32>
-    requires { IsRight config.now }
-    ensures { result ≡ granted_to config.now conn object desired }
+pub fn granted(
+    config: &Config,
+    descriptor: &Descriptor,
+    conn: Option<Conn>,
+    object: Object,
+    desired: u32,
+) -> Option<u32>
+    ensures { result ≡ granted_to config.now (Some descriptor.now) conn object desired }
 {
-    let kind = object.kind();
     let listener = listener_of(config, conn)?;
-    opening(kind, config.descriptor(kind), &listener.token, desired)
+    opening(object.kind(), descriptor, &listener.token, desired)
 }

@@ -5,7 +5,7 @@ ghost use Rattle.std.specs.Prelude.{if◌then◌else◌};
 ghost use Rattle.std.specs.Vec.{vec_capacity};
 ghost use Rattle.acct_config.specs.Right.{IsRight};
 ghost use Rattle.acct_calls.specs.declared.replies.Reply.TheVariants.{Done};
-ghost use Rattle.acct_rows.specs.Rows.{after};
+ghost use Rattle.acct_rows.specs.Rows.{after, TakeNumbers};
 ghost use Rattle.acct_rows.specs.Sound.{IsSoundRows};
 ghost use Rattle.acct_codes.specs.Statuses.{status_internal_db_error, status_no_memory};
 ghost use Rattle.acct_keeper.specs.Causes.{KeepCause};
@@ -13,29 +13,36 @@ ghost use Rattle.acct_keeper.specs.Counts.{after_call};
 ghost use Rattle.acct_keeper.specs.declared.keeper.KeepError.TheVariants as keeps;
 ghost use Rattle.acct_layouts.specs.CallShapes.{CanBeSpelled};
 ghost use Rattle.acct_rules.specs.Planned.{has_change};
+ghost use Rattle.acct_rules.specs.Profiles.{is_anywhere};
 ghost use Rattle.acct_rules.specs.declared.planned.Effect.TheVariants as effects;
-ghost use Rattle.acct_operations.specs.Table.{operation};
+ghost use Rattle.acct_operations.specs.Table.{operation, work_of};
+ghost use Rattle.acct_operations.specs.Frugal.{taken_by};
 ghost use Rattle.acct_layouts.specs.Table.{layout_of};
 ghost use Rattle.acct_layouts.specs.Refusals.{is_refusal};
-ghost use Rattle.acct_machine.specs.declared.entry.Entry.TheVariants.{Opened, Gone};
+ghost use Rattle.acct_machine.specs.declared.entry.Entry.TheVariants.{Opened, Gone, Hooked};
 ghost use Rattle.acct_machine.specs.declared.entry.Verdict.TheVariants as verdicts;
 ghost use Rattle.acct_machine.specs.State.{State, find_conn, serial_of, last_serial, without_conn};
-ghost use Rattle.acct_machine.specs.Opening.{grant_of, granted_to};
+ghost use Rattle.acct_machine.specs.Opening.{described, grant_of, granted_to};
 ghost use Rattle.acct_machine.specs.Access.{held_by, object_of};
 ghost use Rattle.acct_machine.specs.Outcome.{refusal_outs, replied, filled_by, with_opened, left, changed, with_handle};
 ghost use Rattle.acct_machine.specs.Outcome.{next_handle, done_by, concluded, concluded_by, outcome, planned_of};
+ghost use Rattle.acct_machine.specs.Outbox.{least_out};
 ghost use Rattle.acct_machine.specs.Outcome.{with_plan};
 ghost use Rattle.acct_machine.specs.Sound.{IsSound};
 ghost use Rattle.acct_machine.specs.Step.{acted, step, live_ended};
 ghost use Rattle.acct_machine.specs.Storing.{HoldsRows};
 ghost use Rattle.acct_machine.specs.Concluding.{Concludes};
-ghost use Rattle.acct_machine.specs.Legal.{HasPassed, MayHave};
-ghost use Rattle.acct_machine.specs.Wants.{MayMiss, Wants, WantsRoom};
+ghost use Rattle.acct_machine.specs.Legal.{HasPassed};
+ghost use Rattle.acct_machine.specs.Wants.{MayEndWith, MayMiss, WantsRoom};
+ghost use Rattle.std.specs.Option.{option_copied};
+ghost use Rattle.acct_machine.specs.State.{find_handle, number_of};
 
 use crate::checks::{Access, access_with, object_of};
+use crate::hooking::removal;
 use crate::index::Handles;
 use crate::lists::{end_live, find_conn, number_of, serial_of, set_serial};
-use crate::opening::granted;
+use crate::opening::{described, granted};
+use crate::outbox::outboxed;
 use crate::{
     Call, Config, Conn, Handle, Held, Limits, NoMemory, Object, Outs, Reply, Rows, Verdict,
 };
@@ -46,9 +53,11 @@ use acct_codes::status::{
 use acct_keeper::{KeepError, Keeper};
 use acct_layouts::{is_refusal, layout_of, refused_outs};
 use acct_operations::{
-    Work, decide, operations_are_right, operations_keep_rows, profile_of, work_of,
+    Work, decide, operations_are_frugal, operations_are_right, operations_keep_rows, profile_of,
+    work_of,
 };
 use acct_rows::Plan;
+use acct_rows::laws::{outs_stay_sound, puts_are_found, removed_outs_stay_sound};
 use acct_rules::{Effect, Opening, Planned, fill, needed_bits};
 use std::alloc::Global;
 use std::marker::Model;
@@ -176,6 +185,7 @@ fn commit<K: Keeper>(
 ) -> Result<(), KeepError>
     requires before { IsSoundRows rows.now.lists }
     requires behind { IsSoundRows (after plan.now rows.now.lists) }
+    requires numbers { TakeNumbers rows.now.lists.next_out plan.now.puts }
     ensures ok { OnOk result (HoldsRows (K.held keeper.old) rows.now.lists
         → HoldsRows (K.held keeper.new) (after plan.now rows.now.lists)) }
     ensures err { OnErr result (K.held keeper.new ≡ K.held keeper.old) }
@@ -292,9 +302,17 @@ impl Store {
 
     // What an opening grants the connection that was found.
     fn granted(&self, found: Option<Conn>, opening: &Opening) -> Option<u32>
-        ensures { result ≡ granted_to self.now.config found opening.now.object opening.now.desired }
+        ensures { result ≡ granted_to self.now.config (described self.now opening.now.object) found opening.now.object
+            opening.now.desired }
     {
-        granted(&self.config, found, opening.object, opening.desired)
+        let descriptor = described(&self.config, &self.rows, &opening.object);
+        granted(
+            &self.config,
+            descriptor,
+            found,
+            opening.object,
+            opening.desired,
+        )
     }
 
     // A plan that opens: its change of rows, and one more handle, with the connection's next serial. All memory is
@@ -312,6 +330,7 @@ impl Store {
         requires serial { serial ≡ last_serial conn self.old.conns + 1 }
         requires before { IsSoundRows self.old.rows }
         requires behind { IsSoundRows (after plan self.old.rows) }
+        requires numbers { TakeNumbers self.old.rows.next_out plan.puts }
         ensures ok { OnOk result (self.new ≡ with_handle (with_plan self.old plan) conn object granted) }
         ensures err { OnErr result (self.new ≡ self.old) }
         ensures stored { HoldsRows (K.held keeper.old) self.old.rows → HoldsRows (K.held keeper.new) self.new.rows }
@@ -348,6 +367,7 @@ impl Store {
     ) -> Result<(), KeepError>
         requires before { IsSoundRows self.old.rows }
         requires behind { IsSoundRows (after plan self.old.rows) }
+        requires numbers { TakeNumbers self.old.rows.next_out plan.puts }
         ensures ok { OnOk result (self.new ≡ record self.old {
           rows = after plan self.old.rows;
           handles = left effect conn number self.old.handles;
@@ -368,6 +388,29 @@ impl Store {
         Ok(())
     }
 
+    /// Takes the first row of the outbox out, once the keeper has taken it out. All memory is taken before the commit.
+    pub fn take_out<K: Keeper>(
+        &mut self,
+        alloc: Global,
+        keeper: &mut K,
+        number: u64,
+    ) -> Result<(), KeepError>
+        requires sound { IsSoundRows self.old.rows }
+        requires first { least_out self.old.rows ≡ Some number }
+        ensures ok { OnOk result (self.new ≡ step self.old (Hooked number)) }
+        ensures err { OnErr result (self.new ≡ self.old) }
+        ensures stored { HoldsRows (K.held keeper.old) self.old.rows → HoldsRows (K.held keeper.new) self.new.rows }
+        ensures held { OnErr result (K.held keeper.new ≡ K.held keeper.old) }
+        ensures later { K.faults keeper.old ≤ K.faults keeper.new }
+        ensures count { K.faults keeper.new ≡ after_call (K.faults keeper.old) result }
+    {
+        removed_outs_stay_sound();
+        let plan = removal(alloc, number)?;
+        commit(alloc, keeper, &self.rows, &plan)?;
+        self.rows.apply(plan);
+        Ok(())
+    }
+
     // What comes of a plan whose opening was granted this access: the handle's number, and the change.
     fn open_granted<K: Keeper>(
         &mut self,
@@ -382,10 +425,10 @@ impl Store {
     ) -> (Verdict, Reply)
         requires opens { planned.effect ≡ effects.Opens opening }
         requires serial { serial ≡ last_serial conn self.old.conns + 1 }
-        requires granted { granted_to self.old.config (find_conn conn self.old.conns) opening.object opening.desired
-            ≡ Some granted }
+        requires granted { grant_of self.old conn opening.object opening.desired ≡ Some granted }
         requires before { IsSoundRows self.old.rows }
         requires behind { IsSoundRows (after planned.plan self.old.rows) }
+        requires numbers { TakeNumbers self.old.rows.next_out planned.plan.puts }
         ensures { Concludes K.held K.faults keeper.old keeper.new (concluded_by self.old conn call.now planned)
             (WantsRoom self.old conn planned) self.old self.new result }
     {
@@ -424,6 +467,7 @@ impl Store {
         requires fits { last_serial conn self.old.conns < 2 ^ 64 - 1 }
         requires before { IsSoundRows self.old.rows }
         requires behind { IsSoundRows (after planned.plan self.old.rows) }
+        requires numbers { TakeNumbers self.old.rows.next_out planned.plan.puts }
         ensures { Concludes K.held K.faults keeper.old keeper.new (concluded_by self.old conn call.now planned)
             (WantsRoom self.old conn planned) self.old self.new result }
     {
@@ -451,6 +495,7 @@ impl Store {
     ) -> (Verdict, Reply)
         requires before { IsSoundRows self.old.rows }
         requires behind { IsSoundRows (after planned.plan self.old.rows) }
+        requires numbers { TakeNumbers self.old.rows.next_out planned.plan.puts }
         ensures { Concludes K.held K.faults keeper.old keeper.new (done_by self.old conn call.now planned)
             (MayMiss self.old planned) self.old self.new result }
     {
@@ -482,6 +527,7 @@ impl Store {
         requires checks { planned.effect ≡ effects.Checks opening }
         requires before { IsSoundRows self.old.rows }
         requires behind { IsSoundRows (after planned.plan self.old.rows) }
+        requires numbers { TakeNumbers self.old.rows.next_out planned.plan.puts }
         ensures { Concludes K.held K.faults keeper.old keeper.new (concluded_by self.old conn call.now planned)
             (WantsRoom self.old conn planned) self.old self.new result }
     {
@@ -505,6 +551,7 @@ impl Store {
         requires fits { last_serial conn self.old.conns < 2 ^ 64 - 1 }
         requires before { IsSoundRows self.old.rows }
         requires behind { IsSoundRows (after planned.plan self.old.rows) }
+        requires numbers { TakeNumbers self.old.rows.next_out planned.plan.puts }
         ensures { Concludes K.held K.faults keeper.old keeper.new (concluded_by self.old conn call.now planned)
             (WantsRoom self.old conn planned) self.old self.new result }
     {
@@ -521,6 +568,30 @@ impl Store {
         }
     }
 
+    // What is planned for a call by the operation, the object of the handle and its descriptor, with the out row of an
+    // account that changes.
+    fn plan(
+        &self,
+        alloc: Global,
+        work: Work,
+        conn: u32,
+        call: &Call,
+        object: Object,
+    ) -> Result<Planned, NoMemory>
+        requires object { object ≡ object_of (held_by self.now conn call.now) }
+        requires sound { IsSoundRows self.now.rows }
+        ensures planned { IfOk result (λ planned. planned ≡ planned_of (operation work) self.now conn call.now) }
+        ensures frugal { OnErr result (is_anywhere (taken_by work) ≡ true) }
+    {
+        operations_are_frugal();
+        let config = self.config();
+        let descriptor = described(config, &self.rows, &object);
+        match decide(alloc, work, &self.rows, descriptor, object, &call.args) {
+            Ok(decided) => outboxed(alloc, config, &self.rows, decided),
+            Err(none) => Err(none),
+        }
+    }
+
     // What comes after the check of the handle.
     fn pass<K: Keeper>(
         &mut self,
@@ -533,16 +604,21 @@ impl Store {
     ) -> (Verdict, Reply)
         requires fits { last_serial conn self.old.conns < 2 ^ 64 - 1 }
         requires object { object ≡ object_of (held_by self.old conn call.now) }
+        requires found { work_of call.now.face call.now.opnum ≡ Some work }
         requires passed { HasPassed (operation work) self.old conn call.now }
         requires spelled { CanBeSpelled call.now }
+        requires right { IsRight self.old.config }
         requires sound { IsSound self.old.config self.old }
         ensures { let planned = planned_of (operation work) self.old conn call.now in
             Concludes K.held K.faults keeper.old keeper.new (concluded_by self.old conn call.now planned)
-            (Wants (operation work) self.old conn call.now) self.old self.new result }
+            (MayEndWith self.old conn call.now) self.old self.new result }
     {
         operations_are_right();
+        operations_are_frugal();
         operations_keep_rows();
-        match decide(alloc, work, &self.rows, object, &call.args) {
+        outs_stay_sound();
+        puts_are_found();
+        match self.plan(alloc, work, conn, call, object) {
             Ok(planned) => self.conclude(alloc, keeper, conn, call, planned),
             Err(_) => (Verdict::NoMemory, refusal(alloc, call, STATUS_NO_MEMORY)),
         }
@@ -558,9 +634,10 @@ impl Store {
     ) -> (Verdict, Reply)
         requires fits { last_serial conn self.old.conns < 2 ^ 64 - 1 }
         requires spelled { CanBeSpelled call.now }
+        requires right { IsRight self.old.config }
         requires sound { IsSound self.old.config self.old }
         ensures { Concludes K.held K.faults keeper.old keeper.new (acted self.old conn call.now)
-            (MayHave self.old conn call.now) self.old self.new result }
+            (MayEndWith self.old conn call.now) self.old self.new result }
     {
         let Some(work) = work_of(call.face, call.opnum) else {
             return (Verdict::Ran, Reply::Fault(NCA_S_OP_RNG_ERROR));
@@ -578,5 +655,19 @@ impl Store {
             Access::Denied => (Verdict::Ran, refusal(alloc, call, STATUS_ACCESS_DENIED)),
             Access::Passed => self.pass(alloc, keeper, work, conn, call, object),
         }
+    }
+
+    /// The handle of a connection with a number.
+    pub fn find_held(&self, conn: u32, number: u128) -> Option<&Held>
+        ensures { option_copied result ≡ find_handle conn number self.now.handles }
+    {
+        self.handles.find(conn, number)
+    }
+
+    /// The number of the last handle that a connection was given, by its serial; of its serial 0 before the first.
+    pub fn last_number(&self, conn: u32) -> u128
+        ensures { result ≡ number_of conn (last_serial conn self.now.conns) }
+    {
+        number_of(conn, serial_of(find_conn(&self.conns, conn)))
     }
 }

@@ -1,7 +1,8 @@
--- In a right configuration openings grant what the check gives over the kind's descriptor and the listener's token.
+-- In a right configuration openings grant what the check gives over the object's descriptor and the listener's token.
 use Rattle.std.proofs.Common.{◌≡◌, ℕ, zero, suc, ◌<◌, Bool, true, false, cond, ◌==◌, List, [], ◌∷◌, length, Option}
-use Rattle.std.proofs.Common.{Some, refl, sym, subst, arith}
+use Rattle.std.proofs.Common.{Some, None, refl, sym, subst, arith}
 use Rattle.std.specs.List.{All, slice_get}
+use Rattle.std.specs.Option.{option_or}
 use Rattle.acct_codes.specs.declared.kind.Kind.{Kind}
 use Rattle.dtyp_access.specs.declared.descriptor.Descriptor.{Descriptor}
 use Rattle.dtyp_access.specs.Opening.{opened}
@@ -12,9 +13,10 @@ use Rattle.acct_config.specs.Right.{IsRight}
 use Rattle.acct_machine.specs.declared.state.Conn.{Conn}
 use Rattle.acct_rows.specs.declared.object.Object.{Object}
 use Rattle.acct_rows.specs.Objects.{kind_of}
+use Rattle.acct_rows.specs.Rows.{descriptor_of}
 use Rattle.acct_codes.specs.declared.kind.Kind.TheVariants as kind
 use Rattle.acct_machine.specs.State.{State, find_conn}
-use Rattle.acct_machine.specs.Opening.{descriptor_of, listener_of, checked}
+use Rattle.acct_machine.specs.Opening.{configured, described, listener_of, checked}
 use Rattle.acct_machine.specs.Step.{state_at}
 use Rattle.acct_machine.specs.Sound.{AreConnected}
 use Rattle.acct_machine.specs.Decided.{IsDecided}
@@ -57,24 +59,32 @@ checked-at : (k : Kind) (o : Option Descriptor) (p : Option Listener) (descripto
     → checked k o p desired ≡ opened k descriptor listener.token desired
 checked-at k o p descriptor listener desired of at = rw of (rw at refl)
 
+-- the row's descriptor, or else the one that is configured
+either : (row : Option Descriptor) (others : Option Descriptor) (d : Descriptor) → others ≡ Some d
+    → (e : Descriptor) × (option_or row others ≡ Some e)
+either None others d is = (d, is)
+either (Some e) others d is = (e, refl)
+
 decided : (config : Config) (s : State) (conn : ℕ) (object : Object) (c : Conn) → IsRight config → AreConnected config s
     → find_conn conn s.conns ≡ Some c
     → IsDecided config s conn object c
 decided config s conn object c right sound found =
-    let d = there config.descriptors (kind_place (kind_of object)) (placed config object right) in
+    let place : ℕ = kind_place (kind_of object) in
+    let usual = there config.descriptors place (placed config object right) in
+    let given : configured s.config (kind_of object) ≡ Some usual.0 =
+    subst (λ (x : Config). configured x (kind_of object) ≡ Some usual.0) (sym sound.configuration) usual.1 in
+    let d = either (descriptor_of s.rows object) (configured s.config (kind_of object)) usual.0 given in
     let l = there config.listeners c.listener
     (found-configured conn (length config.listeners) s.conns c sound.configured found) in
-    let of : descriptor_of s.config (kind_of object) ≡ Some d.0 =
-    subst (λ (x : Config). descriptor_of x (kind_of object) ≡ Some d.0) (sym sound.configuration) d.1 in
     let at : listener_of s.config (find_conn conn s.conns) ≡ Some l.0 =
     rw found (subst (λ (x : Config). slice_get x.listeners c.listener ≡ Some l.0) (sym sound.configuration) l.1) in
     record {
       descriptor = d.0;
       listener = l.0;
-      configured = d.1;
+      has = d.1;
       connected = l.1;
-      grants = λ desired. checked-at (kind_of object) (descriptor_of s.config (kind_of object))
-          (listener_of s.config (find_conn conn s.conns)) d.0 l.0 desired of at;
+      grants = λ desired. checked-at (kind_of object) (described s object)
+          (listener_of s.config (find_conn conn s.conns)) d.0 l.0 desired d.1 at;
     }
 
 pub returns : goal.returns

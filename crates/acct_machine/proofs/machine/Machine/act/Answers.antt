@@ -21,8 +21,9 @@ use Rattle.acct_machine.specs.Shown.{Keeping, Past, Shown, IsKept, begins}
 use Rattle.acct_machine.specs.Machine.{state_of, with_entry, SameLive, OneMoreCall}
 use Rattle.acct_machine.specs.Sound.{IsSound}
 use Rattle.acct_machine.specs.Storing.{HoldsRows, Counts}
+use Rattle.acct_machine.specs.Wants.{IsFrugal}
 use Rattle.acct_machine.proofs.Kept.{may-called, shown, same_live-push, one_more_call, shown-more, kept-more}
-use Rattle.acct_machine.proofs.Kept.{state-shown, takes-call, room-to-call}
+use Rattle.acct_machine.proofs.Kept.{state-shown, takes-call, room-to-call, begins-same}
 use Rattle.acct_machine.proofs.Storing.{rises-called, stored-called}
 use Rattle.acct_machine.proofs.machine.Machine.act.Goals as goal
 
@@ -43,8 +44,11 @@ run-verdict-requires-clause-sound g c =
     let s : State = c.self.inside.store in
     let start : Start = begins s c.self.inside.opening.lists c.self.inside.since in
     subst (λ (x : State). IsSound s.config x) c.self.invariant.0.state
-    (c.kept_states_are_sound.ensures start c.self.inside.history.items c.self.invariant.0.rows
-    c.self.invariant.0.legal)
+    (c.kept_states_are_sound.ensures start c.self.inside.history.items c.self.invariant.0.right
+    c.self.invariant.0.rows c.self.invariant.0.legal)
+
+pub run-verdict-requires-clause-right : goal.run-verdict-requires-clause-right
+run-verdict-requires-clause-right g c = c.self.invariant.0.right
 
 -- the call may come after the history
 may-be-entered : (old : Past) (s : State) (rows : Lists) (since : ℕ) (history : List Entry)
@@ -83,16 +87,18 @@ invariant_of-self g c =
     c.args.conn
     c.args.bytes c.args.call
     verdict past c.self.invariant.0 c.requires.live c.requires.spelled c.ranges.bytes.fits
-    c.run-verdict.ensures.allowed taken
+    c.run-verdict.ensures.allowed.0 taken
     (rises-called _ _ start c.self.inside.history.items verdict c.self.invariant.1.counts
     c.run-verdict.ensures.counts) in
     let grows : vec_capacity c.self.inside.history ≤ vec_capacity c.enter.new.history = c.enter.ensures.room in (
       kept-more s new c.self.inside.opening.lists c.self.inside.since c.self.inside.history.items _ _ _ _ _ _ _ _
           c.self.invariant.0 may
-          c.run-verdict.ensures.state history (omega arith) (omega arith) grows,
+          c.run-verdict.ensures.state history (omega arith) (omega arith) (omega (arith, grows)),
       stored-called _ _ s.rows new.rows _ _ start (begins new c.self.inside.opening.lists c.self.inside.since)
           c.self.inside.history.items _ c.args.conn c.args.call verdict c.args.bytes c.self.invariant.1
-          c.run-verdict.ensures.stored c.run-verdict.ensures.later c.run-verdict.ensures.counts refl history,
+          c.run-verdict.ensures.stored c.run-verdict.ensures.later c.run-verdict.ensures.counts
+          (begins-same s new c.self.inside.opening.lists c.self.inside.since
+          (Called c.args.conn c.args.call verdict c.args.bytes) c.run-verdict.ensures.state) history,
     )
 
 -- with room for more rows there is room for none
@@ -103,6 +109,8 @@ room-less lists more room = record {
   members = omega (arith, room.members);
   aliases = omega (arith, room.aliases);
   lsa = omega (arith, room.lsa);
+  descriptors = omega (arith, room.descriptors);
+  outs = omega (arith, room.outs);
 }
 
 pub returns-clause-shaped : goal.returns-clause-shaped
@@ -122,7 +130,7 @@ returns-clause-shaped g c =
     may-be-entered c.args.self.now.past s c.self.inside.opening.lists c.self.inside.since entries _ _ _ c.args.conn
     c.args.bytes c.args.call
     verdict past c.self.invariant.0 c.requires.live c.requires.spelled c.ranges.bytes.fits
-    c.run-verdict.ensures.allowed taken
+    c.run-verdict.ensures.allowed.0 taken
     (rises-called _ _ start entries verdict c.self.invariant.1.counts c.run-verdict.ensures.counts) in
     let here : HasRoom s.rows 0 =
     subst (λ (lists : Lists). HasRoom lists 0) c.rows.ensures
@@ -131,8 +139,8 @@ returns-clause-shaped g c =
     subst (λ (x : State). HasRoom x.rows 0) (sym c.self.invariant.0.state) here in
     let short : length entries < 2 ^ 64 = omega arith in
     let answer : IsAnswer c.args.call (acted (state_at start entries) c.args.conn c.args.call verdict).1 =
-    c.replies_are_shaped.ensures start entries c.args.conn c.args.call verdict c.args.bytes c.self.invariant.0.rows
-    c.self.invariant.0.legal may short few in
+    c.replies_are_shaped.ensures start entries c.args.conn c.args.call verdict c.args.bytes c.self.invariant.0.right
+    c.self.invariant.0.rows c.self.invariant.0.legal may short few in
     let reply : (acted (state_at start entries) c.args.conn c.args.call verdict).1 ≡ c.run-verdict.result.1 =
     ap (λ (x : State). (acted x c.args.conn c.args.call verdict).1) c.self.invariant.0.state ∙ sym
     c.run-verdict.ensures.reply in
@@ -165,6 +173,29 @@ returns-clause-acts g c =
           past c.run-verdict.ensures.state history);
       reply = c.run-verdict.ensures.reply ∙ ap (λ (x : State). (acted x c.args.conn c.args.call verdict).1)
           (sym is_here);
+    }
+
+pub returns-clause-frugal : goal.returns-clause-frugal
+returns-clause-frugal g c =
+    let verdict = c.run-verdict.result.0 in
+    let s : State = c.self.inside.store in
+    let past : shown s c.self.inside.opening.lists c.self.inside.since c.self.inside.history.items
+    ≡ c.args.self.now.past =
+    ap (λ (m : Shown). m.past) c.self.view_is in
+    let history : c.enter.new.history.items ≡ c.self.inside.history.items ++ Called c.args.conn c.args.call verdict
+    c.args.bytes ∷ [] =
+    c.enter.ensures.entered in
+    let is_here : state_of c.args.self.now.past ≡ s =
+    state-shown c.args.self.now.past s c.self.inside.opening.lists c.self.inside.since c.self.inside.history.items _ _ _
+    past
+    c.self.invariant.0 in
+    record {
+      verdict = verdict;
+      entered = sym (shown-more c.args.self.now.past s c.run-verdict.new.self c.self.inside.opening.lists
+          c.self.inside.since _ _ _ past
+          c.run-verdict.ensures.state history);
+      frugal = subst (λ (x : State). IsFrugal x c.args.conn c.args.call verdict) (sym is_here)
+          c.run-verdict.ensures.allowed.1;
     }
 
 pub returns-clause-keeper : goal.returns-clause-keeper

@@ -11,7 +11,7 @@ use Rattle.acct_machine.specs.Shown.{Past, Shown, begins, IsKept}
 use Rattle.acct_machine.specs.Machine.{state_of, OneLessLive, SameCalls}
 use Rattle.acct_machine.specs.Storing.{HoldsRows}
 use Rattle.acct_machine.proofs.Kept.{shown, one_less-push, same_calls-gone, shown-more, kept-more, state-shown}
-use Rattle.acct_machine.proofs.Kept.{room-to-end}
+use Rattle.acct_machine.proofs.Kept.{room-to-end, begins-same}
 use Rattle.acct_machine.proofs.Storing.{stored-quiet}
 use Rattle.acct_machine.proofs.machine.Machine.gone.Goals as goal
 
@@ -44,10 +44,11 @@ invariant_of-self g c =
     let grows : vec_capacity c.self.inside.history ≤ vec_capacity c.enter.new.history = c.enter.ensures.room in (
       kept-more s new c.self.inside.opening.lists c.self.inside.since c.self.inside.history.items _ _ _ _ _ _ _ _
           c.self.invariant.0 alive
-          c.end_conn.ensures history (omega arith) (omega arith) grows,
+          c.end_conn.ensures history (omega arith) (omega arith) (omega (arith, grows)),
       stored-quiet _ s.rows new.rows _ (begins s c.self.inside.opening.lists c.self.inside.since)
           (begins new c.self.inside.opening.lists c.self.inside.since) c.self.inside.history.items _ (Gone c.args.conn)
-          c.self.invariant.1 refl (ap (λ (x : State). x.rows) c.end_conn.ensures) refl history,
+          c.self.invariant.1 refl (ap (λ (x : State). x.rows) c.end_conn.ensures)
+          (begins-same s new c.self.inside.opening.lists c.self.inside.since (Gone c.args.conn) c.end_conn.ensures) history,
     )
 
 pub enter-requires : goal.enter-requires

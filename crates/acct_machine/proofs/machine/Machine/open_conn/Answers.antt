@@ -12,6 +12,7 @@ use Rattle.acct_machine.specs.Shown.{Past, Shown, begins}
 use Rattle.acct_machine.specs.Machine.{state_of, with_entry, OneMoreLive, SameCalls}
 use Rattle.acct_machine.proofs.Counting.{takes-conn, no-conn, most-conns}
 use Rattle.acct_machine.specs.Storing.{HoldsRows}
+use Rattle.acct_machine.proofs.Kept.{begins-same}
 use Rattle.acct_machine.proofs.Kept.{shown, may-opened, one_more-push, same_calls-opened, shown-more, kept-more}
 use Rattle.acct_machine.proofs.Kept.{state-shown, opened-kept, room-to-open}
 use Rattle.acct_machine.proofs.Storing.{stored-quiet}
@@ -44,10 +45,11 @@ invariant_of-self g c =
     let grows : vec_capacity c.self.inside.history ≤ vec_capacity c.enter.new.history = c.enter.ensures.room in (
       kept-more s new c.self.inside.opening.lists c.self.inside.since c.self.inside.history.items _ _ _ _ _ _ _ _
           c.self.invariant.0 may is
-          history (omega arith) (omega arith) grows,
+          history (omega arith) (omega arith) (omega (arith, grows)),
       stored-quiet _ s.rows new.rows _ start (begins new c.self.inside.opening.lists c.self.inside.since)
           c.self.inside.history.items _ (Opened conn c.args.listener) c.self.invariant.1 refl
-          (ap (λ (x : State). x.rows) is) refl history,
+          (ap (λ (x : State). x.rows) is)
+          (begins-same s new c.self.inside.opening.lists c.self.inside.since (Opened conn c.args.listener) is) history,
     )
 
 pub returns-clause-fresh : goal.returns-clause-fresh

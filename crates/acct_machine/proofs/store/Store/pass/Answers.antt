@@ -1,18 +1,23 @@
--- A plan leaves sound rows; `Store::pass` runs out of memory only where it may, and the keeper stays where no row
--- changes.
+-- A plan leaves sound rows and takes the numbers of the outbox; `Store::pass` runs out of memory only where it may.
 use Rattle.std.proofs.Common.{rules, ◌≡◌, subst, sym}
-use Rattle.acct_rows.specs.Rows.{after}
+use Rattle.acct_rows.specs.Rows.{after, TakeNumbers}
 use Rattle.acct_rows.specs.Sound.{IsSoundRows}
 use Rattle.acct_rules.specs.declared.planned.Planned.{Planned}
 use Rattle.acct_rules.specs.Operations.{Operation}
+use Rattle.acct_operations.specs.Frugal.{taken_by}
 use Rattle.acct_operations.specs.Table.{operation}
+use Rattle.acct_machine.specs.declared.entry.Verdict.TheVariants.{NoMemory}
 use Rattle.acct_machine.specs.State.{State}
 use Rattle.acct_machine.specs.Concluding.{Concludes}
 use Rattle.acct_machine.specs.Outcome.{concluded_by, planned_of}
-use Rattle.acct_machine.specs.Wants.{Wants, WantsRoom}
+use Rattle.acct_machine.specs.Wants.{MayEndWith, WantsRoom}
 use Rattle.acct_machine.proofs.Handles.{keeps}
-use Rattle.acct_machine.proofs.Wanting.{wants-room}
+use Rattle.acct_machine.proofs.Ruling.{planned-takes}
+use Rattle.acct_machine.proofs.Wanting.{wants-room, wants-anywhere, may-have, is-frugal, Wants}
 use Rattle.acct_machine.proofs.store.Store.pass.Goals as goal
+
+pub plan-requires-clause-sound : goal.plan-requires-clause-sound
+plan-requires-clause-sound g c = c.requires.sound.rows
 
 pub conclude-requires-clause-before : goal.conclude-requires-clause-before
 conclude-requires-clause-before g c = c.requires.sound.rows
@@ -23,8 +28,17 @@ conclude-requires-clause-behind g c =
     let s : State = c.args.self.now in
     let is : planned_of o s c.args.conn c.args.call.now ≡ c.in-Ok.planned = search rules in
     subst (λ (p : Planned). IsSoundRows (after p.plan s.rows)) is
-    (keeps c.operations_are_right.ensures c.operations_keep_rows.ensures s.config s c.args.conn c.args.call.now o
-    c.requires.sound c.requires.spelled c.requires.passed).sound
+    (keeps c.outs_stay_sound.ensures c.puts_are_found.ensures c.operations_are_right.ensures
+    c.operations_keep_rows.ensures s.config s c.args.conn c.args.call.now o c.requires.right c.requires.sound
+    c.requires.spelled c.requires.passed).sound
+
+pub conclude-requires-clause-numbers : goal.conclude-requires-clause-numbers
+conclude-requires-clause-numbers g c =
+    let o : Operation = operation c.args.work in
+    let s : State = c.args.self.now in
+    let is : planned_of o s c.args.conn c.args.call.now ≡ c.in-Ok.planned = search rules in
+    subst (λ (p : Planned). TakeNumbers s.rows.next_out p.plan.puts) is
+    (planned-takes o s c.args.conn c.args.call.now (c.operations_are_right.ensures.right c.args.work))
 
 pub returns-in-Ok : goal.returns-in-Ok
 returns-in-Ok g c =
@@ -34,14 +48,40 @@ returns-in-Ok g c =
     let r = c.conclude.result in
     let is : planned_of o s a.conn a.call.now ≡ c.in-Ok.planned = search rules in
     let whole = c.conclude.ensures in
+    let wants : Wants (taken_by a.work) o s a.conn a.call.now r.0 =
+    wants-room c.operations_are_frugal.ensures a.work s a.conn a.call.now r.0
+    (subst (λ (p : Planned). WantsRoom s a.conn p r.0) (sym is) whole.allowed) in
     subst (λ (p : Planned). Concludes g.K.Keeper.held g.K.Keeper.faults a.keeper.now c.conclude.new.keeper
-    (concluded_by s a.conn a.call.now p) (Wants o s a.conn a.call.now) s c.conclude.new.self r) (sym is) (record {
+    (concluded_by s a.conn a.call.now p) (MayEndWith s a.conn a.call.now) s c.conclude.new.self r) (sym is) (record {
       state = whole.state;
       reply = whole.reply;
-      allowed = wants-room o s a.conn a.call.now (c.operations_are_right.ensures.right a.work) r.0
-          (subst (λ (p : Planned). WantsRoom s a.conn p r.0) (sym is) whole.allowed);
+      allowed = (
+        may-have c.operations_are_frugal.ensures a.work s a.conn a.call.now r.0 c.requires.passed wants,
+        is-frugal a.work s a.conn a.call.now r.0 c.requires.found wants,
+      );
       stored = whole.stored;
       counts = whole.counts;
       later = whole.later;
       quiet = whole.quiet;
     })
+
+-- memory ran out while it was planned
+pub returns-in-Err : goal.returns-in-Err
+returns-in-Err g c =
+    let a = c.args in
+    let s : State = a.self.now in
+    let o : Operation = operation a.work in
+    let wants : Wants (taken_by a.work) o s a.conn a.call.now NoMemory =
+    wants-anywhere (taken_by a.work) o s a.conn a.call.now c.in-Err.ensures.frugal in
+    record {
+      state = search rules;
+      reply = search rules;
+      allowed = (
+        may-have c.operations_are_frugal.ensures a.work s a.conn a.call.now NoMemory c.requires.passed wants,
+        is-frugal a.work s a.conn a.call.now NoMemory c.requires.found wants,
+      );
+      stored = search rules;
+      counts = search rules;
+      later = search rules;
+      quiet = search rules;
+    }

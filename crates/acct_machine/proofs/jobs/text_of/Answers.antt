@@ -1,0 +1,25 @@
+-- The text so far and the text of the units left are that of all units; where no point is left it is whole.
+use Rattle.std.proofs.Common.{◌++◌, sym, ap, ◌∙◌, append_assoc, string_bytes, encode_utf8}
+use Rattle.std.proofs.lemmas.List.{append-nil}
+use Rattle.acct_machine.specs.Jobs.{shown_point, utf8_of}
+use Rattle.acct_machine.proofs.Texts.{utf8_of-nil, utf8_of-first}
+use Rattle.acct_machine.proofs.jobs.text_of.Goals as goal
+
+pub loop-point-preserved : goal.loop-point-preserved
+loop-point-preserved c =
+    let rest = c.in-Some.field-0.rest.now in
+    let text = string_bytes c.loop-point.text in
+    let one = encode_utf8 (shown_point c.in-Some.field-0.point) in
+    ap (λ l. l ++ utf8_of rest) (c.in_ok-push.ensures.bytes
+    ∙ ap (λ p. text ++ encode_utf8 p) c.shown_point.ensures)
+    ∙ append_assoc text one (utf8_of rest)
+    ∙ ap (λ l. text ++ l) (sym (utf8_of-first c.loop-point.left.now rest c.in-Some.field-0.point
+    c.in-Some.ensures.points))
+    ∙ c.loop-point.invariant
+
+pub returns : goal.returns
+returns c =
+    let text = string_bytes c.loop-point.text in
+    sym (append-nil text)
+    ∙ ap (λ l. text ++ l) (sym (utf8_of-nil c.loop-point.left.now c.in_default.ensures.points))
+    ∙ c.loop-point.invariant
