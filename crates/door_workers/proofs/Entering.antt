@@ -1,5 +1,5 @@
 -- What an opening of a connection appends to the history under the lock.
-use Rattle.std.proofs.Common.{◌≡◌, ℕ, inl, inr, ap}
+use Rattle.std.proofs.Common.{◌≡◌, ℕ, inl, inr, Some, ap}
 use Rattle.hist_lock.specs.Lanes.{names_none, IsOfLane}
 use Rattle.hist_lock.specs.Histories.{Appends}
 use Rattle.acct_machine.specs.declared.entry.Entry.{Entry}
@@ -13,13 +13,15 @@ use Rattle.door_workers.specs.Lanes.{lane_of}
 use Rattle.door_workers.proofs.Passing.{others-at}
 
 -- an entry of a lane is of that connection
-lane-conn : (e : Entry) (k : ℕ) → IsOfLane (lane_of e) k → conn_of e ≡ k
+lane-conn : (e : Entry) (k : ℕ) → IsOfLane (lane_of e) k → conn_of e ≡ Some k
 lane-conn (entry.Opened conn listener) k (inl is) = cc
 lane-conn (entry.Opened conn listener) k (inr is) = absurd cc
 lane-conn (entry.Called conn call verdict bytes) k (inl is) = absurd cc
 lane-conn (entry.Called conn call verdict bytes) k (inr is) = cc
 lane-conn (entry.Gone conn) k (inl is) = absurd cc
 lane-conn (entry.Gone conn) k (inr is) = cc
+lane-conn (entry.Hooked number) k (inl is) = absurd cc
+lane-conn (entry.Hooked number) k (inr is) = absurd cc
 
 pub opening-appends : (old new : Past) (listener : ℕ) (out : Opened) → Opens old listener out new → OpensFresh old out
     → Appends lane_of names_none old.history new.history

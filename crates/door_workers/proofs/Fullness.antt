@@ -7,7 +7,7 @@ use Rattle.acct_machine.specs.Room.{opened_count, call_count, stub_bytes, calls_
 use Rattle.acct_machine.specs.Room.{either_full}
 use Rattle.acct_machine.specs.Legal.{LimitsAreKept}
 use Rattle.acct_machine.specs.declared.entry.Entry.{Entry}
-use Rattle.acct_machine.specs.declared.entry.Entry.TheVariants.{Opened, Called, Gone}
+use Rattle.acct_machine.specs.declared.entry.Entry.TheVariants.{Opened, Called, Gone, Hooked}
 use Rattle.door_workers.specs.Full.{HasAllCalls, PassesBytes, FullOfConns, FullOfCalls}
 
 opened-less : (xs ys : List Entry) → opened_count xs ≤ opened_count (xs ++ ys)
@@ -15,12 +15,14 @@ opened-less [] ys = omega arith
 opened-less (Opened conn listener ∷ xs) ys = let rest = opened-less xs ys in omega arith
 opened-less (Called conn call verdict bytes ∷ xs) ys = opened-less xs ys
 opened-less (Gone conn ∷ xs) ys = opened-less xs ys
+opened-less (Hooked number ∷ xs) ys = opened-less xs ys
 
 calls-less : (xs ys : List Entry) → call_count xs ≤ call_count (xs ++ ys)
 calls-less [] ys = omega arith
 calls-less (Opened conn listener ∷ xs) ys = calls-less xs ys
 calls-less (Called conn call verdict bytes ∷ xs) ys = let rest = calls-less xs ys in omega arith
 calls-less (Gone conn ∷ xs) ys = calls-less xs ys
+calls-less (Hooked number ∷ xs) ys = calls-less xs ys
 
 -- where a test gives a count, it is true, and this is the count
 given : (b : Bool) (m n : ℕ) → (if b then Some m else None) ≡ Some n → (b ≡ true) × (m ≡ n)

@@ -1,16 +1,16 @@
 -- What workers served stands in the history that all of them made.
 use Rattle.std.proofs.Common.{◌≡◌, ◌≢◌, ℕ, zero, suc, ◌+◌, ◌<◌, ◌⊎◌, inl, inr, ⊎_elim, Bool, true, false, cond, List}
-use Rattle.std.proofs.Common.{[], ◌∷◌, ◌++◌, length, refl, sym, ap, subst, arith}
+use Rattle.std.proofs.Common.{[], ◌∷◌, ◌++◌, length, Option, Some, None, IfSome, refl, sym, ap, subst, arith}
 use Rattle.std.proofs.Math.Dec.{ltb}
 use mathlib.Core.Option.{some, some-injective, some-ne-none}
 use Rattle.atomic_table.proofs.Lists.{at_longer}
-use Rattle.hist_lock.specs.Lanes.{opens, within}
+use Rattle.hist_lock.specs.Lanes.{opens, within, home}
 use Rattle.hist_lock.specs.Histories.{At, In, Apart, merged, longer, placed}
 use Rattle.hist_lock.proofs.Places.{in_merged, merged_has}
 use Rattle.hist_lock.specs.declared.view.View.{View}
 use Rattle.acct_machine.specs.State.{Start}
 use Rattle.acct_machine.specs.Legal.{Legal}
-use Rattle.acct_machine.specs.Passing.{KeepsConnection, OthersChangeNothing, OpenedOnce, AreOfOthers, conn_of}
+use Rattle.acct_machine.specs.Passing.{KeepsConnection, OthersChangeNothing, OpenedOnce, conn_of}
 use Rattle.acct_machine.specs.declared.entry.Entry.{Entry}
 use Rattle.acct_machine.specs.declared.entry.Entry.TheVariants as entry
 use Rattle.acct_links.specs.Links.{Told}
@@ -22,6 +22,7 @@ use Rattle.door_workers.specs.Passing.{IsMine}
 use Rattle.door_workers.specs.Services.{Service, Serves, Unopened, IsOfConn, IsService}
 use Rattle.door_workers.specs.Working.{Has, OwnsNoneBehind, WasService, IsWorking, IsJoined}
 use Rattle.door_workers.specs.Working.{AreServed}
+use Rattle.door_workers.proofs.Passing.{of-others, others-at, conn-mine}
 use Rattle.door_workers.proofs.Places.{at-behind, at-within, has-either, has-left, has-right, distinct-append}
 use Rattle.door_workers.proofs.Staying.{serves-stays, none-stays}
 
@@ -42,16 +43,12 @@ opening-is (entry.Opened conn listener) k is =
     (listener, let same : conn ≡ k = cc in ap (λ n. entry.Opened n listener) same)
 opening-is (entry.Called conn call verdict bytes) k is = absurd (let e : within conn ≡ opens k = is in cc)
 opening-is (entry.Gone conn) k is = absurd (let e : within conn ≡ opens k = is in cc)
+opening-is (entry.Hooked number) k is = absurd (let e : home ≡ opens k = is in cc)
 
--- no entry is of a connection, by the places
-of-others : (k : ℕ) (es : List Entry) → ((p : ℕ) (e : Entry) → At es p e → conn_of e ≢ k) → AreOfOthers k es
-of-others k [] other = tt
-of-others k (e ∷ es) other = (other zero e refl, of-others k es (λ p d at. other (suc p) d at))
-
-others-at : (k : ℕ) (es : List Entry) (p : ℕ) (e : Entry) → AreOfOthers k es → At es p e → conn_of e ≢ k
-others-at k [] p e others at = absurd (some-ne-none e (sym at))
-others-at k (d ∷ es) zero e others at = subst (λ (x : Entry). conn_of x ≢ k) (some-injective d e at) others.0
-others-at k (d ∷ es) (suc p) e others at = others-at k es p e others.1 at
+-- the connection of an entry of a pass is one that it opened
+of-conn : (v : View Begun Entry) (o : Option ℕ) (k : ℕ) → o ≡ Some k → IfSome o (IsMine v) → IsMine v k
+of-conn v None k is mine = absurd cc
+of-conn v (Some j) k is mine = let same : j ≡ k = cc in subst (λ n. IsMine v n) same mine
 
 -- a place splits a history
 parted : (h : List Entry) (p : ℕ) (e : Entry) → At h p e
@@ -147,7 +144,7 @@ module _ {L : Type 0} (told : L → Told) (start : Start) (most : ℕ) where
 
   -- a link of one pass, where another pass was taken in that owns nothing of its connection
   was-on : (v u : View Begun Entry) (s : Service L) → ((k : ℕ) → IsMine v k → IsMine u k) → IsFrontOf v.known u.known
-      → ((p : ℕ) (e : Entry) → In u.own p e → In v.own p e ⊎ (IsMine v (conn_of e) → ⊥))
+      → ((p : ℕ) (e : Entry) → In u.own p e → In v.own p e ⊎ ((k : ℕ) → conn_of e ≡ Some k → IsMine v k → ⊥))
       → WasService told start most v s → WasService told start most u s
   was-on v u (Serves s) mine grows either (m, (front, none, is)) = (
     mine s.conn m,
@@ -156,7 +153,7 @@ module _ {L : Type 0} (told : L → Told) (start : Start) (most : ℕ) where
       record {
         begins = front-then front v.known u.known none.begins grows;
         no_more = λ p e i same. ⊎_elim (λ (j : In v.own p e). none.no_more p e j same)
-            (λ (not : IsMine v (conn_of e) → ⊥). absurd (not (subst (λ n. IsMine v n) (sym same) m))) (either p e i);
+            (λ (not : (k : ℕ) → conn_of e ≡ Some k → IsMine v k → ⊥). absurd (not s.conn same m)) (either p e i);
       },
       is,
     ),
@@ -203,14 +200,16 @@ module _ {L : Type 0} (told : L → Told) (start : Start) (most : ℕ) where
         legal = legal;
         known = λ p e i. ⊎_elim (λ (j : In v.own p e). at-left p e j) (λ (j : In w.own p e). at-right p e j)
             (own-either p e i);
-        opened = λ p e i. ⊎_elim (λ (j : In v.own p e). mine-left (conn_of e) (left.opened p e j))
-            (λ (j : In w.own p e). mine-right (conn_of e) (right.opened p e j)) (own-either p e i);
+        opened = λ p e i. ⊎_elim
+            (λ (j : In v.own p e). conn-mine v u (conn_of e) mine-left (left.opened p e j))
+            (λ (j : In w.own p e). conn-mine w u (conn_of e) mine-right (right.opened p e j)) (own-either p e i);
         was = λ s has. ⊎_elim
             (λ (h : Has ss s). was-on v u s mine-left first (λ p e i. ⊎_elim (λ (j : In v.own p e). inl j)
-            (λ (j : In w.own p e). inr (λ m. never (conn_of e) m (right.opened p e j))) (own-either p e i))
+            (λ (j : In w.own p e). inr (λ k of m. never k m (of-conn w (conn_of e) k of (right.opened p e j))))
+            (own-either p e i))
             (left.was s h))
             (λ (h : Has ts s). was-on w u s mine-right second (λ p e i. ⊎_elim
-            (λ (j : In v.own p e). inr (λ m. never (conn_of e) (left.opened p e j) m))
+            (λ (j : In v.own p e). inr (λ k of m. never k (of-conn v (conn_of e) k of (left.opened p e j)) m))
             (λ (j : In w.own p e). inl j) (own-either p e i)) (right.was s h))
             (has-either ss ts s has);
         all = λ k m. ⊎_elim
@@ -243,7 +242,7 @@ module _ {L : Type 0} (told : L → Told) (start : Start) (most : ℕ) where
   passes-front others v k front h none known mine =
       let starts : IsFrontOf front h = front-then front v.known h none.begins known in
       let rest : List Entry = starts.0 in
-      let quiet : (p : ℕ) (e : Entry) → At rest p e → conn_of e ≢ k = λ p e at same.
+      let quiet : (p : ℕ) (e : Entry) → At rest p e → conn_of e ≢ Some k = λ p e at same.
       let there : At h (length front + p) e = subst (λ (l : List Entry). At l (length front + p) e) (sym starts.1)
       (at-behind front rest p e at) in
       let less = none.no_more (length front + p) e (mine (length front + p) e there) same in

@@ -1,6 +1,6 @@
 -- A turn that opens a connection.
 use Rattle.std.proofs.Common.{◌≡◌, ◌≢◌, ℕ, ◌⊎◌, inl, inr, ⊎_elim, List, [], ◌∷◌, ◌++◌, length, refl, sym, ap, ◌∙◌}
-use Rattle.std.proofs.Common.{subst}
+use Rattle.std.proofs.Common.{Some, subst}
 use Rattle.atomic_table.proofs.Lists.{at_last}
 use Rattle.hist_lock.specs.Lanes as lanes
 use Rattle.hist_lock.specs.Histories.{At, In}
@@ -21,7 +21,7 @@ use Rattle.door_workers.specs.declared.kept.Begun.{Begun}
 use Rattle.door_workers.specs.Moving.{passes-then}
 use Rattle.door_workers.specs.Passing.{IsMine, OwnsLanes, Serves, OpensConn, OpensNone, OpensOn}
 use Rattle.door_workers.proofs.Passing.{finds-passes, passes-one, others-at, own-same, own-more, mine-by, mine-longer}
-use Rattle.door_workers.proofs.Passing.{in-longer, owns-same, owns-more}
+use Rattle.door_workers.proofs.Passing.{in-longer, one, owns-same, owns-more}
 
 module _ (others : OthersChangeNothing) (start : Start) (v w : View Begun Entry) (does : List Entry → List Entry
     → Type 0) (t : Turn lane_of does v w) (owns : OwnsLanes v) where
@@ -65,7 +65,7 @@ module _ (others : OthersChangeNothing) (start : Start) (v w : View Begun Entry)
             (length v.own, at_last v.own x (length v.own) refl),
         refl,
       ) in
-      let other : (p : ℕ) (d : Entry) → At t.before p d → conn_of d ≢ k =
+      let other : (p : ℕ) (d : Entry) → At t.before p d → conn_of d ≢ Some k =
       λ p d at. others-at k t.before p d m.fresh at in
       let known : w.known ≡ t.after = t.known in
       let fresh : IsMine v k
@@ -85,17 +85,20 @@ module _ (others : OthersChangeNothing) (start : Start) (v w : View Begun Entry)
           others = λ j its. subst (λ (l : List Entry). KeepsConnection start j v.known l) (sym (known ∙ is))
               (passes-then start j v.known t.before (t.before ++ e ∷ [])
               (finds-passes others start v j t.before owns its t.finds)
-              (passes-one others start j t.before e (λ same. fresh (subst (λ n. IsMine v n) (sym same) its))));
+              (passes-one others start j t.before e (λ same.
+              fresh (subst (λ n. IsMine v n) (one j k (sym same)) its))));
         },
         owns-more v w t e is last
-            (λ p d at its. ⊎_elim (λ (same : conn_of d ≡ k). absurd (other p d at same))
-            (λ (was : IsMine v (conn_of d)). was) (but-one k listener (conn_of d) longer its)) owns,
+            (λ p d j at of its. ⊎_elim
+            (λ (same : j ≡ k). absurd (other p d at (of ∙ ap (λ (n : ℕ). Some n) same)))
+            (λ (was : IsMine v j). was) (but-one k listener j longer its)) owns,
       )
     where
-      opener : (d : Entry) (n : ℕ) → lane_of d ≡ lanes.opens n → conn_of d ≡ n
+      opener : (d : Entry) (n : ℕ) → lane_of d ≡ lanes.opens n → conn_of d ≡ Some n
       opener (entry.Opened c listener) n is = cc
       opener (entry.Called c call verdict bytes) n is = absurd cc
       opener (entry.Gone c) n is = absurd cc
+      opener (entry.Hooked number) n is = absurd cc
 
   pub opens-on : (listener : ℕ) (out : answer.Opened) → MachineOpens start listener out t.before t.after
       → OpensOn start out v w × OwnsLanes w

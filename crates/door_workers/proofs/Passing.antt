@@ -1,6 +1,6 @@
 -- What a pass knows of its connections, before and after a turn.
 use Rattle.std.proofs.Common.{◌≡◌, ◌≢◌, ℕ, zero, suc, ◌+◌, ◌<◌, ◌⊎◌, inl, inr, ⊎_elim, true, List, [], ◌∷◌, ◌++◌}
-use Rattle.std.proofs.Common.{length}
+use Rattle.std.proofs.Common.{length, Option, Some, None, IfSome}
 use Rattle.std.proofs.Common.{drop, refl, sym, ap, ◌∙◌, subst, arith}
 use Rattle.std.proofs.lemmas.List.{append-nil}
 use mathlib.Core.Option.{some, some-injective, some-ne-none}
@@ -50,31 +50,43 @@ at-snoc-at (x ∷ xs) a b (suc p) at = ⊎_elim (λ (h : get_elem? xs p ≡ some
     (λ (h : (p ≡ length xs) × (a ≡ b)). inr (ap suc h.0, h.1)) (at-snoc-at xs a b p at)
 
 -- no entry is of a connection, by the places
-pub of-others : (k : ℕ) (es : List Entry) → ((p : ℕ) (e : Entry) → At es p e → conn_of e ≢ k) → AreOfOthers k es
+pub of-others : (k : ℕ) (es : List Entry) → ((p : ℕ) (e : Entry) → At es p e → conn_of e ≢ Some k) → AreOfOthers k es
 of-others k [] other = tt
 of-others k (e ∷ es) other = (other zero e refl, of-others k es (λ p d at. other (suc p) d at))
 
-pub others-at : (k : ℕ) (es : List Entry) (p : ℕ) (e : Entry) → AreOfOthers k es → At es p e → conn_of e ≢ k
+pub others-at : (k : ℕ) (es : List Entry) (p : ℕ) (e : Entry) → AreOfOthers k es → At es p e → conn_of e ≢ Some k
 others-at k [] p e others at = absurd (some-ne-none e (sym at))
-others-at k (d ∷ es) zero e others at = subst (λ (x : Entry). conn_of x ≢ k) (some-injective d e at) others.0
+others-at k (d ∷ es) zero e others at = subst (λ (x : Entry). conn_of x ≢ Some k) (some-injective d e at) others.0
 others-at k (d ∷ es) (suc p) e others at = others-at k es p e others.1 at
 
 -- one more entry, of another connection
-pub passes-one : OthersChangeNothing → (start : Start) (j : ℕ) (h : List Entry) (e : Entry) → conn_of e ≢ j
+pub passes-one : OthersChangeNothing → (start : Start) (j : ℕ) (h : List Entry) (e : Entry) → conn_of e ≢ Some j
     → KeepsConnection start j h (h ++ e ∷ [])
 passes-one others start j h e ne = others start j h (e ∷ []) (ne, tt)
 
 -- ---- what a turn finds
 
-pub own-lane : (v : View Begun Entry) (e : Entry) → IsMine v (conn_of e) → IsOfOwnLane lane_of v (lane_of e)
-own-lane v (entry.Opened conn listener) mine = mine
-own-lane v (entry.Called conn call verdict bytes) mine = mine
-own-lane v (entry.Gone conn) mine = mine
+pub own-lane : (v : View Begun Entry) (e : Entry) (k : ℕ) → conn_of e ≡ Some k → IsMine v k
+    → IsOfOwnLane lane_of v (lane_of e)
+own-lane v (entry.Opened conn listener) k is mine = let same : conn ≡ k = cc in subst (λ n. IsMine v n) (sym same) mine
+own-lane v (entry.Called conn call verdict bytes) k is mine =
+    let same : conn ≡ k = cc in subst (λ n. IsMine v n) (sym same) mine
+own-lane v (entry.Gone conn) k is mine = let same : conn ≡ k = cc in subst (λ n. IsMine v n) (sym same) mine
+own-lane v (entry.Hooked number) k is mine = absurd cc
 
-pub lane-own : (v : View Begun Entry) (e : Entry) → IsOfOwnLane lane_of v (lane_of e) → IsMine v (conn_of e)
-lane-own v (entry.Opened conn listener) own = own
-lane-own v (entry.Called conn call verdict bytes) own = own
-lane-own v (entry.Gone conn) own = own
+-- a lane of one view is one of another that opened its connection too, if it has one, and is the first if the other is
+lane-back : (v w : View Begun Entry) (e : Entry) → ((k : ℕ) → conn_of e ≡ Some k → IsMine w k → IsMine v k)
+    → w.number ≡ v.number → IsOfOwnLane lane_of w (lane_of e) → IsOfOwnLane lane_of v (lane_of e)
+lane-back v w (entry.Opened conn listener) back number own = back conn refl own
+lane-back v w (entry.Called conn call verdict bytes) back number own = back conn refl own
+lane-back v w (entry.Gone conn) back number own = back conn refl own
+lane-back v w (entry.Hooked out) back number own = sym number ∙ own
+
+-- the connection of an entry, if it has one, is one of another view too
+pub conn-mine : (v w : View Begun Entry) (o : Option ℕ) → ((k : ℕ) → IsMine v k → IsMine w k) → IfSome o (IsMine v)
+    → IfSome o (IsMine w)
+conn-mine v w None more mine = tt
+conn-mine v w (Some k) more mine = more k mine
 
 -- what comes after what the pass knows is of no connection of the pass
 pub finds-passes : OthersChangeNothing → (start : Start) (v : View Begun Entry) (k : ℕ) (h : List Entry) → OwnsLanes v
@@ -86,7 +98,7 @@ finds-passes others start v k h owns mine finds =
     let there : At h (length v.known + p) e = subst (λ (l : List Entry). At l (length v.known + p) e)
     (sym finds.known.1) (at-behind v.known rest p e at) in
     let own : In v.own (length v.known + p) e = finds.lanes (length v.known + p) e there
-    (own-lane v e (subst (λ n. IsMine v n) (sym same) mine)) in
+    (own-lane v e k same mine) in
     let known = at-within v.known (length v.known + p) e (owns.finds.own (length v.known + p) e own) in
     absurd (omega (arith, known)))))
 
@@ -144,17 +156,18 @@ owns-same v w t is owns =
             (t.finds.own p e (subst (λ (own : List (ℕ × Entry)). In own p e) same i));
         lanes = λ p e at mine. subst (λ (own : List (ℕ × Entry)). In own p e) (sym same)
             (t.finds.lanes p e (subst (λ (l : List Entry). At l p e) known at)
-            (own-lane v e (mine-by w v (conn_of e) (sym same) (lane-own w e mine))));
+            (lane-back v w e (λ k of m. mine-by w v k (sym same) m) t.same.number mine));
       };
-      opened = λ p e i. mine-by v w (conn_of e) same
+      opened = λ p e i. conn-mine v w (conn_of e) (λ k m. mine-by v w k same m)
           (owns.opened p e (subst (λ (own : List (ℕ × Entry)). In own p e) same i));
     }
 
--- an entry was appended; it is of a connection that the pass has opened, and of those before it no more are the pass's
+-- an entry was appended; its connection is one that the pass has opened, and of those before it no more are the pass's
 pub owns-more : {does : List Entry → List Entry
     → Type 0} (v w : View Begun Entry) (t : Turn lane_of does v w) (e : Entry) → t.after ≡ t.before ++ e ∷ []
-    → IsMine w (conn_of e)
-    → ((p : ℕ) (d : Entry) → At t.before p d → IsMine w (conn_of d) → IsMine v (conn_of d)) → OwnsLanes v → OwnsLanes w
+    → IfSome (conn_of e) (IsMine w)
+    → ((p : ℕ) (d : Entry) (k : ℕ) → At t.before p d → conn_of d ≡ Some k → IsMine w k → IsMine v k)
+    → OwnsLanes v → OwnsLanes w
 owns-more v w t e is mine no_more owns =
     let longer = own-more v w t e is in
     let x : ℕ × Entry = (length t.before, e) in
@@ -171,15 +184,16 @@ owns-more v w t e is mine no_more owns =
             (in-longer v.own x p d (subst (λ (own : List (ℕ × Entry)). In own p d) longer i)));
         lanes = λ p d at of. ⊎_elim
             (λ (old : At t.before p d). let i = t.finds.lanes p d old
-            (own-lane v d (no_more p d old (lane-own w d of))) in subst (λ (own : List (ℕ × Entry)). In own p d)
-            (sym longer) (i.0, at_longer v.own (x ∷ []) i.0 (p, d) i.1))
+            (lane-back v w d (λ k its m. no_more p d k old its m) t.same.number of) in
+            subst (λ (own : List (ℕ × Entry)). In own p d) (sym longer) (i.0, at_longer v.own (x ∷ []) i.0 (p, d) i.1))
             (λ (new : (p ≡ length t.before) × (e ≡ d)). subst (λ (y : ℕ × Entry). In w.own y.0 y.1)
             (λ i. (sym new.0 i, new.1 i)) last)
             (at-snoc-at t.before e d p (subst (λ (l : List Entry). At l p d) known at));
       };
       opened = λ p d i. ⊎_elim
-          (λ (old : In v.own p d). mine-longer v w x (conn_of d) longer (owns.opened p d old))
-          (λ (new : x ≡ (p, d)). subst (λ (y : ℕ × Entry). IsMine w (conn_of y.1)) new mine)
+          (λ (old : In v.own p d). conn-mine v w (conn_of d) (λ k m. mine-longer v w x k longer m)
+          (owns.opened p d old))
+          (λ (new : x ≡ (p, d)). subst (λ (y : ℕ × Entry). IfSome (conn_of y.1) (IsMine w)) new mine)
           (in-longer v.own x p d (subst (λ (own : List (ℕ × Entry)). In own p d) longer i));
     }
 
@@ -196,7 +210,8 @@ no-more v w x j is not mine = ⊎_elim
 -- what a turn on a connection may have appended: nothing, or an entry that is of the connection and doesn't open it
 pub data Appended (k : ℕ) (before after : List Entry) : Type 0 where
   nothing : after ≡ before → Appended k before after
-  appends : (e : Entry) → after ≡ before ++ e ∷ [] → lane_of e ≡ within k → conn_of e ≡ k → Appended k before after
+  appends : (e : Entry) → after ≡ before ++ e ∷ [] → lane_of e ≡ within k → conn_of e ≡ Some k
+      → Appended k before after
 
 within-no : (m : Mark) (k j : ℕ) → m ≡ within k → m ≡ opens j → ⊥
 within-no m k j is other = absurd (let e : within k ≡ opens j = sym is ∙ other in cc)
@@ -207,8 +222,11 @@ owns-on v w k t (nothing is) mine owns = owns-same v w t is owns
 owns-on v w k t (appends e is lane conn) mine owns =
     let longer = own-more v w t e is in
     let x : ℕ × Entry = (length t.before, e) in
-    owns-more v w t e is (subst (λ n. IsMine w n) (sym conn) (mine-longer v w x k longer mine))
-    (λ p d at its. no-more v w x (conn_of d) longer (λ o. within-no (lane_of e) k (conn_of d) lane o) its) owns
+    owns-more v w t e is (subst (λ (o : Option ℕ). IfSome o (IsMine w)) (sym conn) (mine-longer v w x k longer mine))
+    (λ p d j at of its. no-more v w x j longer (λ o. within-no (lane_of e) k j lane o) its) owns
+
+pub one : (j k : ℕ) → Some j ≡ Some k → j ≡ k
+one j k same = cc
 
 pub moves-on : OthersChangeNothing
     → {does : List Entry → List Entry
@@ -233,7 +251,7 @@ moves-on others start v w k t (appends e is lane conn) owns =
       others = λ j ne m. subst (λ (l : List Entry). KeepsConnection start j v.known l) (sym (t.known ∙ is))
           (passes-then start j v.known t.before (t.before ++ e ∷ [])
           (finds-passes others start v j t.before owns m t.finds)
-          (passes-one others start j t.before e (λ same. ne (sym same ∙ conn))));
+          (passes-one others start j t.before e (λ same. ne (one j k (sym same ∙ conn)))));
     }
 
 -- what a turn found: nothing that is said of a connection of the pass has changed

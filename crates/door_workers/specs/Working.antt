@@ -1,5 +1,5 @@
 -- What a pass knows of the links that were served over it.
-use Rattle.std.specs.Prelude.{◌≡◌, ℕ, ◌<◌, List, length}
+use Rattle.std.specs.Prelude.{◌≡◌, ℕ, ◌<◌, List, length, Some, IfSome}
 use mathlib.Core.Option.{some}
 use lib.ListN.{get_elem?}
 use Rattle.hist_lock.specs.Histories.{At, In}
@@ -23,7 +23,7 @@ module _ {A : Type 0} where
 -- After a prefix of what the pass knows, it owns no entry of the connection that the link served.
 pub record OwnsNoneBehind (v : View Begun Entry) (k : ℕ) (front : List Entry) : Type 0 where
   pub begins : IsFrontOf front v.known
-  pub no_more : (p : ℕ) (e : Entry) → In v.own p e → conn_of e ≡ k → p < length front
+  pub no_more : (p : ℕ) (e : Entry) → In v.own p e → conn_of e ≡ Some k → p < length front
 
 module _ {L : Type 0} where
   -- no connection was served on two links
@@ -64,7 +64,7 @@ module _ {L : Type 0} where
       : Type 0 where
     pub legal : Legal start v.known
     pub known : (p : ℕ) (e : Entry) → In v.own p e → At v.known p e
-    pub opened : (p : ℕ) (e : Entry) → In v.own p e → IsMine v (conn_of e)
+    pub opened : (p : ℕ) (e : Entry) → In v.own p e → IfSome (conn_of e) (IsMine v)
     pub was : (s : Service L) → Has ss s → WasService told start most v s
     pub all : (k : ℕ) → IsMine v k → IsServedOn ss k
     pub once : AreDistinct ss
