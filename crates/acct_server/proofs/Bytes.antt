@@ -1,6 +1,6 @@
 -- Bytes that a sink took one after another, and clauses of results.
-use Rattle.std.proofs.Common.{◌≡◌, Result, Ok, Err, OnOk, OnErr, IfOk, is_err, true, false, ◌==◌, length, ℕ, arith, ◌∷◌}
-use Rattle.std.proofs.Common.{List, ◌++◌, Option, Some, None, refl, sym, ◌∙◌, ap, append_assoc, []}
+use Rattle.std.proofs.Common.{◌≡◌, Result, Ok, Err, OnOk, OnErr, IfOk, IfErr, is_err, true, false, ◌==◌, length, ℕ}
+use Rattle.std.proofs.Common.{arith, ◌∷◌, List, ◌++◌, Option, Some, None, refl, sym, ◌∙◌, ap, append_assoc, []}
 use Rattle.std.proofs.lemmas.List.{append-nil}
 use Rattle.std.proofs.lemmas.Bool.Decides.{nat_tests}
 use Rattle.std.specs.Io.KnownBytes.{Appends}
@@ -13,7 +13,7 @@ pub from_OnOk : {T E : Type 0} {P : Type 0} (r : Result T E) → is_err r ≡ fa
 from_OnOk (Ok x) not_err h = h
 from_OnOk (Err e) not_err h = absurd cc
 
-pub is_nil : (xs : List ℕ) → (length xs == 0) ≡ true → xs ≡ []
+pub is_nil : {A : Type 0} (xs : List A) → (length xs == 0) ≡ true → xs ≡ []
 is_nil [] e = refl
 is_nil (x ∷ xs) e = absurd (grind (arith, nat_tests))
 
@@ -32,6 +32,15 @@ on-err (Err e) q = q
 pub if-ok : {T E : Type 0} {P Q : T → Type 0} (r : Result T E) → ((x : T) → P x → Q x) → IfOk r P → IfOk r Q
 if-ok (Ok x) to h = to x h
 if-ok (Err e) to h = tt
+
+pub if-err : {T E : Type 0} {P Q : E → Type 0} (r : Result T E) → ((e : E) → P e → Q e) → IfErr r P → IfErr r Q
+if-err (Ok x) to h = tt
+if-err (Err e) to h = to e h
+
+-- what holds where a result is Ok
+pub where-ok : {T E : Type 0} {P : Type 0} (r : Result T E) (x : T) → r ≡ Ok x → OnOk r P → P
+where-ok (Ok y) x is p = p
+where-ok (Err e) x is p = absurd cc
 
 pub on-ok-2 : {T E : Type 0} {P Q R : Type 0} (r : Result T E) → (P → Q → R) → OnOk r P → OnOk r Q → OnOk r R
 on-ok-2 (Ok x) to p q = to p q

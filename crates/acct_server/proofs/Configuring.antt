@@ -16,7 +16,7 @@ use Rattle.acct_server.specs.declared.status.Status.TheVariants.{Done, NoMemory,
 use Rattle.acct_server.specs.declared.status.Status.TheVariants.{ReadFault, WriteFault, StoreFault, StoredPair}
 use Rattle.acct_server.specs.declared.status.Status.TheVariants.{EventLine, DoorFault, HistoryFull, PeerBytes}
 use Rattle.acct_server.specs.declared.status.Status.TheVariants.{PeerFault}
-use Rattle.acct_server.specs.declared.status.Status.TheVariants.{InputTooLong, Refused}
+use Rattle.acct_server.specs.declared.status.Status.TheVariants.{InputTooLong, Refused, HookHeld, HookStore, SpawnFault}
 use Rattle.acct_keeper.specs.declared.whole.WholeError.{WholeError}
 use Rattle.acct_keeper.specs.declared.whole.WholeError.TheVariants.{Fault, TooLong, Memory}
 use Rattle.acct_keeper.specs.Causes.{Rose, NotRisen}
@@ -24,7 +24,7 @@ use Rattle.acct_keeper.specs.Whole.{most_bytes, WholeCause, IsWhole}
 use Rattle.acct_keeper.specs.declared.pairs.Pair.{Pair}
 use Rattle.acct_machine.specs.declared.opened.OpenError.{OpenError}
 use Rattle.acct_machine.specs.declared.opened.OpenError.TheVariants as unopened
-use Rattle.acct_machine.specs.Opened.{OpensRows, OpenCause}
+use Rattle.acct_machine.specs.Opened.{OpensRows, OpenCause, IsMigrated}
 use Rattle.acct_machine.specs.State.{Start}
 use Rattle.acct_machine.specs.Storing.{HoldsRows, AreCounted}
 use Rattle.acct_rows.specs.Rows.{Lists}
@@ -97,6 +97,9 @@ asked-run document bytes pairs history count start (PeerBytes place) before begu
 asked-run document bytes pairs history count start PeerFault before begun of_run none through = absurd of_run
 asked-run document bytes pairs history count start InputTooLong before begun of_run none through = absurd of_run
 asked-run document bytes pairs history count start (Refused n) before begun of_run none through = absurd of_run
+asked-run document bytes pairs history count start (HookHeld n) before begun of_run none through = absurd of_run
+asked-run document bytes pairs history count start (HookStore n) before begun of_run none through = absurd of_run
+asked-run document bytes pairs history count start SpawnFault before begun of_run none through = absurd of_run
 
 -- ---- what was read of the sources
 
@@ -134,12 +137,12 @@ store-unopened held before now unopened.Memory cause = tt
 
 -- what the keeper holds where memory ran out for the machine, once the store was opened
 pub kept-before-machine : (config : Config) (held now : Option (List Pair)) (rows : Lists)
-    → IfSome held (λ pairs. OpensRows config pairs rows) → IfSome held (λ pairs. pairs ≢ [] → now ≡ Some pairs)
+    → IfSome held (λ pairs. OpensRows config pairs rows) → IfSome held (λ pairs. IsMigrated pairs now)
     → HoldsRows now rows → StoreKept config held now NoMemory
 kept-before-machine config None now rows opened kept stored = inr (refl, tt)
 kept-before-machine config (Some []) now rows opened kept stored =
-    inr (refl, (refl, subst (λ (r : Lists). HoldsRows now r) opened stored))
-kept-before-machine config (Some (pair ∷ pairs)) now rows opened kept stored = inl (kept (λ none. absurd cc))
+    inr (refl, subst (λ (r : Lists). HoldsRows now r) opened stored)
+kept-before-machine config (Some (pair ∷ pairs)) now rows opened kept stored = inr (refl, kept)
 
 pub config-rule : (left : Option (List ℕ)) (before now : ℕ) (whole given : List ℕ) (error : ConfigError)
     → IfSome left (λ bytes. whole ≡ bytes) → length whole ≤ most_bytes → given ≡ whole
@@ -191,6 +194,9 @@ config-asked document bytes pairs before now history PeerFault cause still = abs
 config-asked document bytes pairs before now history InputTooLong cause still =
     inl (document-by (nat_lt most_bytes (length document)) _ (long document cause))
 config-asked document bytes pairs before now history (Refused n) cause still = absurd cause
+config-asked document bytes pairs before now history (HookHeld n) cause still = absurd cause
+config-asked document bytes pairs before now history (HookStore n) cause still = absurd cause
+config-asked document bytes pairs before now history SpawnFault cause still = absurd cause
 
 -- the events weren't
 events-asked : (document bytes : List ℕ) (pairs : List Pair) (before now : ℕ) (history : List Entry) (status : Status)
@@ -214,6 +220,9 @@ events-asked document bytes pairs before now history InputTooLong none cause sti
     inl (events-by (nat_lt most_bytes (length document)) (first_broken document) (nat_lt most_bytes (length bytes)) none
     (long bytes cause))
 events-asked document bytes pairs before now history (Refused n) none cause still = absurd cause
+events-asked document bytes pairs before now history (HookHeld n) none cause still = absurd cause
+events-asked document bytes pairs before now history (HookStore n) none cause still = absurd cause
+events-asked document bytes pairs before now history SpawnFault none cause still = absurd cause
 
 -- the store wasn't opened
 store-asked : (document bytes : List ℕ) (pairs : List Pair) (before now : ℕ) (history : List Entry) (status : Status)
@@ -236,6 +245,9 @@ store-asked document bytes pairs before now history (PeerBytes place) none cause
 store-asked document bytes pairs before now history PeerFault none cause still = absurd cause
 store-asked document bytes pairs before now history InputTooLong none cause still = absurd cause
 store-asked document bytes pairs before now history (Refused n) none cause still = absurd cause
+store-asked document bytes pairs before now history (HookHeld n) none cause still = absurd cause
+store-asked document bytes pairs before now history (HookStore n) none cause still = absurd cause
+store-asked document bytes pairs before now history SpawnFault none cause still = absurd cause
 
 config-complete : (left events : Option (List ℕ)) (held : Option (List Pair)) (before now : ℕ) (history : List Entry)
     (status : Status) → ConfigCause left before now status → NotRisen before now

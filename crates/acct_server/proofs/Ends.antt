@@ -10,7 +10,7 @@ use Rattle.acct_machine.specs.Legal.{May, LegalAfter, Legal, Rises, faults_of, c
 use Rattle.acct_machine.specs.State.{Start}
 use Rattle.acct_machine.specs.Storing.{AreCounted}
 use Rattle.acct_machine.specs.declared.entry.Entry.{Entry}
-use Rattle.acct_machine.specs.declared.entry.Entry.TheVariants.{Opened, Called, Gone}
+use Rattle.acct_machine.specs.declared.entry.Entry.TheVariants.{Opened, Called, Gone, Hooked}
 use Rattle.acct_machine.specs.declared.entry.Verdict.{Verdict}
 use Rattle.acct_machine.specs.declared.entry.Verdict.TheVariants.{Ran, StoreFault, NoMemory as NoMemoryFor}
 use Rattle.acct_rows.specs.PairRules.{AreUnbroken, IsSmallestBroken}
@@ -42,6 +42,7 @@ fault-among : (P : ℕ → Type 0) (before after : List Entry) (conn : ℕ) (cal
 fault-among P [] after conn call n bytes all = All-head P n (faults_of after) all
 fault-among P (Opened c l ∷ before) after conn call n bytes all = fault-among P before after conn call n bytes all
 fault-among P (Gone c ∷ before) after conn call n bytes all = fault-among P before after conn call n bytes all
+fault-among P (Hooked out ∷ before) after conn call n bytes all = fault-among P before after conn call n bytes all
 fault-among P (Called c d Ran b ∷ before) after conn call n bytes all =
     fault-among P before after conn call n bytes all
 fault-among P (Called c d NoMemoryFor b ∷ before) after conn call n bytes all =
@@ -97,6 +98,9 @@ store-ends held pairs before now (status.PeerBytes n) told unbroken still cause 
 store-ends held pairs before now status.PeerFault told unbroken still cause = cause
 store-ends held pairs before now status.InputTooLong told unbroken still cause = cause
 store-ends held pairs before now (status.Refused n) told unbroken still cause = cause
+store-ends held pairs before now (status.HookHeld n) told unbroken still cause = cause
+store-ends held pairs before now (status.HookStore n) told unbroken still cause = cause
+store-ends held pairs before now status.SpawnFault told unbroken still cause = cause
 
 -- ---- no door failed
 

@@ -2,6 +2,7 @@ pub mod Bytes
 pub mod FirstLine
 pub mod Room
 pub mod Moves
+pub mod Answered
 pub mod Closing
 pub mod Going
 pub mod Configuring
@@ -14,3 +15,4 @@ pub mod Promising
 pub mod Ends
 pub mod Leaving
 pub mod WriteFaults
+pub mod Draining

@@ -6,7 +6,6 @@ use Rattle.std.proofs.lemmas.Bool.Decides.{nat_tests}
 use Rattle.std.proofs.lemmas.List.{append-nil}
 use Rattle.std.proofs.lemmas.List.Concat.{flat_map-append}
 use Rattle.std.specs.List.{flat_map}
-use Rattle.std.specs.Global.{Vec}
 use Rattle.acct_machine.specs.State.{Start}
 use Rattle.acct_calls.specs.declared.calls.Call.{Call}
 use Rattle.acct_machine.specs.declared.entry.Entry.{Entry}
@@ -27,11 +26,9 @@ use Rattle.link_sessions.specs.declared.connections.Peer.{Peer}
 use Rattle.link_sessions.specs.declared.connections.Peer.TheVariants.{Open, Ended}
 use Rattle.acct_stubs.specs.declared.errors.WireError.{WireError}
 use Rattle.rpc_session.specs.declared.sessions.Request.{Request}
-use Rattle.link_sessions.specs.declared.requests.Answer.{Answer}
-use Rattle.link_sessions.specs.declared.requests.Answer.TheVariants as answer
 use Rattle.link_sessions.specs.Transcript.{answer_bytes, undecoded_bytes, busy_bytes}
-use Rattle.link_sessions.specs.Answering.{Enters, AnswersCall, AnswersRequest, BeginsRequest}
-use Rattle.acct_server.specs.Replayed.{Standing, Move, Doing, Verdicts, Printed, Out, IsClosed, IsGone, on_listener}
+use Rattle.link_sessions.specs.Answering.{Enters, AnswersCall, AnswersBy, BeginsRequest, FindsFull}
+use Rattle.acct_server.specs.Replayed.{Standing, Move, Doing, Verdicts, Printed, Out, IsGone, on_listener}
 use Rattle.link_sessions.specs.Connections.{nothing_heard}
 use Rattle.acct_server.specs.Replayed.{on_open, listener_from, gone, number_of, peer_of, with_peer}
 use Rattle.acct_server.specs.Replayed.{line_bytes, on_end, on_event, quiet, on_heard, on_data, on_act, on_acts}
@@ -39,7 +36,7 @@ use Rattle.acct_server.specs.Replayed.{on_request, on_call, prints_only, both, b
 use Rattle.acct_server.specs.Replayed.{verdict_of, FoundFull, full_line, opened, on_decoded, on_full}
 use Rattle.acct_server.specs.Running.{Running, standing, Ties, Acts, Began, Hears, Does, Refuses, MayStop}
 use Rattle.acct_server.specs.Running.{peers_behind}
-use Rattle.acct_server.proofs.Room.{both-open, both-none, both-behind, both-full, both-entries, others_by}
+use Rattle.acct_server.proofs.Room.{both-open, both-full, both-entries, others_by}
 use Rattle.acct_server.proofs.Placing.{with-other}
 
 -- the move of an opening
@@ -123,7 +120,7 @@ undecoded-acts start before now conn asked stub_size e old_lines new_lines same 
     (λ verdicts. refl) same (printed ∙ ap (λ (bs : List ℕ). old_lines ++ bs) (sym (append-nil _)))
 
 -- bytes were answered without a call
-pub answered-acts : (start : Start) (before : List Entry) (conn : ℕ) (bytes old_lines new_lines : List ℕ)
+answered-acts : (start : Start) (before : List Entry) (conn : ℕ) (bytes old_lines new_lines : List ℕ)
     → new_lines ≡ old_lines ++ line_bytes (Out conn bytes)
     → Acts (λ verdicts. on_act start verdicts before conn (act.Answered bytes)) before before old_lines new_lines None
 answered-acts start before conn bytes old_lines new_lines printed =
@@ -208,13 +205,11 @@ request-began start before now conn asked stub_size (Ok call) (inr enters) =
 
 -- one that was answered has begun
 pub answered-began : (start : Start) (before now : List Entry) (conn : ℕ) (asked : Request) (stub_size : ℕ)
-    (r : Result Call WireError) (a : Answer)
-    → AnswersRequest start conn (Only before) before now asked stub_size r a
+    (r : Result Call WireError) (bytes : List ℕ)
+    → AnswersBy start conn (Only before) before now asked stub_size r bytes
     → BeginsRequest start conn (Only before) before now stub_size r
-answered-began start before now conn asked stub_size (Err e) (answer.Bytes bytes) answers = answers.0
-answered-began start before now conn asked stub_size (Err e) (answer.Full count) answers = absurd answers
-answered-began start before now conn asked stub_size (Ok call) (answer.Bytes bytes) answers = inr answers.enters
-answered-began start before now conn asked stub_size (Ok call) (answer.Full count) answers = inl answers.finds_it
+answered-began start before now conn asked stub_size (Err e) bytes answers = answers.0
+answered-began start before now conn asked stub_size (Ok call) bytes answers = inr answers.enters
 
 -- a call was answered
 call-acts : (start : Start) (before now : List Entry) (conn : ℕ) (asked : Request) (stub_size : ℕ) (call : Call)
@@ -240,39 +235,38 @@ call-acts start before now conn asked stub_size call bytes old_lines new_lines a
 
 -- a request was answered on the machine
 pub request-acts : (start : Start) (before now : List Entry) (conn : ℕ) (asked : Request) (stub_size : ℕ)
-    (r : Result Call WireError) (bytes : Vec ℕ) (old_lines new_lines : List ℕ)
-    → AnswersRequest start conn (Only before) before now asked stub_size r (answer.Bytes bytes)
-    → new_lines ≡ old_lines ++ line_bytes (Out conn bytes.items)
+    (r : Result Call WireError) (bytes old_lines new_lines : List ℕ)
+    → AnswersBy start conn (Only before) before now asked stub_size r bytes
+    → new_lines ≡ old_lines ++ line_bytes (Out conn bytes)
     → Acts (λ verdicts. on_request start verdicts before conn asked stub_size r) before now old_lines new_lines None
 request-acts start before now conn asked stub_size (Err e) bytes old_lines new_lines answers printed =
     undecoded-acts start before now conn asked stub_size e old_lines new_lines answers.0
     (printed ∙ ap (λ (bs : List ℕ). old_lines ++ line_bytes (Out conn bs)) answers.1)
 request-acts start before now conn asked stub_size (Ok call) bytes old_lines new_lines answers printed =
-    call-acts start before now conn asked stub_size call bytes.items old_lines new_lines answers printed
+    call-acts start before now conn asked stub_size call bytes old_lines new_lines answers printed
 
 -- a call found the history full, and its connection is gone
-pub request-fills : (old now : Past) (mid : List Entry) (conn : ℕ) (asked : Request) (stub_size : ℕ)
-    (r : Result Call WireError) (count : ℕ) (old_lines new_lines : List ℕ)
-    → AnswersRequest old.start conn (Only old.history) old.history mid asked stub_size r (answer.Full count)
-    → now.history ≡ mid ++ Gone conn ∷ []
-    → new_lines ≡ old_lines ++ (line_bytes (Out conn (busy_bytes asked)) ++ line_bytes (FoundFull conn))
-    → Acts (λ verdicts. on_request old.start verdicts old.history conn asked stub_size r) old.history now.history
-    old_lines new_lines (Some count)
-request-fills old now mid conn asked stub_size (Err e) count old_lines new_lines answers gone printed = absurd answers
-request-fills old now mid conn asked stub_size (Ok call) count old_lines new_lines answers gone printed =
-    let full : call_full old.start old.history stub_size ≡ Some count =
-    subst (λ (h : List Entry). call_full old.start h stub_size ≡ Some count) answers.finds_it answers.full in record {
+pub request-fills : (start : Start) (before mid : List Entry) (conn : ℕ) (asked : Request) (stub_size : ℕ)
+    (call : Call) (count : ℕ) (old_lines new_lines : List ℕ) → FindsFull start (Only before) mid stub_size count
+    → new_lines ≡ old_lines ++ line_bytes (Out conn (busy_bytes asked))
+    → Acts (λ verdicts. on_request start verdicts before conn asked stub_size (Ok call)) before
+    (mid ++ Gone conn ∷ []) old_lines (new_lines ++ line_bytes (FoundFull conn)) (Some count)
+request-fills start before mid conn asked stub_size call count old_lines new_lines finds printed =
+    let out = line_bytes (Out conn (busy_bytes asked)) in
+    let full : call_full start before stub_size ≡ Some count =
+    subst (λ (h : List Entry). call_full start h stub_size ≡ Some count) finds.finds_it finds.full in record {
       doing = on_full conn asked count;
       full = refl;
-      is = λ later. ap (λ (o : Option ℕ). on_decoded old.start (verdict_in (now.history ++ later)) old.history conn
+      is = λ later. ap (λ (o : Option ℕ). on_decoded start (verdict_in ((mid ++ Gone conn ∷ []) ++ later)) before conn
           asked stub_size call o) full;
-      history = gone ∙ ap (λ (h : List Entry). h ++ Gone conn ∷ []) answers.finds_it;
-      prints = printed ∙ ap (λ (bs : List ℕ). old_lines ++ (line_bytes (Out conn (busy_bytes asked)) ++ bs))
-          (sym (append-nil (line_bytes (FoundFull conn))));
+      history = ap (λ (h : List Entry). h ++ Gone conn ∷ []) finds.finds_it;
+      prints = ap (λ (bs : List ℕ). bs ++ line_bytes (FoundFull conn)) printed
+          ∙ append_assoc old_lines out (line_bytes (FoundFull conn))
+          ∙ ap (λ (bs : List ℕ). old_lines ++ (out ++ bs)) (sym (append-nil (line_bytes (FoundFull conn))));
     }
 
 -- the same connections are live after it
-same-live : (start : Start) (before now : List Entry) → now ≡ before
+pub same-live : (start : Start) (before now : List Entry) → now ≡ before
     → SameLive (state_at start before) (state_at start now)
 same-live start before now same =
     subst (λ (h : List Entry). SameLive (state_at start before) (state_at start h)) (sym same)
@@ -293,132 +287,91 @@ ties-live peers old new ties live = record {
   lives = λ conn served. live.lives conn ∙ ties.lives conn served;
 }
 
--- a refusal was answered
-pub close-acts : (old now : Past) (conn place cause : ℕ) (bytes old_lines new_lines : List ℕ)
-    → now ≡ with_entry old (Gone conn)
-    → new_lines ≡ old_lines ++ (line_bytes (Out conn bytes) ++ line_bytes (IsClosed conn place cause))
-    → Acts (λ verdicts. on_act old.start verdicts old.history conn (act.Closed place cause bytes)) old.history
-    now.history old_lines new_lines None
-close-acts old now conn place cause bytes old_lines new_lines is printed = record {
-  doing = record { entries = Gone conn ∷ []; prints = Out conn bytes ∷ IsClosed conn place cause ∷ []; full = None };
-  full = refl;
-  is = λ later. refl;
-  history = ap (λ (m : Past). m.history) is;
-  prints = printed ∙ ap (λ (bs : List ℕ). old_lines ++ (line_bytes (Out conn bytes) ++ bs))
-      (sym (append-nil (line_bytes (IsClosed conn place cause))));
-}
-
--- what acts do one after the other, and then one more
-acts-both : (start : Start) (verdicts : Verdicts) (conn : ℕ) (first : List Act) (history : List Entry)
-    (second : List Act)
-    → on_acts start verdicts history conn (first ++ second)
-    ≡ both (on_acts start verdicts history conn first)
-    (on_acts start verdicts (history ++ (on_acts start verdicts history conn first).entries) conn second)
-acts-both start verdicts conn [] history second =
-    ap (λ (h : List Entry). on_acts start verdicts h conn second) (sym (append-nil history))
-acts-both start verdicts conn (a ∷ first) history second =
-    let one = on_act start verdicts history conn a in
-    let now = history ++ one.entries in
-    let others = on_acts start verdicts now conn first in
-    let last = λ (h : List Entry). on_acts start verdicts h conn second in
-    ap (λ (d : Doing). both one d) (acts-both start verdicts conn first now second)
-    ∙ both-behind one.full one others last history refl
-
-one-act : (start : Start) (verdicts : Verdicts) (history : List Entry) (conn : ℕ) (a : Act)
-    → on_acts start verdicts history conn (a ∷ []) ≡ on_act start verdicts history conn a
-one-act start verdicts history conn a = both-none (on_act start verdicts history conn a)
-
--- what the acts before do, by whatever entries the history goes on, and one act more
-next-is : (start : Start) (conn : ℕ) (first : List Act) (a : Act) (before mid now : List Entry) (d e : Doing)
-    → ((later : List Entry) → on_acts start (verdict_in (mid ++ later)) before conn first ≡ d)
-    → mid ≡ before ++ d.entries → (more : List Entry) → now ≡ mid ++ more
-    → (later : List Entry) → on_act start (verdict_in (now ++ later)) mid conn a ≡ e
-    → on_acts start (verdict_in (now ++ later)) before conn (first ++ a ∷ []) ≡ both d e
-next-is start conn first a before mid now d e is stands more longer later last =
+-- what one act does by whatever entries the history goes on, and then the acts behind it
+acts-both : (start : Start) (conn : ℕ) (x : Act) (xs : List Act) (before mid now : List Entry) (d : Doing)
+    → ((later : List Entry) → on_act start (verdict_in (mid ++ later)) before conn x ≡ d)
+    → mid ≡ before ++ d.entries → d.full ≡ None → (more : List Entry) → now ≡ mid ++ more → (later : List Entry)
+    → on_acts start (verdict_in (now ++ later)) before conn (x ∷ xs)
+    ≡ both_by None d (on_acts start (verdict_in (now ++ later)) mid conn xs)
+acts-both start conn x xs before mid now d is stands room more longer later =
     let v = verdict_in (now ++ later) in
-    let earlier : on_acts start v before conn first ≡ d =
-    subst (λ (h : List Entry). on_acts start (verdict_in h) before conn first ≡ d)
+    let first : on_act start v before conn x ≡ d =
+    subst (λ (h : List Entry). on_act start (verdict_in h) before conn x ≡ d)
     (sym (ap (λ (h : List Entry). h ++ later) longer ∙ append_assoc mid more later)) (is (more ++ later)) in
-    let from_mid : before ++ (on_acts start v before conn first).entries ≡ mid =
-    ap (λ (x : Doing). before ++ x.entries) earlier ∙ sym stands in
-    acts-both start v conn first before (a ∷ [])
-    ∙ ap (λ (h : List Entry). both (on_acts start v before conn first) (on_acts start v h conn (a ∷ []))) from_mid
-    ∙ ap (λ (x : Doing). both x (on_acts start v mid conn (a ∷ []))) earlier
-    ∙ ap (λ (x : Doing). both d x) (one-act start v mid conn a ∙ last)
+    ap (λ (e : Doing). both e (on_acts start v (before ++ e.entries) conn xs)) first
+    ∙ ap (λ (h : List Entry). both d (on_acts start v h conn xs)) (sym stands)
+    ∙ both-open d (on_acts start v mid conn xs) room
 
-pub acts-go-on : (start : Start) (conn : ℕ) (first : List Act) (a : Act) (before mid now : List Entry)
+-- an act was done, and then those after it
+pub acts-before : (start : Start) (conn : ℕ) (x : Act) (xs : List Act) (before mid now : List Entry)
     (old_lines mid_lines new_lines : List ℕ) (found : Option ℕ)
-    → Acts (λ verdicts. on_acts start verdicts before conn first) before mid old_lines mid_lines None
-    → Acts (λ verdicts. on_act start verdicts mid conn a) mid now mid_lines new_lines found
-    → Acts (λ verdicts. on_acts start verdicts before conn (first ++ a ∷ [])) before now old_lines new_lines found
-acts-go-on start conn first a before mid now old_lines mid_lines new_lines found done next = record {
-  doing = both_by None done.doing next.doing;
-  full = next.full;
-  is = λ later.
-      next-is start conn first a before mid now done.doing next.doing done.is done.history next.doing.entries
-      next.history later (next.is later)
-      ∙ both-open done.doing next.doing done.full;
-  history = next.history ∙ ap (λ (h : List Entry). h ++ next.doing.entries) done.history
-      ∙ append_assoc before done.doing.entries next.doing.entries;
+    → Acts (λ verdicts. on_act start verdicts before conn x) before mid old_lines mid_lines None
+    → Acts (λ verdicts. on_acts start verdicts mid conn xs) mid now mid_lines new_lines found
+    → Acts (λ verdicts. on_acts start verdicts before conn (x ∷ xs)) before now old_lines new_lines found
+acts-before start conn x xs before mid now old_lines mid_lines new_lines found one others = record {
+  doing = both_by None one.doing others.doing;
+  full = others.full;
+  is = λ later. acts-both start conn x xs before mid now one.doing one.is one.history one.full others.doing.entries
+      others.history later ∙ ap (λ (d : Doing). both_by None one.doing d) (others.is later);
+  history = others.history ∙ ap (λ (h : List Entry). h ++ others.doing.entries) one.history
+      ∙ append_assoc before one.doing.entries others.doing.entries;
   prints =
-      next.prints
-      ∙ ap (λ (bs : List ℕ). bs ++ flat_map line_bytes next.doing.prints) done.prints
-      ∙ append_assoc old_lines (flat_map line_bytes done.doing.prints) (flat_map line_bytes next.doing.prints)
-      ∙ ap (λ (bs : List ℕ). old_lines ++ bs) (sym (flat_map-append line_bytes done.doing.prints next.doing.prints));
+      others.prints
+      ∙ ap (λ (bs : List ℕ). bs ++ flat_map line_bytes others.doing.prints) one.prints
+      ∙ append_assoc old_lines (flat_map line_bytes one.doing.prints) (flat_map line_bytes others.doing.prints)
+      ∙ ap (λ (bs : List ℕ). old_lines ++ bs) (sym (flat_map-append line_bytes one.doing.prints others.doing.prints));
 }
 
--- the acts after one that found the history full aren't done
-pub acts-fill : (start : Start) (conn : ℕ) (first rest : List Act) (before now : List Entry)
+-- one found the history full: those after it aren't done
+pub acts-full : (start : Start) (conn : ℕ) (x : Act) (xs : List Act) (before now : List Entry)
     (old_lines new_lines : List ℕ) (count : ℕ)
-    → Acts (λ verdicts. on_acts start verdicts before conn first) before now old_lines new_lines (Some count)
-    → Acts (λ verdicts. on_acts start verdicts before conn (first ++ rest)) before now old_lines new_lines (Some count)
-acts-fill start conn first rest before now old_lines new_lines count done = record {
-  doing = done.doing;
-  full = done.full;
+    → Acts (λ verdicts. on_act start verdicts before conn x) before now old_lines new_lines (Some count)
+    → Acts (λ verdicts. on_acts start verdicts before conn (x ∷ xs)) before now old_lines new_lines (Some count)
+acts-full start conn x xs before now old_lines new_lines count one = record {
+  doing = one.doing;
+  full = one.full;
   is = λ later.
       let v = verdict_in (now ++ later) in
-      let others = on_acts start v (before ++ (on_acts start v before conn first).entries) conn rest in
-      acts-both start v conn first before rest
-      ∙ ap (λ (d : Doing). both d others) (done.is later)
-      ∙ both-full done.doing others count done.full;
-  history = done.history;
-  prints = done.prints;
+      ap (λ (d : Doing). both d (on_acts start v (before ++ d.entries) conn xs)) (one.is later)
+      ∙ both-full one.doing (on_acts start v (before ++ one.doing.entries) conn xs) count one.full;
+  history = one.history;
+  prints = one.prints;
 }
 
--- memory ran out at an act after others, and more acts come after it
-pub acts-stop : (start : Start) (conn : ℕ) (first : List Act) (a : Act) (rest : List Act) (before mid now : List Entry)
-    (old_lines mid_lines : List ℕ) → Acts (λ verdicts. on_acts start verdicts before conn first) before mid old_lines
-    mid_lines None
-    → Began (λ verdicts. on_act start verdicts mid conn a) mid now
-    → Began (λ verdicts. on_acts start verdicts before conn (first ++ a ∷ rest)) before now
-acts-stop start conn first a rest before mid now old_lines mid_lines done began =
-    let v = λ (later : List Entry). verdict_in (now ++ later) in
-    let last = λ (later : List Entry). on_act start (v later) mid conn a in
-    let met = λ (later : List Entry). on_acts start (v later) before conn (first ++ a ∷ []) in
-    let behind = λ (later : List Entry). others_by (met later).full
-    (on_acts start (v later) (before ++ (met later).entries) conn rest) in
-    let all : (later : List Entry) → (on_acts start (v later) before conn (first ++ a ∷ rest)).entries
-    ≡ (done.doing.entries ++ (last later).entries) ++ behind later =
-    λ later.
-    ap (λ (as' : List Act). (on_acts start (v later) before conn as').entries) (sym (append_assoc first (a ∷ []) rest))
-    ∙ ap (λ (d : Doing). d.entries) (acts-both start (v later) conn (first ++ a ∷ []) before rest)
-    ∙ both-entries (met later).full (met later) (on_acts start (v later) (before ++ (met later).entries) conn rest)
-    ∙ ap (λ (d : Doing). d.entries ++ behind later)
-    (next-is start conn first a before mid now done.doing (last later) done.is done.history began.front
-    began.history later refl)
-    ∙ ap (λ (d : Doing). d.entries ++ behind later) (both-open done.doing (last later) done.full) in
-    record {
-      front = done.doing.entries ++ began.front;
-      history = began.history ∙ ap (λ (h : List Entry). h ++ began.front) done.history
-          ∙ append_assoc before done.doing.entries began.front;
+-- memory ran out after an act
+pub began-before : (start : Start) (conn : ℕ) (x : Act) (xs : List Act) (before mid now : List Entry)
+    (old_lines mid_lines : List ℕ)
+    → Acts (λ verdicts. on_act start verdicts before conn x) before mid old_lines mid_lines None
+    → Began (λ verdicts. on_acts start verdicts mid conn xs) mid now
+    → Began (λ verdicts. on_acts start verdicts before conn (x ∷ xs)) before now
+began-before start conn x xs before mid now old_lines mid_lines one began = record {
+  front = one.doing.entries ++ began.front;
+  history = began.history ∙ ap (λ (h : List Entry). h ++ began.front) one.history
+      ∙ append_assoc before one.doing.entries began.front;
+  others = began.others;
+  begins = λ later.
+      ap (λ (d : Doing). d.entries) (acts-both start conn x xs before mid now one.doing one.is one.history one.full
+      began.front began.history later)
+      ∙ ap (λ (es : List Entry). one.doing.entries ++ es) (began.begins later)
+      ∙ sym (append_assoc one.doing.entries began.front (began.others later));
+}
+
+-- and at an act
+pub began-at : (start : Start) (conn : ℕ) (x : Act) (xs : List Act) (before now : List Entry)
+    → Began (λ verdicts. on_act start verdicts before conn x) before now
+    → Began (λ verdicts. on_acts start verdicts before conn (x ∷ xs)) before now
+began-at start conn x xs before now began =
+    let first = λ (later : List Entry). on_act start (verdict_in (now ++ later)) before conn x in
+    let rest = λ (later : List Entry). on_acts start (verdict_in (now ++ later)) (before ++ (first later).entries) conn
+    xs in
+    let behind = λ (later : List Entry). others_by (first later).full (rest later) in record {
+      front = began.front;
+      history = began.history;
       others = λ later. began.others later ++ behind later;
       begins = λ later.
-          all later
-          ∙ ap (λ (es : List Entry). (done.doing.entries ++ es) ++ behind later) (began.begins later)
-          ∙ append_assoc done.doing.entries (began.front ++ began.others later) (behind later)
-          ∙ ap (λ (es : List Entry). done.doing.entries ++ es)
-          (append_assoc began.front (began.others later) (behind later))
-          ∙ sym (append_assoc done.doing.entries began.front (began.others later ++ behind later));
+          both-entries (first later).full (first later) (rest later)
+          ∙ ap (λ (es : List Entry). es ++ behind later) (began.begins later)
+          ∙ append_assoc began.front (began.others later) (behind later);
     }
 
 -- ---- lines

@@ -11,7 +11,7 @@ use Rattle.acct_calls.specs.declared.calls.Call.{Call}
 use Rattle.acct_calls.specs.declared.calls.Face.{Face}
 use Rattle.acct_calls.specs.declared.replies.Reply.{Reply}
 use Rattle.acct_machine.specs.declared.entry.Entry.{Entry}
-use Rattle.acct_machine.specs.declared.entry.Entry.TheVariants.{Opened, Called, Gone}
+use Rattle.acct_machine.specs.declared.entry.Entry.TheVariants.{Opened, Called, Gone, Hooked}
 use Rattle.acct_machine.specs.State.{Start, State, first as first_state}
 use Rattle.acct_machine.specs.Step.{state_after, state_at, step, acted}
 use Rattle.acct_machine.specs.Legal.{replies_from, replies, calls_of}
@@ -218,6 +218,7 @@ calls-append : (k : ℕ) (xs ys : List Entry) → calls_of k (xs ++ ys) ≡ call
 calls-append k [] ys = refl
 calls-append k (Opened conn listener ∷ xs) ys = calls-append k xs ys
 calls-append k (Gone conn ∷ xs) ys = calls-append k xs ys
+calls-append k (Hooked number ∷ xs) ys = calls-append k xs ys
 calls-append k (Called conn call verdict bytes ∷ xs) ys =
     one-more-call (conn == k) (call, bytes) (calls_of k (xs ++ ys)) (calls_of k xs) (calls_of k ys)
     (calls-append k xs ys)

@@ -20,3 +20,6 @@ through-no-fault (status.PeerBytes n) through = absurd through
 through-no-fault status.PeerFault through = absurd through
 through-no-fault status.InputTooLong through = absurd through
 through-no-fault (status.Refused n) through = absurd through
+through-no-fault (status.HookHeld n) through = absurd through
+through-no-fault (status.HookStore n) through = absurd through
+through-no-fault status.SpawnFault through = absurd through

@@ -20,6 +20,7 @@ use Rattle.acct_machine.specs.declared.opened.OpenError.TheVariants as unopened
 use Rattle.acct_machine.specs.Storing.{HoldsRows}
 use Rattle.acct_config.specs.declared.config.Config.{Config}
 use Rattle.acct_rows.specs.PairRules.{IsSmallestBroken}
+use Rattle.acct_rows.specs.PairsOf.{migrated}
 use Rattle.acct_rows.specs.Seed.{seed_lists}
 use Rattle.acct_server.specs.Begun.{IsBegun}
 use Rattle.acct_server.specs.Configured.{spelled}
@@ -113,12 +114,16 @@ StoreCause held before now (StoredPair key) = IfSome held (λ pairs. (pairs ≢ 
 StoreCause held before now NoMemory = Unit {0}
 StoreCause held before now _ = ⊥
 
--- What the keeper holds where no machine was made: what it held. Only where that was no pair and memory ran out, it
--- may have the pairs of the seed rows.
+-- what a store holds once it is opened: the pairs of the seed rows where it held none, and else its pairs in format 2
+abbrev pub IsOpenedOf : Config → List Pair → Option (List Pair) → Type 0
+IsOpenedOf config [] now = HoldsRows now (seed_lists config.name config.sid)
+IsOpenedOf config (pair ∷ pairs) now = now ≡ Some (migrated (pair ∷ pairs))
+
+-- What the keeper holds where no machine was made: what it held, or, where memory ran out after that, what it holds
+-- once it is opened.
 abbrev pub StoreKept : Config → Option (List Pair) → Option (List Pair) → Status → Type 0
 StoreKept config held now status =
-    (now ≡ held) ⊎ ((status ≡ NoMemory)
-    × IfSome held (λ pairs. (pairs ≡ []) × HoldsRows now (seed_lists config.name config.sid)))
+    (now ≡ held) ⊎ ((status ≡ NoMemory) × IfSome held (λ pairs. IsOpenedOf config pairs now))
 
 -- a status, or that of a rule that is broken
 abbrev pub unless_broken : Option ℕ → Option Status → Option Status

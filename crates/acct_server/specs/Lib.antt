@@ -11,3 +11,4 @@ pub mod Serving
 pub mod Headline
 pub mod Headlines
 pub mod Completing
+pub mod Hooked

@@ -11,7 +11,7 @@ use Rattle.acct_machine.specs.State.{Start}
 use Rattle.acct_machine.specs.declared.entry.Verdict.{Verdict}
 use Rattle.acct_machine.specs.declared.entry.Verdict.TheVariants.{Ran}
 use Rattle.acct_machine.specs.declared.entry.Entry.{Entry}
-use Rattle.acct_machine.specs.declared.entry.Entry.TheVariants.{Opened, Called, Gone}
+use Rattle.acct_machine.specs.declared.entry.Entry.TheVariants.{Opened, Called, Gone, Hooked}
 use Rattle.acct_machine.specs.Step.{state_at, acted}
 use Rattle.acct_machine.specs.Room.{conns_full, call_full}
 use Rattle.rpc_session.specs.declared.sessions.Act.{Act}
@@ -291,6 +291,7 @@ verdict_of None = Ran
 verdict_of (Some (Opened conn listener)) = Ran
 verdict_of (Some (Called conn call verdict bytes)) = verdict
 verdict_of (Some (Gone conn)) = Ran
+verdict_of (Some (Hooked number)) = Ran
 
 abbrev pub verdict_in : List Entry → Verdicts
 verdict_in history place = verdict_of (slice_get history place)

@@ -1,10 +1,11 @@
 -- A run of event lines so far, and what a line does to it.
 use Rattle.std.specs.Prelude.{◌≡◌, ℕ, ◌^◌, ◌<◌, ◌≤◌, ◌+◌, Bool, true, false, List, ◌++◌, ◌⊎◌, Option, Some, None}
-use Rattle.std.specs.Prelude.{length}
+use Rattle.std.specs.Prelude.{length, [], ◌∷◌}
 use Rattle.std.specs.List.{flat_map}
 use Rattle.acct_machine.specs.declared.entry.Entry.{Entry}
+use Rattle.acct_machine.specs.declared.entry.Entry.TheVariants.{Gone}
 use Rattle.acct_machine.specs.Shown.{Past}
-use Rattle.acct_machine.specs.State.{State, is_live}
+use Rattle.acct_machine.specs.State.{State, Start, is_live}
 use Rattle.link_sessions.specs.declared.connections.Peer.{Peer}
 use Rattle.link_sessions.specs.declared.connections.Peer.TheVariants.{Open, Ended}
 use Rattle.rpc_session.specs.declared.hearing.Hearing.{Hearing}
@@ -13,7 +14,9 @@ use Rattle.rpc_session.specs.Hearings.{on}
 use Rattle.rpc_session.specs.Acts.{acts, is_refusal, IsSoFar}
 use Rattle.link_sessions.specs.Connections.{is_served}
 use Rattle.acct_server.specs.Replayed.{Standing, Move, Doing, Verdicts, peer_of, with_peer, verdict_in}
-use Rattle.acct_server.specs.Replayed.{line_bytes, ending}
+use Rattle.acct_server.specs.Replayed.{line_bytes, ending, on_acts, IsClosed, FoundFull}
+use Rattle.link_sessions.specs.declared.ends.Stop.{Stop}
+use Rattle.link_sessions.specs.declared.ends.Stop.TheVariants as stop
 
 -- the machine, and the connections
 pub record Running : Type 0 where
@@ -49,6 +52,22 @@ pub record Acts (what : Verdicts → Doing) (before now : List Entry) (old_lines
   pub is : (later : List Entry) → what (verdict_in (now ++ later)) ≡ doing
   pub history : now ≡ before ++ doing.entries
   pub prints : new_lines ≡ old_lines ++ flat_map line_bytes doing.prints
+
+-- Acts were answered, whose last one may be a refusal: with the connection's end, and the line that says so, they were
+-- done.
+abbrev pub Answered : ℕ → Start → List Act → List Entry → List Entry → List ℕ → List ℕ → Option (ℕ × ℕ) → Type 0
+Answered conn start acts before now old_lines new_lines None =
+    Acts (λ verdicts. on_acts start verdicts before conn acts) before now old_lines new_lines None
+Answered conn start acts before now old_lines new_lines (Some at) =
+    Acts (λ verdicts. on_acts start verdicts before conn acts) before (now ++ Gone conn ∷ []) old_lines
+    (new_lines ++ line_bytes (IsClosed conn at.0 at.1)) None
+
+-- The same of acts that stopped, where one found the history full.
+abbrev pub AnsweredToFull : ℕ → Start → List Act → List Entry → List Entry → List ℕ → List ℕ → Stop → Type 0
+AnsweredToFull conn start acts before now old_lines new_lines (stop.Full count) =
+    Acts (λ verdicts. on_acts start verdicts before conn acts) before (now ++ Gone conn ∷ []) old_lines
+    (new_lines ++ line_bytes (FoundFull conn)) (Some count)
+AnsweredToFull conn start acts before now old_lines new_lines _ = Unit {0}
 
 -- the connections after acts: the one that found the history full was ended
 abbrev pub peers_behind : Option ℕ → ℕ → List Peer → List Peer

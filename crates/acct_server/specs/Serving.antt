@@ -33,7 +33,7 @@ pub record Telling (D L K : Type 0) : Type 1 where
   pub faults : K → ℕ
 
 -- The store wasn't opened, or no machine was made: no link was taken, nothing has happened, and the keeper holds what
--- it held, except the seed rows where memory ran out.
+-- it held, or what it holds once it is opened where memory ran out after that.
 pub record HasNotServed {D L K : Type 0} (telling : Telling D L K) (config : Config) (before now : List D) (keeper : K)
     (left : Served K) : Type 0 where
   pub opening : left.opening ≡ None
@@ -46,8 +46,8 @@ pub record HasNotServed {D L K : Type 0} (telling : Telling D L K) (config : Con
 
 -- The doors were served, on a machine under the configuration, from the rows whose pairs the keeper held, or the seed
 -- rows where it held none. The history is legal, and access is denied there exactly where a grant or an opening's check
--- lacks a bit. The keeper holds the pairs of the rows after it, and its count has risen by one at each commit that failed
--- in it, and at nothing else.
+-- lacks a bit. The keeper holds the pairs of the rows after it, and its count has risen by one at each commit that
+-- failed in it, and at nothing else.
 pub record HasServedDoors {D L K : Type 0} (telling : Telling D L K) (config : Config) (before now : List D)
     (keeper : K) (left : Served K) : Type 0 where
   pub start : Start

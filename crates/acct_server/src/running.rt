@@ -1,39 +1,36 @@
 // A machine with the connections of a replay.
 ghost use Rattle.std.specs.Prelude.{◌≡◌, ◌≢◌, ◌⊎◌, ◌+◌, ◌≤◌, ◌<◌, ◌^◌, ℕ, true, false, [], ◌++◌, ◌∷◌, if◌then◌else◌};
-ghost use Rattle.std.specs.Prelude.{length, take, Some, None, Ok, Err, OnOk, OnErr, IfOk, IfErr, IfSome, IsSome};
+ghost use Rattle.std.specs.Prelude.{List, length, take, Some, None, Ok, Err, OnOk, OnErr, IfOk, IfErr, IfSome, IsSome};
 ghost use Rattle.std.specs.Prelude.{slice_get, slice_set, map, All, option_map};
 ghost use Rattle.std.specs.List.{flat_map};
 ghost use Rattle.acct_machine.specs.Storing.{HoldsRows, AreCounted};
-ghost use Rattle.acct_machine.specs.State.{is_live};
+ghost use Rattle.acct_machine.specs.State.{Start, is_live};
+ghost use Rattle.acct_machine.specs.declared.entry.Entry.{Entry};
 ghost use Rattle.acct_machine.specs.Machine.{state_of, with_entry};
 ghost use Rattle.acct_machine.specs.Legal.{Legal};
 ghost use Rattle.acct_machine.specs.declared.entry.Entry.TheVariants.{Gone};
 ghost use Rattle.rpc_session.specs.declared.hearing.Hearing.{Hearing};
 ghost use Rattle.rpc_session.specs.Hearings.{HasRoom, on, is_going};
-ghost use Rattle.rpc_session.specs.Acts.{IsFit, IsFitRequest, is_refusal};
+ghost use Rattle.rpc_session.specs.Acts.{IsFit};
 ghost use Rattle.acct_server.specs.declared.events.LineError.TheVariants.{NoMemory, Refused};
 ghost use Rattle.link_sessions.specs.declared.connections.Peer.TheVariants as peer;
-ghost use Rattle.link_sessions.specs.Requests.{call_on};
 ghost use Rattle.acct_server.specs.Events.{DataFits};
-ghost use Rattle.link_sessions.specs.Transcript.{busy_bytes};
+ghost use Rattle.link_sessions.specs.Refusals.{closing_of};
 ghost use Rattle.link_sessions.specs.Connections.{nothing_heard, is_served};
 ghost use Rattle.acct_server.specs.Replayed.{Out, IsClosed, IsGone, FoundFull, peer_of, with_peer};
 ghost use Rattle.acct_server.specs.Replayed.{number_of, served_from, ending, line_bytes, listener_from, on_open};
-ghost use Rattle.acct_server.specs.Replayed.{on_request, on_act, on_acts, on_data, on_end, on_event, on_line};
+ghost use Rattle.acct_server.specs.Replayed.{on_acts, on_data, on_end, on_event, on_line};
 ghost use Rattle.acct_server.specs.Running.{standing, AllHeard, Acts, Began, Hears, IsClosing, Does, Refuses, MayStop};
-ghost use Rattle.acct_server.specs.Running.{peers_behind};
+ghost use Rattle.acct_server.specs.Running.{peers_behind, Answered, AnsweredToFull};
 ghost use Rattle.acct_server.specs.Running.{Closes};
 
 use crate::events::{Event, LineError, event_of};
-use crate::printing::{closed_line, full_line, gone_line, push_out};
+use crate::out_lines::OutLines;
+use crate::printing::{closed_line, full_line, gone_line};
 use acct_base::is_same;
-use acct_codes::fault::NCA_S_SERVER_TOO_BUSY;
 use acct_machine::{Entry, Keeper, Listener, Machine, Opened, Rows};
-use link_sessions::{Answer, Gate, Peer, heard, is_served, new_peer, request};
-use rpc_session::{
-    Act, Request, calls_fit, fault_bytes, refusals_are_last, room_by_length,
-    streams_are_cut_anywhere,
-};
+use link_sessions::{Gate, Peer, Stop, answer_all, closing, heard, is_served, new_peer};
+use rpc_session::{Act, calls_fit, refusals_are_last, room_by_length, streams_are_cut_anywhere};
 use std::alloc::{AllocError, Global};
 use std::marker::Model;
 
@@ -49,33 +46,6 @@ fn listener_place(listeners: &[Listener], name: &[u8]) -> Option<u32>
         }
     }
     None
-}
-
-// Adds the lines of a refusal.
-fn push_closed(
-    lines: &mut Vec<u8>,
-    alloc: Global,
-    conn: u32,
-    place: u64,
-    cause: u8,
-    bytes: &[u8],
-) -> Result<(), AllocError>
-    ensures { OnOk result (lines.new.items
-        ≡ lines.old.items ++ (line_bytes (Out conn bytes.now) ++ line_bytes (IsClosed conn place cause))) }
-{
-    push_out(lines, alloc, conn, bytes)?;
-    lines.extend_from_slice(&closed_line(alloc, conn, place, cause)?)?;
-    Ok(())
-}
-
-// Adds the lines of a call that found the history full.
-fn push_full(lines: &mut Vec<u8>, alloc: Global, conn: u32, bytes: &[u8]) -> Result<(), AllocError>
-    ensures { OnOk result (lines.new.items
-        ≡ lines.old.items ++ (line_bytes (Out conn bytes.now) ++ line_bytes (FoundFull conn))) }
-{
-    push_out(lines, alloc, conn, bytes)?;
-    lines.extend_from_slice(&full_line(alloc, conn)?)?;
-    Ok(())
 }
 
 // The line of a connection, if it is served.
@@ -179,13 +149,13 @@ impl<K: Keeper + Drop> Run<K> {
         }
         self.peers.reserve(1)?;
         match Gate::open_conn(&mut self.machine, listener) {
-            Opened::Conn(_) => match self.peers.push(new_peer(alloc, conn)) {
-                Ok(()) => Ok(Ran {
+            Opened::Conn(_) => {
+                self.peers.push_reserved(new_peer(alloc, conn));
+                Ok(Ran {
                     output: Vec::new(alloc),
                     full: None,
-                }),
-                Err(_) => unreachable!(),
-            },
+                })
+            }
             Opened::Full(count) => Ok(Ran {
                 output: full_line(alloc, conn)?,
                 full: Some(count),
@@ -215,61 +185,47 @@ impl<K: Keeper + Drop> Run<K> {
         self.end_live(conn);
     }
 
-    // A call found the history full: it is answered that the server is too busy, and its connection is gone.
-    fn refuse(
+    // Acts are answered, one after the other, up to one that finds the history full. The lines of the answers are added
+    // to those that were there.
+    fn answer(
         &mut self,
         alloc: Global,
         conn: u32,
-        asked: &Request,
-        lines: &mut Vec<u8>,
-    ) -> Result<(), AllocError>
+        acts: &[Act],
+        out: &mut OutLines,
+    ) -> Result<(), Stop>
+        requires live { is_live conn (state_of self.old.machine).conns ≡ true }
+        requires fits { All IsFit acts.now }
+        requires closed { (i : ℕ) → IsClosing (is_served (peer_of conn self.old.peers)) i (length acts.now)
+            (slice_get acts.now i) }
+        requires conn { out.old.conn ≡ conn }
+        requires whole { out.old.is_cut ≡ false }
+        ensures ok { OnOk result (Answered conn self.old.machine.start acts.now self.old.machine.history
+            self.new.machine.history out.old.lines.items out.new.lines.items (closing_of acts.now)) }
+        ensures full { IfErr result (λ why. out.new.is_cut ≡ false → AnsweredToFull conn self.old.machine.start
+            acts.now self.old.machine.history self.new.machine.history out.old.lines.items out.new.lines.items why) }
+        ensures began { Began
+            (λ verdicts. on_acts self.old.machine.start verdicts self.old.machine.history conn acts.now)
+            self.old.machine.history self.new.machine.history }
+        ensures live { is_live conn (state_of self.new.machine).conns ≡ true }
+        ensures peers { self.new.peers ≡ self.old.peers }
+        ensures start { self.new.machine.start ≡ self.old.machine.start }
+    {
+        answer_all(alloc, out, &mut self.machine, conn, acts)
+    }
+
+    // A call found the history full: its connection is gone.
+    fn refuse(&mut self, alloc: Global, conn: u32, lines: &mut Vec<u8>) -> Result<(), AllocError>
         requires live { is_live conn (state_of self.old.machine).conns ≡ true }
         requires there { IsSome (peer_of conn self.old.peers) }
         ensures machine { OnOk result (self.new.machine ≡ with_entry self.old.machine (Gone conn)) }
         ensures peers { OnOk result (self.new.peers ≡ with_peer conn peer.Ended self.old.peers) }
-        ensures lines { OnOk result (lines.new.items
-            ≡ lines.old.items ++ (line_bytes (Out conn (busy_bytes asked.now)) ++ line_bytes (FoundFull conn))) }
+        ensures lines { OnOk result (lines.new.items ≡ lines.old.items ++ line_bytes (FoundFull conn)) }
         ensures err { OnErr result (self.new ≡ self.old) }
     {
-        let busy = fault_bytes(asked.id, asked.context, NCA_S_SERVER_TOO_BUSY);
-        push_full(lines, alloc, conn, &busy)?;
+        lines.extend_from_slice(&full_line(alloc, conn)?)?;
         self.end_live(conn);
         Ok(())
-    }
-
-    // A request. The lines of its answer are added to those that were there.
-    fn request(
-        &mut self,
-        alloc: Global,
-        conn: u32,
-        asked: &Request,
-        lines: &mut Vec<u8>,
-    ) -> Result<Option<u64>, AllocError>
-        requires live { is_live conn (state_of self.old.machine).conns ≡ true }
-        requires there { IsSome (peer_of conn self.old.peers) }
-        requires fits { IsFitRequest asked.now }
-        ensures acts { IfOk result (Acts
-            (λ verdicts. on_request self.old.machine.start verdicts self.old.machine.history conn asked.now
-            (length asked.now.stub) (call_on asked.now.face asked.now.opnum asked.now.stub)) self.old.machine.history
-            self.new.machine.history lines.old.items lines.new.items) }
-        ensures began { OnErr result (Began
-            (λ verdicts. on_request self.old.machine.start verdicts self.old.machine.history conn asked.now
-            (length asked.now.stub) (call_on asked.now.face asked.now.opnum asked.now.stub)) self.old.machine.history
-            self.new.machine.history) }
-        ensures live { IfOk result (λ full. full ≡ None → is_live conn (state_of self.new.machine).conns ≡ true) }
-        ensures peers { IfOk result (λ full. self.new.peers ≡ peers_behind full conn self.old.peers) }
-        ensures start { self.new.machine.start ≡ self.old.machine.start }
-    {
-        match request(alloc, &mut self.machine, conn, asked)? {
-            Answer::Bytes(bytes) => {
-                push_out(lines, alloc, conn, &bytes)?;
-                Ok(None)
-            }
-            Answer::Full(count) => {
-                self.refuse(alloc, conn, asked, lines)?;
-                Ok(Some(count))
-            }
-        }
     }
 
     // A refusal: the connection is gone.
@@ -279,63 +235,88 @@ impl<K: Keeper + Drop> Run<K> {
         conn: u32,
         place: u64,
         cause: u8,
-        bytes: &[u8],
         lines: &mut Vec<u8>,
     ) -> Result<(), AllocError>
         requires live { is_live conn (state_of self.old.machine).conns ≡ true }
         requires closed { is_served (peer_of conn self.old.peers) ≡ false }
         ensures machine { OnOk result (self.new.machine ≡ with_entry self.old.machine (Gone conn)) }
-        ensures lines { OnOk result (lines.new.items
-            ≡ lines.old.items ++ (line_bytes (Out conn bytes.now) ++ line_bytes (IsClosed conn place cause))) }
+        ensures lines { OnOk result (lines.new.items ≡ lines.old.items ++ line_bytes (IsClosed conn place cause)) }
         ensures peers { self.new.peers ≡ self.old.peers }
         ensures err { OnErr result (self.new ≡ self.old) }
     {
-        push_closed(lines, alloc, conn, place, cause, bytes)?;
+        lines.extend_from_slice(&closed_line(alloc, conn, place, cause)?)?;
         self.machine.gone(conn);
         Ok(())
     }
 
-    // What an act does. Its lines are added to those that were there.
-    fn act(
+    // After acts that were answered, whose last one may be a refusal.
+    fn close_behind(
         &mut self,
         alloc: Global,
         conn: u32,
-        act: &Act,
+        acts: &[Act],
         lines: &mut Vec<u8>,
-    ) -> Result<Option<u64>, AllocError>
+    ) -> Result<(), AllocError>
         requires live { is_live conn (state_of self.old.machine).conns ≡ true }
-        requires there { IsSome (peer_of conn self.old.peers) }
-        requires fits { IsFit act.now }
-        requires closed { is_refusal act.now ≡ true → is_served (peer_of conn self.old.peers) ≡ false }
-        ensures acts { IfOk result (Acts
-            (λ verdicts. on_act self.old.machine.start verdicts self.old.machine.history conn act.now)
-            self.old.machine.history self.new.machine.history lines.old.items lines.new.items) }
-        ensures began { OnErr result (Began
-            (λ verdicts. on_act self.old.machine.start verdicts self.old.machine.history conn act.now)
-            self.old.machine.history self.new.machine.history) }
-        ensures live { IfOk result (λ full. is_refusal act.now ≡ false → full ≡ None
-            → is_live conn (state_of self.new.machine).conns ≡ true) }
-        ensures peers { IfOk result (λ full. self.new.peers ≡ peers_behind full conn self.old.peers) }
+        requires closed { (i : ℕ) → IsClosing (is_served (peer_of conn self.old.peers)) i (length acts.now)
+            (slice_get acts.now i) }
+        ensures acts { (start : Start) (before : List Entry) (old : List ℕ) → Answered conn start acts.now before
+            self.old.machine.history old lines.old.items (closing_of acts.now) → OnOk result (Acts
+            (λ verdicts. on_acts start verdicts before conn acts.now) before self.new.machine.history old
+            lines.new.items None) }
+        ensures peers { self.new.peers ≡ self.old.peers }
         ensures start { self.new.machine.start ≡ self.old.machine.start }
+        ensures err { OnErr result (self.new ≡ self.old) }
     {
-        match act {
-            Act::Answered { bytes } => {
-                push_out(lines, alloc, conn, bytes.as_slice())?;
-                Ok(None)
-            }
-            Act::Call(asked) => self.request(alloc, conn, asked, lines),
-            Act::Closed {
-                place,
-                cause,
-                bytes,
-            } => {
-                self.close(alloc, conn, *place, *cause, bytes.as_slice(), lines)?;
-                Ok(None)
-            }
+        match closing(acts) {
+            Some((place, cause)) => self.close(alloc, conn, place, cause, lines),
+            None => Ok(()),
         }
     }
 
-    // What acts do, one after the other, up to one that finds the history full.
+    // What acts of a connection that is live do, one after the other, up to one that finds the history full.
+    fn act_on(&mut self, alloc: Global, conn: u32, acts: &[Act]) -> Result<Ran, AllocError>
+        requires live { is_live conn (state_of self.old.machine).conns ≡ true }
+        requires there { IsSome (peer_of conn self.old.peers) }
+        requires fits { All IsFit acts.now }
+        requires closed { (i : ℕ) → IsClosing (is_served (peer_of conn self.old.peers)) i (length acts.now)
+            (slice_get acts.now i) }
+        ensures acts { IfOk result (λ ran. Acts
+            (λ verdicts. on_acts self.old.machine.start verdicts self.old.machine.history conn acts.now)
+            self.old.machine.history self.new.machine.history [] ran.output.items ran.full) }
+        ensures began { OnErr result (Began
+            (λ verdicts. on_acts self.old.machine.start verdicts self.old.machine.history conn acts.now)
+            self.old.machine.history self.new.machine.history) }
+        ensures peers { IfOk result (λ ran. self.new.peers ≡ peers_behind ran.full conn self.old.peers) }
+        ensures start { self.new.machine.start ≡ self.old.machine.start }
+    {
+        let mut out = OutLines::new(alloc, conn);
+        let answered = self.answer(alloc, conn, acts, &mut out);
+        let OutLines {
+            mut lines,
+            is_cut,
+            ..
+        } = out;
+        match answered {
+            Ok(()) => {
+                self.close_behind(alloc, conn, acts, &mut lines)?;
+                Ok(Ran {
+                    output: lines,
+                    full: None,
+                })
+            }
+            Err(Stop::Full(count)) if !is_cut => {
+                self.refuse(alloc, conn, &mut lines)?;
+                Ok(Ran {
+                    output: lines,
+                    full: Some(count),
+                })
+            }
+            Err(_) => Err(AllocError),
+        }
+    }
+
+    // What acts do. Where there is none the connection need not be live.
     fn act_all(&mut self, alloc: Global, conn: u32, acts: &[Act]) -> Result<Ran, AllocError>
         requires live { 0 < length acts.now → is_live conn (state_of self.old.machine).conns ≡ true }
         requires there { IsSome (peer_of conn self.old.peers) }
@@ -351,19 +332,13 @@ impl<K: Keeper + Drop> Run<K> {
         ensures peers { IfOk result (λ ran. self.new.peers ≡ peers_behind ran.full conn self.old.peers) }
         ensures start { self.new.machine.start ≡ self.old.machine.start }
     {
-        let mut lines = Vec::new(alloc);
-        for i in 0..acts.len() {
-            if let Some(count) = self.act(alloc, conn, &acts[i], &mut lines)? {
-                return Ok(Ran {
-                    output: lines,
-                    full: Some(count),
-                });
-            }
+        if acts.is_empty() {
+            return Ok(Ran {
+                output: Vec::new(alloc),
+                full: None,
+            });
         }
-        Ok(Ran {
-            output: lines,
-            full: None,
-        })
+        self.act_on(alloc, conn, acts)
     }
 
     // The acts that bytes complete, or that the connection wasn't opened or was ended.

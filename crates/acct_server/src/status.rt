@@ -40,6 +40,12 @@ pub enum Status {
     InputTooLong,
     /// The peer refused, with the status that it answered, 0 of a bind_nak.
     Refused(u32),
+    /// The program of the hook was run for the out row of this number as often as it may be, and never ended with 0.
+    HookHeld(u64),
+    /// The keeper failed where an out row was to leave, with its count of faults.
+    HookStore(u64),
+    /// The spawner wasn't handed out.
+    SpawnFault,
 }
 
 impl From<WholeError> for Status {

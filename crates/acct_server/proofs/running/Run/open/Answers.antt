@@ -17,10 +17,10 @@ use Rattle.acct_server.proofs.running.Run.open.Goals as goal
 pub listener_place-requires : goal.listener_place-requires
 listener_place-requires g c = rw c.as_slice-listeners.ensures (few_listeners _ c.config.ensures.right.listener_count)
 
-pub returns-in-Ok-clause-does : goal.returns-in-Ok-clause-does
-returns-in-Ok-clause-does g c =
+pub returns-in-Conn-clause-does : goal.returns-in-Conn-clause-does
+returns-in-Conn-clause-does g c =
     let old : Running = record { machine = c.self.inside.machine.past; peers = c.self.inside.peers.items } in
-    let new : Running = record { machine = c.open_conn.new.self.past; peers = c.push.new.self.items } in
+    let new : Running = record { machine = c.open_conn.new.self.past; peers = c.push_reserved.new.self.items } in
     let made = turn-opens old.machine new.machine c.in-Some.listener (opens.Conn c.in-Conn.field-0)
     c.in-Conn.ensures.turn c.open_conn.ensures.start in
     let found : listener_from 0 c.args.name.now old.machine.start.config.listeners ≡ Some c.in-Some.listener = cc in
@@ -32,11 +32,12 @@ returns-in-Ok-clause-does g c =
     (open-does old new c.args.conn c.in-Conn.field-0 c.in-Some.listener c.args.name.now c.new.result.items found next
     same made.0 made.2 added c.new.ensures.items)
 
-pub returns-in-Ok-clause-hears : goal.returns-in-Ok-clause-hears
-returns-in-Ok-clause-hears g c = λ most all.
+pub returns-in-Conn-clause-hears : goal.returns-in-Conn-clause-hears
+returns-in-Conn-clause-hears g c = λ most all.
     let peers = c.self.inside.peers.items in
     let before : peers ≡ c.args.self.now.peers = ap (λ (r : Running). r.peers) c.self.view_is in
-    let added : c.push.new.self.items ≡ peers ++ Open (nothing_heard c.args.conn) ∷ [] = grind (arith, common_steps) in
+    let added : c.push_reserved.new.self.items ≡ peers ++ Open (nothing_heard c.args.conn) ∷ [] =
+    grind (arith, common_steps) in
     let first : c.args.conn ≡ length peers + 1 = grind (arith, nat_tests) in
     subst (λ (ps : List Peer). AllHeard most ps) (sym added)
     (all-heard-pushed most c.args.conn peers first (subst (λ (ps : List Peer). AllHeard most ps) (sym before) all))
