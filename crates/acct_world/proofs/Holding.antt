@@ -10,12 +10,13 @@ use Rattle.acct_world.specs.declared.part.Part.{Part}
 use Rattle.acct_world.specs.declared.part.Part.TheVariants as part
 use Rattle.acct_links.specs.declared.callers.TakeError.{TakeError}
 use Rattle.acct_world.specs.World.{Seen, TakesSource, TakesSink, TakesKeeper, TakesEntrance, TakesCaller}
+use Rattle.acct_world.specs.World.{TakesSpawner}
 use Rattle.acct_world.specs.Memory.{WorldInMemory, shown, Hands, is_empty_name}
 
 rose : (faults counted : ℕ) → counted ≡ one_more faults → Rose faults counted
 rose faults counted counts = omega (arith, counts)
 
-pub sink-taken : {S T K E D C L : Type 0} (w : WorldInMemory S T K E D C L) (left : Option T) (noted : List Part)
+pub sink-taken : {S T K E D C L P : Type 0} (w : WorldInMemory S T K E D C L P) (left : Option T) (noted : List Part)
     (counted takes : ℕ)
     (to_fail : Bool) (answer : Result T TakeError) → noted ≡ w.asked ++ part.Sink ∷ []
     → Hands to_fail w.sink left w.sink_faults counted answer
@@ -38,6 +39,29 @@ sink-taken w left noted counted takes to_fail (Err e) notes hands = record {
   later = hands.later;
 }
 
+pub spawner-taken : {S T K E D C L P : Type 0} (w : WorldInMemory S T K E D C L P) (left : Option P) (noted : List Part)
+    (counted takes : ℕ)
+    (to_fail : Bool) (answer : Result P TakeError) → noted ≡ w.asked ++ part.Spawner ∷ []
+    → Hands to_fail w.spawner left w.spawner_faults counted answer
+    → TakesSpawner (shown w)
+    (shown (record w { spawner = left; asked = noted; spawner_faults = counted; takes = takes })) answer
+spawner-taken w left noted counted takes to_fail (Ok p) notes hands = record {
+  part = λ tells. hands.part;
+  kept = tt;
+  others = refl;
+  asked = λ tells. inl notes;
+  cause = λ is. absurd cc;
+  later = hands.later;
+}
+spawner-taken w left noted counted takes to_fail (Err e) notes hands = record {
+  part = tt;
+  kept = hands.kept;
+  others = refl;
+  asked = λ tells. inl notes;
+  cause = λ is. rose w.spawner_faults counted hands.count;
+  later = hands.later;
+}
+
 other-name : (other name target : List ℕ) → bytes_eq name target ≡ true → other ≢ name → bytes_eq other target ≡ false
 other-name other name target is differ =
     let P : Bool → Type 0 = λ b. bytes_eq other target ≡ b → bytes_eq other target ≡ false in
@@ -48,7 +72,7 @@ other-name other name target is differ =
     ] in
     split (bytes_eq other target) refl
 
-pub events-taken : {S T K E D C L : Type 0} (w : WorldInMemory S T K E D C L) (name : List ℕ) (left : Option S)
+pub events-taken : {S T K E D C L P : Type 0} (w : WorldInMemory S T K E D C L P) (name : List ℕ) (left : Option S)
     (noted : List Part)
     (counted takes : ℕ) (to_fail : Bool) (answer : Result S TakeError) → bytes_eq name (codes "-") ≡ true
     → noted ≡ w.asked ++ part.Source name ∷ [] → Hands to_fail w.events left w.source_faults counted answer
@@ -73,7 +97,7 @@ events-taken w name left noted counted takes to_fail (Err e) here notes hands = 
   later = hands.later;
 }
 
-pub config-taken : {S T K E D C L : Type 0} (w : WorldInMemory S T K E D C L) (name : List ℕ) (left : Option S)
+pub config-taken : {S T K E D C L P : Type 0} (w : WorldInMemory S T K E D C L P) (name : List ℕ) (left : Option S)
     (noted : List Part) (counted takes : ℕ) (fails known : Bool) (answer : Result S TakeError)
     → bytes_eq name (codes "-") ≡ false → bytes_eq name w.name ≡ known → noted ≡ w.asked ++ part.Source name ∷ []
     → Hands (fails || not known) w.config left w.source_faults counted answer
@@ -103,8 +127,8 @@ config-taken w name left noted counted takes fails known (Err e) not_events is n
       later = hands.later;
     }
 
-pub keeper-taken : {S T K E D C L : Type 0} (pairs : K
-    → Option (List Pair)) (w : WorldInMemory S T K E D C L) (name : List ℕ)
+pub keeper-taken : {S T K E D C L P : Type 0} (pairs : K
+    → Option (List Pair)) (w : WorldInMemory S T K E D C L P) (name : List ℕ)
     (left : Option K) (noted : List Part) (counted takes : ℕ) (fails known : Bool) (answer : Result K TakeError)
     → is_empty_name name ≡ known → noted ≡ w.asked ++ part.Keeper name ∷ []
     → Hands (fails || not known) w.keeper left w.keeper_faults counted answer
@@ -135,7 +159,8 @@ keeper-taken pairs w name left noted counted takes fails known (Err e) is notes 
   later = hands.later;
 }
 
-pub entrance-taken : {S T K E D C L : Type 0} (w : WorldInMemory S T K E D C L) (left : Option E) (noted : List Part)
+pub entrance-taken : {S T K E D C L P : Type 0} (w : WorldInMemory S T K E D C L P) (left : Option E)
+    (noted : List Part)
     (counted takes : ℕ) (to_fail : Bool) (answer : Result E TakeError) → noted ≡ w.asked ++ part.Entrance ∷ []
     → Hands to_fail w.entrance left w.entrance_faults counted answer
     → TakesEntrance (shown w)
@@ -157,7 +182,7 @@ entrance-taken w left noted counted takes to_fail (Err e) notes hands = record {
   later = hands.later;
 }
 
-pub caller-taken : {S T K E D C L : Type 0} (w : WorldInMemory S T K E D C L) (left : Option C) (noted : List Part)
+pub caller-taken : {S T K E D C L P : Type 0} (w : WorldInMemory S T K E D C L P) (left : Option C) (noted : List Part)
     (counted takes : ℕ) (to_fail : Bool) (answer : Result C TakeError) → noted ≡ w.asked ++ part.Caller ∷ []
     → Hands to_fail w.caller left w.caller_faults counted answer
     → TakesCaller (shown w)
@@ -181,29 +206,34 @@ caller-taken w left noted counted takes to_fail (Err e) notes hands = record {
 
 -- ---- the world is what its parts show
 
-pub seen-entrance : {S T K E D C L : Type 0} (w now : WorldInMemory S T K E D C L) (new : Seen S T K E D C L)
+pub seen-entrance : {S T K E D C L P : Type 0} (w now : WorldInMemory S T K E D C L P) (new : Seen S T K E D C L P)
     (answer : Result E TakeError) → w ≡ now → TakesEntrance (shown w) new answer → TakesEntrance (shown now) new answer
 seen-entrance w now new answer is takes =
-    subst (λ (x : WorldInMemory _ _ _ _ _ _ _). TakesEntrance (shown x) new answer) is takes
+    subst (λ (x : WorldInMemory _ _ _ _ _ _ _ _). TakesEntrance (shown x) new answer) is takes
 
-pub seen-caller : {S T K E D C L : Type 0} (w now : WorldInMemory S T K E D C L) (new : Seen S T K E D C L)
+pub seen-caller : {S T K E D C L P : Type 0} (w now : WorldInMemory S T K E D C L P) (new : Seen S T K E D C L P)
     (answer : Result C TakeError) → w ≡ now → TakesCaller (shown w) new answer → TakesCaller (shown now) new answer
 seen-caller w now new answer is takes =
-    subst (λ (x : WorldInMemory _ _ _ _ _ _ _). TakesCaller (shown x) new answer) is takes
+    subst (λ (x : WorldInMemory _ _ _ _ _ _ _ _). TakesCaller (shown x) new answer) is takes
 
-pub seen-sink : {S T K E D C L : Type 0} (w now : WorldInMemory S T K E D C L) (new : Seen S T K E D C L)
+pub seen-sink : {S T K E D C L P : Type 0} (w now : WorldInMemory S T K E D C L P) (new : Seen S T K E D C L P)
     (answer : Result T TakeError) → w ≡ now → TakesSink (shown w) new answer → TakesSink (shown now) new answer
 seen-sink w now new answer is takes =
-    subst (λ (x : WorldInMemory _ _ _ _ _ _ _). TakesSink (shown x) new answer) is takes
+    subst (λ (x : WorldInMemory _ _ _ _ _ _ _ _). TakesSink (shown x) new answer) is takes
 
-pub seen-source : {S T K E D C L : Type 0} (w now : WorldInMemory S T K E D C L) (new : Seen S T K E D C L)
+pub seen-spawner : {S T K E D C L P : Type 0} (w now : WorldInMemory S T K E D C L P) (new : Seen S T K E D C L P)
+    (answer : Result P TakeError) → w ≡ now → TakesSpawner (shown w) new answer → TakesSpawner (shown now) new answer
+seen-spawner w now new answer is takes =
+    subst (λ (x : WorldInMemory _ _ _ _ _ _ _ _). TakesSpawner (shown x) new answer) is takes
+
+pub seen-source : {S T K E D C L P : Type 0} (w now : WorldInMemory S T K E D C L P) (new : Seen S T K E D C L P)
     (name : List ℕ) (answer : Result S TakeError) → w ≡ now → TakesSource (shown w) new name answer
     → TakesSource (shown now) new name answer
 seen-source w now new name answer is takes =
-    subst (λ (x : WorldInMemory _ _ _ _ _ _ _). TakesSource (shown x) new name answer) is takes
+    subst (λ (x : WorldInMemory _ _ _ _ _ _ _ _). TakesSource (shown x) new name answer) is takes
 
-pub seen-keeper : {S T K E D C L : Type 0} (pairs : K → Option (List Pair)) (w now : WorldInMemory S T K E D C L)
-    (new : Seen S T K E D C L) (name : List ℕ) (answer : Result K TakeError) → w ≡ now
+pub seen-keeper : {S T K E D C L P : Type 0} (pairs : K → Option (List Pair)) (w now : WorldInMemory S T K E D C L P)
+    (new : Seen S T K E D C L P) (name : List ℕ) (answer : Result K TakeError) → w ≡ now
     → TakesKeeper pairs (shown w) new name answer → TakesKeeper pairs (shown now) new name answer
 seen-keeper pairs w now new name answer is takes =
-    subst (λ (x : WorldInMemory _ _ _ _ _ _ _). TakesKeeper pairs (shown x) new name answer) is takes
+    subst (λ (x : WorldInMemory _ _ _ _ _ _ _ _). TakesKeeper pairs (shown x) new name answer) is takes

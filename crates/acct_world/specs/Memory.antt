@@ -26,9 +26,9 @@ keeper_under keeper name = if is_empty_name name then keeper else None
 
 -- The name of the configuration, the parts that it has, the doors that were given back with the entrance and the link
 -- that was given back with the caller, the periods that it was given, the parts that it was asked for, how often
--- handing out a source, the sink, a keeper, the entrance or the caller has failed, how many handings out were asked
--- for, and the numbers of those that fail.
-pub record WorldInMemory (S T K E D C L : Type 0) : Type 0 where
+-- handing out a source, the sink, a keeper, the entrance, the caller or the spawner has failed, how many handings out
+-- were asked for, and the numbers of those that fail.
+pub record WorldInMemory (S T K E D C L P : Type 0) : Type 0 where
   pub name : List ℕ
   pub config : Option S
   pub events : Option S
@@ -38,6 +38,7 @@ pub record WorldInMemory (S T K E D C L : Type 0) : Type 0 where
   pub doors : List D
   pub caller : Option C
   pub talked : Option L
+  pub spawner : Option P
   pub periods : List Period
   pub asked : List Part
   pub source_faults : ℕ
@@ -45,10 +46,11 @@ pub record WorldInMemory (S T K E D C L : Type 0) : Type 0 where
   pub keeper_faults : ℕ
   pub entrance_faults : ℕ
   pub caller_faults : ℕ
+  pub spawner_faults : ℕ
   pub takes : ℕ
   pub failing : List ℕ
 
-abbrev pub shown : {S T K E D C L : Type 0} → WorldInMemory S T K E D C L → Seen S T K E D C L
+abbrev pub shown : {S T K E D C L P : Type 0} → WorldInMemory S T K E D C L P → Seen S T K E D C L P
 shown world = record {
   tells = true;
   knows = known_name world.name;
@@ -60,6 +62,7 @@ shown world = record {
   doors = world.doors;
   caller = world.caller;
   talked = world.talked;
+  spawner = world.spawner;
   periods = world.periods;
   asked = world.asked;
   source_faults = world.source_faults;
@@ -67,6 +70,7 @@ shown world = record {
   keeper_faults = world.keeper_faults;
   entrance_faults = world.entrance_faults;
   caller_faults = world.caller_faults;
+  spawner_faults = world.spawner_faults;
 }
 
 -- The part is noted after those that were asked for, and the number of handings out is one higher. It answers whether
@@ -91,8 +95,8 @@ pub record Hands {P : Type 0} (to_fail : Bool) (old new : Option P) (faults coun
 
 -- A handing out from a place has the next number. It fails exactly where that is one of those that fail or nothing is
 -- there, unless memory runs out.
-pub record TakesInMemory {S T K E D C L P : Type 0} (old new : WorldInMemory S T K E D C L) (place : Option P)
-    (answer : Result P TakeError) : Type 0 where
+pub record TakesInMemory {S T K E D C L P X : Type 0} (old new : WorldInMemory S T K E D C L P) (place : Option X)
+    (answer : Result X TakeError) : Type 0 where
   pub fails : answer ≢ Err NoMemory → is_err answer ≡ (is_among old.failing (one_more old.takes) || is_none place)
   pub number : answer ≢ Err NoMemory → new.takes ≡ one_more old.takes
   pub failing : new.failing ≡ old.failing

@@ -1,12 +1,13 @@
 // A world in memory.
 ghost use Rattle.std.specs.Prelude.{◌≡◌, [], Some, None, option_copied};
 ghost use Rattle.acct_world.specs.World.{TakesSource, TakesSink, TakesKeeper, TakesEntrance, GivesEntrance};
-ghost use Rattle.acct_world.specs.World.{TakesCaller, GivesCaller};
+ghost use Rattle.acct_world.specs.World.{TakesCaller, GivesCaller, TakesSpawner, GivesSpawner};
 ghost use Rattle.acct_world.specs.Memory.{shown, source_under, keeper_under, Notes, Hands, TakesInMemory};
 
 use crate::part::Part;
 use crate::period::Period;
 use crate::world::World;
+use account_hooks::Spawner;
 use acct_base::{Seq, is_same};
 use acct_keeper::{Keeper, Sink, Source};
 use acct_links::{Caller, Entrance, TakeError};
@@ -41,21 +42,22 @@ fn hand<P>(place: &mut Option<P>, to_fail: bool, faults: &mut u64) -> Result<P, 
 }
 
 /// What a world in memory has to hand out: the configuration, the events, the sink, the keeper with the empty name, the
-/// entrance, and the caller.
+/// entrance, the caller, and the spawner.
 #[derive(Drop)]
-pub struct MemoryParts<S: Drop, T: Drop, K: Drop, E: Drop, C: Drop> {
+pub struct MemoryParts<S: Drop, T: Drop, K: Drop, E: Drop, C: Drop, P: Drop> {
     pub config: S,
     pub events: S,
     pub sink: T,
     pub keeper: K,
     pub entrance: E,
     pub caller: C,
+    pub spawner: P,
 }
 
 /// A world with one configuration under its name, the events, a sink, one keeper, under the empty name, an entrance,
-/// the doors that were given back with it, a caller, the link that was given back with it, and the periods that it was
-/// given. Its handings out are numbered from 1, and those of the given numbers fail; so does one of a part that isn't
-/// there. It tells what it holds, and what it was asked for.
+/// the doors that were given back with it, a caller, the link that was given back with it, a spawner, and the periods
+/// that it was given. Its handings out are numbered from 1, and those of the given numbers fail; so does one of a part
+/// that isn't there. It tells what it holds, and what it was asked for.
 #[derive(Drop)]
 pub struct MemoryWorld<
     S: Source + Drop,
@@ -63,6 +65,7 @@ pub struct MemoryWorld<
     K: Keeper + Drop,
     E: Entrance + Drop,
     C: Caller + Drop,
+    P: Spawner + Drop,
 >
 where
     E::D: Drop,
@@ -78,6 +81,7 @@ where
     doors: Vec<E::D>,
     caller: Option<C>,
     talked: Option<C::L>,
+    spawner: Option<P>,
     periods: Vec<Period>,
     asked: Vec<Part>,
     failing: Vec<u64>,
@@ -87,17 +91,24 @@ where
     keeper_faults: u64,
     entrance_faults: u64,
     caller_faults: u64,
+    spawner_faults: u64,
 }
 
-impl<S: Source + Drop, T: Sink + Drop, K: Keeper + Drop, E: Entrance + Drop, C: Caller + Drop> Model
-    for MemoryWorld<S, T, K, E, C>
+impl<
+    S: Source + Drop,
+    T: Sink + Drop,
+    K: Keeper + Drop,
+    E: Entrance + Drop,
+    C: Caller + Drop,
+    P: Spawner + Drop,
+> Model for MemoryWorld<S, T, K, E, C, P>
 where
     E::D: Drop,
     C::L: Drop,
 {
     ghost use Rattle.acct_world.specs.Memory.{WorldInMemory};
 
-    ghost Value = { WorldInMemory S T K E E.D C C.L };
+    ghost Value = { WorldInMemory S T K E E.D C C.L P };
 
     ghost view = { λ w. record {
       name = w.name.items;
@@ -109,6 +120,7 @@ where
       doors = w.doors.items;
       caller = w.caller;
       talked = w.talked;
+      spawner = w.spawner;
       periods = w.periods.items;
       asked = w.asked.items;
       source_faults = w.source_faults;
@@ -116,6 +128,7 @@ where
       keeper_faults = w.keeper_faults;
       entrance_faults = w.entrance_faults;
       caller_faults = w.caller_faults;
+      spawner_faults = w.spawner_faults;
       takes = w.takes;
       failing = w.failing.items;
     } };
@@ -127,7 +140,8 @@ impl<
     K: Keeper + Drop,
     E: Entrance + Drop,
     C: Caller + Drop,
-> MemoryWorld<S, T, K, E, C>
+    P: Spawner + Drop,
+> MemoryWorld<S, T, K, E, C, P>
 where
     E::D: Drop,
     C::L: Drop,
@@ -136,7 +150,7 @@ where
     pub fn new(
         alloc: Global,
         name: Vec<u8>,
-        parts: MemoryParts<S, T, K, E, C>,
+        parts: MemoryParts<S, T, K, E, C, P>,
         failing: Vec<u64>,
     ) -> Self
         ensures { result ≡ record {
@@ -149,6 +163,7 @@ where
           doors = [];
           caller = Some parts.caller;
           talked = None;
+          spawner = Some parts.spawner;
           periods = [];
           asked = [];
           source_faults = 0;
@@ -156,6 +171,7 @@ where
           keeper_faults = 0;
           entrance_faults = 0;
           caller_faults = 0;
+          spawner_faults = 0;
           takes = 0;
           failing = failing.items;
         } }
@@ -171,6 +187,7 @@ where
             doors: Vec::new(alloc),
             caller: Some(parts.caller),
             talked: None,
+            spawner: Some(parts.spawner),
             periods: Vec::new(alloc),
             asked: Vec::new(alloc),
             failing,
@@ -180,6 +197,7 @@ where
             keeper_faults: 0,
             entrance_faults: 0,
             caller_faults: 0,
+            spawner_faults: 0,
         }
     }
 
@@ -225,6 +243,13 @@ where
         self.talked.as_ref()
     }
 
+    /// The spawner, if it is not out.
+    pub fn spawner(&self) -> Option<&P>
+        ensures { option_copied result ≡ self.now.spawner }
+    {
+        self.spawner.as_ref()
+    }
+
     /// The periods that it was given.
     pub fn periods(&self) -> &[Period]
         ensures { result.now ≡ self.now.periods }
@@ -246,7 +271,8 @@ impl<
     K: Keeper + Drop + Send,
     E: Entrance + Drop,
     C: Caller + Drop,
-> World for MemoryWorld<S, T, K, E, C>
+    P: Spawner + Drop,
+> World for MemoryWorld<S, T, K, E, C, P>
 where
     E::D: Drop,
     C::L: Drop,
@@ -260,6 +286,8 @@ where
     type E = E;
 
     type C = C;
+
+    type P = P;
 
     ghost seen = { λ w. shown w };
 
@@ -353,6 +381,25 @@ where
     {
         self.caller = Some(part);
         self.talked = link;
+    }
+
+    fn take_spawner(&mut self) -> Result<P, TakeError>
+        ensures takes { TakesSpawner (shown self.old) (shown self.new) result }
+        ensures counted { TakesInMemory self.old self.new self.old.spawner result }
+    {
+        let fails = note(
+            &mut self.asked,
+            Part::Spawner,
+            &self.failing,
+            &mut self.takes,
+        )?;
+        hand(&mut self.spawner, fails, &mut self.spawner_faults)
+    }
+
+    fn give_spawner(&mut self, part: P)
+        ensures gives { GivesSpawner (shown self.old) (shown self.new) part }
+    {
+        self.spawner = Some(part);
     }
 
     fn keep_period(&mut self, period: Period) -> Result<(), AllocError> {

@@ -11,4 +11,5 @@ pub enum Part {
     Keeper(Seq<u8>),
     Entrance,
     Caller,
+    Spawner,
 }

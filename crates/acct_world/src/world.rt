@@ -1,16 +1,18 @@
 // The world, which hands out what a command needs and takes it back.
 ghost use Rattle.acct_world.specs.World.{Seen, TakesSource, GivesSource, TakesSink, GivesSink, TakesKeeper};
 ghost use Rattle.acct_world.specs.World.{GivesKeeper};
-ghost use Rattle.acct_world.specs.World.{TakesEntrance, GivesEntrance, TakesCaller, GivesCaller, KeepsPeriod};
+ghost use Rattle.acct_world.specs.World.{TakesEntrance, GivesEntrance, TakesCaller, GivesCaller, TakesSpawner};
+ghost use Rattle.acct_world.specs.World.{GivesSpawner, KeepsPeriod};
 
 use crate::period::Period;
+use account_hooks::Spawner;
 use acct_keeper::{Keeper, Sink, Source};
 use acct_links::{Caller, Entrance, TakeError};
 use std::alloc::AllocError;
 
-/// What the program meets: sources and keepers by name, the sink, the entrance, the caller, and a place for the periods
-/// that it leaves. The source `-` is the standard input. The keeper with the empty name is one in memory, which holds
-/// no pair in the real world. A world in memory tells what it holds, the real one doesn't.
+/// What the program meets: sources and keepers by name, the sink, the entrance, the caller, the spawner, and a place
+/// for the periods that it leaves. The source `-` is the standard input. The keeper with the empty name is one in
+/// memory, which holds no pair in the real world. A world in memory tells what it holds, the real one doesn't.
 pub trait World {
     type S: Source;
 
@@ -22,8 +24,10 @@ pub trait World {
 
     type C: Caller;
 
+    type P: Spawner;
+
     /// What it shows.
-    ghost seen: { Self → Seen Self.S Self.T Self.K Self.E Self.E.D Self.C Self.C.L };
+    ghost seen: { Self → Seen Self.S Self.T Self.K Self.E Self.E.D Self.C Self.C.L Self.P };
 
     /// Hands out the source under a name.
     fn take_source(&mut self, name: &str) -> Result<Self::S, TakeError>
@@ -64,6 +68,14 @@ pub trait World {
     /// Has this caller from now on, and the link that it gave, if it gave one.
     fn give_caller(&mut self, part: Self::C, link: Option<<Self::C as Caller>::L>)
         ensures gives { GivesCaller (seen self.old) (seen self.new) part link };
+
+    /// Hands out the spawner.
+    fn take_spawner(&mut self) -> Result<Self::P, TakeError>
+        ensures takes { TakesSpawner (seen self.old) (seen self.new) result };
+
+    /// Has this spawner from now on.
+    fn give_spawner(&mut self, part: Self::P)
+        ensures gives { GivesSpawner (seen self.old) (seen self.new) part };
 
     /// Keeps what a replay or serving left.
     fn keep_period(&mut self, period: Period) -> Result<(), AllocError>

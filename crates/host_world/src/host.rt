@@ -8,9 +8,11 @@ ghost use Rattle.acct_links.specs.declared.callers.TakeError.TheVariants as take
 ghost use Rattle.host_world.specs.Host.{held_by, trouble_of, first_trouble, unread_after};
 ghost use Rattle.host_world.specs.declared.stranger.Stranger.TheVariants.{Other};
 
+use crate::failed_run::FailedRun;
 use crate::host_entrance::{SpokenEntrance, first_trouble};
 use crate::host_keeper::{BoardKeeper, HostKeeper};
 use crate::host_link::{HostCaller, HostLink};
+use crate::host_spawner::HostSpawner;
 use crate::opened::Opened;
 use crate::stranger::Stranger;
 use crate::trouble::Trouble;
@@ -123,8 +125,8 @@ impl<W: Write + Drop> Sink for HostSink<W> {
 /// The real world. The name `-` is the standard input, each other name of a source a file's path. The keeper with the
 /// empty name is a new one in memory each time, that with another name one in the file at that path. It keeps no
 /// period, but what went wrong with the last link or caller that was given back, and what answered over it, what went
-/// wrong with the last entrance or door, and why the last source that wasn't read wasn't. Its keepers and its entrances
-/// share a board of their periods, where there is memory for it.
+/// wrong with the last entrance or door, why the last source that wasn't read wasn't, and the last run of a program
+/// that didn't end with 0. Its keepers and its entrances share a board of their periods, where there is memory for it.
 #[derive(Drop)]
 pub struct HostWorld<'a> {
     rt: &'a HostRuntime,
@@ -136,6 +138,7 @@ pub struct HostWorld<'a> {
     stranger: Option<Stranger>,
     door_trouble: Option<DoorTrouble>,
     unread: Option<Unread>,
+    failed_run: Option<FailedRun>,
 }
 
 impl<'a> HostWorld<'a> {
@@ -147,6 +150,7 @@ impl<'a> HostWorld<'a> {
         ensures stranger { result.stranger ≡ None }
         ensures door_trouble { result.door_trouble ≡ None }
         ensures unread { result.unread ≡ None }
+        ensures failed_run { result.failed_run ≡ None }
     {
         HostWorld {
             rt,
@@ -158,6 +162,7 @@ impl<'a> HostWorld<'a> {
             stranger: None,
             door_trouble: None,
             unread: None,
+            failed_run: None,
         }
     }
 
@@ -180,6 +185,13 @@ impl<'a> HostWorld<'a> {
         ensures { option_copied result ≡ self.now.door_trouble }
     {
         self.door_trouble.as_ref()
+    }
+
+    /// The last run that didn't end with 0, of the last spawner that was given back.
+    pub fn failed_run(&self) -> Option<&FailedRun>
+        ensures { option_copied result ≡ self.now.failed_run }
+    {
+        self.failed_run.as_ref()
     }
 
     /// Why the last source that wasn't handed out or read wasn't.
@@ -209,6 +221,8 @@ impl<'a> World for HostWorld<'a> {
 
     type C = HostCaller<'a, HostRuntime>;
 
+    type P = HostSpawner;
+
     ghost seen = { λ w. record {
       tells = false;
       knows = λ _. false;
@@ -220,6 +234,7 @@ impl<'a> World for HostWorld<'a> {
       doors = [];
       caller = None;
       talked = None;
+      spawner = None;
       periods = [];
       asked = [];
       source_faults = w.source_faults;
@@ -227,6 +242,7 @@ impl<'a> World for HostWorld<'a> {
       keeper_faults = w.keeper_faults;
       entrance_faults = 0;
       caller_faults = 0;
+      spawner_faults = 0;
     } };
 
     fn take_source(
@@ -349,6 +365,21 @@ impl<'a> World for HostWorld<'a> {
             }
             None => self.trouble = part.into_trouble(),
         }
+    }
+
+    fn take_spawner(&mut self) -> Result<HostSpawner, TakeError>
+        ensures kept { self.new ≡ self.old }
+        ensures given { IsOk result }
+        ensures unfailed { IfOk result (λ spawner. spawner.trouble ≡ None) }
+    {
+        Ok(HostSpawner::new(self.rt))
+    }
+
+    fn give_spawner(&mut self, part: HostSpawner)
+        ensures kept { self.new ≡ record self.old { failed_run = self.new.failed_run } }
+        ensures failed_run { self.new.failed_run ≡ part.trouble }
+    {
+        self.failed_run = part.into_trouble();
     }
 
     fn keep_period(&mut self, period: Period) -> Result<(), AllocError>

@@ -11,7 +11,7 @@ returns-clause-takes g c =
     let s = c.self.inside in
     let n = c.args.name.now in
     let w : WorldInMemory g.row.S.Denot g.row.T.Denot g.row.K.Denot g.row.E.Denot g.row.E-D.Denot g.row.C.Denot
-    g.row.C-L.Denot = record {
+    g.row.C-L.Denot g.row.P.Denot = record {
       name = s.name.items;
       config = s.config;
       events = s.events;
@@ -21,6 +21,7 @@ returns-clause-takes g c =
       doors = s.doors.items;
       caller = s.caller;
       talked = s.talked;
+      spawner = s.spawner;
       periods = s.periods.items;
       asked = s.asked.items;
       source_faults = s.source_faults;
@@ -28,6 +29,7 @@ returns-clause-takes g c =
       keeper_faults = s.keeper_faults;
       entrance_faults = s.entrance_faults;
       caller_faults = s.caller_faults;
+      spawner_faults = s.spawner_faults;
       takes = s.takes;
       failing = s.failing.items;
     } in

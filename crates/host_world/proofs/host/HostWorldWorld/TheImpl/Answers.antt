@@ -6,14 +6,14 @@ use Rattle.acct_keeper.specs.Causes.{Rose}
 use Rattle.acct_links.specs.declared.callers.TakeError.{TakeError}
 use Rattle.acct_links.specs.declared.callers.TakeError.TheVariants.{Failed}
 use Rattle.acct_world.specs.World.{Seen, TakesSource, TakesSink, TakesKeeper, TakesEntrance, TakesCaller, KeepsPeriod}
-use Rattle.acct_world.specs.World.{GivesSource, GivesEntrance, GivesCaller}
+use Rattle.acct_world.specs.World.{GivesSource, GivesEntrance, GivesCaller, GivesSpawner, TakesSpawner}
 use Rattle.acct_world.specs.declared.period.Period.{Period}
 use Rattle.host_world.specs.Host.{held_by}
 use Rattle.host_world.specs.declared.host.HostWorld.{HostWorld}
 use Rattle.host_world.proofs.host.HostWorldWorld.TheImpl.Goals as goal
 
 -- what the real world shows: its counts of sources and of keepers that weren't handed out
-abbrev real : {S T K E D C L : Type 0} → ℕ → ℕ → Seen S T K E D C L
+abbrev real : {S T K E D C L P : Type 0} → ℕ → ℕ → Seen S T K E D C L P
 real sources keepers = record {
   tells = false;
   knows = λ name. false;
@@ -25,6 +25,7 @@ real sources keepers = record {
   doors = [];
   caller = None;
   talked = None;
+  spawner = None;
   periods = [];
   asked = [];
   source_faults = sources;
@@ -32,37 +33,48 @@ real sources keepers = record {
   keeper_faults = keepers;
   entrance_faults = 0;
   caller_faults = 0;
+  spawner_faults = 0;
 }
 
-same : {S T K E D C L : Type 0} (sources keepers sources_now keepers_now : ℕ) → sources_now ≡ sources
+same : {S T K E D C L P : Type 0} (sources keepers sources_now keepers_now : ℕ) → sources_now ≡ sources
     → keepers_now ≡ keepers
-    → real {S = S} {T = T} {K = K} {E = E} {D = D} {C = C} {L = L} sources_now keepers_now ≡ real sources keepers
+    → real {S = S} {T = T} {K = K} {E = E} {D = D} {C = C} {L = L} {P = P} sources_now keepers_now
+    ≡ real sources keepers
 same sources keepers sources_now keepers_now same_sources same_keepers =
     ap (λ (n : ℕ). real n keepers_now) same_sources ∙ ap (λ (n : ℕ). real sources n) same_keepers
 
-given : {S T K E D C L : Type 0} (sources keepers sources_now keepers_now : ℕ) (part : C) (link : Option L)
+given : {S T K E D C L P : Type 0} (sources keepers sources_now keepers_now : ℕ) (part : C) (link : Option L)
     → sources_now ≡ sources → keepers_now ≡ keepers
-    → GivesCaller {S = S} {T = T} {K = K} {E = E} {D = D} (real sources keepers) (real sources_now keepers_now) part
-    link
+    → GivesCaller {S = S} {T = T} {K = K} {E = E} {D = D} {P = P} (real sources keepers)
+    (real sources_now keepers_now) part link
 given sources keepers sources_now keepers_now part link same_sources same_keepers = record {
   holds = λ tells. absurd cc;
   talked = λ tells. absurd cc;
   others = same sources keepers sources_now keepers_now same_sources same_keepers;
 }
 
-given-doors : {S T K E D C L : Type 0} (sources keepers sources_now keepers_now : ℕ) (part : E) (doors : List D)
+given-doors : {S T K E D C L P : Type 0} (sources keepers sources_now keepers_now : ℕ) (part : E) (doors : List D)
     → sources_now ≡ sources → keepers_now ≡ keepers
-    → GivesEntrance {S = S} {T = T} {K = K} {C = C} {L = L} (real sources keepers) (real sources_now keepers_now) part
-    doors
+    → GivesEntrance {S = S} {T = T} {K = K} {C = C} {L = L} {P = P} (real sources keepers)
+    (real sources_now keepers_now) part doors
 given-doors sources keepers sources_now keepers_now part doors same_sources same_keepers = record {
   holds = λ tells. absurd cc;
   back = λ tells. absurd cc;
   others = same sources keepers sources_now keepers_now same_sources same_keepers;
 }
 
-given-source : {S T K E D C L : Type 0} (sources keepers sources_now keepers_now : ℕ) (name : List ℕ) (part : S)
+given-spawner : {S T K E D C L P : Type 0} (sources keepers sources_now keepers_now : ℕ) (part : P)
     → sources_now ≡ sources → keepers_now ≡ keepers
-    → GivesSource {T = T} {K = K} {E = E} {D = D} {C = C} {L = L} (real sources keepers)
+    → GivesSpawner {S = S} {T = T} {K = K} {E = E} {D = D} {C = C} {L = L} (real sources keepers)
+    (real sources_now keepers_now) part
+given-spawner sources keepers sources_now keepers_now part same_sources same_keepers = record {
+  holds = λ tells. absurd cc;
+  others = same sources keepers sources_now keepers_now same_sources same_keepers;
+}
+
+given-source : {S T K E D C L P : Type 0} (sources keepers sources_now keepers_now : ℕ) (name : List ℕ) (part : S)
+    → sources_now ≡ sources → keepers_now ≡ keepers
+    → GivesSource {T = T} {K = K} {E = E} {D = D} {C = C} {L = L} {P = P} (real sources keepers)
     (real sources_now keepers_now) name part
 given-source sources keepers sources_now keepers_now name part same_sources same_keepers = record {
   holds = λ tells knows. absurd cc;
@@ -71,10 +83,10 @@ given-source sources keepers sources_now keepers_now name part same_sources same
 }
 
 -- a source, or Failed where the count of its faults rose
-taken-source : {S T K E D C L : Type 0} (sources keepers sources_now keepers_now : ℕ) (name : List ℕ)
+taken-source : {S T K E D C L P : Type 0} (sources keepers sources_now keepers_now : ℕ) (name : List ℕ)
     (answer : Result S TakeError) → OnErr answer (Rose sources sources_now) → sources ≤ sources_now
     → keepers_now ≡ keepers
-    → TakesSource {T = T} {K = K} {E = E} {D = D} {C = C} {L = L} (real sources keepers)
+    → TakesSource {T = T} {K = K} {E = E} {D = D} {C = C} {L = L} {P = P} (real sources keepers)
     (real sources_now keepers_now) name answer
 taken-source sources keepers sources_now keepers_now name (Ok part) cause later same_keepers = record {
   part = λ tells. absurd cc;
@@ -95,11 +107,11 @@ taken-source sources keepers sources_now keepers_now name (Err e) cause later sa
   later = later;
 }
 
-taken-keeper : {S T K E D C L : Type 0} (pairs : K → Option (List Pair))
+taken-keeper : {S T K E D C L P : Type 0} (pairs : K → Option (List Pair))
     (sources keepers sources_now keepers_now : ℕ) (name : List ℕ) (answer : Result K TakeError)
     → IfOk answer (λ keeper. name ≡ [] → pairs keeper ≡ Some [])
     → (answer ≡ Err Failed → Rose keepers keepers_now) → keepers ≤ keepers_now → sources_now ≡ sources
-    → TakesKeeper {S = S} {T = T} {E = E} {D = D} {C = C} {L = L} pairs (real sources keepers)
+    → TakesKeeper {S = S} {T = T} {E = E} {D = D} {C = C} {L = L} {P = P} pairs (real sources keepers)
     (real sources_now keepers_now) name answer
 taken-keeper pairs sources keepers sources_now keepers_now name (Ok part) empty cause later same_sources = record {
   part = λ tells. absurd cc;
@@ -122,9 +134,9 @@ taken-keeper pairs sources keepers sources_now keepers_now name (Err e) empty ca
   later = later;
 }
 
-taken-sink : {S T K E D C L : Type 0} (sources keepers sources_now keepers_now : ℕ) (answer : Result T TakeError)
+taken-sink : {S T K E D C L P : Type 0} (sources keepers sources_now keepers_now : ℕ) (answer : Result T TakeError)
     → IsOk answer → sources_now ≡ sources → keepers_now ≡ keepers
-    → TakesSink {S = S} {K = K} {E = E} {D = D} {C = C} {L = L} (real sources keepers)
+    → TakesSink {S = S} {K = K} {E = E} {D = D} {C = C} {L = L} {P = P} (real sources keepers)
     (real sources_now keepers_now) answer
 taken-sink sources keepers sources_now keepers_now (Ok part) given same_sources same_keepers = record {
   part = λ tells. absurd cc;
@@ -136,9 +148,23 @@ taken-sink sources keepers sources_now keepers_now (Ok part) given same_sources 
 }
 taken-sink sources keepers sources_now keepers_now (Err e) given same_sources same_keepers = absurd cc
 
-taken-entrance : {S T K E D C L : Type 0} (sources keepers sources_now keepers_now : ℕ)
+taken-spawner : {S T K E D C L P : Type 0} (sources keepers sources_now keepers_now : ℕ) (answer : Result P TakeError)
+    → IsOk answer → sources_now ≡ sources → keepers_now ≡ keepers
+    → TakesSpawner {S = S} {T = T} {K = K} {E = E} {D = D} {C = C} {L = L} (real sources keepers)
+    (real sources_now keepers_now) answer
+taken-spawner sources keepers sources_now keepers_now (Ok part) given same_sources same_keepers = record {
+  part = λ tells. absurd cc;
+  kept = tt;
+  others = same sources keepers sources_now keepers_now same_sources same_keepers;
+  asked = λ tells. absurd cc;
+  cause = λ failed. absurd cc;
+  later = omega arith;
+}
+taken-spawner sources keepers sources_now keepers_now (Err e) given same_sources same_keepers = absurd cc
+
+taken-entrance : {S T K E D C L P : Type 0} (sources keepers sources_now keepers_now : ℕ)
     (answer : Result E TakeError) → IsOk answer → sources_now ≡ sources → keepers_now ≡ keepers
-    → TakesEntrance {S = S} {T = T} {K = K} {D = D} {C = C} {L = L} (real sources keepers)
+    → TakesEntrance {S = S} {T = T} {K = K} {D = D} {C = C} {L = L} {P = P} (real sources keepers)
     (real sources_now keepers_now) answer
 taken-entrance sources keepers sources_now keepers_now (Ok part) given same_sources same_keepers = record {
   part = λ tells. absurd cc;
@@ -150,9 +176,9 @@ taken-entrance sources keepers sources_now keepers_now (Ok part) given same_sour
 }
 taken-entrance sources keepers sources_now keepers_now (Err e) given same_sources same_keepers = absurd cc
 
-taken-caller : {S T K E D C L : Type 0} (sources keepers sources_now keepers_now : ℕ)
+taken-caller : {S T K E D C L P : Type 0} (sources keepers sources_now keepers_now : ℕ)
     (answer : Result C TakeError) → IsOk answer → sources_now ≡ sources → keepers_now ≡ keepers
-    → TakesCaller {S = S} {T = T} {K = K} {E = E} {D = D} {L = L} (real sources keepers)
+    → TakesCaller {S = S} {T = T} {K = K} {E = E} {D = D} {L = L} {P = P} (real sources keepers)
     (real sources_now keepers_now) answer
 taken-caller sources keepers sources_now keepers_now (Ok part) given same_sources same_keepers = record {
   part = λ tells. absurd cc;
@@ -164,9 +190,9 @@ taken-caller sources keepers sources_now keepers_now (Ok part) given same_source
 }
 taken-caller sources keepers sources_now keepers_now (Err e) given same_sources same_keepers = absurd cc
 
-kept-period : {S T K E D C L X : Type 0} (sources keepers sources_now keepers_now : ℕ) (period : Period)
+kept-period : {S T K E D C L P X : Type 0} (sources keepers sources_now keepers_now : ℕ) (period : Period)
     (answer : Result (Unit {0}) X) → IsOk answer → sources_now ≡ sources → keepers_now ≡ keepers
-    → KeepsPeriod {S = S} {T = T} {K = K} {E = E} {D = D} {C = C} {L = L} (real sources keepers)
+    → KeepsPeriod {S = S} {T = T} {K = K} {E = E} {D = D} {C = C} {L = L} {P = P} (real sources keepers)
     (real sources_now keepers_now) period answer
 kept-period sources keepers sources_now keepers_now period (Ok done) given same_sources same_keepers = record {
   kept = λ tells. absurd cc;
@@ -194,13 +220,23 @@ take_sink-tells g x d c =
           (ap (λ (w : HostWorld). w.keeper_faults) c.ensures.kept);
     }
 
+pub take_spawner-tells : goal.take_spawner-tells
+take_spawner-tells g x d c =
+    let old = c.args.self.now in
+    let new = c.new.self.now in
+    record {
+      takes = taken-spawner old.source_faults old.keeper_faults new.source_faults new.keeper_faults c.result
+          c.ensures.given (ap (λ (w : HostWorld). w.source_faults) c.ensures.kept)
+          (ap (λ (w : HostWorld). w.keeper_faults) c.ensures.kept);
+    }
+
 pub take_keeper-tells : goal.take_keeper-tells
 take_keeper-tells g x d c =
     let old = c.args.self.now in
     let new = c.new.self.now in
     record {
-      takes = taken-keeper (λ told. held_by told.keeper) old.source_faults old.keeper_faults new.source_faults new.keeper_faults
-          c.args.name.now c.result c.ensures.empty c.ensures.cause c.ensures.later
+      takes = taken-keeper (λ told. held_by told.keeper) old.source_faults old.keeper_faults new.source_faults
+          new.keeper_faults c.args.name.now c.result c.ensures.empty c.ensures.cause c.ensures.later
           (ap (λ (w : HostWorld). w.source_faults) c.ensures.kept);
     }
 
@@ -260,6 +296,16 @@ give_caller-tells g x d c =
     let new = c.new.self.now in
     record {
       gives = given old.source_faults old.keeper_faults new.source_faults new.keeper_faults c.args.part c.args.link
+          (ap (λ (w : HostWorld). w.source_faults) c.ensures.kept)
+          (ap (λ (w : HostWorld). w.keeper_faults) c.ensures.kept);
+    }
+
+pub give_spawner-tells : goal.give_spawner-tells
+give_spawner-tells g x d c =
+    let old = c.args.self.now in
+    let new = c.new.self.now in
+    record {
+      gives = given-spawner old.source_faults old.keeper_faults new.source_faults new.keeper_faults c.args.part
           (ap (λ (w : HostWorld). w.source_faults) c.ensures.kept)
           (ap (λ (w : HostWorld). w.keeper_faults) c.ensures.kept);
     }
