@@ -4,7 +4,7 @@ use Rattle.acct_server.specs.declared.status.Status.{Status}
 use Rattle.acct_server.specs.declared.status.Status.TheVariants.{Done, NoMemory, Usage, Config, ReadFault, WriteFault}
 use Rattle.acct_server.specs.declared.status.Status.TheVariants.{StoreFault, StoredPair, EventLine, DoorFault}
 use Rattle.acct_server.specs.declared.status.Status.TheVariants.{HistoryFull, PeerBytes, PeerFault, InputTooLong}
-use Rattle.acct_server.specs.declared.status.Status.TheVariants.{Refused}
+use Rattle.acct_server.specs.declared.status.Status.TheVariants.{Refused, HookHeld, HookStore, SpawnFault}
 
 abbrev pub code_of : Status → ℕ
 code_of Done = 0
@@ -22,6 +22,9 @@ code_of (PeerBytes place) = 11
 code_of PeerFault = 12
 code_of InputTooLong = 13
 code_of (Refused number) = 14
+code_of (HookHeld number) = 15
+code_of (HookStore count) = 16
+code_of SpawnFault = 17
 
 abbrev pub word_of : Status → List ℕ
 word_of Done = codes "done"
@@ -39,6 +42,9 @@ word_of (PeerBytes place) = codes "peer"
 word_of PeerFault = codes "link"
 word_of InputTooLong = codes "long"
 word_of (Refused number) = codes "refused"
+word_of (HookHeld number) = codes "hook"
+word_of (HookStore count) = codes "outbox"
+word_of SpawnFault = codes "spawner"
 
 -- a message says what happened, with what the status carries; of the others the world tells more, or there is no more
 abbrev pub has_message : Status → Bool
@@ -57,3 +63,6 @@ has_message (PeerBytes place) = false
 has_message PeerFault = false
 has_message InputTooLong = true
 has_message (Refused number) = false
+has_message (HookHeld number) = false
+has_message (HookStore count) = true
+has_message SpawnFault = false

@@ -23,7 +23,9 @@ fn rule_of(number: u32) -> &'static str {
         7 => "each workers is 1 to 64, and each links 0 to 4294967295",
         8 => "each owner is a SID",
         9 => "each aces has at most 800 entries: allow or deny, a mask, flags and a SID",
-        _ => "each limit is in its range",
+        10 => "each limit is in its range",
+        11 => "hook.program is a text that isn't empty, and hook.tries 1 to 100",
+        _ => "there is a table hook, whose program is run",
     }
 }
 
@@ -127,7 +129,7 @@ pub fn message(
         Status::Config(rule) => of_config(alloc, name, *rule, place)?,
         Status::ReadFault => of_source(alloc, name, unread)?,
         Status::WriteFault => of_output(alloc)?,
-        Status::StoreFault => of_store(alloc, store)?,
+        Status::StoreFault | Status::HookStore(_) => of_store(alloc, store)?,
         Status::StoredPair(key) => of_pair(alloc, store, key.as_slice())?,
         Status::EventLine(line) => of_event(alloc, *line)?,
         Status::HistoryFull(count) => of_history(alloc, name, *count)?,

@@ -16,6 +16,7 @@ fn of_key(alloc: Global, section: Section, key: &str) -> Result<String, AllocErr
             format!(in alloc; " at {key:?} in [descriptor.{name}]")
         }
         Section::Limits => format!(in alloc; " at {key:?} in [limits]"),
+        Section::Hook => format!(in alloc; " at {key:?} in [hook]"),
     }
 }
 

@@ -24,6 +24,9 @@ pub fn code_of(status: &Status) -> u8
         Status::PeerFault => 12,
         Status::InputTooLong => 13,
         Status::Refused(_) => 14,
+        Status::HookHeld(_) => 15,
+        Status::HookStore(_) => 16,
+        Status::SpawnFault => 17,
     }
 }
 
@@ -47,5 +50,8 @@ pub fn word_of(status: &Status) -> &'static str
         Status::PeerFault => "link",
         Status::InputTooLong => "long",
         Status::Refused(_) => "refused",
+        Status::HookHeld(_) => "hook",
+        Status::HookStore(_) => "outbox",
+        Status::SpawnFault => "spawner",
     }
 }

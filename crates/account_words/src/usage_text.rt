@@ -8,6 +8,7 @@ const ABOUT: &str =
 
 const FORMS: &str = "account replay CONFIG
        account serve CONFIG STORE
+       account hooks CONFIG STORE
        account call ADDRESS WORD..
        account gen N";
 
@@ -15,6 +16,9 @@ const REPLAY: &str = "Answer the events of the standard input under the configur
 
 const SERVE: &str =
     "Listen under the configuration in a file, with the accounts in a store, and answer clients";
+
+const HOOKS: &str =
+    "Run the program of the configuration for each change of an account that waits in a store";
 
 const CALL: &str = "Ask the server at an address, tcp:HOST:PORT or unix:PATH, and print its answer";
 
@@ -52,6 +56,7 @@ fn account<'a>(alloc: Global) -> Result<Command<'a>, NoMemory> {
             .override_usage(FORMS)
             .subcommand(named(alloc, "replay", REPLAY))?
             .subcommand(named(alloc, "serve", SERVE))?
+            .subcommand(named(alloc, "hooks", HOOKS))?
             .subcommand(named(alloc, "call", CALL))?
             .subcommand(named(alloc, "gen", GENERATE))?
             .disable_help_flag(true)

@@ -13,8 +13,9 @@ use Rattle.acct_client.specs.declared.ends.TalkEnd.TheVariants as talk
 use Rattle.acct_world.specs.declared.part.Part.TheVariants as part
 use Rattle.acct_server.specs.declared.status.Status.{Status}
 use Rattle.acct_commands.specs.Statuses.{talk_status}
-use Rattle.acct_commands.specs.Words.{Form, Replay, Generate, Serve, Call, Calling, ServeNames, calling, calling_at}
-use Rattle.acct_commands.specs.Words.{call_form, is_call_form, replay_form, gen_form, serve_form, form_of}
+use Rattle.acct_commands.specs.Words.{Form, Replay, Generate, Serve, Hooks, Call, Calling, ServeNames, calling}
+use Rattle.acct_commands.specs.Words.{calling_at, call_form, is_call_form, replay_form, gen_form, serve_form}
+use Rattle.acct_commands.specs.Words.{hooks_form, form_of}
 use Rattle.acct_client.specs.declared.dialogue.Talk.{Talk}
 use Rattle.acct_client.specs.Dialogues.{begun}
 use Rattle.acct_client.specs.Talks.{IsBegun}
@@ -69,8 +70,8 @@ have-talked told command end printing status old new None law is talks = tt
 
 -- ---- the command
 
-pub has-called : {S T K E D C L : Type 0} (told : TellingCall T C L) (calling : Calling)
-    (w0 w1 w2 w3 w4 : Seen S T K E D C L)
+pub has-called : {S T K E D C L P : Type 0} (told : TellingCall T C L) (calling : Calling)
+    (w0 w1 w2 w3 w4 : Seen S T K E D C L P)
     (caller caller_after : C) (sink sink_after : T) (end : TalkEnd) (printing : Result (Unit {0}) Failed)
     (link : Option L) (status : Status) → ComesToItsEnd → status ≡ talk_status end printing
     → TakesCaller w0 w1 (Ok caller) → TakesSink w1 w2 (Ok sink)
@@ -83,9 +84,9 @@ pub has-called : {S T K E D C L : Type 0} (told : TellingCall T C L) (calling : 
     → GivesCaller w3 w4 caller_after link → HasCalled told calling w0 w4 status
 has-called told calling w0 w1 w2 w3 w4 caller caller_after sink sink_after end printing link status law is takes taken
     talks none called later gives given =
-    let tells1 : w1.tells ≡ w0.tells = ap (λ (s : Seen _ _ _ _ _ _ _). s.tells) takes.others in
-    let tells2 : w2.tells ≡ w0.tells = ap (λ (s : Seen _ _ _ _ _ _ _). s.tells) taken.others ∙ tells1 in
-    let tells3 : w3.tells ≡ w0.tells = ap (λ (s : Seen _ _ _ _ _ _ _). s.tells) gives.others ∙ tells2 in
+    let tells1 : w1.tells ≡ w0.tells = ap (λ (s : Seen _ _ _ _ _ _ _ _). s.tells) takes.others in
+    let tells2 : w2.tells ≡ w0.tells = ap (λ (s : Seen _ _ _ _ _ _ _ _). s.tells) taken.others ∙ tells1 in
+    let tells3 : w3.tells ≡ w0.tells = ap (λ (s : Seen _ _ _ _ _ _ _ _). s.tells) gives.others ∙ tells2 in
     record {
       caller = caller;
       caller_after = caller_after;
@@ -101,28 +102,32 @@ has-called told calling w0 w1 w2 w3 w4 caller caller_after sink sink_after end p
       called = called;
       later = later;
       took_caller = λ tells. takes.part tells;
-      took_sink = λ tells. sym (ap (λ (s : Seen _ _ _ _ _ _ _). s.sink) takes.others) ∙ taken.part (tells1 ∙ tells);
+      took_sink = λ tells. sym (ap (λ (s : Seen _ _ _ _ _ _ _ _). s.sink) takes.others) ∙ taken.part (tells1 ∙ tells);
       gave_caller = λ tells. given.holds (tells3 ∙ tells);
-      gave_sink = λ tells. ap (λ (s : Seen _ _ _ _ _ _ _). s.sink) given.others ∙ gives.holds (tells2 ∙ tells);
+      gave_sink = λ tells. ap (λ (s : Seen _ _ _ _ _ _ _ _). s.sink) given.others ∙ gives.holds (tells2 ∙ tells);
       talked = λ tells. given.talked (tells3 ∙ tells);
-      sources = λ name. ap (λ (s : Seen _ _ _ _ _ _ _). s.source name) given.others
-          ∙ ap (λ (s : Seen _ _ _ _ _ _ _). s.source name) gives.others
-          ∙ ap (λ (s : Seen _ _ _ _ _ _ _). s.source name) taken.others
-          ∙ ap (λ (s : Seen _ _ _ _ _ _ _). s.source name) takes.others;
-      keepers = λ name. ap (λ (s : Seen _ _ _ _ _ _ _). s.keeper name) given.others
-          ∙ ap (λ (s : Seen _ _ _ _ _ _ _). s.keeper name) gives.others
-          ∙ ap (λ (s : Seen _ _ _ _ _ _ _). s.keeper name) taken.others
-          ∙ ap (λ (s : Seen _ _ _ _ _ _ _). s.keeper name) takes.others;
-      entrance = ap (λ (s : Seen _ _ _ _ _ _ _). s.entrance) given.others
-          ∙ ap (λ (s : Seen _ _ _ _ _ _ _). s.entrance) gives.others
-          ∙ ap (λ (s : Seen _ _ _ _ _ _ _). s.entrance) taken.others
-          ∙ ap (λ (s : Seen _ _ _ _ _ _ _). s.entrance) takes.others;
-      periods = ap (λ (s : Seen _ _ _ _ _ _ _). s.periods) given.others
-          ∙ ap (λ (s : Seen _ _ _ _ _ _ _). s.periods) gives.others
-          ∙ ap (λ (s : Seen _ _ _ _ _ _ _). s.periods) taken.others
-          ∙ ap (λ (s : Seen _ _ _ _ _ _ _). s.periods) takes.others;
-      asked = λ tells. ap (λ (s : Seen _ _ _ _ _ _ _). s.asked) given.others
-          ∙ ap (λ (s : Seen _ _ _ _ _ _ _). s.asked) gives.others
+      sources = λ name. ap (λ (s : Seen _ _ _ _ _ _ _ _). s.source name) given.others
+          ∙ ap (λ (s : Seen _ _ _ _ _ _ _ _). s.source name) gives.others
+          ∙ ap (λ (s : Seen _ _ _ _ _ _ _ _). s.source name) taken.others
+          ∙ ap (λ (s : Seen _ _ _ _ _ _ _ _). s.source name) takes.others;
+      keepers = λ name. ap (λ (s : Seen _ _ _ _ _ _ _ _). s.keeper name) given.others
+          ∙ ap (λ (s : Seen _ _ _ _ _ _ _ _). s.keeper name) gives.others
+          ∙ ap (λ (s : Seen _ _ _ _ _ _ _ _). s.keeper name) taken.others
+          ∙ ap (λ (s : Seen _ _ _ _ _ _ _ _). s.keeper name) takes.others;
+      spawner = ap (λ (s : Seen _ _ _ _ _ _ _ _). s.spawner) given.others
+          ∙ ap (λ (s : Seen _ _ _ _ _ _ _ _). s.spawner) gives.others
+          ∙ ap (λ (s : Seen _ _ _ _ _ _ _ _). s.spawner) taken.others
+          ∙ ap (λ (s : Seen _ _ _ _ _ _ _ _). s.spawner) takes.others;
+      entrance = ap (λ (s : Seen _ _ _ _ _ _ _ _). s.entrance) given.others
+          ∙ ap (λ (s : Seen _ _ _ _ _ _ _ _). s.entrance) gives.others
+          ∙ ap (λ (s : Seen _ _ _ _ _ _ _ _). s.entrance) taken.others
+          ∙ ap (λ (s : Seen _ _ _ _ _ _ _ _). s.entrance) takes.others;
+      periods = ap (λ (s : Seen _ _ _ _ _ _ _ _). s.periods) given.others
+          ∙ ap (λ (s : Seen _ _ _ _ _ _ _ _). s.periods) gives.others
+          ∙ ap (λ (s : Seen _ _ _ _ _ _ _ _). s.periods) taken.others
+          ∙ ap (λ (s : Seen _ _ _ _ _ _ _ _). s.periods) takes.others;
+      asked = λ tells. ap (λ (s : Seen _ _ _ _ _ _ _ _). s.asked) given.others
+          ∙ ap (λ (s : Seen _ _ _ _ _ _ _ _). s.asked) gives.others
           ∙ asked-more w0.asked w1.asked w2.asked (part.Caller ∷ []) part.Sink
           (asked-ok part.Caller w0.asked w1.asked caller (Ok caller) refl (takes.asked tells))
           (asked-ok part.Sink w1.asked w2.asked sink (Ok sink) refl (taken.asked (tells1 ∙ tells)));
@@ -172,16 +177,19 @@ no-call-form words rest address is here behind none =
 -- ---- the words of no other command
 
 call-alone : (words : List (List ℕ)) (form : Form) → replay_form words ≡ None → gen_form words ≡ None
-    → serve_form words ≡ None → form_of words ≡ Some form → option_map Call (call_form words) ≡ Some form
-call-alone words form no_replay no_gen no_serve is =
+    → serve_form words ≡ None → hooks_form words ≡ None → form_of words ≡ Some form
+    → option_map Call (call_form words) ≡ Some form
+call-alone words form no_replay no_gen no_serve no_hooks is =
     let called : Option Form = option_map Call (call_form words) in
-    let behind : Option Form = option_or (option_map Serve (serve_form words)) called in
+    let drained : Option Form = option_or (option_map Hooks (hooks_form words)) called in
+    let behind : Option Form = option_or (option_map Serve (serve_form words)) drained in
     sym (ap (λ (o : Option (List ℕ)). option_or (option_map Replay o)
     (option_or (option_map Generate (gen_form words)) behind)) no_replay
     ∙ ap (λ (o : Option ℕ). option_or (option_map Generate o) behind) no_gen
-    ∙ ap (λ (o : Option ServeNames). option_or (option_map Serve o) called) no_serve) ∙ is
+    ∙ ap (λ (o : Option ServeNames). option_or (option_map Serve o) drained) no_serve
+    ∙ ap (λ (o : Option ServeNames). option_or (option_map Hooks o) called) no_hooks) ∙ is
 
-does-of : {S T K E D F C L : Type 0} (told : TellingAll S T K E D F C L) (old new : Seen S T K E D C L)
+does-of : {S T K E D F C L P : Type 0} (told : TellingAll S T K E D F C L P) (old new : Seen S T K E D C L P)
     (status : Status) (o : Option Calling) (form : Form) → option_map Call o ≡ Some form
     → ((calling : Calling) → o ≡ Some calling → Calls told.call calling old new status)
     → Does told form old new status
@@ -190,10 +198,11 @@ does-of told old new status (Some calling) form is calls =
     let e : Call calling ≡ form = cc in subst (λ (f : Form). Does told f old new status) e (calls calling refl)
 
 -- what a call does is what the words that have no other form ask for
-pub does-call : {S T K E D F C L : Type 0} (told : TellingAll S T K E D F C L) (words : List (List ℕ))
-    (old new : Seen S T K E D C L) (status : Status) → replay_form words ≡ None → gen_form words ≡ None
-    → serve_form words ≡ None
+pub does-call : {S T K E D F C L P : Type 0} (told : TellingAll S T K E D F C L P) (words : List (List ℕ))
+    (old new : Seen S T K E D C L P) (status : Status) → replay_form words ≡ None → gen_form words ≡ None
+    → serve_form words ≡ None → hooks_form words ≡ None
     → ((calling : Calling) → call_form words ≡ Some calling → Calls told.call calling old new status) → (form : Form)
     → form_of words ≡ Some form → Does told form old new status
-does-call told words old new status no_replay no_gen no_serve calls form is =
-    does-of told old new status (call_form words) form (call-alone words form no_replay no_gen no_serve is) calls
+does-call told words old new status no_replay no_gen no_serve no_hooks calls form is =
+    does-of told old new status (call_form words) form
+    (call-alone words form no_replay no_gen no_serve no_hooks is) calls

@@ -49,6 +49,9 @@ config-ends left document before now status.DoorFault told still cause = cause
 config-ends left document before now (status.PeerBytes n) told still cause = cause
 config-ends left document before now status.PeerFault told still cause = cause
 config-ends left document before now (status.Refused n) told still cause = cause
+config-ends left document before now (status.HookHeld n) told still cause = cause
+config-ends left document before now (status.HookStore n) told still cause = cause
+config-ends left document before now status.SpawnFault told still cause = cause
 
 entrance-ends : (before now : ℕ) (e : KeepError) → NotRisen before now → KeepCause before now e
     → IsServingsEnd (entrance_status e)

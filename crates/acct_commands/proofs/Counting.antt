@@ -3,7 +3,7 @@ use Rattle.std.proofs.Common.{◌≡◌, List, ◌∷◌, [], length, refl, arit
 use Rattle.std.specs.List.{filter}
 use Rattle.acct_machine.specs.Room.{call_count}
 use Rattle.acct_machine.specs.declared.entry.Entry.{Entry}
-use Rattle.acct_machine.specs.declared.entry.Entry.TheVariants.{Opened, Called, Gone}
+use Rattle.acct_machine.specs.declared.entry.Entry.TheVariants.{Opened, Called, Gone, Hooked}
 use Rattle.acct_commands.specs.Summary.{is_call}
 
 pub calls-counted : (history : List Entry) → length (filter is_call history) ≡ call_count history
@@ -11,3 +11,4 @@ calls-counted [] = refl
 calls-counted (Opened conn listener ∷ history) = calls-counted history
 calls-counted (Called conn call verdict bytes ∷ history) = omega (arith, calls-counted history)
 calls-counted (Gone conn ∷ history) = calls-counted history
+calls-counted (Hooked number ∷ history) = calls-counted history

@@ -3,13 +3,16 @@ use Rattle.std.proofs.Common.{◌≡◌, ℕ, inl, inr, Bool, true, false, List,
 use Rattle.std.proofs.Common.{◌∙◌, subst}
 use Rattle.std.specs.Prelude.{IfSome, IsSome, if◌then◌else◌}
 use Rattle.acct_config.specs.declared.config.Config.{Config}
+use Rattle.acct_config.specs.Right.{IsRight}
 use Rattle.acct_keeper.specs.declared.pairs.Pair.{Pair}
 use Rattle.acct_machine.specs.Opened.{OpensRows}
 use Rattle.acct_machine.specs.Sound.{KeepsSound}
 use Rattle.acct_machine.specs.Step.{state_at}
 use Rattle.acct_machine.specs.Storing.{HoldsRows}
-use Rattle.acct_rows.specs.PairsOf.{ArePairsOf, PairsAreOfOne}
-use Rattle.acct_rows.specs.Spelled.{format_pair}
+use Rattle.acct_keeper.specs.Pairs.{after}
+use Rattle.acct_rows.specs.PairRules.{has_value, is_old}
+use Rattle.acct_rows.specs.PairsOf.{ArePairsOf, HoldPairs, PairsAreOfOne, migration, migrated}
+use Rattle.acct_rows.specs.Spelled.{format_pair, old_format_value}
 use Rattle.acct_rows.specs.Rows.{Lists, Shown}
 use Rattle.acct_rows.specs.Sound.{IsSoundRows}
 use Rattle.acct_server.specs.Leaves.{StoreCause}
@@ -26,12 +29,22 @@ some-pair rows are =
     let none : None ≡ Some format_pair = (are.held format_pair).1 (inl refl) in
     absurd cc
 
+-- and these are of format 2, so that they are left as they are
+not-old : (rows : Lists) (pairs : List Pair) → ArePairsOf rows pairs → is_old pairs ≡ false
+not-old rows pairs are =
+    ap (λ (found : Option Pair). has_value old_format_value found) ((are.held format_pair).1 (inl refl))
+
+migrated-same : (rows : Lists) (pairs : List Pair) → ArePairsOf rows pairs → migrated pairs ≡ pairs
+migrated-same rows pairs are =
+    ap (λ (old : Bool). if old then after (migration ∷ []) pairs else pairs) (not-old rows pairs are)
+
 -- so the rows that it opens are those
 opened-again : (config : Config) (rows opened : Lists) (pairs : List Pair) → PairsAreOfOne → IsSoundRows rows
     → IsSoundRows opened → ArePairsOf rows pairs → OpensRows config pairs opened → opened ≡ rows
 opened-again config rows opened [] one sound sound_now are opens = absurd (some-pair rows are)
 opened-again config rows opened (pair ∷ pairs) one sound sound_now are opens =
-    one opened rows (pair ∷ pairs) sound_now sound opens.1.held are.held
+    one opened rows (pair ∷ pairs) sound_now sound
+    (subst (λ (ps : List Pair). HoldPairs opened ps) (migrated-same rows (pair ∷ pairs) are) opens.1.held) are.held
 
 told-again : (config : Config) (rows opened : Lists) (held : Option (List Pair)) → PairsAreOfOne → IsSoundRows rows
     → IsSoundRows opened → HoldsRows held rows → IfSome held (λ pairs. OpensRows config pairs opened)
@@ -62,6 +75,9 @@ not-full held before now (status.PeerBytes n) cause full = cause
 not-full held before now status.PeerFault cause full = cause
 not-full held before now status.InputTooLong cause full = cause
 not-full held before now (status.Refused n) cause full = cause
+not-full held before now (status.HookHeld n) cause full = cause
+not-full held before now (status.HookStore n) cause full = cause
+not-full held before now status.SpawnFault cause full = cause
 
 with-none : (held : Option (List Pair)) (A : Type 0) → A → IfSome held (λ pairs. A)
 with-none None A a = tt
@@ -78,27 +94,28 @@ as-it-ended true s full = full
 as-it-ended false s full = absurd cc
 
 module _ {D F K : Type 0} (telling : Telling D F K) (config : Config) where
-  both-served : (doors now later : List D) (keeper : K) (left next : Served K) → PairsAreOfOne → KeepsSound
+  both-served : (doors now later : List D) (keeper : K) (left next : Served K) → IsRight config → PairsAreOfOne
+      → KeepsSound
       → HasServedDoors telling config doors now keeper left → HasServedDoors telling config now later left.keeper next
       → IfSome (telling.pairs left.keeper) (λ pairs. lists_in next.opening ≡ lists_in left.rows)
-  both-served doors now later keeper left next one keeps has has_next =
+  both-served doors now later keeper left next right one keeps has has_next =
       with-fact (telling.pairs left.keeper) _ _
       (told-again config (state_at has.start left.history).rows has_next.start.rows (telling.pairs left.keeper) one
-      (keeps has.start left.history has.begun.sound has.served.links.legal).rows has_next.begun.sound has.stored
-      has_next.begun.rows)
+      (keeps has.start left.history (subst (λ (c : Config). IsRight c) (sym has.begun.under) right) has.begun.sound
+      has.served.links.legal).rows has_next.begun.sound has.stored has_next.begun.rows)
       (λ same. has_next.opening ∙ ap (λ (rows : Lists). Some rows) same ∙ sym has.rows)
 
-  pub goes-on : (doors : List D) (keeper : K) (last next : Round D K) → PairsAreOfOne → KeepsSound
+  pub goes-on : (doors : List D) (keeper : K) (last next : Round D K) → IsRight config → PairsAreOfOne → KeepsSound
       → IsRound telling config doors keeper last → IsRound telling config last.doors last.left.keeper next
       → is_full (ending last) ≡ true → GoesOn telling config last next
-  goes-on doors keeper last next one keeps is is_next full = elim is.serves.leaves [
+  goes-on doors keeper last next right one keeps is is_next full = elim is.serves.leaves [
     | inl none ↦ absurd (not-full (telling.pairs keeper) (telling.faults keeper) (telling.faults last.left.keeper)
         last.left.status none.cause (as-it-ended last.kept last.left.status full))
     | inr has ↦ elim is_next.serves.leaves [
       | inl none ↦ with-none (telling.pairs last.left.keeper) _
           (none-opened next.left.opening last.left.rows none.opening)
       | inr has_next ↦ with-fact (telling.pairs last.left.keeper) _ _
-          (both-served doors last.doors next.doors keeper last.left next.left one keeps has has_next)
+          (both-served doors last.doors next.doors keeper last.left next.left right one keeps has has_next)
           (λ same some. same)
     ]
   ]

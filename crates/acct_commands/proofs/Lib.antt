@@ -3,6 +3,7 @@ pub mod Usages
 pub mod Generations
 pub mod Callings
 pub mod Servings
+pub mod Hookings
 pub mod Completing
 pub mod Periods
 pub mod GoingOn

@@ -22,9 +22,9 @@ use Rattle.acct_commands.specs.Serving.{Round, IsRound, GoesOn, Follow, AreRound
 use Rattle.acct_commands.specs.Serving.{KeepsRounds, ending, is_full, kept_in}
 use Rattle.acct_commands.specs.Rounds.{RunsRound}
 
-module _ {S T K E D F C L : Type 0} (telling : Telling D F K) (config : Config) where
+module _ {S T K E D F C L P : Type 0} (telling : Telling D F K) (config : Config) where
   -- the doors were served once, and the world was asked to keep what that left
-  pub round-of : (doors now : List D) (keeper : K) (left : Served K) (old new : Seen S T K E D C L) (status : Status)
+  pub round-of : (doors now : List D) (keeper : K) (left : Served K) (old new : Seen S T K E D C L P) (status : Status)
       (o : Option Period) → period_between left.opening left.history left.rows left.ends ≡ o
       → IsServe telling config doors now keeper left → Keeps old new o left.status status
       → new ≡ record old { periods = new.periods }
@@ -124,12 +124,13 @@ module _ {D F K : Type 0} (telling : Telling D F K) (config : Config) where
   ]
 
 -- the periods of some rounds, and of one more
-pub keeps-more : {S T K E D C L : Type 0} (w0 w1 w2 : Seen S T K E D C L) (rounds : List (Round D K)) (next : Round D K)
+pub keeps-more : {S T K E D C L P : Type 0} (w0 w1 w2 : Seen S T K E D C L P) (rounds : List (Round D K))
+    (next : Round D K)
     → KeepsRounds w0 w1 rounds → KeepsRounds w1 w2 (next ∷ []) → KeepsRounds w0 w2 (rounds ++ next ∷ [])
 keeps-more w0 w1 w2 rounds next first second = record {
-  periods = λ tells. second.periods (ap (λ (s : Seen _ _ _ _ _ _ _). s.tells) first.others ∙ tells)
+  periods = λ tells. second.periods (ap (λ (s : Seen _ _ _ _ _ _ _ _). s.tells) first.others ∙ tells)
       ∙ ap (λ (ps : List Period). ps ++ flat_map kept_in (next ∷ [])) (first.periods tells)
       ∙ append_assoc w0.periods (flat_map kept_in rounds) (flat_map kept_in (next ∷ []))
       ∙ ap (λ (ps : List Period). w0.periods ++ ps) (sym (flat_map-append kept_in rounds (next ∷ [])));
-  others = second.others ∙ ap (λ (s : Seen _ _ _ _ _ _ _). record s { periods = w2.periods }) first.others;
+  others = second.others ∙ ap (λ (s : Seen _ _ _ _ _ _ _ _). record s { periods = w2.periods }) first.others;
 }

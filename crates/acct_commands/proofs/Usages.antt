@@ -36,7 +36,7 @@ replay-not-usage told old new left by is = elim by.leaves [
 ]
 
 -- what is answered once the world was asked to keep a period
-pub kept-not-usage : {S T K E D C L : Type 0} (old new : Seen S T K E D C L) (period : Option Period)
+pub kept-not-usage : {S T K E D C L P : Type 0} (old new : Seen S T K E D C L P) (period : Option Period)
     (ended status : Status)
     → Keeps old new period ended status → ended ≢ Usage → status ≢ Usage
 kept-not-usage old new None ended status keeps other is = other (sym keeps.0 ∙ is)
@@ -44,11 +44,12 @@ kept-not-usage old new (Some period) ended status (inl keeps) other is = other (
 kept-not-usage old new (Some period) ended status (inr keeps) other is =
     let clash : NoMemory ≡ Usage = sym keeps.0 ∙ is in absurd cc
 
-pub refused-not-usage : {S T K E D C L : Type 0} (parts : List Part) (old new : Seen S T K E D C L) (status : Status)
+pub refused-not-usage : {S T K E D C L P : Type 0} (parts : List Part) (old new : Seen S T K E D C L P)
+    (status : Status)
     → NotHandedOut parts old new status → status ≢ Usage
 refused-not-usage parts old new status fails is = subst (λ (s : Status). TakeCause old new s) is fails.cause
 
-pub run-not-usage : {S T K E D C L : Type 0} (told : Telling S T K) (name : List ℕ) (old new : Seen S T K E D C L)
+pub run-not-usage : {S T K E D C L P : Type 0} (told : Telling S T K) (name : List ℕ) (old new : Seen S T K E D C L P)
     (status : Status)
     → HasRun told name old new status → status ≢ Usage
 run-not-usage told name old new status run =

@@ -42,8 +42,8 @@ pub record HasTalked {L : Type 0} (told : L → Told) (command : Command) (end :
 -- The caller and the sink were handed out: the caller was asked for one link, to the address. Over it the dialogue of
 -- the command was held, and its lines were written; or no link came, and nothing was. The world has both parts again,
 -- and the link.
-pub record HasCalled {S T K E D C L : Type 0} (told : TellingCall T C L) (calling : Calling)
-    (old new : Seen S T K E D C L) (status : Status) : Type 0 where
+pub record HasCalled {S T K E D C L P : Type 0} (told : TellingCall T C L) (calling : Calling)
+    (old new : Seen S T K E D C L P) (status : Status) : Type 0 where
   pub caller : C
   pub caller_after : C
   pub sink : T
@@ -65,11 +65,12 @@ pub record HasCalled {S T K E D C L : Type 0} (told : TellingCall T C L) (callin
   pub talked : old.tells ≡ true → new.talked ≡ link
   pub sources : (name : List ℕ) → new.source name ≡ old.source name
   pub keepers : (name : List ℕ) → new.keeper name ≡ old.keeper name
+  pub spawner : new.spawner ≡ old.spawner
   pub entrance : new.entrance ≡ old.entrance
   pub periods : new.periods ≡ old.periods
   pub asked : old.tells ≡ true → new.asked ≡ old.asked ++ Caller ∷ Sink ∷ []
 
-abbrev pub Calls : {S T K E D C L : Type 0} → TellingCall T C L → Calling → Seen S T K E D C L → Seen S T K E D C L
-    → Status → Type 0
+abbrev pub Calls : {S T K E D C L P : Type 0} → TellingCall T C L → Calling → Seen S T K E D C L P
+    → Seen S T K E D C L P → Status → Type 0
 Calls told calling old new status =
     NotHandedOut (Caller ∷ Sink ∷ []) old new status ⊎ HasCalled told calling old new status

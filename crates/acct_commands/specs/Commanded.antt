@@ -8,7 +8,7 @@ use Rattle.acct_server.specs.declared.replays.Replayed.{Replayed}
 use Rattle.acct_server.specs.Replaying.{Telling, Parts, IsReplay}
 use Rattle.acct_server.specs.declared.status.Status.{Status}
 use Rattle.acct_server.specs.declared.status.Status.TheVariants.{ReadFault, WriteFault, StoreFault, DoorFault}
-use Rattle.acct_server.specs.declared.status.Status.TheVariants.{PeerFault, NoMemory}
+use Rattle.acct_server.specs.declared.status.Status.TheVariants.{PeerFault, SpawnFault, NoMemory}
 use Rattle.link_sessions.specs.declared.ends.Ended.{Ended}
 use Rattle.acct_links.specs.declared.callers.TakeError.{TakeError}
 use Rattle.acct_links.specs.declared.callers.TakeError.TheVariants.{Failed, NoMemory as NoMemoryTaken}
@@ -37,17 +37,18 @@ pub record AsksFront (parts old new : List Part) : Type 0 where
   pub asked : new ≡ old ++ done
 
 -- why a part wasn't handed out
-abbrev pub TakeCause : {S T K E D C L : Type 0} → Seen S T K E D C L → Seen S T K E D C L → Status → Type 0
+abbrev pub TakeCause : {S T K E D C L P : Type 0} → Seen S T K E D C L P → Seen S T K E D C L P → Status → Type 0
 TakeCause old new ReadFault = Rose old.source_faults new.source_faults
 TakeCause old new WriteFault = Rose old.sink_faults new.sink_faults
 TakeCause old new StoreFault = Rose old.keeper_faults new.keeper_faults
 TakeCause old new DoorFault = Rose old.entrance_faults new.entrance_faults
 TakeCause old new PeerFault = Rose old.caller_faults new.caller_faults
+TakeCause old new SpawnFault = Rose old.spawner_faults new.spawner_faults
 TakeCause old new NoMemory = Unit {0}
 TakeCause old new _ = ⊥
 
 -- One of these parts wasn't handed out: those before it were asked for, and the world has what it had.
-pub record NotHandedOut {S T K E D C L : Type 0} (parts : List Part) (old new : Seen S T K E D C L)
+pub record NotHandedOut {S T K E D C L P : Type 0} (parts : List Part) (old new : Seen S T K E D C L P)
     (status : Status) : Type 0 where
   pub cause : TakeCause old new status
   pub sources : old.tells ≡ true → (name : List ℕ) → new.source name ≡ old.source name
@@ -55,6 +56,7 @@ pub record NotHandedOut {S T K E D C L : Type 0} (parts : List Part) (old new : 
   pub keepers : old.tells ≡ true → (name : List ℕ) → new.keeper name ≡ old.keeper name
   pub entrance : old.tells ≡ true → new.entrance ≡ old.entrance
   pub caller : old.tells ≡ true → new.caller ≡ old.caller
+  pub spawner : old.tells ≡ true → new.spawner ≡ old.spawner
   pub periods : new.periods ≡ old.periods
   pub tells : new.tells ≡ old.tells
   pub knows : new.knows ≡ old.knows
@@ -73,22 +75,22 @@ period_of left = period_between left.opening left.history left.rows []
 
 -- The world keeps the period, and what is answered is how it ended; or it found no memory to keep it. Where there is no
 -- period, it is asked to keep none.
-abbrev pub Keeps : {S T K E D C L : Type 0} → Seen S T K E D C L → Seen S T K E D C L → Option Period → Status → Status
-    → Type 0
+abbrev pub Keeps : {S T K E D C L P : Type 0} → Seen S T K E D C L P → Seen S T K E D C L P → Option Period → Status
+    → Status → Type 0
 Keeps old new period ended status =
     MatchOption period ((status ≡ ended) × (new.periods ≡ old.periods))
     (λ kept. ((status ≡ ended) × (old.tells ≡ true → new.periods ≡ old.periods ++ kept ∷ []))
     ⊎ ((status ≡ NoMemory) × (new.periods ≡ old.periods)))
 
 -- A world was asked to keep a period, if there is one, and nothing else of it has changed.
-pub record KeepsAny {S T K E D C L : Type 0} (old new : Seen S T K E D C L) (period : Option Period)
+pub record KeepsAny {S T K E D C L P : Type 0} (old new : Seen S T K E D C L P) (period : Option Period)
     (ended status : Status) : Type 0
   where
     pub periods : Keeps old new period ended status
     pub others : new ≡ record old { periods = new.periods }
 
 -- All parts were handed out: a replay ran over them, the world keeps the period that it left, and has the parts again.
-pub record HasRun {S T K E D C L : Type 0} (told : Telling S T K) (name : List ℕ) (old new : Seen S T K E D C L)
+pub record HasRun {S T K E D C L P : Type 0} (told : Telling S T K) (name : List ℕ) (old new : Seen S T K E D C L P)
     (status : Status)
     : Type 0 where
   pub before : Parts S T K
@@ -110,12 +112,13 @@ pub record HasRun {S T K E D C L : Type 0} (told : Telling S T K) (name : List �
   pub keepers : (other : List ℕ) → other ≢ no_name → new.keeper other ≡ old.keeper other
   pub entrance : new.entrance ≡ old.entrance
   pub caller : new.caller ≡ old.caller
+  pub spawner : new.spawner ≡ old.spawner
   pub asked : old.tells ≡ true → new.asked ≡ old.asked ++ wanted name
   pub keeps : Keeps old new (period_of left) left.status status
 
 -- A replay ran over parts that were out: the world keeps the period that it left, and has the parts again.
-pub record Returned {S T K E D C L : Type 0} (told : Telling S T K) (name : List ℕ) (before : Parts S T K)
-    (old new : Seen S T K E D C L) (status : Status) : Type 0 where
+pub record Returned {S T K E D C L P : Type 0} (told : Telling S T K) (name : List ℕ) (before : Parts S T K)
+    (old new : Seen S T K E D C L P) (status : Status) : Type 0 where
   pub after : Parts S T K
   pub left : Replayed K
   pub replayed : IsReplay told before after left
@@ -127,10 +130,11 @@ pub record Returned {S T K E D C L : Type 0} (told : Telling S T K) (name : List
   pub keepers : (other : List ℕ) → other ≢ no_name → new.keeper other ≡ old.keeper other
   pub entrance : new.entrance ≡ old.entrance
   pub caller : new.caller ≡ old.caller
+  pub spawner : new.spawner ≡ old.spawner
   pub asked : new.asked ≡ old.asked
   pub keeps : Keeps old new (period_of left) left.status status
 
-abbrev pub Commanded : {S T K E D C L : Type 0} → Telling S T K → List ℕ → Seen S T K E D C L → Seen S T K E D C L
+abbrev pub Commanded : {S T K E D C L P : Type 0} → Telling S T K → List ℕ → Seen S T K E D C L P → Seen S T K E D C L P
     → Status → Type 0
 Commanded told name old new status = NotHandedOut (wanted name) old new status ⊎ HasRun told name old new status
 
@@ -153,3 +157,7 @@ store_status NoMemoryTaken = NoMemory
 abbrev pub door_status : TakeError → Status
 door_status Failed = DoorFault
 door_status NoMemoryTaken = NoMemory
+
+abbrev pub spawn_status : TakeError → Status
+spawn_status Failed = SpawnFault
+spawn_status NoMemoryTaken = NoMemory

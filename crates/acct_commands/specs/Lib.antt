@@ -4,6 +4,7 @@ pub mod Generates
 pub mod Calling
 pub mod Serving
 pub mod Rounds
+pub mod Hooking
 pub mod Does
 pub mod Statuses
 pub mod Calls

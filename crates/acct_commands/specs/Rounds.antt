@@ -9,9 +9,9 @@ use Rattle.acct_world.specs.World.{Seen}
 use Rattle.acct_commands.specs.Serving.{TellingServe, ServeParts, Round, IsRound, AreRounds, KeepsRounds, LeavesParts}
 use Rattle.acct_commands.specs.Serving.{ending, kept_in}
 
-module _ {S T K E D F C L : Type 0} (telling : Telling D F K) (config : Config) where
+module _ {S T K E D F C L P : Type 0} (telling : Telling D F K) (config : Config) where
   -- One round was run, from the doors and the keeper before it to those after it.
-  pub record RunsRound (doors doors_now : List D) (keeper keeper_now : K) (old new : Seen S T K E D C L)
+  pub record RunsRound (doors doors_now : List D) (keeper keeper_now : K) (old new : Seen S T K E D C L P)
       (status : Status) : Type 0 where
     pub round : Round D K
     pub is : IsRound telling config doors keeper round
@@ -21,7 +21,7 @@ module _ {S T K E D F C L : Type 0} (telling : Telling D F K) (config : Config) 
     pub keeps : KeepsRounds old new (round ∷ [])
 
   -- All rounds were run.
-  pub record RunsRounds (doors doors_now : List D) (keeper keeper_now : K) (old new : Seen S T K E D C L)
+  pub record RunsRounds (doors doors_now : List D) (keeper keeper_now : K) (old new : Seen S T K E D C L P)
       (status : Status) : Type 0 where
     pub earlier : List (Round D K)
     pub last : Round D K
@@ -32,15 +32,15 @@ module _ {S T K E D F C L : Type 0} (telling : Telling D F K) (config : Config) 
     pub keeps : KeepsRounds old new (earlier ++ last ∷ [])
 
 -- What was done over parts that are out, and the periods that the world keeps of it.
-pub record RunsParts {S T K E D F C L : Type 0} (told : TellingServe S K E D F) (before after : ServeParts S K E D)
-    (old new : Seen S T K E D C L) (status : Status) : Type 0 where
+pub record RunsParts {S T K E D F C L P : Type 0} (told : TellingServe S K E D F) (before after : ServeParts S K E D)
+    (old new : Seen S T K E D C L P) (status : Status) : Type 0 where
   pub rounds : List (Round D K)
   pub leaves : LeavesParts told before after rounds status
   pub keeps : KeepsRounds old new rounds
 
 -- The same, and the world has the parts again, with the doors.
-pub record ReturnsParts {S T K E D F C L : Type 0} (told : TellingServe S K E D F) (names : ServeNames)
-    (before : ServeParts S K E D) (old new : Seen S T K E D C L) (status : Status) : Type 0 where
+pub record ReturnsParts {S T K E D F C L P : Type 0} (told : TellingServe S K E D F) (names : ServeNames)
+    (before : ServeParts S K E D) (old new : Seen S T K E D C L P) (status : Status) : Type 0 where
   pub after : ServeParts S K E D
   pub rounds : List (Round D K)
   pub leaves : LeavesParts told before after rounds status
@@ -52,5 +52,6 @@ pub record ReturnsParts {S T K E D F C L : Type 0} (told : TellingServe S K E D 
   pub keepers : (other : List ℕ) → other ≢ names.store → new.keeper other ≡ old.keeper other
   pub sink : new.sink ≡ old.sink
   pub caller : new.caller ≡ old.caller
+  pub spawner : new.spawner ≡ old.spawner
   pub asked : new.asked ≡ old.asked
   pub periods : old.tells ≡ true → new.periods ≡ old.periods ++ flat_map kept_in rounds

@@ -174,15 +174,15 @@ module _ {S K E D F : Type 0} (told : TellingServe S K E D F) where
 -- ---- the world
 
 -- the world keeps the periods of the rounds, in order, and nothing else of it has changed
-pub record KeepsRounds {S T K E D C L : Type 0} (old new : Seen S T K E D C L) (rounds : List (Round D K)) : Type 0
+pub record KeepsRounds {S T K E D C L P : Type 0} (old new : Seen S T K E D C L P) (rounds : List (Round D K)) : Type 0
   where
     pub periods : old.tells ≡ true → new.periods ≡ old.periods ++ flat_map kept_in rounds
     pub others : new ≡ record old { periods = new.periods }
 
 -- All parts were handed out: what was done over them is told by the parts before and after it, and by its rounds. The
 -- world keeps their periods, and has the parts again, with the doors.
-pub record HasServed {S T K E D F C L : Type 0} (told : TellingServe S K E D F) (names : ServeNames)
-    (old new : Seen S T K E D C L) (status : Status) : Type 0 where
+pub record HasServed {S T K E D F C L P : Type 0} (told : TellingServe S K E D F) (names : ServeNames)
+    (old new : Seen S T K E D C L P) (status : Status) : Type 0 where
   pub before : ServeParts S K E D
   pub after : ServeParts S K E D
   pub rounds : List (Round D K)
@@ -203,10 +203,11 @@ pub record HasServed {S T K E D F C L : Type 0} (told : TellingServe S K E D F) 
   pub keepers : (other : List ℕ) → other ≢ names.store → new.keeper other ≡ old.keeper other
   pub sink : new.sink ≡ old.sink
   pub caller : new.caller ≡ old.caller
+  pub spawner : new.spawner ≡ old.spawner
   pub asked : old.tells ≡ true → new.asked ≡ old.asked ++ wanted_to_serve names
   pub periods : old.tells ≡ true → new.periods ≡ old.periods ++ flat_map kept_in rounds
 
-abbrev pub Serves : {S T K E D F C L : Type 0} → TellingServe S K E D F → ServeNames → Seen S T K E D C L
-    → Seen S T K E D C L → Status → Type 0
+abbrev pub Serves : {S T K E D F C L P : Type 0} → TellingServe S K E D F → ServeNames → Seen S T K E D C L P
+    → Seen S T K E D C L P → Status → Type 0
 Serves told names old new status =
     NotHandedOut (wanted_to_serve names) old new status ⊎ HasServed told names old new status

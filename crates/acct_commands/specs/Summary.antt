@@ -6,7 +6,7 @@ use Rattle.acct_codes.specs.declared.kind.Kind.{Kind}
 use Rattle.acct_codes.specs.declared.kind.Kind.TheVariants.{Alias, User}
 use Rattle.acct_machine.specs.Room.{call_count}
 use Rattle.acct_machine.specs.declared.entry.Entry.{Entry}
-use Rattle.acct_machine.specs.declared.entry.Entry.TheVariants.{Opened, Called, Gone}
+use Rattle.acct_machine.specs.declared.entry.Entry.TheVariants.{Opened, Called, Gone, Hooked}
 use Rattle.acct_rows.specs.Rows.{Lists, same_kind, account_domain, alias_members_of, domain_at, find_name}
 use Rattle.acct_rows.specs.declared.row.AccountRow.{AccountRow}
 use Rattle.acct_rows.specs.declared.row.DomainRow.{DomainRow}
@@ -19,6 +19,7 @@ abbrev pub is_call : Entry → Bool
 is_call (Opened conn listener) = false
 is_call (Called conn call verdict bytes) = true
 is_call (Gone conn) = false
+is_call (Hooked number) = false
 
 abbrev pub is_of_kind : Kind → AccountRow → Bool
 is_of_kind kind account = same_kind kind account.kind

@@ -21,11 +21,12 @@ pub record ServeNames : Type 0 where
   pub store : List ℕ
 
 -- what the words ask for, with what they name: the configuration of a replay, how many users the generator makes, the
--- configuration and the store of a server, or what is asked for at which address
+-- configuration and the store of a server or of an outbox, or what is asked for at which address
 pub data Form : Type 0 where
   Replay : List ℕ → Form
   Generate : ℕ → Form
   Serve : ServeNames → Form
+  Hooks : ServeNames → Form
   Call : Calling → Form
 
 abbrev pub begins_with_dash : List ℕ → Bool
@@ -51,12 +52,18 @@ abbrev pub gen_form : List (List ℕ) → Option ℕ
 gen_form (command ∷ number ∷ []) = if bytes_eq command (codes "gen") then users_in number else None
 gen_form _ = None
 
--- `serve CONFIG STORE`, of which neither begins with a dash
-abbrev pub serve_form : List (List ℕ) → Option ServeNames
-serve_form (command ∷ config ∷ store ∷ []) =
-    if bytes_eq command (codes "serve") && not (begins_with_dash config || begins_with_dash store)
+-- `serve CONFIG STORE` or `hooks CONFIG STORE`, of which neither name begins with a dash
+abbrev pub names_form : List ℕ → List (List ℕ) → Option ServeNames
+names_form word (command ∷ config ∷ store ∷ []) =
+    if bytes_eq command word && not (begins_with_dash config || begins_with_dash store)
     then Some (record { config = config; store = store }) else None
-serve_form _ = None
+names_form word _ = None
+
+abbrev pub serve_form : List (List ℕ) → Option ServeNames
+serve_form words = names_form (codes "serve") words
+
+abbrev pub hooks_form : List (List ℕ) → Option ServeNames
+hooks_form words = names_form (codes "hooks") words
 
 -- the command of the client that words are, at an address
 abbrev pub calling : List ℕ → Command → Calling
@@ -78,4 +85,5 @@ call_form words = if is_call_form words then calling_at (get_or words 1 []) (dro
 abbrev pub form_of : List (List ℕ) → Option Form
 form_of words = option_or (option_map Replay (replay_form words))
     (option_or (option_map Generate (gen_form words))
-    (option_or (option_map Serve (serve_form words)) (option_map Call (call_form words))))
+    (option_or (option_map Serve (serve_form words))
+    (option_or (option_map Hooks (hooks_form words)) (option_map Call (call_form words)))))

@@ -11,8 +11,9 @@ ghost use Rattle.acct_commands.specs.Calling.{Calls};
 ghost use Rattle.acct_commands.specs.Generates.{Generates};
 ghost use Rattle.acct_commands.specs.Does.{Does, IsFormless};
 
-use crate::forms::{behind_two, gen_users, is_call_form, replay_name, serve_names};
+use crate::forms::{behind_two, gen_users, hooks_names, is_call_form, replay_name, serve_names};
 use crate::generating::{Generation, generate};
+use crate::hooking::run_outbox;
 use crate::keeping::keep;
 use crate::period::{parted, period_between};
 use crate::serving::run_serve;
@@ -187,9 +188,10 @@ fn run_client<W: World>(alloc: Global, words: &Vec<String>, world: &mut W) -> St
 }
 
 /// Does all that the program does. The words are `replay CONFIG`; or `gen N` for the summary of a replay of events that
-/// make N users, 1 to 10,000; or `serve CONFIG STORE` for a server, which may wait for its clients; or `call ADDRESS
-/// WORD..` for a command of the client. Other words take no part of the world, and are answered by usage; or, where
-/// they may be a command of the client, that memory ran out.
+/// make N users, 1 to 10,000; or `serve CONFIG STORE` for a server, which may wait for its clients; or `hooks CONFIG
+/// STORE` to run the hook for the changes in a store; or `call ADDRESS WORD..` for a command of the client. Other words
+/// take no part of the world, and are answered by usage; or, where they may be a command of the client, that memory ran
+/// out.
 pub fn account<R: Threads + Wait + Sync, W: World>(
     rt: &R,
     alloc: Global,
@@ -226,6 +228,11 @@ where
             call_faults = W.C.faults;
             link = W.C.L.told;
           };
+          hooks = record {
+            left = W.S.left;
+            read_faults = W.S.faults;
+            hooks = record { pairs = W.K.held; faults = W.K.faults; runs = W.P.runs; failed = W.P.failed };
+          };
         }) form (W.seen world.old) (W.seen world.new) result }
 {
     if let Some(name) = replay_name(words) {
@@ -236,6 +243,9 @@ where
     }
     if let Some((config, store)) = serve_names(words) {
         return run_serve(rt, alloc, config, store, world);
+    }
+    if let Some((config, store)) = hooks_names(words) {
+        return run_outbox(alloc, config, store, world);
     }
     if is_call_form(words) {
         return run_client(alloc, words, world);

@@ -2,7 +2,8 @@
 ghost use Rattle.std.specs.Prelude.{◌≡◌, ◌≤◌, None, Some, length, drop, map, MatchOption, IfSome, IsTrue};
 ghost use Rattle.std.specs.List.{list_any};
 ghost use Rattle.std.specs.String.{string_bytes};
-ghost use Rattle.acct_commands.specs.Words.{replay_form, gen_form, serve_form, users_in, is_call_form, begins_with_dash};
+ghost use Rattle.acct_commands.specs.Words.{replay_form, gen_form, names_form, serve_form, hooks_form, users_in};
+ghost use Rattle.acct_commands.specs.Words.{is_call_form, begins_with_dash};
 ghost use Rattle.acct_commands.specs.Calls.{most_users};
 
 use crate::calls::MOST_USERS;
@@ -54,13 +55,13 @@ fn begins_with_dash(word: &str) -> bool
     word.as_bytes().first() == Some(&b'-')
 }
 
-/// The names of the configuration and of the store, of the words `serve CONFIG STORE`.
-pub fn serve_names(words: &Vec<String>) -> Option<(&str, &str)>
-    ensures { MatchOption result (serve_form (map string_bytes words.now.items) ≡ None)
-        (λ names. serve_form (map string_bytes words.now.items)
+// The names of the configuration and of the store, of the words of a command and two names.
+fn names_behind<'a>(command: &str, words: &'a Vec<String>) -> Option<(&'a str, &'a str)>
+    ensures { MatchOption result (names_form command.now (map string_bytes words.now.items) ≡ None)
+        (λ names. names_form command.now (map string_bytes words.now.items)
         ≡ Some (record { config = names.0.now; store = names.1.now })) }
 {
-    if words.len() != 3 || words[0].as_str() != "serve" {
+    if words.len() != 3 || words[0].as_str() != command {
         return None;
     }
     let config = words[1].as_str();
@@ -69,6 +70,24 @@ pub fn serve_names(words: &Vec<String>) -> Option<(&str, &str)>
         return None;
     }
     Some((config, store))
+}
+
+/// The names of the configuration and of the store, of the words `serve CONFIG STORE`.
+pub fn serve_names(words: &Vec<String>) -> Option<(&str, &str)>
+    ensures { MatchOption result (serve_form (map string_bytes words.now.items) ≡ None)
+        (λ names. serve_form (map string_bytes words.now.items)
+        ≡ Some (record { config = names.0.now; store = names.1.now })) }
+{
+    names_behind("serve", words)
+}
+
+/// The same, of the words `hooks CONFIG STORE`.
+pub fn hooks_names(words: &Vec<String>) -> Option<(&str, &str)>
+    ensures { MatchOption result (hooks_form (map string_bytes words.now.items) ≡ None)
+        (λ names. hooks_form (map string_bytes words.now.items)
+        ≡ Some (record { config = names.0.now; store = names.1.now })) }
+{
+    names_behind("hooks", words)
 }
 
 // Whether one of the words begins with a dash.

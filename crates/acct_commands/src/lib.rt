@@ -20,6 +20,7 @@ mod command;
 mod events;
 mod forms;
 mod generating;
+mod hooking;
 mod keeping;
 mod period;
 mod serving;

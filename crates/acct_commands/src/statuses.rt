@@ -1,6 +1,7 @@
 // The statuses of parts that aren't handed out, of askings, and of dialogues.
 ghost use Rattle.std.specs.Prelude.{◌≡◌};
 ghost use Rattle.acct_commands.specs.Commanded.{read_status, write_status, link_status, store_status, door_status};
+ghost use Rattle.acct_commands.specs.Commanded.{spawn_status};
 ghost use Rattle.acct_commands.specs.Serving.{entrance_status};
 ghost use Rattle.acct_commands.specs.Statuses.{talk_status};
 
@@ -41,6 +42,15 @@ pub(crate) fn store_status(e: TakeError) -> Status
 {
     match e {
         TakeError::Failed => Status::StoreFault,
+        TakeError::NoMemory => Status::NoMemory,
+    }
+}
+
+pub(crate) fn spawn_status(e: TakeError) -> Status
+    ensures { result ≡ spawn_status e }
+{
+    match e {
+        TakeError::Failed => Status::SpawnFault,
         TakeError::NoMemory => Status::NoMemory,
     }
 }

@@ -45,6 +45,18 @@ fn tell_doors(rt: &HostRuntime, status: &Status, world: &HostWorld) {
     }
 }
 
+/// Says which change stays, with the last run for it: its number and account are among the arguments, and its end
+/// after them.
+fn tell_run(rt: &HostRuntime, status: &Status, world: &HostWorld) {
+    if let Status::HookHeld(number) = status {
+        if let Some(run) = world.failed_run() {
+            let _ = eprintln!(rt;
+                "account: change {number} stays: {run}; see to that, and start hooks again"
+            );
+        }
+    }
+}
+
 /// Says on the standard error how the program ended, where its work wasn't done: the code and its word, and where the
 /// words have no form, those that have one. Where there is no memory for that it is left out.
 fn tell(rt: &HostRuntime, status: &Status) {
@@ -106,6 +118,7 @@ fn run<R: Threads + Wait + Sync>(rt: &HostRuntime, waiting: &R) -> Status {
     tell(rt, &status);
     tell_more(rt, &status, &words, &world);
     tell_doors(rt, &status, &world);
+    tell_run(rt, &status, &world);
     if let Some(address) = words.get(1) {
         tell_peer(rt, &status, address.as_str(), &world);
     }

@@ -1,7 +1,8 @@
--- Where the words are no replay, no `gen` and no `serve`, what `account` does is the call that their form spells.
+-- Where the words are no replay, no `gen`, no `serve` and no `hooks`, what `account` does is the call that their form
+-- spells.
 use Rattle.std.proofs.Common.{◌≡◌, List, ℕ, None, map, sym}
 use Rattle.std.specs.String.{string_bytes}
-use Rattle.acct_commands.specs.Words.{gen_form, serve_form}
+use Rattle.acct_commands.specs.Words.{gen_form, serve_form, hooks_form}
 use Rattle.acct_commands.proofs.Callings.{does-call}
 use Rattle.acct_commands.proofs.command.account.Goals as goal
 
@@ -15,6 +16,7 @@ returns-then-is_call_form-clause-commanded g c =
     let words : List (List ℕ) = map string_bytes c.args.words.now.items in
     let no_gen : gen_form words ≡ None = sym c.in_default-gen_users.ensures.value in
     let no_serve : serve_form words ≡ None = c.in_default-serve_names.ensures in
+    let no_hooks : hooks_form words ≡ None = c.in_default-hooks_names.ensures in
     does-call (record {
       replay = record {
         left = s.left;
@@ -37,5 +39,15 @@ returns-then-is_call_form-clause-commanded g c =
         call_faults = g.W.C.Caller.faults;
         link = g.W.C.L.Link.told;
       };
+      hooks = record {
+        left = s.left;
+        read_faults = s.faults;
+        hooks = record {
+          pairs = k.held;
+          faults = k.faults;
+          runs = g.W.P.Spawner.runs;
+          failed = g.W.P.Spawner.failed;
+        };
+      };
     }) words (w.seen c.args.world.now) (w.seen c.run_client.new.world) c.run_client.result c.in_default.ensures no_gen
-    no_serve c.run_client.ensures.calls
+    no_serve no_hooks c.run_client.ensures.calls

@@ -66,8 +66,8 @@ loop-alloc-preserved g c =
         earlier ++ last ∷ [],
         r.round,
         so-far-more telling config (more - 1) a.doors.now.items a.keeper earlier last r.round inv.rounds.2 full some is
-            (goes-on telling config inv.rounds.7 inv.rounds.8 last r.round c.pairs_are_of_one.ensures
-            c.kept_states_are_sound.ensures inv.rounds.9 is full),
+            (goes-on telling config inv.rounds.7 inv.rounds.8 last r.round c.requires.right
+            c.pairs_are_of_one.ensures c.kept_states_are_sound.ensures inv.rounds.9 is full),
         r.left_doors,
         r.left_keeper,
         r.ends,
