@@ -5,6 +5,7 @@ mod keepers;
 mod lines;
 mod machine;
 mod operations;
+mod puts;
 mod rows;
 mod streams;
 mod words;

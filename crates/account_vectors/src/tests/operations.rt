@@ -5,6 +5,8 @@
 // - the operation by its name in the table of operations, the object of the handle, and the arguments. A name `256*61`
 //   has 256 units 0x61;
 // - what is expected: the status, the outputs, and what is put, removed, opened or deleted, where there is such.
+ghost use Rattle.dtyp_access.specs.Limits.{IsDescriptor};
+
 mod asked;
 mod brought;
 mod changes;
@@ -19,11 +21,13 @@ mod parts;
 mod queries;
 mod rights;
 mod rows;
+mod security;
 mod settings;
 mod translations;
 mod words;
 
 use super::first_rows::seeded;
+use super::puts;
 use super::words::repeated;
 use super::works::all_works;
 use acct_base::Seq;
@@ -31,7 +35,10 @@ use acct_calls::Args;
 use acct_operations::{Work, decide};
 use acct_rows::{Object, Plan, Rows};
 use acct_rules::Planned;
-use asked::{args_of, object_of};
+use asked::args_of;
+pub use asked::object_of;
+use dtyp_access::Descriptor;
+use dtyp_sid::{Sid, parse_text};
 use parts::part;
 use rows::add;
 use samr_objects::laws;
@@ -56,7 +63,19 @@ fn work_named(alloc: Global, name: &str) -> Result<Work, Fail> {
     Err("no operation has this name".into())
 }
 
-/// What an operation decides.
+/// A descriptor of an owner alone.
+pub fn owned_by(owner: Sid) -> Descriptor
+    ensures { IsDescriptor result }
+{
+    owner.keeps_limits();
+    Descriptor {
+        owner,
+        group: None,
+        acl: None,
+    }
+}
+
+/// What an operation decides, where the object's descriptor has the administrators as its owner, and nothing else.
 fn answered(
     alloc: Global,
     work: Work,
@@ -64,7 +83,10 @@ fn answered(
     object: Object,
     args: &Args,
 ) -> Result<Planned, Fail> {
-    Ok(decide(alloc, work, rows, object, args)?)
+    let described = owned_by(parse_text("S-1-5-32-544")?);
+    let planned = decide(alloc, work, rows, &described, object, args);
+    drop(described);
+    Ok(planned?)
 }
 
 /// What the operation of a row decides.
@@ -95,8 +117,7 @@ fn decided_behind(alloc: Global, rows: &mut Rows, row: &str) -> Result<Planned, 
 /// Tells what is planned, and does it to the rows.
 fn apply(alloc: Global, rows: &mut Rows, planned: &mut Planned) -> Result<String, Fail> {
     let text = tell(alloc, planned)?;
-    rows.reserve(planned.plan.puts.as_slice().len())?;
-    rows.apply(mem::replace(&mut planned.plan, empty_plan(alloc)));
+    puts::apply(rows, mem::replace(&mut planned.plan, empty_plan(alloc)))?;
     Ok(text)
 }
 
@@ -213,6 +234,9 @@ const TABLES: &[&str] = &[
     translations::NAMES,
     translations::SIDS,
     translations::LATER,
+    security::QUERIES,
+    security::SETS,
+    security::KINDS,
 ];
 
 #[test]
@@ -232,6 +256,8 @@ fn each_right_and_large_translations_are_right(rt: HostRuntime) -> Result<(), Fa
 #[test]
 fn long_lists_and_full_pages_are_right(rt: HostRuntime) -> Result<(), Fail> {
     let rows = repeated(rt.alloc(), lists::LISTS)?;
+    table_is_right(&rt, rt.alloc(), rows.as_str())?;
+    let rows = repeated(rt.alloc(), security::LONG)?;
     table_is_right(&rt, rt.alloc(), rows.as_str())?;
     let rows = repeated(rt.alloc(), lists::SIDS)?;
     ends_are_right(&rt, rt.alloc(), rows.as_str())

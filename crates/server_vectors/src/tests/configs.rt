@@ -15,6 +15,12 @@ const DENY: &str = "deny 0x00000010 0 S-1-5-32-545";
 
 const ALLOW: &str = "allow 0x000F003F 0 S-1-1-0";
 
+/// A program that is told of changes of accounts.
+const HOOK: &str = "[hook]\nprogram = \"/bin/add-user\"\ntries = 3\n";
+
+/// The same, tried twice.
+const TWICE: &str = "[hook]\nprogram = \"/bin/add-user\"\ntries = 2\n";
+
 /// The configuration with a second listener, and a descriptor of the server with two entries.
 fn restricted(alloc: Global, first: &str, second: &str) -> Result<String, Fail> {
     joined(alloc, &[CONFIG, SECOND, first, "\", \"", second, "\"]\n"])
@@ -47,6 +53,8 @@ pub fn config_of(alloc: Global, name: &str) -> Result<String, Fail> {
     match name {
         "" => joined(alloc, &[CONFIG]),
         "cut" => joined(alloc, &[CONFIG.trim_end()]),
+        "hook" => joined(alloc, &[CONFIG, HOOK]),
+        "hook-twice" => joined(alloc, &[CONFIG, TWICE]),
         "deny-allow" => restricted(alloc, DENY, ALLOW),
         "allow-deny" => restricted(alloc, ALLOW, DENY),
         limit if limit.starts_with("max_") => limited(alloc, limit),

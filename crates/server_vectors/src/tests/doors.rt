@@ -1,6 +1,7 @@
 // Requests, sessions over a link in memory, entrances that are asked for the doors of listeners, serving over doors in
-// memory: tables, and two links that wait for each other; and the words of the rows. And the doors themselves: those in
-// memory, those at sockets of this process, and what these do where something fails or nothing comes.
+// memory: tables, and two links that wait for each other; and the words of the rows. And
+// the doors themselves: those in memory, those at sockets of this process, and what these do where something fails or
+// nothing comes.
 mod closings;
 mod listeners;
 mod meeting;
@@ -8,6 +9,7 @@ mod memory;
 mod requests;
 mod sessions;
 mod sockets;
+mod stubs;
 mod tables;
 mod waiting;
-mod words;
+pub mod words;

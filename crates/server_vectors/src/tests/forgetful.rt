@@ -22,6 +22,8 @@ impl<W: World + Drop> World for Forgetful<W> {
 
     type C = W::C;
 
+    type P = W::P;
+
     ghost seen = { λ forgetful. W.seen forgetful.world };
 
     fn take_source(&mut self, name: &str) -> Result<W::S, TakeError> {
@@ -66,6 +68,14 @@ impl<W: World + Drop> World for Forgetful<W> {
         ensures gives { GivesCaller (W.seen self.old.world) (W.seen self.new.world) part link }
     {
         self.world.give_caller(part, link)
+    }
+
+    fn take_spawner(&mut self) -> Result<W::P, TakeError> {
+        self.world.take_spawner()
+    }
+
+    fn give_spawner(&mut self, part: W::P) {
+        self.world.give_spawner(part)
     }
 
     fn keep_period(&mut self, period: Period) -> Result<(), AllocError> {

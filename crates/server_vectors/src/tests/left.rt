@@ -92,6 +92,11 @@ fn push_end(text: &mut String, conn: u32) -> Result<(), Fail> {
     push_number(text, conn)
 }
 
+fn push_taken(text: &mut String, number: u64) -> Result<(), Fail> {
+    write!(text, "hooked {number}")?;
+    Ok(())
+}
+
 /// An entry in words.
 fn push_entry(text: &mut String, entry: &Entry) -> Result<(), Fail> {
     match entry {
@@ -103,6 +108,7 @@ fn push_entry(text: &mut String, entry: &Entry) -> Result<(), Fail> {
             bytes,
         } => push_call(text, *conn, call.opnum, *verdict, *bytes),
         Entry::Gone { conn } => push_end(text, *conn),
+        Entry::Hooked { number } => push_taken(text, *number),
     }
 }
 
@@ -163,6 +169,7 @@ fn part_words(part: &Part) -> (&str, &[u8]) {
         Part::Keeper(name) => ("keeper ", name.as_slice()),
         Part::Entrance => ("entrance", b""),
         Part::Caller => ("caller", b""),
+        Part::Spawner => ("spawner", b""),
     }
 }
 

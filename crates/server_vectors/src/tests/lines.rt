@@ -1,5 +1,7 @@
 // Lines of events and of what is written by their names, and the columns of a row.
-use super::runs::{accounts, later, limits, names, objects, rights, several, stores, tables};
+use super::runs::{
+    accounts, later, limits, names, objects, rights, security, several, stores, tables,
+};
 use super::{calls, generated, serving};
 use std::alloc::Global;
 use std::test::Fail;
@@ -26,6 +28,7 @@ pub fn line_of(name: &str) -> &'static str {
         names::LINES,
         objects::LINES,
         rights::LINES,
+        security::LINES,
         serving::LINES,
         several::LINES,
         stores::LINES,

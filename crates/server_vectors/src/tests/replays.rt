@@ -2,7 +2,9 @@
 use super::configs::config_of;
 use super::left::{ended, is_left, push_asked, push_count, push_histories, push_rows, written};
 use super::lines::{column, front_of, joined, lines_of};
-use super::runs::{accounts, later, limits, names, objects, rights, several, stores, tables};
+use super::runs::{
+    accounts, later, limits, names, objects, rights, security, several, stores, tables,
+};
 use super::worlds::{Making, Steady, Told, making_of, steady_world, world_of, world_of_stored};
 use acct_base::Seq;
 use acct_keeper::{Change, Keeper, Pair, SteadyKeeper};
@@ -114,6 +116,7 @@ fn calls_of_each_operation(rt: HostRuntime) -> Result<(), Fail> {
         rights::RIGHTS,
         names::NAMES,
         later::LATER,
+        security::DESCRIPTORS,
     ] {
         tell_all(&rt, rt.alloc(), table)?;
     }
@@ -231,7 +234,18 @@ pub fn stored_after<R: Abort + Threads + Wait + Sync>(
     events: &str,
     change: &str,
 ) -> Result<SteadyKeeper, Fail> {
-    let texts = texts_of(alloc, "", events)?;
+    stored_under(rt, alloc, "", events, change)
+}
+
+/// The same under a configuration of this name.
+pub fn stored_under<R: Abort + Threads + Wait + Sync>(
+    rt: &R,
+    alloc: Global,
+    config: &str,
+    events: &str,
+    change: &str,
+) -> Result<SteadyKeeper, Fail> {
+    let texts = texts_of(alloc, config, events)?;
     let mut world = world_of(alloc, texts, making_of(""))?;
     let stored = stored_by(rt, alloc, &mut world, change);
     drop(world);
@@ -272,6 +286,139 @@ fn tell_second<R: Abort + Threads + Wait + Sync>(
 fn a_replay_begins_from_what_the_last_one_stored(rt: HostRuntime) -> Result<(), Fail> {
     for row in stores::SECOND.lines() {
         tell_second(&rt, rt.alloc(), row)?;
+    }
+    Ok(())
+}
+
+fn has_key(pair: &Pair, key: &[u8]) -> bool {
+    pair.key.as_slice() == key
+}
+
+fn push_pair(text: &mut String, alloc: Global, pair: &Pair) -> Result<(), Fail> {
+    let key = hex::encode(alloc, pair.key.as_slice())?;
+    let value = hex::encode(alloc, pair.value.as_slice())?;
+    write!(text, "{key}={value};")?;
+    Ok(())
+}
+
+/// The pairs in digits, except for that of the format.
+fn pairs_text(alloc: Global, pairs: &[Pair]) -> Result<String, Fail> {
+    let mut text = String::new(alloc);
+    for pair in pairs {
+        if !has_key(pair, b"f") {
+            push_pair(&mut text, alloc, pair)?;
+        }
+    }
+    Ok(text)
+}
+
+/// Adds the value of the pair of the format.
+fn push_format(text: &mut String, alloc: Global, pairs: &[Pair]) -> Result<(), Fail> {
+    for pair in pairs {
+        if has_key(pair, b"f") {
+            let value = hex::encode(alloc, pair.value.as_slice())?;
+            write!(text, " {value}")?;
+        }
+    }
+    Ok(())
+}
+
+/// How a replay without events ends, and the format of what is stored then. The other pairs are those before it.
+fn format_after<R: Abort + Threads + Wait + Sync>(
+    rt: &R,
+    alloc: Global,
+    world: &mut Told,
+    before: &str,
+) -> Result<String, Fail> {
+    let mut text = ended(rt, alloc, REPLAY, world)?;
+    let pairs = world.keeper().map_or(&[][..], |keeper| keeper.as_slice());
+    let now = pairs_text(alloc, pairs)?;
+    assert_eq!(rt; now.as_str(), before);
+    push_format(&mut text, alloc, pairs)?;
+    Ok(text)
+}
+
+/// The same over what a replay without events stores, except for a change.
+fn format_by<R: Abort + Threads + Wait + Sync>(
+    rt: &R,
+    alloc: Global,
+    change: &str,
+    making: &str,
+) -> Result<String, Fail> {
+    let stored = stored_after(rt, alloc, "", change)?;
+    let before = pairs_text(alloc, stored.as_slice())?;
+    let texts = texts_of(alloc, "", "")?;
+    let mut world = world_of_stored(alloc, stored, texts, making_of(making))?;
+    let text = format_after(rt, alloc, &mut world, before.as_str());
+    drop(world);
+    text
+}
+
+#[test]
+fn a_store_of_format_1_becomes_one_of_format_2(rt: HostRuntime) -> Result<(), Fail> {
+    for row in stores::FORMATS.lines() {
+        let (change, rest) = column(row);
+        let (making, wanted) = column(rest);
+        let text = format_by(&rt, rt.alloc(), change, making)?;
+        is_left(&rt, text.as_str(), wanted, row);
+    }
+    Ok(())
+}
+
+/// Whether a key is that of a change or of the next number of one.
+fn is_of_changes(key: &[u8]) -> bool {
+    match key.first() {
+        Some(letter) => *letter == b'n' || *letter == b'q',
+        None => false,
+    }
+}
+
+/// The pairs of the changes that are stored, in digits, with that of the next number before them.
+pub fn changes_text(alloc: Global, pairs: &[Pair]) -> Result<String, Fail> {
+    let mut text = String::new(alloc);
+    for pair in pairs {
+        if is_of_changes(pair.key.as_slice()) {
+            push_pair(&mut text, alloc, pair)?;
+        }
+    }
+    Ok(text)
+}
+
+/// The changes that are stored after a replay to the end.
+fn changes_after<R: Abort + Threads + Wait + Sync>(
+    rt: &R,
+    alloc: Global,
+    world: &mut Told,
+) -> Result<String, Fail> {
+    let ended = ended(rt, alloc, REPLAY, world)?;
+    assert_eq!(rt; ended.as_str(), "Done");
+    changes_text(
+        alloc,
+        world.keeper().map_or(&[][..], |keeper| keeper.as_slice()),
+    )
+}
+
+/// Tells a row: how a replay is made, the configuration, the events, and the changes that are stored then.
+fn tell_changes<R: Abort + Threads + Wait + Sync>(
+    rt: &R,
+    alloc: Global,
+    row: &str,
+) -> Result<(), Fail> {
+    let (making, rest) = column(row);
+    let (config, rest) = column(rest);
+    let (events, wanted) = column(rest);
+    let texts = texts_of(alloc, config, events)?;
+    let mut world = world_of(alloc, texts, making_of(making))?;
+    let changes = changes_after(rt, alloc, &mut world);
+    drop(world);
+    is_left(rt, changes?.as_str(), wanted, row);
+    Ok(())
+}
+
+#[test]
+fn changes_of_accounts_are_stored_for_a_program(rt: HostRuntime) -> Result<(), Fail> {
+    for row in security::CHANGES.lines() {
+        tell_changes(&rt, rt.alloc(), row)?;
     }
     Ok(())
 }

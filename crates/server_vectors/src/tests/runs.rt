@@ -5,6 +5,7 @@ pub mod limits;
 pub mod names;
 pub mod objects;
 pub mod rights;
+pub mod security;
 pub mod several;
 pub mod stores;
 pub mod tables;

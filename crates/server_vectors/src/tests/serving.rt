@@ -7,7 +7,7 @@ ghost use Rattle.acct_links.specs.Memory.{told_by};
 use super::configs::config_with;
 use super::forgetful::Forgetful;
 use super::left::{ended, is_left, push_asked, push_history};
-use super::lines::{column, joined, line_of, number};
+use super::lines::{joined, line_of, number};
 use super::replays::stored_after;
 use super::worlds::{Told, making_of, numbered, world_of_entrance};
 use acct_base::Seq;
@@ -25,55 +25,404 @@ use std::thread::Threads;
 pub const LINES: &str =
     "THIRD out 1 050002031000000030000000020000001800000000000000000000000000000000000100000000000000000300000000";
 
-/// Each row: how the world is made; the words; what the configuration says more; the links of each door; the status;
-/// the parts that the world was asked for; the askings of the entrance; the periods, each by the numbers of accounts
-/// before and after it, its history and its ends; and what was finished on each door, each link by its connection and
-/// what was written on it. `aN` has asking N fail, `b` a store that is broken, `f` a world without memory for periods.
-const ROWS: &str =
-    "|serve first.toml ''|workers = 2;[limits];max_calls = 4;max_periods = 2|BIND CONNECT CONNECT CONNECT,BIND CONNECT \
-    CONNECT CONNECT,BIND CONNECT CONNECT CONNECT;|Done|source first.toml;keeper ;entrance;|0 tcp:127.0.0.1:4045 2 \
-    0;|8>8 \
-    opened 1 0;called 1 57 Ran 8;called 1 57 Ran 8;called 1 57 Ran 8;gone 1;opened 2 0;called 2 57 Ran 8;gone 2; 1 0 \
-    End,2 0 Full(4),/8>8 opened 1 0;called 1 57 Ran 8;called 1 57 Ran 8;called 1 57 Ran 8;gone 1; 1 0 End,/|1 ACK \
-    CONNECTED AGAIN THIRD,2 ACK-2 CONNECTED-2 BUSY,1 ACK CONNECTED AGAIN THIRD,;;
-|serve first.toml ''|[limits];max_calls = 2|BIND CONNECT CONNECT CONNECT,BIND|HistoryFull(2)|source first.toml;keeper \
-    ;entrance;|0 tcp:127.0.0.1:4045 1 0;|8>8 opened 1 0;called 1 57 Ran 8;called 1 57 Ran 8;gone 1; 1 0 Full(2),/|1 \
-    ACK \
-    CONNECTED AGAIN BUSY,;
-|serve first.toml ''|[limits];max_calls = 4;max_periods = 3|BIND CONNECT OPEN-CORP CREATE-ALICE,BIND CONNECT \
-    CONNECT,BIND|Done|source first.toml;keeper ;entrance;|0 tcp:127.0.0.1:4045 1 0;|8>9 opened 1 0;called 1 57 Ran \
-    8;called 1 7 Ran 52;called 1 50 Ran 60;gone 1;opened 2 0;called 2 57 Ran 8;gone 2; 1 0 End,2 0 Full(4),/9>9 \
-    opened 1 \
-    0;gone 1; 1 0 End,/|1 ACK CONNECTED DOMAIN-2 ALICE-1000,2 ACK-2 CONNECTED-2 BUSY,1 ACK,;
-|serve first.toml ''|workers = 2;links = 7;[[listener]];name = \"b\";address = \"unix:b\";token = [\"S-1-1-0\"]|;;BIND|\
-    Done|source first.toml;keeper ;entrance;|0 tcp:127.0.0.1:4045 2 7;1 unix:b 1 0;|8>8 opened 1 1;gone 1; 1 2 \
-    End,/|;;1 \
-    ACK,;
-a2|serve first.toml ''|[[listener]];name = \"b\";address = \"unix:b\";token = [\"S-1-1-0\"]|BIND|DoorFault|source \
-    first.toml;keeper ;entrance;|0 tcp:127.0.0.1:4045 1 0;||;
-a1|serve first.toml ''||BIND|DoorFault|source first.toml;keeper ;entrance;|||
-b|serve first.toml ''||BIND|StoredPair(Seq { values: [102] })|source first.toml;keeper ;entrance;|0 \
-    tcp:127.0.0.1:4045 1 0;||;
-k1|serve first.toml ''||BIND|StoreFault|source first.toml;keeper ;entrance;|0 tcp:127.0.0.1:4045 1 0;||;
-k2|serve first.toml ''||BIND|StoreFault|source first.toml;keeper ;entrance;|0 tcp:127.0.0.1:4045 1 0;||;
-f|serve first.toml ''|[limits];max_calls = 1;max_periods = 2|BIND CONNECT CONNECT,BIND|NoMemory|source \
-    first.toml;keeper ;entrance;|0 tcp:127.0.0.1:4045 1 0;||1 ACK CONNECTED BUSY,;
-|serve first.toml ''||1!BIND|DoorFault|source first.toml;keeper ;entrance;|0 tcp:127.0.0.1:4045 1 0;|8>8  /|;
-|serve first.toml ''|workers = 65|BIND|Config(7)|source first.toml;keeper ;entrance;|||
-c1|serve first.toml ''||BIND|ReadFault|source first.toml;keeper ;entrance;|||
-t1|serve first.toml ''||BIND|ReadFault|source first.toml;|||
-t2|serve first.toml ''||BIND|StoreFault|source first.toml;keeper ;|||
-t3|serve first.toml ''||BIND|DoorFault|source first.toml;keeper ;entrance;|||
-|serve first.toml store||BIND|StoreFault|source first.toml;keeper store;|||
-|serve second.toml ''||BIND|ReadFault|source second.toml;|||
-|serve||BIND|Usage||||
-|serve first.toml||BIND|Usage||||
-|serve first.toml -store||BIND|Usage||||
-|serve -first.toml store||BIND|Usage||||
-|serve first.toml store x||BIND|Usage||||";
+/// A period that a world is given: the numbers of accounts before and after it, what is entered, and how its sessions
+/// end, each by its connection and its door.
+#[derive(Clone, Copy)]
+struct Given {
+    before: usize,
+    after: usize,
+    history: &'static [&'static str],
+    ends: &'static [&'static str],
+}
+
+/// A link that is finished: its connection, and the lines that are written on it.
+#[derive(Clone, Copy)]
+struct Finished {
+    conn: u32,
+    written: &'static str,
+}
+
+/// A server, and what it leaves.
+#[derive(Clone, Copy)]
+struct Row {
+    /// How the world is made: `f` is one without memory for periods.
+    making: &'static str,
+    words: &'static str,
+    /// What the configuration says more.
+    config: &'static str,
+    /// Which call of the first door fails, 0 for none.
+    failing: u64,
+    /// The links of the first three doors, three at most of each, by the lines that they bring.
+    links: &'static [&'static [&'static str]],
+    status: &'static str,
+    /// The parts that the world is asked for.
+    asked: &'static [&'static str],
+    /// The askings of the entrance: the listener, its address, and how many workers and links it has.
+    askings: &'static [&'static str],
+    periods: &'static [Given],
+    /// What is finished on each door.
+    finished: &'static [&'static [Finished]],
+}
+
+/// A server that comes to no link: the world is given no period, and each door that was asked for has nothing
+/// finished on it.
+#[derive(Clone, Copy)]
+struct Unserved {
+    /// How the world is made: `aN` has asking N of the entrance fail, `b` is a store that is broken.
+    making: &'static str,
+    words: &'static str,
+    /// What the configuration says more.
+    config: &'static str,
+    status: &'static str,
+    /// The parts that the world is asked for.
+    asked: &'static [&'static str],
+    /// The askings of the entrance that don't fail.
+    askings: &'static [&'static str],
+}
+
+const FIRST: &str = "serve first.toml ''";
+
+/// The parts of a server that gets as far as its entrance.
+const EACH_PART: &[&str] = &["source first.toml", "keeper ", "entrance"];
+
+const ONE_ASKING: &[&str] = &["0 tcp:127.0.0.1:4045 1 0"];
+
+const SERVED: &[Row] = &[
+    Row {
+        making: "",
+        words: FIRST,
+        config: "workers = 2;[limits];max_calls = 4;max_periods = 2",
+        failing: 0,
+        links: &[&[
+            "BIND CONNECT CONNECT CONNECT",
+            "BIND CONNECT CONNECT CONNECT",
+            "BIND CONNECT CONNECT CONNECT",
+        ]],
+        status: "Done",
+        asked: EACH_PART,
+        askings: &["0 tcp:127.0.0.1:4045 2 0"],
+        periods: &[
+            Given {
+                before: 8,
+                after: 8,
+                history: &[
+                    "opened 1 0",
+                    "called 1 57 Ran 8",
+                    "called 1 57 Ran 8",
+                    "called 1 57 Ran 8",
+                    "gone 1",
+                    "opened 2 0",
+                    "called 2 57 Ran 8",
+                    "gone 2",
+                ],
+                ends: &["1 0 End", "2 0 Full(4)"],
+            },
+            Given {
+                before: 8,
+                after: 8,
+                history: &[
+                    "opened 1 0",
+                    "called 1 57 Ran 8",
+                    "called 1 57 Ran 8",
+                    "called 1 57 Ran 8",
+                    "gone 1",
+                ],
+                ends: &["1 0 End"],
+            },
+        ],
+        finished: &[
+            &[
+                Finished {
+                    conn: 1,
+                    written: "ACK CONNECTED AGAIN THIRD",
+                },
+                Finished {
+                    conn: 2,
+                    written: "ACK-2 CONNECTED-2 BUSY",
+                },
+                Finished {
+                    conn: 1,
+                    written: "ACK CONNECTED AGAIN THIRD",
+                },
+            ],
+            &[],
+        ],
+    },
+    Row {
+        making: "",
+        words: FIRST,
+        config: "[limits];max_calls = 2",
+        failing: 0,
+        links: &[&["BIND CONNECT CONNECT CONNECT", "BIND"]],
+        status: "HistoryFull(2)",
+        asked: EACH_PART,
+        askings: ONE_ASKING,
+        periods: &[Given {
+            before: 8,
+            after: 8,
+            history: &[
+                "opened 1 0",
+                "called 1 57 Ran 8",
+                "called 1 57 Ran 8",
+                "gone 1",
+            ],
+            ends: &["1 0 Full(2)"],
+        }],
+        finished: &[&[Finished {
+            conn: 1,
+            written: "ACK CONNECTED AGAIN BUSY",
+        }]],
+    },
+    Row {
+        making: "",
+        words: FIRST,
+        config: "[limits];max_calls = 4;max_periods = 3",
+        failing: 0,
+        links: &[&[
+            "BIND CONNECT OPEN-CORP CREATE-ALICE",
+            "BIND CONNECT CONNECT",
+            "BIND",
+        ]],
+        status: "Done",
+        asked: EACH_PART,
+        askings: ONE_ASKING,
+        periods: &[
+            Given {
+                before: 8,
+                after: 9,
+                history: &[
+                    "opened 1 0",
+                    "called 1 57 Ran 8",
+                    "called 1 7 Ran 52",
+                    "called 1 50 Ran 60",
+                    "gone 1",
+                    "opened 2 0",
+                    "called 2 57 Ran 8",
+                    "gone 2",
+                ],
+                ends: &["1 0 End", "2 0 Full(4)"],
+            },
+            Given {
+                before: 9,
+                after: 9,
+                history: &["opened 1 0", "gone 1"],
+                ends: &["1 0 End"],
+            },
+        ],
+        finished: &[&[
+            Finished {
+                conn: 1,
+                written: "ACK CONNECTED DOMAIN-2 ALICE-1000",
+            },
+            Finished {
+                conn: 2,
+                written: "ACK-2 CONNECTED-2 BUSY",
+            },
+            Finished {
+                conn: 1,
+                written: "ACK",
+            },
+        ]],
+    },
+    Row {
+        making: "",
+        words: FIRST,
+        config: "workers = 2;links = 7;[[listener]];name = \"b\";address = \"unix:b\";token = [\"S-1-1-0\"]",
+        failing: 0,
+        links: &[&[], &[], &["BIND"]],
+        status: "Done",
+        asked: EACH_PART,
+        askings: &["0 tcp:127.0.0.1:4045 2 7", "1 unix:b 1 0"],
+        periods: &[Given {
+            before: 8,
+            after: 8,
+            history: &["opened 1 1", "gone 1"],
+            ends: &["1 2 End"],
+        }],
+        finished: &[
+            &[],
+            &[],
+            &[Finished {
+                conn: 1,
+                written: "ACK",
+            }],
+        ],
+    },
+    Row {
+        making: "f",
+        words: FIRST,
+        config: "[limits];max_calls = 1;max_periods = 2",
+        failing: 0,
+        links: &[&["BIND CONNECT CONNECT", "BIND"]],
+        status: "NoMemory",
+        asked: EACH_PART,
+        askings: ONE_ASKING,
+        periods: &[],
+        finished: &[&[Finished {
+            conn: 1,
+            written: "ACK CONNECTED BUSY",
+        }]],
+    },
+    Row {
+        making: "",
+        words: FIRST,
+        config: "",
+        failing: 1,
+        links: &[&["BIND"]],
+        status: "DoorFault",
+        asked: EACH_PART,
+        askings: ONE_ASKING,
+        periods: &[Given {
+            before: 8,
+            after: 8,
+            history: &[],
+            ends: &[],
+        }],
+        finished: &[&[]],
+    },
+];
+
+const UNSERVED: &[Unserved] = &[
+    Unserved {
+        making: "a2",
+        words: FIRST,
+        config: "[[listener]];name = \"b\";address = \"unix:b\";token = [\"S-1-1-0\"]",
+        status: "DoorFault",
+        asked: EACH_PART,
+        askings: ONE_ASKING,
+    },
+    Unserved {
+        making: "a1",
+        words: FIRST,
+        config: "",
+        status: "DoorFault",
+        asked: EACH_PART,
+        askings: &[],
+    },
+    Unserved {
+        making: "b",
+        words: FIRST,
+        config: "",
+        status: "StoredPair(Seq { values: [102] })",
+        asked: EACH_PART,
+        askings: ONE_ASKING,
+    },
+    Unserved {
+        making: "k1",
+        words: FIRST,
+        config: "",
+        status: "StoreFault",
+        asked: EACH_PART,
+        askings: ONE_ASKING,
+    },
+    Unserved {
+        making: "k2",
+        words: FIRST,
+        config: "",
+        status: "StoreFault",
+        asked: EACH_PART,
+        askings: ONE_ASKING,
+    },
+    Unserved {
+        making: "",
+        words: FIRST,
+        config: "workers = 65",
+        status: "Config(7)",
+        asked: EACH_PART,
+        askings: &[],
+    },
+    Unserved {
+        making: "c1",
+        words: FIRST,
+        config: "",
+        status: "ReadFault",
+        asked: EACH_PART,
+        askings: &[],
+    },
+    Unserved {
+        making: "t1",
+        words: FIRST,
+        config: "",
+        status: "ReadFault",
+        asked: &["source first.toml"],
+        askings: &[],
+    },
+    Unserved {
+        making: "t2",
+        words: FIRST,
+        config: "",
+        status: "StoreFault",
+        asked: &["source first.toml", "keeper "],
+        askings: &[],
+    },
+    Unserved {
+        making: "t3",
+        words: FIRST,
+        config: "",
+        status: "DoorFault",
+        asked: EACH_PART,
+        askings: &[],
+    },
+    Unserved {
+        making: "",
+        words: "serve first.toml store",
+        config: "",
+        status: "StoreFault",
+        asked: &["source first.toml", "keeper store"],
+        askings: &[],
+    },
+    Unserved {
+        making: "",
+        words: "serve second.toml ''",
+        config: "",
+        status: "ReadFault",
+        asked: &["source second.toml"],
+        askings: &[],
+    },
+    Unserved {
+        making: "",
+        words: "serve",
+        config: "",
+        status: "Usage",
+        asked: &[],
+        askings: &[],
+    },
+    Unserved {
+        making: "",
+        words: "serve first.toml",
+        config: "",
+        status: "Usage",
+        asked: &[],
+        askings: &[],
+    },
+    Unserved {
+        making: "",
+        words: "serve first.toml -store",
+        config: "",
+        status: "Usage",
+        asked: &[],
+        askings: &[],
+    },
+    Unserved {
+        making: "",
+        words: "serve -first.toml store",
+        config: "",
+        status: "Usage",
+        asked: &[],
+        askings: &[],
+    },
+    Unserved {
+        making: "",
+        words: "serve first.toml store x",
+        config: "",
+        status: "Usage",
+        asked: &[],
+        askings: &[],
+    },
+];
 
 /// The number after a letter, 0 where no word begins with it.
-fn number_of(words: &str, letter: char) -> u64 {
+pub fn number_of(words: &str, letter: char) -> u64 {
     for word in words.split(' ') {
         if let Some(digits) = word.strip_prefix(letter) {
             return number(digits) as u64;
@@ -112,36 +461,46 @@ fn add_link(alloc: Global, links: &mut Seq<MemoryLink>, names: &str) -> Result<(
     Ok(())
 }
 
-/// A door with up to three links that bring these lines, of whose calls the one with the first number fails.
-fn plan_of(alloc: Global, words: &str) -> Result<DoorPlan<MemoryLink>, Fail>
+/// The lines at a place, none where there are fewer.
+fn lines_at(lines: &[&'static str], place: usize) -> &'static str {
+    lines.get(place).copied().unwrap_or("")
+}
+
+/// A door with up to three links that bring these lines, of whose calls this one fails.
+fn plan_of(
+    alloc: Global,
+    lines: &[&'static str],
+    failing: u64,
+) -> Result<DoorPlan<MemoryLink>, Fail>
     ensures { IfOk result (λ plan. All (λ link. IsNew (told_by link)) plan.links) }
 {
-    let (failing, names) = words.split_once('!').unwrap_or(("0", words));
-    let (first, rest) = names.split_once(',').unwrap_or((names, ""));
-    let (second, third) = rest.split_once(',').unwrap_or((rest, ""));
     let mut links = Seq::new(alloc);
-    add_link(alloc, &mut links, first)?;
-    add_link(alloc, &mut links, second)?;
-    add_link(alloc, &mut links, third)?;
+    add_link(alloc, &mut links, lines_at(lines, 0))?;
+    add_link(alloc, &mut links, lines_at(lines, 1))?;
+    add_link(alloc, &mut links, lines_at(lines, 2))?;
     Ok(DoorPlan {
         links,
-        failing: Seq::from_vec(numbered(alloc, number(failing) as u64)?),
+        failing: Seq::from_vec(numbered(alloc, failing)?),
     })
 }
 
-/// An entrance whose first three doors have these links, of whose askings one fails or none.
+/// The links of the door at a place, none where there are fewer doors.
+fn links_at(doors: &[&'static [&'static str]], place: usize) -> &'static [&'static str] {
+    doors.get(place).copied().unwrap_or(&[])
+}
+
+/// An entrance whose first three doors have these links, and fail at this call of the first door and at this asking.
 fn entrance_of(
     alloc: Global,
-    doors: &str,
+    links: &[&'static [&'static str]],
     failing: u64,
+    failing_asking: u64,
 ) -> Result<MemoryEntrance<MemoryLink>, Fail> {
-    let (first, rest) = doors.split_once(';').unwrap_or((doors, ""));
-    let (second, third) = rest.split_once(';').unwrap_or((rest, ""));
     let mut plans = Vec::new(alloc);
-    plans.push(plan_of(alloc, first)?)?;
-    plans.push(plan_of(alloc, second)?)?;
-    plans.push(plan_of(alloc, third)?)?;
-    Ok(MemoryEntrance::new(alloc, plans, numbered(alloc, failing)?))
+    plans.push(plan_of(alloc, links_at(links, 0), failing)?)?;
+    plans.push(plan_of(alloc, links_at(links, 1), 0)?)?;
+    plans.push(plan_of(alloc, links_at(links, 2), 0)?)?;
+    Ok(MemoryEntrance::new(alloc, plans, numbered(alloc, failing_asking)?))
 }
 
 /// A keeper without pairs, or one with the pairs of a seeded store except for its format, which is unknown.
@@ -151,7 +510,7 @@ fn stored_of<R: Abort + Threads + Wait + Sync>(
     making: &str,
 ) -> Result<SteadyKeeper, Fail> {
     if making == "b" {
-        return stored_after(rt, alloc, "", "66=02");
+        return stored_after(rt, alloc, "", "66=03");
     }
     Ok(SteadyKeeper::new(alloc))
 }
@@ -161,12 +520,13 @@ fn serve_world<R: Abort + Threads + Wait + Sync>(
     rt: &R,
     alloc: Global,
     making: &str,
-    lines: &str,
-    doors: &str,
+    config: &str,
+    links: &[&'static [&'static str]],
+    failing: u64,
 ) -> Result<Told, Fail> {
-    let config = config_with(alloc, lines)?;
+    let config = config_with(alloc, config)?;
     let stored = stored_of(rt, alloc, making)?;
-    let entrance = entrance_of(alloc, doors, number_of(making, 'a'))?;
+    let entrance = entrance_of(alloc, links, failing, number_of(making, 'a'))?;
     world_of_entrance(alloc, stored, entrance, config, making_of(making))
 }
 
@@ -330,33 +690,74 @@ fn left_forgotten<R: Threads + Wait + Sync>(
     text
 }
 
-/// Adds what has to be finished on a link: the names of lines stand for their digits.
-fn push_wanted_link(alloc: Global, text: &mut String, link: &str) -> Result<(), Fail> {
-    if let Some((conn, names)) = link.split_once(' ') {
-        text.push_str(conn)?;
-        text.push(' ')?;
-        text.push_str(digits_of(alloc, names)?.as_str())?;
-        text.push(',')?;
+/// Adds texts, each with this end.
+fn push_each(text: &mut String, items: &[&str], end: &str) -> Result<(), Fail> {
+    for item in items {
+        text.push_str(item)?;
+        text.push_str(end)?;
     }
     Ok(())
 }
 
-fn push_wanted_door(alloc: Global, text: &mut String, door: &str) -> Result<(), Fail> {
-    for link in door.split(',') {
+/// Adds periods that have to be given.
+fn push_given(text: &mut String, periods: &[Given]) -> Result<(), Fail> {
+    for period in periods {
+        push_counts(text, period.before, period.after)?;
+        push_each(text, period.history, ";")?;
+        text.push(' ')?;
+        push_each(text, period.ends, ",")?;
+        text.push('/')?;
+    }
+    Ok(())
+}
+
+/// Adds what has to be finished on a link: the names of lines stand for their digits.
+fn push_wanted_link(alloc: Global, text: &mut String, link: &Finished) -> Result<(), Fail> {
+    let conn = link.conn;
+    let digits = digits_of(alloc, link.written)?;
+    write!(text, "{conn} ")?;
+    text.push_str(digits.as_str())?;
+    text.push(',')?;
+    Ok(())
+}
+
+fn push_wanted_door(alloc: Global, text: &mut String, links: &[Finished]) -> Result<(), Fail> {
+    for link in links {
         push_wanted_link(alloc, text, link)?;
     }
+    text.push(';')?;
     Ok(())
 }
 
-/// What a row has to leave: its last column says what is finished on each door.
-fn wanted_of(alloc: Global, row: &str) -> Result<String, Fail> {
-    let (front, finished) = row.rsplit_once('|').unwrap_or(("", row));
-    let mut text = joined(alloc, &[front, "|"])?;
-    for (place, door) in finished.split(';').enumerate() {
-        if place != 0 {
-            text.push(';')?;
-        }
-        push_wanted_door(alloc, &mut text, door)?;
+/// Adds what has to be asked for: the parts of the world, and the doors of its entrance.
+fn push_wanted_asked(text: &mut String, asked: &[&str], askings: &[&str]) -> Result<(), Fail> {
+    text.push('|')?;
+    push_each(text, asked, ";")?;
+    text.push('|')?;
+    push_each(text, askings, ";")?;
+    text.push('|')?;
+    Ok(())
+}
+
+/// What a row has to leave, as `left` says it.
+fn wanted_of(alloc: Global, row: &Row) -> Result<String, Fail> {
+    let mut text = joined(alloc, &[row.status])?;
+    push_wanted_asked(&mut text, row.asked, row.askings)?;
+    push_given(&mut text, row.periods)?;
+    text.push('|')?;
+    for links in row.finished {
+        push_wanted_door(alloc, &mut text, links)?;
+    }
+    Ok(text)
+}
+
+/// The same of a server that comes to no link.
+fn wanted_unserved(alloc: Global, row: &Unserved) -> Result<String, Fail> {
+    let mut text = joined(alloc, &[row.status])?;
+    push_wanted_asked(&mut text, row.asked, row.askings)?;
+    text.push('|')?;
+    for _ in row.askings {
+        text.push(';')?;
     }
     Ok(text)
 }
@@ -366,10 +767,8 @@ fn left_by<R: Abort + Threads + Wait + Sync>(
     alloc: Global,
     making: &str,
     words: &str,
-    lines: &str,
-    doors: &str,
+    world: Told,
 ) -> Result<String, Fail> {
-    let world = serve_world(rt, alloc, making, lines, doors)?;
     if making == "f" {
         left_forgotten(rt, alloc, words, world)
     } else {
@@ -377,21 +776,40 @@ fn left_by<R: Abort + Threads + Wait + Sync>(
     }
 }
 
-fn tell<R: Abort + Threads + Wait + Sync>(rt: &R, alloc: Global, row: &str) -> Result<(), Fail> {
-    let (making, rest) = column(row);
-    let (words, rest) = column(rest);
-    let (lines, rest) = column(rest);
-    let (doors, rest) = column(rest);
-    let left = left_by(rt, alloc, making, words, lines, doors)?;
-    let wanted = wanted_of(alloc, rest)?;
-    is_left(rt, left.as_str(), wanted.as_str(), row);
+fn tell<R: Abort + Threads + Wait + Sync>(rt: &R, alloc: Global, row: &Row) -> Result<(), Fail> {
+    let world = serve_world(rt, alloc, row.making, row.config, row.links, row.failing)?;
+    let left = left_by(rt, alloc, row.making, row.words, world)?;
+    let wanted = wanted_of(alloc, row)?;
+    let told = joined(alloc, &[row.words, " ", row.making, " ", row.config])?;
+    is_left(rt, left.as_str(), wanted.as_str(), told.as_str());
     Ok(())
 }
 
 #[test]
 fn servers_over_worlds_in_memory(rt: HostRuntime) -> Result<(), Fail> {
-    for row in ROWS.lines() {
+    for row in SERVED {
         tell(&rt, rt.alloc(), row)?;
+    }
+    Ok(())
+}
+
+fn tell_unserved<R: Abort + Threads + Wait + Sync>(
+    rt: &R,
+    alloc: Global,
+    row: &Unserved,
+) -> Result<(), Fail> {
+    let world = serve_world(rt, alloc, row.making, row.config, &[&["BIND"]], 0)?;
+    let left = left_over(rt, alloc, row.words, world)?;
+    let wanted = wanted_unserved(alloc, row)?;
+    let told = joined(alloc, &[row.words, " ", row.making, " ", row.config])?;
+    is_left(rt, left.as_str(), wanted.as_str(), told.as_str());
+    Ok(())
+}
+
+#[test]
+fn servers_that_come_to_no_link(rt: HostRuntime) -> Result<(), Fail> {
+    for row in UNSERVED {
+        tell_unserved(&rt, rt.alloc(), row)?;
     }
     Ok(())
 }

@@ -1,5 +1,6 @@
 // Worlds in memory, and the parts of which they are made.
 use super::lines::{bytes_of, number};
+use account_hooks::{MemorySpawner, SteadySpawner};
 use acct_keeper::{MemoryKeeper, SteadyKeeper};
 use acct_links::{Entrance, MemoryCaller, MemoryEntrance, MemoryLink, SteadyCaller, SteadyLink};
 use acct_server::{MemorySink, MemorySource, SteadySink, SteadySource};
@@ -14,6 +15,7 @@ pub type Told = MemoryWorld<
     MemoryKeeper,
     MemoryEntrance<MemoryLink>,
     MemoryCaller<MemoryLink>,
+    MemorySpawner,
 >;
 
 /// How a run is made: which reads of the configuration and the events, which writes, which calls of the keeper and
@@ -142,13 +144,19 @@ fn closed(alloc: Global) -> MemoryEntrance<MemoryLink> {
     MemoryEntrance::new(alloc, Vec::new(alloc), Vec::new(alloc))
 }
 
-/// The world of a frame, over what a keeper holds, an entrance brings and a caller gives.
+/// A spawner whose runs all end with 0.
+fn idle(alloc: Global) -> MemorySpawner {
+    MemorySpawner::new(alloc, Vec::new(alloc))
+}
+
+/// The world of a frame, over what a keeper holds, an entrance brings and a caller gives, and with a spawner.
 fn world_over(
     alloc: Global,
     frame: Frame,
     stored: SteadyKeeper,
     entrance: MemoryEntrance<MemoryLink>,
     caller: MemoryCaller<MemoryLink>,
+    spawner: MemorySpawner,
 ) -> Told {
     let Frame { streams, failing } = frame;
     let parts = MemoryParts {
@@ -158,6 +166,7 @@ fn world_over(
         keeper: MemoryKeeper::new(stored, failing.keeper),
         entrance,
         caller,
+        spawner,
     };
     MemoryWorld::new(alloc, failing.name, parts, failing.takes)
 }
@@ -170,14 +179,28 @@ pub fn world_of_stored(
     making: Making,
 ) -> Result<Told, Fail> {
     let frame = frame_of(alloc, texts, making)?;
-    Ok(world_over(alloc, frame, stored, closed(alloc), nobody(alloc)))
+    Ok(world_over(
+        alloc,
+        frame,
+        stored,
+        closed(alloc),
+        nobody(alloc),
+        idle(alloc),
+    ))
 }
 
 /// The same over a keeper that holds nothing.
 pub fn world_of(alloc: Global, texts: (String, String), making: Making) -> Result<Told, Fail> {
     let frame = frame_of(alloc, texts, making)?;
     let stored = SteadyKeeper::new(alloc);
-    Ok(world_over(alloc, frame, stored, closed(alloc), nobody(alloc)))
+    Ok(world_over(
+        alloc,
+        frame,
+        stored,
+        closed(alloc),
+        nobody(alloc),
+        idle(alloc),
+    ))
 }
 
 /// A world with a caller, whose sources hold nothing.
@@ -189,7 +212,7 @@ pub fn world_of_caller(
     let texts = (String::new(alloc), String::new(alloc));
     let frame = frame_of(alloc, texts, making)?;
     let stored = SteadyKeeper::new(alloc);
-    Ok(world_over(alloc, frame, stored, closed(alloc), caller))
+    Ok(world_over(alloc, frame, stored, closed(alloc), caller, idle(alloc)))
 }
 
 /// A world with an entrance and this configuration, over what a keeper holds, whose events are none.
@@ -201,11 +224,30 @@ pub fn world_of_entrance(
     making: Making,
 ) -> Result<Told, Fail> {
     let frame = frame_of(alloc, (config, String::new(alloc)), making)?;
-    Ok(world_over(alloc, frame, stored, entrance, nobody(alloc)))
+    Ok(world_over(alloc, frame, stored, entrance, nobody(alloc), idle(alloc)))
+}
+
+/// A world with a spawner and this configuration, over what a keeper holds, whose events are none.
+pub fn world_of_spawner(
+    alloc: Global,
+    stored: SteadyKeeper,
+    spawner: MemorySpawner,
+    config: String,
+    making: Making,
+) -> Result<Told, Fail> {
+    let frame = frame_of(alloc, (config, String::new(alloc)), making)?;
+    Ok(world_over(alloc, frame, stored, closed(alloc), nobody(alloc), spawner))
 }
 
 /// A world whose parts never fail, except for its entrance.
-pub type Steady<E> = MemoryWorld<SteadySource, SteadySink, SteadyKeeper, E, SteadyCaller>;
+pub type Steady<E> = MemoryWorld<
+    SteadySource,
+    SteadySink,
+    SteadyKeeper,
+    E,
+    SteadyCaller,
+    SteadySpawner,
+>;
 
 /// A world with this entrance and these texts of the configuration and of the events.
 pub fn steady_world<E: Entrance + Drop>(
@@ -225,6 +267,7 @@ where
         keeper: SteadyKeeper::new(alloc),
         entrance,
         caller: SteadyCaller::new(alloc, Vec::new(alloc), 1),
+        spawner: SteadySpawner,
     };
     Ok(MemoryWorld::new(alloc, name, parts, Vec::new(alloc)))
 }

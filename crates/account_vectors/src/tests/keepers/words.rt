@@ -1,9 +1,9 @@
 // Keepers that are asked in words, and what they answer.
 //
 // A word is a load or a commit, and a commit its changes: a pair is put, or the one with the key after the sign
-// removed. A sign stands for its byte, a star for a long key or value. Of a file there are more words: it is opened once
-// again, many numbers are committed, it is swapped with a spare one, and what lies at its path is no database and then
-// the file again.
+// removed. A sign stands for its byte, a star for a long key or value. Of a file there are more words: it is opened
+// once again, many numbers are committed, it is swapped with a spare one, and what lies at its path is no database and
+// then the file again.
 use crate::tests::words::split;
 use acct_base::Seq;
 use acct_keeper::{Change, KeepError, Keeper, Pair};

@@ -20,7 +20,8 @@ fn granted_at(config: &Config, listener: u32, desired: u32) -> Option<u32>
         serial: 0,
         live: true,
     };
-    granted(config, Some(conn), Object::Server, desired)
+    let descriptor = config.descriptor(Kind::Server);
+    granted(config, descriptor, Some(conn), Object::Server, desired)
 }
 
 #[test]
@@ -67,9 +68,13 @@ fn handles_are_checked(rt: HostRuntime) {
 
 #[test]
 fn operations_are_found_by_interface_and_opnum(rt: HostRuntime) -> Result<(), Fail> {
-    assert!(rt; all_works(rt.alloc())?.len() == 68);
+    assert!(rt; all_works(rt.alloc())?.len() == 72);
     assert!(rt; work_of(Face::Samr, 64) == Some(Work::SamrConnect5));
     assert!(rt; work_of(Face::Lsa, 0) == Some(Work::LsarClose));
+    assert!(rt; work_of(Face::Samr, 2) == Some(Work::SamrSetSecurityObject));
+    assert!(rt; work_of(Face::Samr, 3) == Some(Work::SamrQuerySecurityObject));
+    assert!(rt; work_of(Face::Lsa, 3) == Some(Work::LsarQuerySecurityObject));
+    assert!(rt; work_of(Face::Lsa, 4) == Some(Work::LsarSetSecurityObject));
     assert!(rt; work_of(Face::Samr, 40) == Some(Work::SamrQueryDisplayInformation));
     assert!(rt; work_of(Face::Samr, 65) == Some(Work::SamrRidToSid));
     assert!(rt; work_of(Face::Lsa, 65).is_none());
@@ -80,6 +85,8 @@ fn operations_are_found_by_interface_and_opnum(rt: HostRuntime) -> Result<(), Fa
 /// alias, user, policy, account of the policy (C). One that brings no handle looks at none.
 const TAKEN: &str = "\
 Samr 1 SDGAU
+Samr 2 SDGAU
+Samr 3 SDGAU
 Samr 5 S
 Samr 6 S
 Samr 7 S
@@ -124,6 +131,8 @@ Samr 64 SDGAUPC
 Samr 65 DGAU
 Lsa 0 PC
 Lsa 2 P
+Lsa 3 PC
+Lsa 4 PC
 Lsa 7 P
 Lsa 10 P
 Lsa 11 P

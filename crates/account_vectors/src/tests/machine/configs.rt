@@ -20,6 +20,20 @@ address = "unix:b"
 token = ["S-1-1-0", "S-1-5-32-545"]
 "#;
 
+/// The token of the first listener has the administrators, who own what has no other owner.
+pub const ADMINISTRATORS: &str = r#"[domain]
+name = "CORP"
+sid = "S-1-5-21-1-2-3"
+[[listener]]
+name = "a"
+address = "tcp:127.0.0.1:4045"
+token = ["S-1-5-21-1-2-3-500", "S-1-1-0", "S-1-5-32-544"]
+[[listener]]
+name = "b"
+address = "unix:b"
+token = ["S-1-1-0"]
+"#;
+
 /// The descriptor of the server, without its entries.
 const SERVER: &str = "[descriptor.server]\nowner = \"S-1-5-18\"\naces = ";
 

@@ -26,6 +26,7 @@ fn push_entry(text: &mut String, entry: &Entry) -> Result<(), Fail> {
             call.face, call.opnum
         )?,
         Entry::Gone { conn } => write!(text, "gone {conn};")?,
+        Entry::Hooked { number } => write!(text, "hooked {number};")?,
     }
     Ok(())
 }

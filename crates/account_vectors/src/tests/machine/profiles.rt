@@ -1,10 +1,11 @@
 // The words of a profile by kind and by class, what openings ask for, and what an operation of the table decides.
 use crate::tests::first_rows::seeded;
+use crate::tests::operations::owned_by;
 use acct_codes::Kind;
 use acct_machine::{Args, NoMemory, Object, Rows};
 use acct_operations::{Work, decide};
 use acct_rules::{Effect, Kinds, Needs, Planned, class_of, desired_access, needed_bits};
-use dtyp_sid::parse_text;
+use dtyp_sid::{Sid, parse_text};
 use std::alloc::Global;
 use std::test::Fail;
 
@@ -111,9 +112,18 @@ fn opens(planned: &Planned, rid: u32) -> bool {
 }
 
 /// Whether SamrOpenUser opens the user of the account domain.
-fn opens_the_user(alloc: Global, rows: &Rows, rid: u32) -> Result<bool, NoMemory> {
+fn opens_the_user(alloc: Global, rows: &Rows, owner: Sid, rid: u32) -> Result<bool, NoMemory> {
     let args = Args::AccessRid { access: 1, rid };
-    let planned = decide(alloc, Work::SamrOpenUser, rows, Object::Domain(0), &args);
+    let described = owned_by(owner);
+    let planned = decide(
+        alloc,
+        Work::SamrOpenUser,
+        rows,
+        &described,
+        Object::Domain(0),
+        &args,
+    );
+    drop(described);
     drop(args);
     match planned {
         Ok(planned) => {
@@ -126,14 +136,18 @@ fn opens_the_user(alloc: Global, rows: &Rows, rid: u32) -> Result<bool, NoMemory
 }
 
 /// There is a user 500; 512 is a group.
-fn opens_users_alone(alloc: Global, rows: &Rows) -> Result<bool, NoMemory> {
-    Ok(opens_the_user(alloc, rows, 500)? && !opens_the_user(alloc, rows, 512)?)
+fn opens_users_alone(alloc: Global, rows: &Rows, owner: Sid) -> Result<bool, NoMemory> {
+    Ok(opens_the_user(alloc, rows, owner, 500)? && !opens_the_user(alloc, rows, owner, 512)?)
 }
 
 #[test]
 fn users_are_opened(rt: HostRuntime) -> Result<(), Fail> {
     let rows = seeded(&rt, rt.alloc())?;
-    let opens_them = opens_users_alone(rt.alloc(), &rows);
+    let owner = parse_text("S-1-5-32-544");
+    let opens_them = match owner {
+        Ok(owner) => opens_users_alone(rt.alloc(), &rows, owner),
+        Err(_) => Ok(false),
+    };
     drop(rows);
     assert!(rt; opens_them?);
     Ok(())

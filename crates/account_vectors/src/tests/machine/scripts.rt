@@ -54,8 +54,27 @@ fn connect(rt: &impl Abort, machine: &mut Machine<MemoryKeeper>)
     }
 }
 
-/// A machine with both connections under the plain configuration, with these entries of the descriptor of the server or
-/// with none, over a keeper in memory whose calls of these numbers fail.
+/// A machine with both connections under a configuration of two listeners, over a keeper in memory whose calls of these
+/// numbers fail.
+pub fn started_under(
+    rt: &impl Abort,
+    alloc: Global,
+    config: Config,
+    failing: &[u64],
+) -> Result<Machine<MemoryKeeper>, Fail>
+    requires right { IsRight config }
+    requires listeners { length config.listeners ≡ 2 }
+    ensures first { IfOk result (λ machine. is_live 1 (state_of machine.past).conns ≡ true) }
+    ensures second { IfOk result (λ machine. is_live 2 (state_of machine.past).conns ≡ true) }
+{
+    let made = made(rt, alloc, &config, failing);
+    drop(config);
+    let mut machine = made?;
+    connect(rt, &mut machine);
+    Ok(machine)
+}
+
+/// The same under the plain configuration, with these entries of the descriptor of the server or with none.
 pub fn started(
     rt: &impl Abort,
     alloc: Global,
@@ -66,11 +85,7 @@ pub fn started(
     ensures second { IfOk result (λ machine. is_live 2 (state_of machine.past).conns ≡ true) }
 {
     let config = with_entries(rt, alloc, entries)?;
-    let made = made(rt, alloc, &config, failing);
-    drop(config);
-    let mut machine = made?;
-    connect(rt, &mut machine);
-    Ok(machine)
+    started_under(rt, alloc, config, failing)
 }
 
 /// A connection makes a call.
@@ -96,7 +111,7 @@ fn answer(alloc: Global, machine: &mut Machine<MemoryKeeper>, line: &str) -> Res
     ensures second { is_live 2 (state_of machine.new.past).conns ≡ true }
 {
     let (conn, words) = word(line);
-    let call = call_of(words, machine.config().sid);
+    let call = call_of(alloc, words, machine.config().sid)?;
     let acted = acted(machine, conn == "1", call);
     let mut text = String::new(alloc);
     let told = push_acted(&mut text, &acted);
@@ -133,6 +148,7 @@ pub fn tell(
     requires first { is_live 1 (state_of machine.old.past).conns ≡ true }
     requires second { is_live 2 (state_of machine.old.past).conns ≡ true }
     ensures first { is_live 1 (state_of machine.new.past).conns ≡ true }
+    ensures second { is_live 2 (state_of machine.new.past).conns ≡ true }
 {
     for line in script.lines() {
         tell_line(rt, alloc, machine, line)?;

@@ -4,7 +4,7 @@ ghost use Rattle.acct_config.specs.Right.{IsRight};
 use super::configs::{PLAIN, configured};
 use super::scripts::keeper_with;
 use acct_base::Seq;
-use acct_keeper::{Change, Keeper, MemoryKeeper};
+use acct_keeper::{Change, Keeper, MemoryKeeper, Pair};
 use acct_machine::{Config, OpenError, Rows, open_store};
 use std::alloc::Global;
 use std::process::Abort;
@@ -112,6 +112,128 @@ fn stores_are_opened_again_as_they_were_left(rt: HostRuntime) -> Result<(), Fail
     let mut keeper = keeper_with(rt.alloc(), &[4])?;
     let config = configured(&rt, rt.alloc(), PLAIN)?;
     let ended = opened_again(&rt, rt.alloc(), &config, &mut keeper);
+    drop(config);
+    ended
+}
+
+/// Makes the store one of a format.
+fn set_format(alloc: Global, keeper: &mut MemoryKeeper, format: u8) -> Result<(), Fail> {
+    let pair = Change {
+        key: Seq::copy_of(alloc, b"f")?,
+        value: Some(Seq::copy_of(alloc, &[format])?),
+    };
+    keeper.commit(&[pair])?;
+    Ok(())
+}
+
+fn is_format(pair: &Pair) -> bool {
+    pair.key.as_slice() == b"f".as_slice()
+}
+
+/// The value that a store keeps of its format.
+fn format_of(keeper: &MemoryKeeper) -> &[u8] {
+    for pair in keeper.as_slice() {
+        if is_format(pair) {
+            return pair.value.as_slice();
+        }
+    }
+    &[]
+}
+
+/// The pairs of a store but that of its format, in digits.
+fn other_pairs(alloc: Global, keeper: &MemoryKeeper) -> Result<String, Fail> {
+    let mut text = String::new(alloc);
+    for pair in keeper.as_slice() {
+        if !is_format(pair) {
+            let (key, value) = (pair.key.as_slice(), pair.value.as_slice());
+            write!(text, "{key:?} {value:?};")?;
+        }
+    }
+    Ok(text)
+}
+
+/// Seeds a store and makes it one of a format. What its opening answers then, and the format that is kept.
+fn opened_in_format(
+    alloc: Global,
+    config: &Config,
+    keeper: &mut MemoryKeeper,
+    format: u8,
+) -> Result<String, Fail>
+    requires { IsRight config.now }
+{
+    drop(open_store(alloc, config, keeper)?);
+    set_format(alloc, keeper, format)?;
+    let mut text = opened(alloc, config, keeper)?;
+    write!(text, ", format {:?}", format_of(keeper))?;
+    Ok(text)
+}
+
+/// The pairs of a seeded store but that of its format.
+fn seeded_pairs(alloc: Global, config: &Config) -> Result<String, Fail>
+    requires { IsRight config.now }
+{
+    let mut keeper = keeper_with(alloc, &[])?;
+    drop(open_store(alloc, config, &mut keeper)?);
+    let pairs = other_pairs(alloc, &keeper);
+    drop(keeper);
+    pairs
+}
+
+/// What a store answers so, and its pairs but that of its format.
+fn told_and_kept(
+    alloc: Global,
+    config: &Config,
+    keeper: &mut MemoryKeeper,
+    format: u8,
+) -> Result<(String, String), Fail>
+    requires { IsRight config.now }
+{
+    let told = opened_in_format(alloc, config, keeper, format)?;
+    let kept = other_pairs(alloc, keeper)?;
+    Ok((told, kept))
+}
+
+/// The same of a store whose call of this number fails.
+fn migrated(
+    alloc: Global,
+    config: &Config,
+    format: u8,
+    failing: u64,
+) -> Result<(String, String), Fail>
+    requires { IsRight config.now }
+{
+    let mut keeper = keeper_with(alloc, &[failing])?;
+    let told = told_and_kept(alloc, config, &mut keeper, format);
+    drop(keeper);
+    told
+}
+
+/// The format of a store, the keeper's call that fails, and what comes of it. The fifth call, after a load, the
+/// seeding, the setting of the format and a load, is the one that migrates.
+const FORMATS: [(u8, u64, &str); 4] = [
+    (1, 9, "8 accounts, 19 pairs, format [2]"),
+    (1, 5, "StoreFault, 19 pairs, format [1]"),
+    (2, 5, "8 accounts, 19 pairs, format [2]"),
+    (3, 5, "bad pair [102], 19 pairs, format [3]"),
+];
+
+/// The other pairs are kept as they were.
+fn migrates(rt: &impl Abort, alloc: Global, config: &Config) -> Result<(), Fail>
+    requires { IsRight config.now }
+{
+    let seeded = seeded_pairs(alloc, config)?;
+    for (format, failing, wanted) in FORMATS {
+        let (told, kept) = migrated(alloc, config, format, failing)?;
+        assert_eq!(rt; told.as_str(), wanted, "{format} {failing}");
+        assert_eq!(rt; kept.as_str(), seeded.as_str(), "{format} {failing}");
+    }
+    Ok(())
+}
+
+#[test]
+fn stores_of_format_1_are_migrated(rt: HostRuntime) -> Result<(), Fail> {
+    let config = configured(&rt, rt.alloc(), PLAIN)?;
+    let ended = migrates(&rt, rt.alloc(), &config);
     drop(config);
     ended
 }

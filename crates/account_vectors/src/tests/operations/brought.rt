@@ -1,8 +1,8 @@
-// The arguments of a call on the policy: an arm of `Args` and its fields.
+// The arguments of a call on the policy or on a descriptor: an arm of `Args` and its fields.
 use super::parts::{field, number_at};
 use crate::tests::words::number;
 use acct_base::Seq;
-use acct_calls::{Args, Name, Names, NoMemory, Privilege, PrivilegeSet, Sids};
+use acct_calls::{Args, Bytes, Name, Names, NoMemory, Privilege, PrivilegeSet, Sids};
 use dtyp_sid::parse_text;
 use std::alloc::Global;
 use std::test::Fail;
@@ -132,6 +132,10 @@ pub fn args_of(alloc: Global, kind: &str, fields: &str) -> Result<Args, Fail> {
             high: number_at(fields, 1),
         }),
         "Bits" => Ok(Args::Bits(number(fields))),
+        "Security" => Ok(Args::Security {
+            info: number_at(fields, 0),
+            bytes: Bytes::new(hex::decode(alloc, field(fields, 1).as_bytes())?),
+        }),
         "Privileges" => Ok(privileges_of(alloc, fields)?),
         "Rights" => rights_of(alloc, fields),
         _ => looked_for(alloc, kind, fields),

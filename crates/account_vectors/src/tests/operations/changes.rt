@@ -12,7 +12,7 @@ lsa,S-1-5-18,1,2/0|LsarOpenAccount|policy|AccessSid,1,S-1-5-18\
 lsa,S-1-5-18,1,2/0|LsarOpenAccount|policy|AccessSid,1,S-1-1-0|c0000034 Nothing
 |LsarOpenAccount|policy|AccessSid,1,S-1-5-21-1-2-3-500|c0000034 Nothing
 lsa,S-1-5-18,1,2/0;lsa,S-1-1-0,1|LsarDeleteObject|account,S-1-5-18|Nothing\
-    |0 Handle Handle 0 puts [ ] removes [ Lsa S-1-5-18 ] Deletes Account S-1-5-18
+    |0 Handle Handle 0 puts [ ] removes [ Desc Account S-1-5-18 Lsa S-1-5-18 ] Deletes Account S-1-5-18
 lsa,S-1-5-18,1,5/1|LsarSetSystemAccessAccount|account,S-1-5-18|Bits,4055\
     |0 Nothing puts [ Lsa S-1-5-18 4055 [ 5 1 ] ] removes [ ] Nothing
 lsa,S-1-5-18,1,5/1|LsarSetSystemAccessAccount|account,S-1-5-18|Bits,16\
@@ -144,13 +144,13 @@ pub const LIFE: &str = "\
 +|LsarOpenAccount|policy|AccessSid,33554432,S-1-5-18\
     |0 Handle Handle 0 puts [ ] removes [ ] Opens Account S-1-5-18 33554432
 +|LsarDeleteObject|account,S-1-5-18|Nothing\
-    |0 Handle Handle 0 puts [ ] removes [ Lsa S-1-5-18 ] Deletes Account S-1-5-18
+    |0 Handle Handle 0 puts [ ] removes [ Desc Account S-1-5-18 Lsa S-1-5-18 ] Deletes Account S-1-5-18
 +|LsarOpenAccount|policy|AccessSid,0,S-1-5-18|c0000034 Nothing
 +|LsarEnumerateAccountRights|policy|OneSid,S-1-5-18|c0000034 Nothing
 +|LsarRemoveAccountRights|policy|Rights,some,S-1-5-18,SeTcbPrivilege|c0000034 Nothing
 +|LsarEnumerateAccounts|policy|Page,0,0,65536|0 SidPage 1 [ S-1-1-0 ]
 +|LsarDeleteObject|account,S-1-1-0|Nothing\
-    |0 Handle Handle 0 puts [ ] removes [ Lsa S-1-1-0 ] Deletes Account S-1-1-0
+    |0 Handle Handle 0 puts [ ] removes [ Desc Account S-1-1-0 Lsa S-1-1-0 ] Deletes Account S-1-1-0
 +|LsarEnumerateAccounts|policy|Page,0,0,65536|8000001a SidPage 0 [ ]
 +|LsarCreateAccount|policy|AccessSid,0,S-1-5-18\
     |0 Handle Handle 0 puts [ Lsa S-1-5-18 0 [ ] ] removes [ ] Opens Account S-1-5-18 0";

@@ -64,7 +64,8 @@ user,0,1000,alice,Al,cc,16,513;user,0,1001,ws$,,,129,513;user,0,1002,bob,,,17,51
 +|SamrQueryDisplayInformation|domain,0|Display,3,2,9,65535\
     |0 Display 3 60 60 [ 3 514 7 'Domain Guests' '' '' 4 1004 7 'g' 'note' '' ]
 +|SamrQueryDisplayInformation|domain,0|Display,3,3,1,0|0 Display 3 22 22 [ 4 1004 7 'g' 'note' '' ]
-+|SamrDeleteUser|user,1000|Nothing|0 Handle Handle 0 puts [ ] removes [ Account 0 1000 ] Deletes User 1000
++|SamrDeleteUser|user,1000|Nothing|0 Handle Handle 0 puts [ ] removes [ Desc User 1000 Account 0 1000 ] \
+    Deletes User 1000
 +|SamrQueryDisplayInformation|domain,0|Display,1,2,9,65535\
     |0 Display 1 46 46 [ 3 1002 17 'bob' '' '' 4 1006 20 'eve' '' 'Eve E' ]";
 

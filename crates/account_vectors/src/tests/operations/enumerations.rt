@@ -66,7 +66,8 @@ user,0,1000,alice,,,21,513;user,0,1001,bob,,,16,513;user,0,1002,ws$,,,129,513|Sa
 pub const BETWEEN_PAGES: &str = "\
 user,0,1000,alice,,,21,513;user,0,1001,bob,,,16,513;user,0,1002,ws$,,,129,513|SamrEnumerateUsersInDomain|domain,0\
     |Page,0,0,60|105 Page 501 Some [ 500 'Administrator' 501 'Guest' ]
-+|SamrDeleteUser|user,1000|Nothing|0 Handle Handle 0 puts [ ] removes [ Account 0 1000 ] Deletes User 1000
++|SamrDeleteUser|user,1000|Nothing|0 Handle Handle 0 puts [ ] removes [ Desc User 1000 Account 0 1000 ] Deletes User \
+    1000
 +|SamrEnumerateUsersInDomain|domain,0|Page,501,0,0|105 Page 1001 Some [ 1001 'bob' ]";
 
 /// Two users whose entries cost 32,768 each and as many as 65,536 together, or a little more.

@@ -1,5 +1,6 @@
 // The rows that are added to the first ones.
 use super::parts::{domain_at, field, name_at, number_at};
+use crate::tests::puts::put;
 use crate::tests::words::number;
 use acct_base::Seq;
 use acct_calls::{Name, NoMemory};
@@ -91,8 +92,7 @@ fn row_of(alloc: Global, kind: &str, fields: &str) -> Result<Row, Fail> {
 pub fn add(alloc: Global, rows: &mut Rows, added: &str) -> Result<(), Fail> {
     for row in added.split(';') {
         if let Some((kind, fields)) = row.split_once(',') {
-            rows.reserve(1)?;
-            rows.put(row_of(alloc, kind, fields)?);
+            put(rows, row_of(alloc, kind, fields)?)?;
         }
     }
     Ok(())

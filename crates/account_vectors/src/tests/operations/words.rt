@@ -14,7 +14,7 @@ use std::test::Fail;
 const NO_CHANGE: &str = "puts [ ] removes [ ] Nothing ";
 
 /// The names of structs that their field or their list tells already.
-const DROPPED: [&str; 12] = [
+const DROPPED: [&str; 16] = [
     "",
     "Seq",
     "RidName",
@@ -27,6 +27,10 @@ const DROPPED: [&str; 12] = [
     "TranslatedSid",
     "TranslatedName",
     "SidRef",
+    "Bytes",
+    "Descriptor",
+    "Acl",
+    "Ace",
 ];
 
 fn is_dropped(word: &str) -> bool {

@@ -1,8 +1,11 @@
 // What is asked of rows, and the answers in words.
+use crate::tests::operations::object_of;
 use crate::tests::words::{domain_number, number, word};
 use acct_base::Seq;
 use acct_calls::{Name, Sids};
-use acct_rows::{AccountRow, AliasRow, DomainRow, LsaRow, MemberRow, RowKey, Rows};
+use acct_rows::{
+    AccountRow, AliasRow, DescRow, DomainRow, LsaRow, MemberRow, OutRow, RowKey, Rows,
+};
 use dtyp_sid::{Sid, parse_text};
 use std::alloc::Global;
 use std::test::Fail;
@@ -69,6 +72,33 @@ fn push_aliases(alloc: Global, text: &mut String, rows: &[AliasRow]) -> Result<(
 fn push_policies(alloc: Global, text: &mut String, rows: &[LsaRow]) -> Result<(), Fail> {
     for row in rows {
         push_sid(alloc, text, &row.sid)?;
+    }
+    Ok(())
+}
+
+/// The objects of descriptors: the kind, the domain and the RID of each.
+fn push_described(text: &mut String, rows: &[DescRow]) -> Result<(), Fail> {
+    for row in rows {
+        let kind = row.object.kind();
+        let domain = row.object.domain();
+        let rid = row.object.rid();
+        write!(text, "{kind:?}-{domain}-{rid} ")?;
+    }
+    Ok(())
+}
+
+fn push_out(alloc: Global, text: &mut String, row: &OutRow) -> Result<(), Fail> {
+    write!(
+        text,
+        "{}-{}-{}-{}-{:?}-",
+        row.number, row.action, row.domain, row.rid, row.kind
+    )?;
+    push_name(alloc, text, &row.name)
+}
+
+fn push_outs(alloc: Global, text: &mut String, rows: &[OutRow]) -> Result<(), Fail> {
+    for row in rows {
+        push_out(alloc, text, row)?;
     }
     Ok(())
 }
@@ -180,6 +210,14 @@ fn push_row(alloc: Global, text: &mut String, rows: &Rows, question: &str) -> Re
         if let Some(row) = rows.lsa_account(&parse_text(first)?) {
             push_policy(text, row)?;
         }
+    } else if what == "described" {
+        if let Some(descriptor) = rows.descriptor_of(&object_of(first)?) {
+            push_sid(alloc, text, &descriptor.owner)?;
+        }
+    } else if what == "out" {
+        if let Some(row) = rows.out_row(u64::from(number(first))) {
+            push_out(alloc, text, row)?;
+        }
     }
     Ok(())
 }
@@ -196,6 +234,9 @@ pub fn push_answer(
         "members" => push_members(text, rows.member_rows()),
         "aliases" => push_aliases(alloc, text, rows.alias_rows()),
         "policies" => push_policies(alloc, text, rows.lsa_rows()),
+        "descriptors" => push_described(text, rows.descriptor_rows()),
+        "outs" => push_outs(alloc, text, rows.out_rows()),
+        "next" => Ok(write!(text, "{}", rows.next_out())?),
         _ => {
             push_row(alloc, text, rows, question)?;
             push_found(alloc, text, rows, question)

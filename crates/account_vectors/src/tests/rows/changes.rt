@@ -1,9 +1,14 @@
 // What is done to rows, in words.
+use crate::tests::operations::{object_of, owned_by};
+use crate::tests::puts::{apply, put, put_out};
 use crate::tests::words::{number, word};
 use acct_base::Seq;
 use acct_calls::{Name, NoMemory};
 use acct_codes::Kind;
-use acct_rows::{AccountRow, AliasRow, Held, LsaRow, MemberRow, Plan, Row, RowKey, Rows};
+use acct_rows::{
+    AccountRow, AliasRow, DescRow, Held, LsaRow, MemberRow, OUT_MADE, OutRow, Plan, Row, RowKey,
+    Rows, push_key,
+};
 use dtyp_sid::parse_text;
 use std::alloc::Global;
 use std::mem;
@@ -77,6 +82,29 @@ fn policy(alloc: Global, sid: &str) -> Result<Row, Fail> {
     }))
 }
 
+/// The descriptor of an object, which has an owner alone.
+fn descriptor(object: &str, owner: &str) -> Result<Row, Fail> {
+    let object = object_of(object)?;
+    let owner = parse_text(owner.trim())?;
+    Ok(Row::Desc(DescRow {
+        object,
+        descriptor: owned_by(owner),
+    }))
+}
+
+/// A user that was made, by its name and its RID. The number is the next one when it is put.
+fn made(alloc: Global, words: &str) -> Result<OutRow, Fail> {
+    let (name, rid) = word(words);
+    Ok(OutRow {
+        number: 0,
+        action: OUT_MADE,
+        domain: 0,
+        rid: number(rid),
+        kind: Kind::User,
+        name: Name::from_text(alloc, name)?,
+    })
+}
+
 fn row_of(alloc: Global, words: &str) -> Result<Row, Fail> {
     let (list, rest) = word(words);
     let (first, second) = word(rest);
@@ -85,6 +113,7 @@ fn row_of(alloc: Global, words: &str) -> Result<Row, Fail> {
         "user" => user(alloc, number(first), number(second)),
         "member" => member(number(first), number(second)),
         "alias" => alias(number(first), second),
+        "desc" => descriptor(first, second),
         _ => policy(alloc, first),
     }
 }
@@ -111,6 +140,8 @@ fn key_of(words: &str) -> Result<RowKey, Fail> {
             user: number(second),
         }),
         "alias" => alias_key(number(first), second),
+        "desc" => Ok(RowKey::Desc(object_of(first)?)),
+        "out" => Ok(RowKey::Out(u64::from(number(first)))),
         _ => Ok(RowKey::Lsa(parse_text(first)?)),
     }
 }
@@ -125,7 +156,8 @@ fn puts(alloc: Global) -> Result<Seq<Row>, Fail> {
 fn removes(alloc: Global) -> Result<Seq<RowKey>, NoMemory> {
     let mut removes = Seq::new(alloc);
     for rid in [501, 513] {
-        removes.push(RowKey::Account { domain: 0, rid })?;
+        let key = RowKey::Account { domain: 0, rid };
+        push_key(&mut removes, key)?;
     }
     Ok(removes)
 }
@@ -142,29 +174,11 @@ fn plan(alloc: Global) -> Result<Plan, Fail> {
     }
 }
 
-/// Applies a plan, for which room is made first.
-fn apply(rows: &mut Rows, plan: Plan) -> Result<(), NoMemory> {
-    let room = rows.reserve(plan.puts.as_slice().len());
-    if room.is_ok() {
-        rows.apply(plan);
-    } else {
-        drop(plan);
-    }
-    room
-}
-
-/// Puts a row, for which room is made first.
-pub fn put(rows: &mut Rows, row: Row) -> Result<(), NoMemory> {
-    let room = rows.reserve(1);
-    if room.is_ok() {
-        rows.put(row);
-    } else {
-        drop(row);
-    }
-    room
-}
-
 fn put_words(alloc: Global, rows: &mut Rows, words: &str) -> Result<(), Fail> {
+    let (list, rest) = word(words);
+    if list == "out" {
+        return put_out(rows, made(alloc, rest)?);
+    }
     let row = row_of(alloc, words)?;
     Ok(put(rows, row)?)
 }
@@ -176,7 +190,7 @@ fn remove_words(rows: &mut Rows, words: &str) -> Result<(), Fail> {
 
 fn apply_plan(alloc: Global, rows: &mut Rows) -> Result<(), Fail> {
     let plan = plan(alloc)?;
-    Ok(apply(rows, plan)?)
+    apply(rows, plan)
 }
 
 /// Puts a copy of rows in their place.

@@ -46,6 +46,8 @@ fn rows_are_found_and_changed(rt: HostRuntime) -> Result<(), Fail> {
         tables::MEMBERS,
         tables::PRIMARIES,
         tables::NAMING,
+        tables::DESCRIPTORS,
+        tables::OUTS,
         tables::PLANS,
     ] {
         tell_all(&rt, rt.alloc(), table)?;

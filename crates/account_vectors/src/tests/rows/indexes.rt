@@ -1,7 +1,8 @@
 // Look-ups in many rows and in rows that change, beside plain programs of their definitions.
-use super::changes::{account, numbered, put};
+use super::changes::{account, numbered};
 use super::plain;
 use crate::tests::first_rows::seeded;
+use crate::tests::puts::put;
 use acct_base::Seq;
 use acct_calls::{Name, NoMemory, Sids};
 use acct_codes::Kind;

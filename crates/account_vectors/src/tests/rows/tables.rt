@@ -105,6 +105,43 @@ put alias 544 S-1-5-32-545; put alias 545 S-1-5-32-545; put alias 545 S-1-1-0; p
 put alias 544 S-1-5-32-545; put alias 546 S-1-5-32-545; put alias 546 S-1-5-32-544 | naming 0 545 S-1-5-32-545 \
 | 1-544-S-1-5-32-545 1-546-S-1-5-32-545";
 
+/// An object has its own descriptor, of which the owner is told; those of all objects ascend by kind, domain and RID.
+pub const DESCRIPTORS: &str = "\
+| descriptors |
+| described server |
+put desc server S-1-1-0 | described server | S-1-1-0
+put desc server S-1-1-0 | described policy |
+put desc server S-1-1-0; put desc server S-1-5-18 | described server | S-1-5-18
+put desc server S-1-1-0; put desc server S-1-5-18 | descriptors | Server-0-0
+put desc group,500 S-1-1-0 | described user,500 |
+put desc alias,0,544 S-1-1-0 | described alias,1,544 |
+put desc account,S-1-5-18 S-1-1-0 | described account,S-1-5-18 | S-1-1-0
+put desc account,S-1-5-18 S-1-1-0 | described account,S-1-5-19 |
+put desc account,S-1-1-0 S-1-1-0; put desc policy S-1-1-0; put desc user,500 S-1-1-0; put desc alias,1,544 S-1-1-0; \
+put desc alias,0,1000 S-1-1-0; put desc group,513 S-1-1-0; put desc group,512 S-1-1-0; put desc domain,1 S-1-1-0; \
+put desc domain,0 S-1-1-0; put desc server S-1-1-0 | descriptors | Server-0-0 Domain-0-0 Domain-1-0 Group-0-512 \
+Group-0-513 Alias-0-1000 Alias-1-544 User-0-500 Policy-0-0 Account-0-0
+put desc server S-1-1-0; put desc policy S-1-5-18; remove desc server | descriptors | Policy-0-0
+put desc server S-1-1-0; remove desc policy | described server | S-1-1-0
+put desc user,500 S-1-1-0; remove account 500 | described user,500 | S-1-1-0
+put desc user,500 S-1-1-0; copy | described user,500 | S-1-1-0";
+
+/// Each change of an account takes the next number; one that is taken out gives none back.
+pub const OUTS: &str = "\
+| outs |
+| next | 1
+| out 1 |
+put out alice 1000 | outs | 1-1-0-1000-User-alice;
+put out alice 1000; put out bob 1001 | outs | 1-1-0-1000-User-alice;2-1-0-1001-User-bob;
+put out alice 1000; put out bob 1001 | out 2 | 2-1-0-1001-User-bob;
+put out alice 1000; put out bob 1001 | next | 3
+put out alice 1000; put out bob 1001; remove out 1 | outs | 2-1-0-1001-User-bob;
+put out alice 1000; remove out 1 | next | 2
+put out alice 1000; remove out 1; put out bob 1001 | outs | 2-1-0-1001-User-bob;
+put out alice 1000; remove out 2 | outs | 1-1-0-1000-User-alice;
+put out alice 1000; put group 1000 A | next | 2
+put out alice 1000; copy; put out bob 1001 | outs | 1-1-0-1000-User-alice;2-1-0-1001-User-bob;";
+
 /// A copy is told as what it was copied from, and a plan removes before it puts.
 pub const PLANS: &str = "\
 copy | members | 512-500-7 513-500-7 514-501-7

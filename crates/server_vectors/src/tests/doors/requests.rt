@@ -37,7 +37,7 @@ fn push_request(text: &mut String, request: &Result<Call, WireError>) -> Result<
 }
 
 /// What a request is, in words.
-fn told(alloc: Global, face: Face, opnum: u16, stub: &str) -> Result<String, Fail> {
+pub fn told(alloc: Global, face: Face, opnum: u16, stub: &str) -> Result<String, Fail> {
     let bytes = hex::decode(alloc, stub.as_bytes())?;
     let request = read_request(alloc, face, opnum, &bytes);
     let mut text = String::new(alloc);
@@ -47,7 +47,7 @@ fn told(alloc: Global, face: Face, opnum: u16, stub: &str) -> Result<String, Fai
     Ok(text)
 }
 
-fn opnum_of(digits: &str) -> u16 {
+pub fn opnum_of(digits: &str) -> u16 {
     digits.parse::<u16>().ok().unwrap_or(0)
 }
 

@@ -16,7 +16,8 @@ use std::test::Fail;
 /// Each row: how many bytes a read gives (r) and a write takes (s), for how many there is room (o) and which call of
 /// the link fails (f), reads and writes counted together from 1; a limit of the history; how many bytes are read at
 /// most; what comes, what is written, the end, what is entered. A place is the sum of the lengths before it, and the
-/// bytes of the stubs of the two calls are 8 and 20.
+/// bytes of the stubs of the two calls are 8 and 20. The rows with an f number the calls of the link, and so refuse a
+/// session that reads all before it answers, which no clause does.
 const SESSIONS: &str =
     "|||BIND CONNECT CLOSE|ACK1 FIRST1 CLOSED|End|opened 1 0;called 1 57 Ran 8;called 1 1 Ran 20;gone 1;
 r1 s1|||BIND CONNECT CLOSE|ACK1 FIRST1 CLOSED|End|opened 1 0;called 1 57 Ran 8;called 1 1 Ran 20;gone 1;
@@ -27,7 +28,7 @@ r7 s5|||BIND NOT-SERVED CONNECT|ACK1 OPNUM FIRST1|End|opened 1 0;called 1 57 Ran
 r9|||BIND CONNECT VERSION CLOSE|ACK1 FIRST1 NAK|Closed { place: 104, cause: 1 }|opened 1 0;called 1 57 Ran 8;gone 1;
 r50|||BIND HEAD MIDDLE TAIL AGAIN AGAIN|ACK1 FIRST1 TWICE|Closed { place: 180, cause: 7 }|opened 1 0;\
     called 1 57 Ran 8;gone 1;
-||72|BIND CONNECT|ACK1|ByteLimit(72)|opened 1 0;gone 1;
+||72|BIND CONNECT CLOSE|ACK1|ByteLimit(72)|opened 1 0;gone 1;
 ||103|BIND CONNECT|ACK1|ByteLimit(103)|opened 1 0;gone 1;
 r50||104|BIND CONNECT|ACK1 FIRST1|ByteLimit(104)|opened 1 0;called 1 57 Ran 8;gone 1;
 ||0|BIND||ByteLimit(0)|opened 1 0;gone 1;
@@ -191,7 +192,7 @@ fn most_of(text: &str) -> u64 {
     text.parse::<u32>().ok().unwrap_or(1_000_000) as u64
 }
 
-fn tell(rt: &impl Abort, alloc: Global, row: &str) -> Result<(), Fail> {
+pub fn tell(rt: &impl Abort, alloc: Global, row: &str) -> Result<(), Fail> {
     let (making, rest) = column(row);
     let (limit, rest) = column(rest);
     let (most, rest) = column(rest);

@@ -35,6 +35,14 @@ replay a|Config 9|a breaks rule 9: each aces has at most 800 entries: allow or d
     there, by \"The configuration\" of docs/SPECIFICATION.md
 replay a|Config 10|a breaks rule 10: each limit is in its range; mend it there, by \"The configuration\" of \
     docs/SPECIFICATION.md
+replay a|Config 11|a breaks rule 11: hook.program is a text that isn't empty, and hook.tries 1 to 100; mend it there, \
+    by \"The configuration\" of docs/SPECIFICATION.md
+hooks a b|Config 12|a breaks rule 12: there is a table hook, whose program is run; mend it there, by \"The \
+    configuration\" of docs/SPECIFICATION.md
+hooks a b.db|HookStore 1|the store b.db can't be opened, read or written, is no database, or another process holds it; \
+    see which, or name another
+hooks a b.db|HookHeld 7|-
+hooks a b.db|SpawnFault|-
 replay a|Input|the standard input can't be read (entity not found); give the events there
 serve a b|Named|a can't be read (entity not found); name a file that is there and may be read
 gen 7|WriteFault|the standard output can't be written; see that what reads it runs, or that its disk has room
@@ -77,6 +85,9 @@ fn status_of(alloc: Global, text: &str) -> Result<Status, Fail> {
         "PeerBytes" => Ok(Status::PeerBytes(number(digits) as u64)),
         "PeerFault" => Ok(Status::PeerFault),
         "Refused" => Ok(Status::Refused(number(digits))),
+        "HookHeld" => Ok(Status::HookHeld(number(digits) as u64)),
+        "HookStore" => Ok(Status::HookStore(number(digits) as u64)),
+        "SpawnFault" => Ok(Status::SpawnFault),
         _ => Ok(Status::Usage),
     }
 }
@@ -110,7 +121,7 @@ fn what_is_said_of_a_status(rt: HostRuntime) -> Result<(), Fail> {
 }
 
 /// Each row: a table and a key at which a rule is broken, and how that begins which is said of it.
-const PLACES: [(Section, &str, &str); 6] = [
+const PLACES: [(Section, &str, &str); 7] = [
     (Section::Document, "a\n", "a breaks rule 1 at \"a\\n\": "),
     (
         Section::Domain,
@@ -136,6 +147,11 @@ const PLACES: [(Section, &str, &str); 6] = [
         Section::Limits,
         "max",
         "a breaks rule 1 at \"max\" in [limits]: ",
+    ),
+    (
+        Section::Hook,
+        "try",
+        "a breaks rule 1 at \"try\" in [hook]: ",
     ),
 ];
 

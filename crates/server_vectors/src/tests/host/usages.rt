@@ -7,12 +7,14 @@ An account server for the Windows account database, as its RPC interfaces show i
 
 Usage: account replay CONFIG
        account serve CONFIG STORE
+       account hooks CONFIG STORE
        account call ADDRESS WORD..
        account gen N
 
 Commands:
   replay  Answer the events of the standard input under the configuration in a file
   serve   Listen under the configuration in a file, with the accounts in a store, and answer clients
+  hooks   Run the program of the configuration for each change of an account that waits in a store
   call    Ask the server at an address, tcp:HOST:PORT or unix:PATH, and print its answer
   gen     Make N users, from 1 to 10000, by a replay, and print the counts of what is there
 

@@ -25,4 +25,14 @@ pub const SECOND: &str =
     "OPEN BIND CONNECT OPEN-CORP CREATE-ALICE||OPEN BIND CONNECT OPEN-CORP CREATE-ALICE-AGAIN CREATE-BOB|ACK CONNECTED \
     DOMAIN-2 USER-EXISTS-9 BOB-3-1001 GONE|Done|opened 1 0;called 1 57 Ran 8;called 1 7 Ran 52;called 1 50 Ran \
     60;called 1 12 Ran 52;gone 1;
-|66=02||/0|StoredPair(Seq { values: [102] })|none";
+|66=03||/0|StoredPair(Seq { values: [102] })|none";
+
+/// Each row: a change of a pair that a replay without events stored, how a second one is made, and its status with the
+/// value of the pair of the format then. No other pair changes. The first call loads; where the format is 1, the second
+/// one makes it 2, and there is no third.
+pub const FORMATS: &str = "66=01||Done 02
+66=01|k3|Done 02
+66=01|k2|StoreFault 01
+||Done 02
+|k2|Done 02
+66=03|k2|StoredPair(Seq { values: [102] }) 03";

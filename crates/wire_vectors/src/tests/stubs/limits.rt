@@ -42,13 +42,14 @@ pub fn lines_are_taken(
     Ok(())
 }
 
-/// By hand: a thousand identifiers, 1,024 SIDs, a name of 256 units for a user, one of 300 that is set as a comment.
-/// Each is written in as many bytes as it has.
+/// By hand: a thousand identifiers, 1,024 SIDs, a name of 256 units for a user, one of 300 that is set as a comment,
+/// and a descriptor of 262,144 bytes that is set. Each is written in as many bytes as it has.
 const SAMR_CALLS: &str = "
 18 4036 e8030000 e8030000 00000000 e8030000 1000*f4010000
 16 20512 00040000 00000200 00040000 1024*04000200 1024*01000000010100000000000100000000
 50 560 00020002 00000200 00010000 00000000 00010000 256*6100 10000000 00000002
 37 644 0d000d00 58025802 00000200 2c010000 00000000 2c010000 300*7800
+2 262180 04000000 00000400 00000200 00000400 262144*80
 ";
 
 /// By hand: an answer of a thousand names, 300 members, a page of 100 users, a comment of 300 units, and a thousand
@@ -67,8 +68,8 @@ const SAMR_REPLIES: &str = "
 ";
 
 /// By hand: 1,000 names and 1,000 translations of none, 20,480 SIDs and 20,480 translations of none, also by the later
-/// forms, 1,000 privileges that are added and taken away, 256 rights that are added and taken away, and attributes of
-/// objects. What is read and not kept is written as an empty list.
+/// forms, 1,000 privileges that are added and taken away, 256 rights that are added and taken away, attributes of
+/// objects, and a descriptor of 262,144 bytes that is set. What is read and not kept is written as an empty list.
 const LSA_CALLS: &str = "
 14 8044 e8030000 e8030000 1000*0000000000000000 00000000 00000000 0100 0000 00000000
 14 44 00000000 00000000 e8030000 01000000 e8030000 1000*010000000000000000000000 0100 0000 00000000
@@ -90,6 +91,7 @@ const LSA_CALLS: &str = "
 37 2096 01000000 0101000000000001 00000000 00010000 01000000 00010000 256*0000000000000000
 38 2100 01000000 0101000000000001 00000000 00 000000 00010000 01000000 00010000 256*0000000000000000
 44 32 00000000 00000000 00000000 00000000 05000000 00000000 00000000 00000002
+4 262180 04000000 00000400 00000200 00000400 262144*80
 ";
 
 /// By hand: 1,000 translated SIDs and 20,480 translated names, both with a domain, also by the later forms, 1,000

@@ -15,8 +15,8 @@ use std::test::Fail;
 ///
 /// A number's place is the one after its padding, whether or not the padding is there: beginnings of the comment.
 /// Padding may pass the end. An offset, and a count above the limit, each at its own place. The rule of a caller's own
-/// shape. Bytes, one after the other and without padding, told as the number whose highest byte is the first; zero bytes
-/// are read at any place.
+/// shape. Bytes, one after the other and without padding, told as the number whose highest byte is the first; zero
+/// bytes are read at any place.
 const PRIMITIVES: &str = "\
 03000000 00000200 03000000 e8030000 00000000 e8030000 03000000 04000200 03000000 01000000 08000000 01000000 07010000\
 |u32=3 pointer=1 conformant=3 u32=1000 u32=0 u32=1000 u32=3 pointer=1 conformant=3 u32=1 u32=8 u32=1 u32=263 place=52

@@ -7,14 +7,15 @@ use std::process::Abort;
 use std::test::Fail;
 
 /// The opnums of the operations that the account server takes.
-const SAMR_OPERATIONS: [u16; 43] = [
-    1, 5, 6, 7, 8, 9, 10, 11, 12, 13, 14, 15, 16, 17, 18, 19, 20, 21, 22, 23, 24, 25, 27, 28, 29,
-    30, 31, 32, 33, 34, 35, 36, 37, 39, 40, 46, 47, 50, 57, 58, 62, 64, 65,
+const SAMR_OPERATIONS: [u16; 45] = [
+    1, 2, 3, 5, 6, 7, 8, 9, 10, 11, 12, 13, 14, 15, 16, 17, 18, 19, 20, 21, 22, 23, 24, 25, 27, 28,
+    29, 30, 31, 32, 33, 34, 35, 36, 37, 39, 40, 46, 47, 50, 57, 58, 62, 64, 65,
 ];
 
 /// The same of the policy.
-const LSA_OPERATIONS: [u16; 25] = [
-    0, 2, 7, 10, 11, 14, 15, 17, 18, 19, 20, 23, 24, 31, 32, 34, 35, 36, 37, 38, 44, 46, 57, 58, 68,
+const LSA_OPERATIONS: [u16; 27] = [
+    0, 2, 3, 4, 7, 10, 11, 14, 15, 17, 18, 19, 20, 23, 24, 31, 32, 34, 35, 36, 37, 38, 44, 46, 57,
+    58, 68,
 ];
 
 fn is_not_served(alloc: Global, wire: Wire, opnum: u16, stub: &[u8]) -> Result<bool, Fail> {

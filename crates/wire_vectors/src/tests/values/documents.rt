@@ -1,7 +1,7 @@
 // Documents and the rule that each breaks, and what the documents that break none spell.
 use super::lines::{cut, tells};
 use acct_codes::Kind;
-use acct_config::{Config, ConfigError, Limits, Listener, Text, laws, read_config};
+use acct_config::{Config, ConfigError, Hook, Limits, Listener, Text, laws, read_config};
 use dtyp_access::{Ace, AceKind, Acl, Descriptor, Token, make_token, opening};
 use dtyp_sid::{Sid, parse_text};
 use std::alloc::Global;
@@ -39,7 +39,12 @@ pub const RULES: &str = r#"0|[domain]|[domain
 1|["S-1-5-21-1-2-3-500", "S-1-1-0", "S-1-5-32-544"]|"S-1-1-0"
 1|[domain]|port = 1;[domain]
 1|[domain]|[limit];[domain]
-1|[domain]|[hook];[domain]
+1|[domain]|hook = "x";[domain]
+1|[domain]|[[hook]];program = "x";[domain]
+1|[domain]|[hook];program = 1;[domain]
+1|[domain]|[hook];program = "x";tries = "3";[domain]
+1|[domain]|[hook];program = "x";try = 3;[domain]
+1|[domain]|[hooks];program = "x";[domain]
 1|[domain]|limits = 65536;[domain]
 1|[domain]|[[limits]];[domain]
 1|[domain]|[limits];max_call = 1;[domain]
@@ -129,7 +134,17 @@ pub const RULES: &str = r#"0|[domain]|[domain
 10|[domain]|[limits];max_periods = 0;[domain]
 10|[domain]|[limits];max_periods = 1000001;[domain]
 10|[domain]|[limits];max_calls = 1;max_periods = -9223372036854775808;[domain]
+11|[domain]|[hook];[domain]
+11|[domain]|[hook];tries = 3;[domain]
+11|[domain]|[hook];program = "";[domain]
+11|[domain]|[hook];program = "x";tries = 0;[domain]
+11|[domain]|[hook];program = "x";tries = 101;[domain]
+11|[domain]|[hook];program = "x";tries = -3;[domain]
+11|[domain]|[hook];program = "x";tries = 4294967299;[domain]
 -|[domain]|# a comment;[domain]
+-|[domain]|[hook];program = "x";[domain]
+-|[domain]|[hook];program = "/bin/add-user";tries = 1;[domain]
+-|[domain]|[hook];program = "Ä 𐐀";tries = 100;[domain]
 -|[domain];name = "CORP";sid = "S-1-5-21-1-2-3"|domain = { name = "CORP", sid = "S-1-5-21-1-2-3" }
 -|[domain];name = "CORP";sid|domain.name = "\u0043ORP";domain.sid
 -|CORP|ABCDEFGHIJKLMNO
@@ -274,8 +289,10 @@ fn documents_with_many_of_the_same(rt: HostRuntime) -> Result<(), Fail> {
 }
 
 /// A document whose last listener is the plain one, and in which a later rule is broken by what stands before it.
-const LAST_BROKEN: &str = r#"[[listener]]|[limits]
-max_periods = 0
+const LAST_BROKEN: &str = r#"[[listener]]|[hook]
+program = ""
+[limits]
+max_periods = 1
 [descriptor.user]
 owner = "S-1-1-0"
 aces = []
@@ -288,7 +305,8 @@ token = ["S-1-1-0"]
 [[listener]]"#;
 
 /// One change after the other, each of which breaks an earlier rule than those before it.
-const EARLIER: &str = r#"10|CORP|CORP
+const EARLIER: &str = r#"11|CORP|CORP
+10|max_periods = 1|max_periods = 0
 9|aces = []|aces = [""]
 8|S-1-1-1|
 7|name = "b"|name = "b";links = -1
@@ -454,12 +472,21 @@ fn push_limits(text: &mut String, limits: &Limits) -> Result<(), Fail> {
     push_number(text, u64::from(limits.max_periods))
 }
 
+/// The program that is told of changes, and how often it is tried; a dash where there is none.
+fn push_hook(text: &mut String, hook: &Option<Hook>) -> Result<(), Fail> {
+    match hook {
+        None => Ok(text.push('-')?),
+        Some(hook) => Ok(write!(text, "{} {}", hook.program.as_str(), hook.tries)?),
+    }
+}
+
 /// One part of a configuration as text.
 fn push_part(text: &mut String, alloc: Global, config: &Config, part: &str) -> Result<(), Fail> {
     match part {
         "domain" => push_domain(text, alloc, config),
         "listeners" => push_listeners(text, alloc, config.listeners.as_slice()),
         "descriptors" => push_descriptors(text, alloc, config.descriptors.as_slice()),
+        "hook" => push_hook(text, &config.hook),
         _ => push_limits(text, &config.limits),
     }
 }
@@ -490,7 +517,8 @@ fn says(alloc: Global, document: &str, line: &str) -> Result<bool, Fail> {
 const PLAIN_SAYS: &str = r#"domain|43 4f 52 50 S-1-5-21-1-2-3
 listeners|(a tcp:127.0.0.1:4045 1 0 S-1-5-21-1-2-3-500 S-1-1-0 S-1-5-32-544)
 descriptors|~~~~~~~
-limits|65536 67108864 1024 4294967296 1"#;
+limits|65536 67108864 1024 4294967296 1
+hook|-"#;
 
 /// A configuration with all that may stand in one.
 const WHOLE: &str = r#"# The account domain: its name and SID.
@@ -580,6 +608,11 @@ limits = { max_periods = 5, max_read = 4, max_conns = 3, max_bytes = 2, max_call
 [limits];max_conns = 65536;max_read = 1099511627776;max_periods = 1000000|limits|\
 65536 67108864 65536 1099511627776 1000000";
 
+/// In each line what stands before the plain document, and the part with the program that it then says.
+const HOOKS: &str = r#"[hook];program = "/bin/add-user"|hook|/bin/add-user 3
+[hook];program = "/bin/add-user";tries = 1|hook|/bin/add-user 1
+hook = { program = "x", tries = 0x64 }|hook|x 100"#;
+
 fn push_plain(text: &mut String) -> Result<(), Fail> {
     text.push('\n')?;
     Ok(text.push_str(PLAIN)?)
@@ -592,17 +625,25 @@ fn behind_lines(alloc: Global, lines: &str) -> Result<String, Fail> {
     Ok(document)
 }
 
-/// Whether a document has the limits of a line of [`LIMITS`].
-fn limits_are_said(alloc: Global, line: &str) -> Result<bool, Fail> {
-    let (front, limits) = cut(line, '|');
+/// Whether a document says what a line of [`LIMITS`] or of [`HOOKS`] tells.
+fn part_is_said(alloc: Global, line: &str) -> Result<bool, Fail> {
+    let (front, part) = cut(line, '|');
     let document = behind_lines(alloc, front)?;
-    says(alloc, document.as_str(), limits)
+    says(alloc, document.as_str(), part)
 }
 
 #[test]
 fn limits_are_those_of_the_document(rt: HostRuntime) -> Result<(), Fail> {
     for line in LIMITS.lines() {
-        assert!(rt; limits_are_said(rt.alloc(), line)?, "{line}");
+        assert!(rt; part_is_said(rt.alloc(), line)?, "{line}");
+    }
+    Ok(())
+}
+
+#[test]
+fn hooks_are_those_of_the_document(rt: HostRuntime) -> Result<(), Fail> {
+    for line in HOOKS.lines() {
+        assert!(rt; part_is_said(rt.alloc(), line)?, "{line}");
     }
     Ok(())
 }

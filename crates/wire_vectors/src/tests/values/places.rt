@@ -27,6 +27,11 @@ const PLACES: &str = r#"0|line 0|[domain]|[domain
 1|Descriptor(User) aces|[[listener]]|[descriptor.user];owner = "S-1-1-0";aces = [0];[[listener]]
 1|Limits max_call|[domain]|[limits];max_call = 1;[domain]
 1|Limits max_conns|[domain]|[limits];max_calls = 1;max_conns = true;[domain]
+1|Document hook|[domain]|hook = "x";[domain]
+1|Document hooks|[domain]|[hooks];program = "x";[domain]
+1|Hook try|[domain]|[hook];program = "x";try = 3;[domain]
+1|Hook program|[domain]|[hook];program = 1;[domain]
+1|Hook tries|[domain]|[hook];program = "x";tries = "3";[domain]
 2|Domain name|CORP|BUILTIN
 3|Domain sid|"S-1-5-21-1-2-3"|"S-1-5-32"
 4|Listener(0) name|name = "a"|name = "A"
@@ -39,7 +44,10 @@ const PLACES: &str = r#"0|line 0|[domain]|[domain
 7|Listener(0) links|name = "a"|name = "a";workers = 64;links = -1
 8|Descriptor(Account) owner|[[listener]]|[descriptor.account];owner = "S-1-5-18 ";[[listener]]
 9|Descriptor(User) aces|[[listener]]|[descriptor.user];owner = "S-1-5-18";aces = [""];[[listener]]
-10|Limits max_periods|[domain]|[limits];max_calls = 1;max_periods = 0;[domain]"#;
+10|Limits max_periods|[domain]|[limits];max_calls = 1;max_periods = 0;[domain]
+11|Hook program|[domain]|[hook];tries = 0;[domain]
+11|Hook program|[domain]|[hook];program = "";tries = 0;[domain]
+11|Hook tries|[domain]|[hook];program = "x";tries = 0;[domain]"#;
 
 fn shown(alloc: Global, place: Option<Place>) -> Result<String, Fail> {
     Ok(match place {
