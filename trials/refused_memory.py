@@ -1,23 +1,30 @@
 """Refuses each allocation in turn, one a run, and sees how the run ends.
 
-    python3 trials/refused_memory.py [RUN..]
+    python3 trials/refused_memory.py PROGRAM [RUN..]
 
-At the top of a clone, with rt on the path. The program is built once, without its proof, by `rt try` with the number
-of an allocation that fails; the number stands in two of its instructions, and is set anew for each run. The runs are
+In an empty folder, with the program that ./first-look builds: built/unproved/account. In a copy of it the two functions
+that allocate and that grow an allocation call malloc and realloc through a count, and the call of one number is
+refused. What the C library allocates for itself isn't. The runs are
 
     first   the first run of a replay: a bind, an opening and its closing
     gen     gen 1
     call    domains, of a server of the program as it is
     serve   two links, each with a bind, two openings, the creation of a user and the closing of its handle
+    disk    the same over a store in a file, and before the second link no write to a file has room any more, so that
+            the commit of its creation fails; opening a store takes seconds in a program that is built so, and has
+            thousands of allocations, so only 48 of them are refused, evenly spread
 
 For each run a line says how many allocations it has, and then how often it ended in which way. A run that crashes,
-hangs, or says what it may not is told besides, with its number. The exit code is 1 where there is one.
+hangs, or says or stores what it may not is told besides, with its number. The exit code is 1 where there is one.
 """
 import collections
 import contextlib
 import os
+import resource
 import shutil
+import signal
 import socket
+import sqlite3
 import struct
 import subprocess
 import sys
@@ -26,75 +33,93 @@ import time
 from common import BIND, Server, connect, pdu, read_pdu, write_configuration
 
 TOP = os.path.dirname(os.path.dirname(os.path.abspath(__file__)))
-FOLDER = os.path.join(TOP, "built", "refused")
-PROGRAM = os.path.join(FOLDER, "account")
 NEVER = 77777777
 PORT = 4153
 
 CLOSED, CREATED, OPENED, CONNECTED = 1, 50, 7, 57
-NO_MEMORY, NO_HANDLE = 0xC0000017, 0x1C00001A
+NO_MEMORY, NOT_STORED, NO_HANDLE = 0xC0000017, 0xC0000158, 0x1C00001A
 
 
-def build(source):
-    """Lets rt try build the program, and takes it from the folder that rt try makes."""
-    shutil.rmtree(FOLDER, ignore_errors=True)
-    room = os.path.join(FOLDER, "room")
-    os.makedirs(room)
-    print("building, without its proof", flush=True)
-    with open(os.path.join(FOLDER, "log"), "wb") as log:
-        built = subprocess.Popen(["rt", "try", "--fail-alloc", str(NEVER), "--", "gen", "1"], stdin=subprocess.DEVNULL,
-                                 stdout=log, stderr=log, cwd=os.path.join(TOP, "crates", "acct_prog"),
-                                 env={**os.environ, "TMPDIR": room})
-        while built.poll() is None:
-            for folder, _, files in os.walk(room):
-                linked = os.path.join(folder, "program")
-                if "program" in files and os.access(linked, os.X_OK) and not os.path.exists(PROGRAM):
-                    with contextlib.suppress(FileNotFoundError):
-                        os.link(linked, PROGRAM)
-            time.sleep(0.05)
-    shutil.rmtree(room)
-    if not os.path.exists(PROGRAM):
-        raise SystemExit("the program isn't built; built/refused/log says why")
-    with open(os.path.join(FOLDER, "source"), "w") as file:
-        file.write(source)
+class Image:
+    """An ELF program: where its symbols and its segments are."""
 
+    def __init__(self, whole):
+        self.whole = whole
+        headers, sections = struct.unpack_from("<QQ", whole, 32)
+        count = struct.unpack_from("<H", whole, 56)[0]
+        self.segments = [struct.unpack_from("<IIQQQQQQ", whole, headers + 56 * at) for at in range(count)]
+        self.symbols = {}
+        for at in range(struct.unpack_from("<H", whole, 60)[0]):
+            kind, _, _, start, size, link = struct.unpack_from("<IQQQQI", whole, sections + 64 * at + 4)
+            if kind == 2:
+                names = struct.unpack_from("<Q", whole, sections + 64 * link + 24)[0]
+                self.add_symbols(start, size, names)
 
-def is_built(source):
-    try:
-        return open(os.path.join(FOLDER, "source")).read() == source and os.path.exists(PROGRAM)
-    except FileNotFoundError:
-        return False
+    def add_symbols(self, start, size, names):
+        for at in range(start, start + size, 24):
+            name, _, _, _, value, length = struct.unpack_from("<IBBHQQ", self.whole, at)
+            end = self.whole.index(b"\0", names + name)
+            self.symbols[self.whole[names + name:end].decode()] = value, length
 
+    def place_of(self, address):
+        """Where in the file the byte of an address stands."""
+        for kind, _, start, first, _, size, _, _ in self.segments:
+            if kind == 1 and first <= address < first + size:
+                return address - first + start
+        raise SystemExit("the program isn't built as this trial knows")
 
-def places_of(whole, part):
-    places, at = [], whole.find(part)
-    while at >= 0:
-        places.append(at)
-        at = whole.find(part, at + 1)
-    return places
+    def room(self):
+        """The address of 16 bytes behind all data, which are there and zero, since they are of its last page."""
+        end = max(first + held for kind, _, _, first, _, _, held, _ in self.segments if kind == 1)
+        if -end % 4096 < 64:
+            raise SystemExit("the program has no room for a count")
+        return (end + 31) // 16 * 16
+
+    def call_of(self, function, called):
+        """The address of the one call that a function makes of another one."""
+        first, size = self.symbols[function]
+        calls = [at for at in range(first, first + size - 4) if self.whole[self.place_of(at)] == 0xE8
+                 and at + 5 + struct.unpack_from("<i", self.whole, self.place_of(at + 1))[0] == self.symbols[called][0]]
+        if len(calls) != 1:
+            raise SystemExit("the program allocates in another way than this trial knows")
+        return calls[0]
 
 
 class Program:
     """A copy of the program, in which the allocation of a number fails, or ends it by an instruction that is none."""
 
-    def __init__(self, path):
-        shutil.copyfile(PROGRAM, path)
+    def __init__(self, built, path):
+        self.path, self.places = path, []
+        image = Image(open(built, "rb").read())
+        # A function of AddressSanitizer that no program calls has the room for both counts.
+        free, size = image.symbols["___interceptor_pvalloc"]
+        if size < 64:
+            raise SystemExit("the program has no room for what counts")
+        shutil.copyfile(built, path)
         os.chmod(path, 0o755)
-        self.path = path
-        whole = open(path, "rb").read()
-        # cmp rax, NUMBER; jne; xor eax, eax: in the function that allocates and in the one that grows an allocation.
-        self.places = places_of(whole, b"\x48\x3d" + struct.pack("<I", NEVER))
-        if len(self.places) != 2 or any(whole[at + 6] != 0x75 or whole[at + 8:at + 10] != b"\x31\xc0"
-                                        for at in self.places):
-            raise SystemExit("rt try builds programs in another way than this trial knows")
+        with open(path, "r+b") as file:
+            for function, called in ("rattle_alloc", "malloc"), ("rattle_realloc", "realloc"):
+                call = image.call_of(function, called)
+                file.seek(image.place_of(call + 1))
+                file.write(struct.pack("<i", free - call - 5))
+                file.seek(image.place_of(free))
+                file.write(counting(free, image.room(), image.symbols[called][0]))
+                self.places.append(image.place_of(free))
+                free += 32
 
     def refuse(self, number, ends=False):
         with open(self.path, "r+b") as file:
             for at in self.places:
-                file.seek(at + 2)
-                file.write(struct.pack("<I", number))
-                file.seek(at + 8)
+                file.seek(at + 16)
+                file.write(struct.pack("<I", number - 1))
+                file.seek(at + 22)
                 file.write(b"\x0f\x0b" if ends else b"\x31\xc0")
+
+
+def counting(at, count, called):
+    """mov eax, 1; lock xadd [count], rax; cmp rax, NUMBER; jne to the last; xor eax, eax; ret; jmp called."""
+    return b"\xb8\1\0\0\0\xf0\x48\x0f\xc1\x05" + struct.pack("<i", count - at - 14) + b"\x48\x3d" \
+        + struct.pack("<I", NEVER) + b"\x75\x03\x31\xc0\xc3\xe9" + struct.pack("<i", called - at - 30)
 
 
 def crashed(code, errors):
@@ -168,7 +193,7 @@ def answer(link):
     return struct.unpack_from("<I", whole, len(whole) - 4)[0], whole[24:44]
 
 
-def talk(port, name):
+def talk(port, name, seconds):
     """What the calls of a connection are answered, as far as it goes, and whether it was served to its end."""
     answers = []
     units = name.encode("utf-16-le")
@@ -177,7 +202,7 @@ def talk(port, name):
     domain = bytes.fromhex("00000002 04000000 0104 000000000005 15000000 01000000 02000000 03000000")
     stubs = [(CONNECTED, struct.pack("<II", 0, 0x02000000)), (OPENED, domain), (CREATED, user), (CLOSED, b"")]
     try:
-        with connect(port, 20) as link:
+        with connect(port, seconds) as link:
             link.sendall(BIND)
             read_pdu(link)
             handle = b""
@@ -193,32 +218,71 @@ def talk(port, name):
         return answers, False
 
 
-def may_be(answers):
-    """Whether calls may be answered so: each is done, or memory is wanted, which a closing never wants; behind a
-    refusal there is no handle."""
+def may_be(answers, has_room):
+    """Whether calls may be answered so: each is done, or memory ran out, which a closing never takes; a creation
+    without room on the disk isn't stored; after a refusal there is no handle."""
     has_handle = True
     for place, status in enumerate(answers):
-        allowed = [NO_HANDLE] if not has_handle else [0] if place == 3 else [0, NO_MEMORY]
+        own = 0 if place != 2 or has_room else NOT_STORED
+        allowed = [NO_HANDLE] if not has_handle else [own] if place == 3 else [own, NO_MEMORY]
         if status not in allowed:
             return False
         has_handle = status == 0
     return True
 
 
-class Serving:
-    """A server without a store, with a door of one link for each of two clients, one after the other."""
+def accounts_in(store):
+    """The values of the account domain's accounts in a store, one after the other, or none where it is broken."""
+    if not os.path.exists(store):
+        return b""
+    with contextlib.closing(sqlite3.connect(store)) as base:
+        if base.execute("PRAGMA integrity_check").fetchall() != [("ok",)]:
+            return None
+        if not base.execute("SELECT name FROM sqlite_master WHERE name = 'pairs'").fetchall():
+            return b""
+        return b"".join(value for (value,) in base.execute("SELECT value FROM pairs WHERE hex(key) LIKE '6100%'"))
 
-    def __init__(self):
+
+def is_right(name, answers, accounts):
+    """Whether a user is stored exactly where its creation was answered as done; either way where it wasn't answered."""
+    is_stored = name.encode("utf-16-le") in accounts
+    if len(answers) > 2:
+        return is_stored == (answers[2] == 0)
+    return len(answers) == 2 or not is_stored
+
+
+class Serving:
+    """A server without a store or over one in a file, with a door of one link for each of two clients, one after the
+    other. Over a store the second one finds no room on the disk."""
+
+    def __init__(self, store):
+        self.store = store
+        self.seconds = 300 if store else 30
         write_configuration("refused.toml", PORT, "2\nlinks = 1")
 
+    def start(self, program):
+        """A write without room fails then, and ends no process by a signal."""
+        for end in ("", "-wal", "-shm", "-journal") if self.store else ():
+            with contextlib.suppress(FileNotFoundError):
+                os.remove(self.store + end)
+        return subprocess.Popen([program.path, "serve", "refused.toml", self.store], stdin=subprocess.DEVNULL,
+                                stdout=subprocess.DEVNULL, stderr=subprocess.PIPE,
+                                preexec_fn=lambda: signal.signal(signal.SIGXFSZ, signal.SIG_IGN))
+
+    def clients(self, server):
+        """What both clients are answered."""
+        first = talk(PORT, "alice", self.seconds)
+        if self.store:
+            with contextlib.suppress(ProcessLookupError):
+                resource.prlimit(server.pid, resource.RLIMIT_FSIZE, (0, 0))
+        return first, talk(PORT, "carol", self.seconds)
+
     def run(self, program):
-        server = subprocess.Popen([program.path, "serve", "refused.toml", ""], stdin=subprocess.DEVNULL,
-                                  stdout=subprocess.DEVNULL, stderr=subprocess.PIPE)
+        server = self.start(program)
         said = server.stderr.readline()
-        listens = b"listening at" in said
-        first, second = (talk(PORT, name) if listens else ([], False) for name in ("alice", "carol"))
+        first, second = self.clients(server) if b"listening at" in said else (([], False), ([], False))
         try:
-            said += server.communicate(timeout=30)[1]
+            said += server.communicate(timeout=self.seconds)[1]
         except subprocess.TimeoutExpired:
             server.kill()
             return "it hangs", said + server.communicate()[1]
@@ -227,15 +291,24 @@ class Serving:
         return self.kind(server.returncode, first, second), said
 
     def kind(self, code, first, second):
-        """How it ended, where it may end so."""
+        """How it ended, where it may end so: what was answered as done is stored, and nothing else."""
         (one, whole), (two, also) = first, second
-        if one is None or two is None or code not in (0, 1) or not may_be(one) or not may_be(two):
+        if one is None or two is None or code not in (0, 1):
+            return None
+        if not may_be(one, True) or not may_be(two, not self.store):
+            return None
+        if self.store and not self.is_stored(one, two):
             return None
         if code == 1:
             return "status 1"
         if NO_MEMORY in one + two:
             return "its own status, and a call is answered that memory is wanted"
         return "its own status" if whole and also else "its own status, and a link ends early"
+
+
+    def is_stored(self, one, two):
+        accounts = accounts_in(self.store)
+        return accounts is not None and is_right("alice", one, accounts) and is_right("carol", two, accounts)
 
 
 def first_run():
@@ -258,44 +331,44 @@ def allocations(program, run):
     return low
 
 
-def sweep(name, run):
-    """Each allocation in turn. How many runs ended in a way in which none may end."""
-    program = Program(os.path.join(FOLDER, name))
+def sweep(built, name, run, most=None):
+    """Each allocation in turn, or so many at most. How many runs ended in a way in which none may end."""
+    program = Program(built, os.path.abspath(name + ".program"))
     program.refuse(NEVER)
     kind, errors = run.run(program)
     if kind != "its own status":
         raise SystemExit(f"{name} without a refusal: {kind} {errors.decode(errors='replace')}")
     count, began = allocations(program, run), time.time()
     kinds, wrong = collections.Counter(), 0
-    for number in range(1, count + 1):
+    for number in range(1, count + 1, -(-count // most) if most else 1):
         program.refuse(number)
         kind, errors = run.run(program)
         kinds[kind or "otherwise"] += 1
         if kind in (None, "it crashes", "it hangs"):
             wrong += 1
             print(f"{name} {number}: {kind or 'it may not end so'}", errors.decode(errors="replace")[:2000], flush=True)
-    print(f"{name}: {count} allocations, {time.time() - began:.0f} s;",
+    print(f"{name}: {count} allocations, {sum(kinds.values())} refused, {time.time() - began:.0f} s;",
           "; ".join(f"{count} {kind}" for kind, count in kinds.items()), flush=True)
     return wrong
 
 
 def main():
-    source = subprocess.run([os.path.join(TOP, ".ci", "source-now")], capture_output=True, text=True, check=True).stdout
-    if not is_built(source):
-        build(source)
-    os.chdir(FOLDER)
-    wrong = 0
-    for name in sys.argv[1:] or ["first", "gen", "call", "serve"]:
+    if len(sys.argv) < 2:
+        raise SystemExit(__doc__)
+    built, wrong = os.path.abspath(sys.argv[1]), 0
+    for name in sys.argv[2:] or ["first", "gen", "call", "serve", "disk"]:
         if name == "first":
-            wrong += sweep(name, first_run())
+            wrong += sweep(built, name, first_run())
         elif name == "gen":
-            wrong += sweep(name, Summary(["gen", "1"]))
+            wrong += sweep(built, name, Summary(["gen", "1"]))
         elif name == "serve":
-            wrong += sweep(name, Serving())
+            wrong += sweep(built, name, Serving(""))
+        elif name == "disk":
+            wrong += sweep(built, name, Serving("refused.db"), 48)
         elif name == "call":
             write_configuration("call.toml", PORT + 1, 2)
-            server = Server(PROGRAM, "call.toml", "")
-            wrong += sweep(name, Command(["call", f"tcp:127.0.0.1:{PORT + 1}", "domains"]))
+            server = Server(built, "call.toml", "")
+            wrong += sweep(built, name, Command(["call", f"tcp:127.0.0.1:{PORT + 1}", "domains"]))
             server.end()
         else:
             raise SystemExit(__doc__)
