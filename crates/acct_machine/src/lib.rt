@@ -23,8 +23,8 @@
 //! A machine stands over a keeper. `act` commits a change of rows to it once all memory is taken and before it makes
 //! the change, and commits nothing else; a keeper that tells holds the pairs of the state's rows after every event,
 //! whatever failed. A commit that fails gives the verdict `StoreFault` with the keeper's count of faults, which rose.
-//! `first_out` shows the first row of the outbox, and `hooked` takes it out, with a commit of its own and an entry of no
-//! connection, whose answers are the `HookedEnd` of `account_hooks`. So a machine is a gate of its outbox
+//! `first_out` shows the first row of the outbox, and `hooked` takes it out, with a commit of its own and an entry of
+//! no connection, whose answers are the `HookedEnd` of `account_hooks`. So a machine is a gate of its outbox
 //! (`HookGate`): the jobs of all changes of a history are a definition (`Jobs`), and the law `jobs_are_left` says which
 //! are left.
 //! `open_store` gives the rows whose pairs a keeper holds, or the smallest key that is broken; it seeds a keeper

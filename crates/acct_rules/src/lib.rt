@@ -4,10 +4,10 @@
 //! It stands on the rows of `acct_rows`, the calls and replies of `acct_calls`, the layouts of `acct_layouts` and the
 //! security descriptors of `dtyp_access`. A crate of operations has for each of them a definition (in specs/, a `Ruled`
 //! of the rows, the object of the handle that was brought, and the arguments; a few are decided by the descriptor of
-//! the object besides) and a function that answers what it decides, a `Planned`. The crates above use `Profile` with its
-//! words (which handles are taken, which bits of their grants are needed, where memory may run out), `Planned` with what
-//! it does to rows and handles, and the outputs of what was opened. In specs/, `Operations` has what each operation
-//! owes: `IsRight`, and `KeepsRows`; and `Touched` which account row a plan touches.
+//! the object besides) and a function that answers what it decides, a `Planned`. The crates above use `Profile` with
+//! its words (which handles are taken, which bits of their grants are needed, where memory may run out), `Planned` with
+//! what it does to rows and handles, and the outputs of what was opened. In specs/, `Operations` has what each
+//! operation owes: `IsRight`, and `KeepsRows`; and `Touched` which account row a plan touches.
 #![tactic(auto)]
 
 mod asked;
