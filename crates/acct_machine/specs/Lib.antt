@@ -18,6 +18,7 @@ pub mod Coming
 pub mod Shapes
 pub mod Passing
 pub mod Storing
+pub mod Committing
 pub mod Concluding
 pub mod Shown
 pub mod Machine

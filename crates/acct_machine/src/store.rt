@@ -1,15 +1,12 @@
 // What the machine keeps. A contract sees it as the state.
-ghost use Rattle.std.specs.Prelude.{◌≡◌, ◌≢◌, ◌<◌, ◌≤◌, ◌-◌, ◌^◌, ◌+◌, length};
-ghost use Rattle.std.specs.Prelude.{[], Some, nat_lt, true, IfOk, IfErr, OnOk, OnErr};
+ghost use Rattle.std.specs.Prelude.{◌≡◌, ◌<◌, ◌≤◌, ◌-◌, ◌^◌, ◌+◌, length, [], Some, nat_lt, true, IfOk, OnOk, OnErr};
 ghost use Rattle.std.specs.Prelude.{if◌then◌else◌};
 ghost use Rattle.std.specs.Vec.{vec_capacity};
 ghost use Rattle.acct_config.specs.Right.{IsRight};
 ghost use Rattle.acct_calls.specs.declared.replies.Reply.TheVariants.{Done};
-ghost use Rattle.acct_rows.specs.Rows.{after, TakeNumbers};
+ghost use Rattle.acct_rows.specs.Rows.{after};
 ghost use Rattle.acct_rows.specs.Sound.{IsSoundRows};
 ghost use Rattle.acct_codes.specs.Statuses.{status_internal_db_error, status_no_memory};
-ghost use Rattle.acct_keeper.specs.Causes.{KeepCause};
-ghost use Rattle.acct_keeper.specs.Counts.{after_call};
 ghost use Rattle.acct_keeper.specs.declared.keeper.KeepError.TheVariants as keeps;
 ghost use Rattle.acct_layouts.specs.CallShapes.{CanBeSpelled};
 ghost use Rattle.acct_rules.specs.Planned.{has_change};
@@ -21,21 +18,19 @@ ghost use Rattle.acct_layouts.specs.Table.{layout_of};
 ghost use Rattle.acct_layouts.specs.Refusals.{is_refusal};
 ghost use Rattle.acct_machine.specs.declared.entry.Entry.TheVariants.{Opened, Gone, Hooked};
 ghost use Rattle.acct_machine.specs.declared.entry.Verdict.TheVariants as verdicts;
-ghost use Rattle.acct_machine.specs.State.{State, find_conn, serial_of, last_serial, without_conn};
+ghost use Rattle.acct_machine.specs.State.{find_handle, last_serial, number_of};
 ghost use Rattle.acct_machine.specs.Opening.{described, grant_of, granted_to};
 ghost use Rattle.acct_machine.specs.Access.{held_by, object_of};
-ghost use Rattle.acct_machine.specs.Outcome.{refusal_outs, replied, filled_by, with_opened, left, changed, with_handle};
-ghost use Rattle.acct_machine.specs.Outcome.{next_handle, done_by, concluded, concluded_by, outcome, planned_of};
+ghost use Rattle.acct_machine.specs.Outcome.{refusal_outs, filled_by, left, with_handle, with_plan, done_by};
+ghost use Rattle.acct_machine.specs.Outcome.{concluded_by, planned_of};
 ghost use Rattle.acct_machine.specs.Outbox.{least_out};
-ghost use Rattle.acct_machine.specs.Outcome.{with_plan};
 ghost use Rattle.acct_machine.specs.Sound.{IsSound};
-ghost use Rattle.acct_machine.specs.Step.{acted, step, live_ended};
-ghost use Rattle.acct_machine.specs.Storing.{HoldsRows};
+ghost use Rattle.acct_machine.specs.Step.{acted, step};
+ghost use Rattle.acct_machine.specs.Committing.{MayCommit, CommitsRows};
 ghost use Rattle.acct_machine.specs.Concluding.{Concludes};
 ghost use Rattle.acct_machine.specs.Legal.{HasPassed};
 ghost use Rattle.acct_machine.specs.Wants.{MayEndWith, MayMiss, WantsRoom};
 ghost use Rattle.std.specs.Option.{option_copied};
-ghost use Rattle.acct_machine.specs.State.{find_handle, number_of};
 
 use crate::checks::{Access, access_with, object_of};
 use crate::hooking::removal;
@@ -183,18 +178,10 @@ fn commit<K: Keeper>(
     rows: &Rows,
     plan: &Plan,
 ) -> Result<(), KeepError>
-    requires before { IsSoundRows rows.now.lists }
-    requires behind { IsSoundRows (after plan.now rows.now.lists) }
-    requires numbers { TakeNumbers rows.now.lists.next_out plan.now.puts }
-    ensures ok { OnOk result (HoldsRows (K.held keeper.old) rows.now.lists
-        → HoldsRows (K.held keeper.new) (after plan.now rows.now.lists)) }
-    ensures err { OnErr result (K.held keeper.new ≡ K.held keeper.old) }
-    ensures cause { IfErr result (KeepCause (K.faults keeper.old) (K.faults keeper.new)) }
-    ensures differs { IfErr result (λ e. e ≡ keeps.Failed → after plan.now rows.now.lists ≢ rows.now.lists) }
+    requires { MayCommit plan.now rows.now.lists }
+    ensures commits { CommitsRows K.held K.faults keeper.old keeper.new rows.now.lists
+        (after plan.now rows.now.lists) result }
     ensures wants { OnErr result (has_change plan.now ≡ true) }
-    ensures later { K.faults keeper.old ≤ K.faults keeper.new }
-    ensures count { K.faults keeper.new ≡ after_call (K.faults keeper.old) result }
-    ensures quiet { after plan.now rows.now.lists ≡ rows.now.lists → keeper.new ≡ keeper.old }
 {
     if !has_change(plan) {
         return Ok(());
@@ -328,17 +315,11 @@ impl Store {
         plan: Plan,
     ) -> Result<(), KeepError>
         requires serial { serial ≡ last_serial conn self.old.conns + 1 }
-        requires before { IsSoundRows self.old.rows }
-        requires behind { IsSoundRows (after plan self.old.rows) }
-        requires numbers { TakeNumbers self.old.rows.next_out plan.puts }
+        requires may { MayCommit plan self.old.rows }
         ensures ok { OnOk result (self.new ≡ with_handle (with_plan self.old plan) conn object granted) }
         ensures err { OnErr result (self.new ≡ self.old) }
-        ensures stored { HoldsRows (K.held keeper.old) self.old.rows → HoldsRows (K.held keeper.new) self.new.rows }
-        ensures cause { IfErr result (KeepCause (K.faults keeper.old) (K.faults keeper.new)) }
-        ensures differs { IfErr result (λ e. e ≡ keeps.Failed → after plan self.old.rows ≢ self.old.rows) }
-        ensures later { K.faults keeper.old ≤ K.faults keeper.new }
-        ensures count { K.faults keeper.new ≡ after_call (K.faults keeper.old) result }
-        ensures quiet { after plan self.old.rows ≡ self.old.rows → keeper.new ≡ keeper.old }
+        ensures commits { CommitsRows K.held K.faults keeper.old keeper.new self.old.rows (after plan self.old.rows)
+            result }
     {
         make_room(&mut self.rows, &plan)?;
         self.handles.reserve(1)?;
@@ -365,21 +346,15 @@ impl Store {
         plan: Plan,
         effect: Effect,
     ) -> Result<(), KeepError>
-        requires before { IsSoundRows self.old.rows }
-        requires behind { IsSoundRows (after plan self.old.rows) }
-        requires numbers { TakeNumbers self.old.rows.next_out plan.puts }
+        requires may { MayCommit plan self.old.rows }
         ensures ok { OnOk result (self.new ≡ record self.old {
           rows = after plan self.old.rows;
           handles = left effect conn number self.old.handles;
         }) }
         ensures err { OnErr result (self.new ≡ self.old) }
         ensures wants { OnErr result (has_change plan ≡ true) }
-        ensures stored { HoldsRows (K.held keeper.old) self.old.rows → HoldsRows (K.held keeper.new) self.new.rows }
-        ensures cause { IfErr result (KeepCause (K.faults keeper.old) (K.faults keeper.new)) }
-        ensures differs { IfErr result (λ e. e ≡ keeps.Failed → after plan self.old.rows ≢ self.old.rows) }
-        ensures later { K.faults keeper.old ≤ K.faults keeper.new }
-        ensures count { K.faults keeper.new ≡ after_call (K.faults keeper.old) result }
-        ensures quiet { after plan self.old.rows ≡ self.old.rows → keeper.new ≡ keeper.old }
+        ensures commits { CommitsRows K.held K.faults keeper.old keeper.new self.old.rows (after plan self.old.rows)
+            result }
     {
         make_room(&mut self.rows, &plan)?;
         commit(alloc, keeper, &self.rows, &plan)?;
@@ -399,10 +374,8 @@ impl Store {
         requires first { least_out self.old.rows ≡ Some number }
         ensures ok { OnOk result (self.new ≡ step self.old (Hooked number)) }
         ensures err { OnErr result (self.new ≡ self.old) }
-        ensures stored { HoldsRows (K.held keeper.old) self.old.rows → HoldsRows (K.held keeper.new) self.new.rows }
-        ensures held { OnErr result (K.held keeper.new ≡ K.held keeper.old) }
-        ensures later { K.faults keeper.old ≤ K.faults keeper.new }
-        ensures count { K.faults keeper.new ≡ after_call (K.faults keeper.old) result }
+        ensures commits { CommitsRows K.held K.faults keeper.old keeper.new self.old.rows
+            (step self.old (Hooked number)).rows result }
     {
         removed_outs_stay_sound();
         let plan = removal(alloc, number)?;
@@ -426,9 +399,7 @@ impl Store {
         requires opens { planned.effect ≡ effects.Opens opening }
         requires serial { serial ≡ last_serial conn self.old.conns + 1 }
         requires granted { grant_of self.old conn opening.object opening.desired ≡ Some granted }
-        requires before { IsSoundRows self.old.rows }
-        requires behind { IsSoundRows (after planned.plan self.old.rows) }
-        requires numbers { TakeNumbers self.old.rows.next_out planned.plan.puts }
+        requires may { MayCommit planned.plan self.old.rows }
         ensures { Concludes K.held K.faults keeper.old keeper.new (concluded_by self.old conn call.now planned)
             (WantsRoom self.old conn planned) self.old self.new result }
     {
@@ -465,9 +436,7 @@ impl Store {
     ) -> (Verdict, Reply)
         requires opens { planned.effect ≡ effects.Opens opening }
         requires fits { last_serial conn self.old.conns < 2 ^ 64 - 1 }
-        requires before { IsSoundRows self.old.rows }
-        requires behind { IsSoundRows (after planned.plan self.old.rows) }
-        requires numbers { TakeNumbers self.old.rows.next_out planned.plan.puts }
+        requires may { MayCommit planned.plan self.old.rows }
         ensures { Concludes K.held K.faults keeper.old keeper.new (concluded_by self.old conn call.now planned)
             (WantsRoom self.old conn planned) self.old self.new result }
     {
@@ -493,9 +462,7 @@ impl Store {
         call: &Call,
         planned: Planned,
     ) -> (Verdict, Reply)
-        requires before { IsSoundRows self.old.rows }
-        requires behind { IsSoundRows (after planned.plan self.old.rows) }
-        requires numbers { TakeNumbers self.old.rows.next_out planned.plan.puts }
+        requires may { MayCommit planned.plan self.old.rows }
         ensures { Concludes K.held K.faults keeper.old keeper.new (done_by self.old conn call.now planned)
             (MayMiss self.old planned) self.old self.new result }
     {
@@ -525,9 +492,7 @@ impl Store {
         opening: Opening,
     ) -> (Verdict, Reply)
         requires checks { planned.effect ≡ effects.Checks opening }
-        requires before { IsSoundRows self.old.rows }
-        requires behind { IsSoundRows (after planned.plan self.old.rows) }
-        requires numbers { TakeNumbers self.old.rows.next_out planned.plan.puts }
+        requires may { MayCommit planned.plan self.old.rows }
         ensures { Concludes K.held K.faults keeper.old keeper.new (concluded_by self.old conn call.now planned)
             (WantsRoom self.old conn planned) self.old self.new result }
     {
@@ -549,9 +514,7 @@ impl Store {
         planned: Planned,
     ) -> (Verdict, Reply)
         requires fits { last_serial conn self.old.conns < 2 ^ 64 - 1 }
-        requires before { IsSoundRows self.old.rows }
-        requires behind { IsSoundRows (after planned.plan self.old.rows) }
-        requires numbers { TakeNumbers self.old.rows.next_out planned.plan.puts }
+        requires may { MayCommit planned.plan self.old.rows }
         ensures { Concludes K.held K.faults keeper.old keeper.new (concluded_by self.old conn call.now planned)
             (WantsRoom self.old conn planned) self.old self.new result }
     {

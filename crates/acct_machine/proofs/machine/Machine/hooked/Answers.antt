@@ -67,7 +67,9 @@ invariant_of-self-in-Ok g c =
       left-kept s new c.self.inside.opening.lists c.self.inside.since history _ _ _ _ c.hook_room-more.result _
           c.args.number c.self.invariant.0 least is longer rooms fits,
       stored-hooked _ _ s.rows new.rows _ _ start (begins new c.self.inside.opening.lists c.self.inside.since) history _
-          (Hooked c.args.number) c.self.invariant.1 refl c.take_out.ensures.stored c.in-Ok.ensures.count
+          (Hooked c.args.number) c.self.invariant.1 refl
+          (λ holds. subst (λ (x : State). HoldsRows (g.K.Keeper.held c.take_out.new.keeper) x.rows) (sym is)
+          (c.in-Ok.ensures.commits.ok holds)) c.in-Ok.ensures.commits.count
           (begins-same s new c.self.inside.opening.lists c.self.inside.since (Hooked c.args.number) is) longer,
     )
 
@@ -93,7 +95,8 @@ invariant_of-self-in-Err-Failed g c =
       subst (λ (h : List Entry). IsStored (g.K.Keeper.held c.take_out.new.keeper) s.rows now start h)
           (sym c.reserve.ensures.items)
           (stored-missed (g.K.Keeper.held c.self.inside.keeper) (g.K.Keeper.held c.take_out.new.keeper) s.rows before
-          now start history c.self.invariant.1 told c.in-Err-Failed.ensures.held count c.take_out.ensures.later),
+          now start history c.self.invariant.1 told c.in-Err-Failed.ensures.commits.err count
+          c.take_out.ensures.commits.later),
     )
 
 pub returns-in-Ok-clause-live : goal.returns-in-Ok-clause-live

@@ -1,13 +1,12 @@
 -- A plan leaves sound rows and takes the numbers of the outbox; `Store::pass` runs out of memory only where it may.
 use Rattle.std.proofs.Common.{rules, ◌≡◌, subst, sym}
-use Rattle.acct_rows.specs.Rows.{after, TakeNumbers}
-use Rattle.acct_rows.specs.Sound.{IsSoundRows}
 use Rattle.acct_rules.specs.declared.planned.Planned.{Planned}
 use Rattle.acct_rules.specs.Operations.{Operation}
 use Rattle.acct_operations.specs.Frugal.{taken_by}
 use Rattle.acct_operations.specs.Table.{operation}
 use Rattle.acct_machine.specs.declared.entry.Verdict.TheVariants.{NoMemory}
 use Rattle.acct_machine.specs.State.{State}
+use Rattle.acct_machine.specs.Committing.{MayCommit}
 use Rattle.acct_machine.specs.Concluding.{Concludes}
 use Rattle.acct_machine.specs.Outcome.{concluded_by, planned_of}
 use Rattle.acct_machine.specs.Wants.{MayEndWith, WantsRoom}
@@ -19,26 +18,18 @@ use Rattle.acct_machine.proofs.store.Store.pass.Goals as goal
 pub plan-requires-clause-sound : goal.plan-requires-clause-sound
 plan-requires-clause-sound g c = c.requires.sound.rows
 
-pub conclude-requires-clause-before : goal.conclude-requires-clause-before
-conclude-requires-clause-before g c = c.requires.sound.rows
-
-pub conclude-requires-clause-behind : goal.conclude-requires-clause-behind
-conclude-requires-clause-behind g c =
+pub conclude-requires-clause-may : goal.conclude-requires-clause-may
+conclude-requires-clause-may g c =
     let o : Operation = operation c.args.work in
     let s : State = c.args.self.now in
     let is : planned_of o s c.args.conn c.args.call.now ≡ c.in-Ok.planned = search rules in
-    subst (λ (p : Planned). IsSoundRows (after p.plan s.rows)) is
-    (keeps c.outs_stay_sound.ensures c.puts_are_found.ensures c.operations_are_right.ensures
-    c.operations_keep_rows.ensures s.config s c.args.conn c.args.call.now o c.requires.right c.requires.sound
-    c.requires.spelled c.requires.passed).sound
-
-pub conclude-requires-clause-numbers : goal.conclude-requires-clause-numbers
-conclude-requires-clause-numbers g c =
-    let o : Operation = operation c.args.work in
-    let s : State = c.args.self.now in
-    let is : planned_of o s c.args.conn c.args.call.now ≡ c.in-Ok.planned = search rules in
-    subst (λ (p : Planned). TakeNumbers s.rows.next_out p.plan.puts) is
-    (planned-takes o s c.args.conn c.args.call.now (c.operations_are_right.ensures.right c.args.work))
+    subst (λ (p : Planned). MayCommit p.plan s.rows) is (record {
+      before = c.requires.sound.rows;
+      later = (keeps c.outs_stay_sound.ensures c.puts_are_found.ensures c.operations_are_right.ensures
+          c.operations_keep_rows.ensures s.config s c.args.conn c.args.call.now o c.requires.right c.requires.sound
+          c.requires.spelled c.requires.passed).sound;
+      numbers = planned-takes o s c.args.conn c.args.call.now (c.operations_are_right.ensures.right c.args.work);
+    })
 
 pub returns-in-Ok : goal.returns-in-Ok
 returns-in-Ok g c =
