@@ -1,5 +1,5 @@
 -- Acts that were answered to the lines of a replay, over its machine: what they do.
-use Rattle.std.proofs.Common.{◌≡◌, ℕ, suc, ◌+◌, Bool, true, false, List, [], ◌∷◌, ◌++◌, inl, inr, length, Option, Some}
+use Rattle.std.proofs.Common.{◌≡◌, ℕ, suc, Bool, true, false, List, [], ◌∷◌, ◌++◌, inl, inr, length, Option, Some}
 use Rattle.std.proofs.Common.{None, Result, Ok, Err, refl, sym, ◌∙◌, ap, subst, arith, append_assoc, slice_get, OnOk}
 use Rattle.std.proofs.Common.{IfErr, ◌⊎◌}
 use Rattle.std.proofs.lemmas.List.{append-nil}
@@ -23,6 +23,7 @@ use Rattle.link_sessions.specs.Transcript.{busy_bytes}
 use Rattle.acct_server.specs.declared.out_lines.OutLines.{OutLines}
 use Rattle.acct_server.specs.Replayed.{Out, IsClosed, FoundFull, line_bytes, on_act, on_acts, on_request}
 use Rattle.acct_server.specs.Running.{Acts, Began, Answered, AnsweredToFull, IsClosing}
+use Rattle.acct_server.proofs.Bytes.{on-ok, if-err}
 use Rattle.acct_server.proofs.Moves.{Only, prints-act, request-acts, request-fills, request-began, answered-began}
 use Rattle.acct_server.proofs.Moves.{request-live, same-live, acts-before, acts-full, began-before, began-at}
 use Rattle.acct_server.proofs.Moves.{begins-none}
@@ -429,7 +430,7 @@ module _ {U : Type 0} (past : U → Past) (serves : U → ℕ → Type 0) (k : �
             (starts-on h.done t g h.mid h.there h.answered ∙ sym same)
             (halt-live why h.begun h.mid h.there t' g' h.halts))
 
-    pub stop-full : (why : Stop) → t'.is_cut ≡ false
+    stop-full : (why : Stop) → t'.is_cut ≡ false
         → HaltsActs Takes Fails (λ m. (past m).start) (λ m. (past m).history) (λ m found. found ≡ (past m).history)
         serves k acts t g t' g' why
         → AnsweredToFull k (past g).start acts (past g).history (past g').history t.lines.items t'.lines.items why
@@ -439,3 +440,15 @@ module _ {U : Type 0} (past : U → Past) (serves : U → ℕ → Type 0) (k : �
         (halt-full why served h.done h.begun h.others t g h.mid h.there t' g'
         (subst (λ (xs : List Act). (i : ℕ) → IsClosing served i (length xs) (slice_get xs i)) h.splits closing) of
         whole h.answered h.halts)
+
+    pub all-answered : OnOk r (TakesActs Takes (λ m. (past m).start) (λ m. (past m).history)
+        (λ m found. found ≡ (past m).history) serves k acts t g t' g')
+        → OnOk r (Answered k (past g).start acts (past g).history (past g').history t.lines.items t'.lines.items
+        (closing_of acts))
+    all-answered = on-ok r (acts-answered served acts t g t' g' closing of)
+
+    pub all-full : IfErr r (HaltsActs Takes Fails (λ m. (past m).start) (λ m. (past m).history)
+        (λ m found. found ≡ (past m).history) serves k acts t g t' g')
+        → IfErr r (λ why. t'.is_cut ≡ false → AnsweredToFull k (past g).start acts (past g).history
+        (past g').history t.lines.items t'.lines.items why)
+    all-full = if-err r (λ why h whole. stop-full why whole h)
