@@ -80,9 +80,8 @@ fn answer<T: Taker, G: Gate>(
     ensures start { G.start gate.new ≡ G.start gate.old }
 {
     match act {
-        Act::Answered { bytes } => give(taker, bytes.as_slice()),
         Act::Call(asked) => answer_request(alloc, taker, gate, conn, asked),
-        Act::Closed { bytes, .. } => give(taker, bytes.as_slice()),
+        Act::Answered { bytes } | Act::Closed { bytes, .. } => give(taker, bytes.as_slice()),
     }
 }
 
