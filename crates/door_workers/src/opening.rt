@@ -44,10 +44,9 @@ where
         listener.workers,
         listener.links,
     )?;
-    match doors.append(&mut given) {
-        Ok(()) => Ok(()),
-        Err(_) => unreachable!(),
-    }
+    // there is room for them, so that this doesn't fail
+    doors.append(&mut given)?;
+    Ok(())
 }
 
 /// Asks an entrance for the doors of each listener of a configuration, in order, until an asking fails. The doors that

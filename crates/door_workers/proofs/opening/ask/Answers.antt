@@ -8,7 +8,7 @@ pub returns-clause-listeners : goal.returns-clause-listeners
 returns-clause-listeners g c =
     let f = g.E.D.Door.listener in
     let given = c.in_ok-given in
-    ap (λ (ds : List _). map f ds) (c.in-Ok.ensures.items
+    ap (λ (ds : List _). map f ds) (c.in_ok-append.ensures.items
     ∙ ap (λ (ds : List _). ds ++ given.given.items) c.in_ok-reserve.ensures.items)
     ∙ map-append f c.args.doors.now.items given.given.items
     ∙ ap (λ (ns : List ℕ). map f c.args.doors.now.items ++ ns)
