@@ -1,5 +1,5 @@
 // The words of the command line.
-ghost use Rattle.std.specs.Prelude.{◌≡◌, ◌++◌, ◌∷◌, [], ℕ, List, take, IfOk, IsUtf8};
+ghost use Rattle.std.specs.Prelude.{◌≡◌, ◌++◌, ◌∷◌, [], ℕ, take, IfOk, IsUtf8};
 ghost use Rattle.std.specs.String.{string_bytes};
 ghost use Rattle.account_words.specs.Words.{nul};
 

@@ -1,6 +1,6 @@
 -- What a world shows over the command `hooks`: parts that are out are given back, and those that were handed out
 -- before; and where nothing failed outside, draining comes to its end.
-use Rattle.std.proofs.Common.{◌≡◌, ◌≢◌, ℕ, ◌<◌, ◌≤◌, inl, inr, List, ◌∷◌, [], ◌++◌, length, Ok, refl, sym, ◌∙◌, ap}
+use Rattle.std.proofs.Common.{◌≡◌, ◌≢◌, ℕ, ◌<◌, ◌≤◌, inl, inr, List, ◌∷◌, [], length, Ok, refl, sym, ◌∙◌, ap}
 use Rattle.std.proofs.Common.{Option, Some, None, subst, arith}
 use Rattle.std.specs.Prelude.{is_some, true, false, IfSome, IsSome, MatchOption}
 use Rattle.account_hooks.specs.declared.drains.Drained.{Drained}

@@ -1,5 +1,5 @@
 // The jobs of changes of accounts, and the machine itself as a gate to them.
-ghost use Rattle.std.specs.Prelude.{◌≡◌, ◌≤◌, ◌++◌, IfOk, OnErr, map, string_bytes};
+ghost use Rattle.std.specs.Prelude.{◌≡◌, ◌≤◌, IfOk, map, string_bytes};
 ghost use Rattle.account_hooks.specs.Gates.{IsFirstLeft};
 ghost use Rattle.acct_machine.specs.Gates.{IsReady};
 ghost use Rattle.acct_machine.specs.Jobs.{action_word, kind_word, shown_point, utf8_of, name_in, arguments, jobs_at};

@@ -1,5 +1,5 @@
 // The list of connections, and the numbers of handles.
-ghost use Rattle.std.specs.Prelude.{◌≡◌, ◌+◌, ◌*◌, ◌^◌, map};
+ghost use Rattle.std.specs.Prelude.{◌≡◌, ◌+◌, ◌*◌, map};
 ghost use Rattle.std.specs.Vec.{vec_capacity};
 ghost use Rattle.acct_machine.specs.State.{find_conn, serial_of, number_of};
 ghost use Rattle.acct_machine.specs.Outcome.{serial_set};

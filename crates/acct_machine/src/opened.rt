@@ -2,7 +2,6 @@
 ghost use Rattle.std.specs.Prelude.{◌≡◌, ◌≤◌, true, [], ◌∷◌, Some, None, map, option_map, IfOk, IfErr, IfSome};
 ghost use Rattle.std.specs.Prelude.{OnOk, OnErr};
 ghost use Rattle.acct_config.specs.Right.{IsRight};
-ghost use Rattle.acct_keeper.specs.Causes.{KeepCause};
 ghost use Rattle.acct_keeper.specs.Pairs.{after, is_ascending};
 ghost use Rattle.acct_rows.specs.Seed.{seed_lists};
 ghost use Rattle.acct_rows.specs.Sound.{IsSoundRows};

@@ -1,6 +1,6 @@
 -- A replay under the configuration that its document spells.
 use Rattle.std.proofs.Common.{◌≡◌, ℕ, ◌<◌, ◌≤◌, inl, inr, Bool, true, false, cond, List, [], length, Option, Some, None}
-use Rattle.std.proofs.Common.{refl, ◌∙◌, ap, subst, arith, IfSome, ◌≢◌, ◌∷◌}
+use Rattle.std.proofs.Common.{refl, ◌∙◌, ap, subst, arith, IfSome, ◌∷◌}
 use Rattle.std.proofs.lemmas.Bool.Decides.{nat_tests}
 use Rattle.std.specs.Prelude.{nat_lt}
 use Rattle.acct_config.specs.declared.config.Config.{Config}

@@ -1,7 +1,5 @@
 // What the lines of an event file say.
-ghost use Rattle.std.specs.Prelude.{◌≡◌, ◌+◌, ◌≤◌, Some, None, Ok, Err, IfOk, IfSome, ◌<◌, MatchOption, length, drop};
-ghost use Rattle.std.specs.Prelude.{option_map};
-ghost use Rattle.std.specs.List.{position_or_len};
+ghost use Rattle.std.specs.Prelude.{◌≡◌, Some, None, Ok, Err, IfOk, ◌<◌, length};
 ghost use Rattle.acct_server.specs.declared.events.LineError.TheVariants.{NoMemory, Refused};
 ghost use Rattle.acct_base.specs.Words.{parted};
 ghost use Rattle.acct_server.specs.Events.{number_of, brings, of_two, of_command};

@@ -10,9 +10,7 @@ use Rattle.std.proofs.lemmas.List.{append-nil}
 use Rattle.std.proofs.lemmas.List.Concat.{flat_map-append}
 use Rattle.std.proofs.lemmas.List.Elements.{All-head, All-tail}
 use Rattle.acct_base.specs.Words.{is_within}
-use Rattle.acct_config.specs.Address.{is_address}
 use Rattle.acct_config.specs.Right.{is_right_listener}
-use Rattle.acct_config.specs.Values.{is_listener_name}
 use Rattle.acct_config.specs.declared.config.Config.{Config}
 use Rattle.acct_links.specs.declared.doors.Door.{Ghosts}
 use Rattle.acct_config.specs.declared.config.Listener.{Listener}

@@ -1,5 +1,5 @@
 -- What stands of a link in a history stays as it is where other connections' entries come after it.
-use Rattle.std.proofs.Common.{◌≡◌, ℕ, List, [], ◌∷◌, ◌++◌, ap, ◌∙◌, append_assoc}
+use Rattle.std.proofs.Common.{ℕ, List, ◌∷◌, ◌++◌, ap, ◌∙◌, append_assoc}
 use Rattle.acct_machine.specs.State.{Start}
 use Rattle.acct_machine.specs.Passing.{KeepsConnection}
 use Rattle.acct_machine.specs.declared.entry.Entry.{Entry}

@@ -1,5 +1,5 @@
 // A lock and a pass as a gate.
-ghost use Rattle.std.specs.Prelude.{◌≡◌, ◌<◌, length};
+ghost use Rattle.std.specs.Prelude.{◌≡◌, ◌<◌};
 
 use crate::kept::{Calling, Ending, Locked, Opening};
 use acct_machine::{Acted, Call, Keeper, Opened, others_change_nothing};

@@ -5,8 +5,7 @@ ghost use Rattle.acct_config.specs.Right.{IsRight};
 ghost use Rattle.acct_keeper.specs.Causes.{KeepCause};
 ghost use Rattle.acct_keeper.specs.Counts.{faults_after};
 ghost use Rattle.acct_keeper.specs.Memory.{is_fault};
-ghost use Rattle.acct_links.specs.Doors.{asked_after};
-ghost use Rattle.door_workers.specs.Askings.{asking_of, asked_besides, Opens, StopsAsking, AreDoorsFor};
+ghost use Rattle.door_workers.specs.Askings.{asking_of, asked_besides, Opens, StopsAsking};
 
 use acct_config::{Config, Listener};
 use acct_keeper::KeepError;

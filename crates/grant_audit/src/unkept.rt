@@ -1,5 +1,5 @@
 // A keeper that keeps nothing.
-ghost use Rattle.std.specs.Prelude.{◌≡◌, None, [], IfOk, OnOk, IsOk};
+ghost use Rattle.std.specs.Prelude.{◌≡◌, None, [], IfOk, IsOk};
 
 use acct_keeper::{Change, KeepError, Keeper, Pair};
 use std::alloc::Global;

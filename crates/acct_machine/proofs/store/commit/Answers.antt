@@ -1,5 +1,5 @@
 -- A commit asks the changes of the plan of the keeper, and nothing where there are none.
-use Rattle.std.proofs.Common.{◌≡◌, ◌==◌, ℕ, sym, ap, ◌∙◌}
+use Rattle.std.proofs.Common.{◌==◌, ℕ, sym, ap, ◌∙◌}
 use Rattle.acct_rows.specs.Rows.{Lists, after}
 use Rattle.acct_machine.proofs.Committing.{unchanged, unasked, same-rows, asked}
 use Rattle.acct_machine.proofs.store.commit.Goals as goal

@@ -1,5 +1,5 @@
 -- Two digits make one byte, so no more bytes are decoded than the line has digits; digits that spell none give none.
-use Rattle.std.proofs.Common.{◌≡◌, ◌*◌, ◌⊎◌, inl, inr, List, ℕ, Option, Some, None, Result, Err}
+use Rattle.std.proofs.Common.{◌≡◌, ◌*◌, ◌⊎◌, inl, inr, List, ℕ, Some, None, Result, Err}
 use Rattle.std.proofs.Common.{length, ap, sym, ◌∙◌, arith}
 use Rattle.std.proofs.lemmas.Result.{err_from_is_err_and}
 use Rattle.hex.specs.Hex.{decode_of}
@@ -7,7 +7,6 @@ use Rattle.hex.specs.declared.FromHexError.{FromHexError}
 use Rattle.hex.specs.declared.FromHexError.TheVariants.{OutOfMemory}
 use Rattle.hex.proofs.HexLemmas.{decode_of-ok}
 use Rattle.acct_server.specs.Events.{brings, undecoded}
-use Rattle.acct_server.specs.declared.events.LineError.{LineError}
 use Rattle.acct_server.specs.declared.events.LineError.TheVariants.{Refused}
 use Rattle.acct_server.proofs.events.data_of.Goals as goal
 

@@ -1,5 +1,5 @@
 -- A machine that was begun is a gate that may be drained, and what that leaves.
-use Rattle.std.proofs.Common.{◌≡◌, ℕ, ◌<◌, ◌≤◌, inr, true, List, [], Option, Some, IfSome, refl, sym, ap, ◌∙◌, subst, arith}
+use Rattle.std.proofs.Common.{◌≡◌, ℕ, ◌<◌, inr, List, [], Option, Some, IfSome, refl, sym, ap, ◌∙◌, subst, arith}
 use Rattle.std.specs.Prelude.{is_some}
 use Rattle.account_hooks.specs.Drains.{Drains}
 use Rattle.account_hooks.specs.Gates.{Begins, numbers}

@@ -1,5 +1,5 @@
 -- After the doors that were there stand as many more as the listener has workers, all of its number.
-use Rattle.std.proofs.Common.{◌≡◌, ℕ, List, ◌++◌, map, length, replicate, sym, ◌∙◌, ap}
+use Rattle.std.proofs.Common.{ℕ, List, ◌++◌, map, replicate, ◌∙◌, ap}
 use Rattle.std.proofs.lemmas.List.{map-append}
 use Rattle.door_workers.proofs.Placing.{map-same}
 use Rattle.door_workers.proofs.opening.ask.Goals as goal
