@@ -168,12 +168,6 @@ call-form words rest address command is here behind known =
     call-form-at words rest address is here behind
     ∙ ap (λ (o : Option Command). option_map (λ (c : Command). calling address c) o) known
 
-pub no-call-form : (words rest : List (List ℕ)) (address : List ℕ) → is_call_form words ≡ true
-    → get_or words 1 [] ≡ address → drop 2 words ≡ rest → command_of rest ≡ None → call_form words ≡ None
-no-call-form words rest address is here behind none =
-    call-form-at words rest address is here behind
-    ∙ ap (λ (o : Option Command). option_map (λ (c : Command). calling address c) o) none
-
 -- ---- the words of no other command
 
 call-alone : (words : List (List ℕ)) (form : Form) → replay_form words ≡ None → gen_form words ≡ None

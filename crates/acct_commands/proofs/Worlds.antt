@@ -383,30 +383,6 @@ spawner-refused others w0 w1 e status fails is = record {
   asked = λ tells. asked-one part.Spawner others w0.asked w1.asked (Err e) (fails.asked tells);
 }
 
--- no memory was there before any part was asked for
-pub nothing-asked : {S T K E D C L P : Type 0} (parts : List Part) (w0 w1 : Seen S T K E D C L P) (status : Status)
-    → w1 ≡ w0
-    → status ≡ NoMemory → NotHandedOut parts w0 w1 status
-nothing-asked parts w0 w1 status same is = record {
-  cause = subst (λ (s : Status). TakeCause w0 w1 s) (sym is) tt;
-  sources = λ tells name. ap (λ (s : Seen _ _ _ _ _ _ _ _). s.source name) same;
-  sink = λ tells. ap (λ (s : Seen _ _ _ _ _ _ _ _). s.sink) same;
-  keepers = λ tells name. ap (λ (s : Seen _ _ _ _ _ _ _ _). s.keeper name) same;
-  entrance = λ tells. ap (λ (s : Seen _ _ _ _ _ _ _ _). s.entrance) same;
-  caller = λ tells. ap (λ (s : Seen _ _ _ _ _ _ _ _). s.caller) same;
-  spawner = λ tells. ap (λ (s : Seen _ _ _ _ _ _ _ _). s.spawner) same;
-  periods = ap (λ (s : Seen _ _ _ _ _ _ _ _). s.periods) same;
-  tells = ap (λ (s : Seen _ _ _ _ _ _ _ _). s.tells) same;
-  knows = ap (λ (s : Seen _ _ _ _ _ _ _ _). s.knows) same;
-  stores = ap (λ (s : Seen _ _ _ _ _ _ _ _). s.stores) same;
-  asked = λ tells. record {
-    done = [];
-    others = parts;
-    splits = refl;
-    asked = ap (λ (s : Seen _ _ _ _ _ _ _ _). s.asked) same ∙ sym (append-nil w0.asked);
-  };
-}
-
 -- ---- a part that is given back, since a later one wasn't handed out
 
 pub source-back : {S T K E D C L P : Type 0} (name : List ℕ) (others : List Part)
