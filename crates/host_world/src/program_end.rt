@@ -29,8 +29,7 @@ impl ProgramEnd {
                 Some(code) => Ran::Exited(code.unsigned_abs()),
                 None => Ran::Failed,
             },
-            ProgramEnd::NotStarted(_) => Ran::Failed,
-            ProgramEnd::NotWaited(_) => Ran::Failed,
+            ProgramEnd::NotStarted(_) | ProgramEnd::NotWaited(_) => Ran::Failed,
         }
     }
 }
