@@ -16,8 +16,8 @@ pub record MayCommit (plan : Plan) (rows : Lists) : Type 0 where
   pub numbers : TakeNumbers rows.next_out plan.puts
 
 -- A commit of what takes the rows to the next ones. A keeper that held the rows holds the next ones, and after an error
--- what it held. It fails only where a row is to change, its count tells of that, and where none is to change nothing is
--- asked of it.
+-- what it held. It fails only where a row is to change; its count is one more where it failed, and else as it was; and
+-- where no row is to change nothing is asked of it.
 pub record CommitsRows {V : Type 0} (held : V → Option (List Pair)) (faults : V → ℕ) (old new : V) (rows next : Lists)
     (result : Result Unit KeepError) : Type 0 where
   pub ok : OnOk result (HoldsRows (held old) rows → HoldsRows (held new) next)
