@@ -1,5 +1,6 @@
--- After the doors that were there stand as many more as the listener has workers, all of its number.
-use Rattle.std.proofs.Common.{ℕ, List, ◌++◌, map, replicate, ◌∙◌, ap}
+-- After the doors that were there stand as many more as the listener has workers, all of its number; there is room for
+-- them.
+use Rattle.std.proofs.Common.{ℕ, List, ◌++◌, map, replicate, ◌∙◌, ap, arith}
 use Rattle.std.proofs.lemmas.List.{map-append}
 use Rattle.door_workers.proofs.Placing.{map-same}
 use Rattle.door_workers.proofs.opening.ask.Goals as goal
@@ -14,3 +15,6 @@ returns-clause-listeners g c =
     ∙ ap (λ (ns : List ℕ). map f c.args.doors.now.items ++ ns)
     (map-same f c.args.number given.given.items given.ensures.listener
     ∙ ap (λ (n : ℕ). replicate n c.args.number) given.ensures.count)
+
+pub returns-in_err-append : goal.returns-in_err-append
+returns-in_err-append g c = absurd (omega arith)
