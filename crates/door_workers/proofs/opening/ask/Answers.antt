@@ -17,4 +17,12 @@ returns-clause-listeners g c =
     ∙ ap (λ (n : ℕ). replicate n c.args.number) given.ensures.count)
 
 pub returns-in_err-append : goal.returns-in_err-append
-returns-in_err-append g c = absurd (omega arith)
+returns-in_err-append g c =
+    absurd
+    (omega (
+      arith,
+      c.in_err-append.ensures.full,
+      c.in_ok-reserve.ensures.ok,
+      c.in_ok-given.ensures.count,
+      c.in_ok-given.given.ok.0,
+    ))
