@@ -1,9 +1,10 @@
--- What the command `replay CONFIG` does to a world.
+-- What the commands `replay CONFIG` and `audit CONFIG` do to a world: both run over the same parts.
 use Rattle.std.specs.Prelude.{◌≡◌, ◌≢◌, ℕ, true, false, List, ◌∷◌, [], ◌++◌, ◌⊎◌, codes, Option, Some, None}
-use Rattle.std.specs.Prelude.{MatchOption}
+use Rattle.std.specs.Prelude.{MatchOption, Ok}
 use Rattle.acct_machine.specs.declared.entry.Entry.{Entry}
 use Rattle.acct_rows.specs.Rows.{Shown}
 use Rattle.acct_keeper.specs.Causes.{Rose}
+use Rattle.acct_keeper.specs.declared.pairs.Pair.{Pair}
 use Rattle.acct_server.specs.declared.replays.Replayed.{Replayed}
 use Rattle.acct_server.specs.Replaying.{Telling, Parts, IsReplay}
 use Rattle.acct_server.specs.declared.status.Status.{Status}
@@ -15,17 +16,19 @@ use Rattle.acct_links.specs.declared.callers.TakeError.TheVariants.{Failed, NoMe
 use Rattle.acct_world.specs.declared.period.Period.{Period}
 use Rattle.acct_world.specs.declared.part.Part.{Part}
 use Rattle.acct_world.specs.declared.part.Part.TheVariants.{Source, Sink, Keeper}
-use Rattle.acct_world.specs.World.{Seen}
+use Rattle.acct_world.specs.World.{Seen, TakesSource, TakesSink, TakesKeeper}
+use Rattle.acct_commands.specs.Auditing.{IsAudit}
+use Rattle.acct_commands.specs.declared.auditing.Audited.{Audited}
 
 -- the name of the standard input
 abbrev pub standard_input : List ℕ
 standard_input = codes "-"
 
--- the name of the keeper over which events are replayed
+-- the name of the keeper over which events are replayed or audited
 abbrev pub no_name : List ℕ
 no_name = []
 
--- the parts that a replay asks for, in order
+-- the parts that both commands ask for, in order
 abbrev pub wanted : List ℕ → List Part
 wanted name = Source name ∷ Source standard_input ∷ Sink ∷ Keeper no_name ∷ []
 
@@ -89,20 +92,45 @@ pub record KeepsAny {S T K E D C L P : Type 0} (old new : Seen S T K E D C L P) 
     pub periods : Keeps old new period ended status
     pub others : new ≡ record old { periods = new.periods }
 
--- All parts were handed out: a replay ran over them, the world keeps the period that it left, and has the parts again.
-pub record HasRun {S T K E D C L P : Type 0} (told : Telling S T K) (name : List ℕ) (old new : Seen S T K E D C L P)
-    (status : Status)
+-- a command that runs over these parts: the pairs that a keeper tells, what the command leaves by the parts before and
+-- after it, and of that the period and how it ended
+pub record OverParts (S T K X : Type 0) : Type 1 where
+  pub pairs : K → Option (List Pair)
+  pub leaves : Parts S T K → Parts S T K → X → Type 0
+  pub period : X → Option Period
+  pub ended : X → Status
+
+abbrev pub replaying : {S T K : Type 0} → Telling S T K → OverParts S T K (Replayed K)
+replaying told = record {
+  pairs = told.pairs;
+  leaves = λ old new left. IsReplay told old new left;
+  period = λ left. period_of left;
+  ended = λ left. left.status;
+}
+
+abbrev pub auditing : {S T K : Type 0} → Telling S T K → OverParts S T K (Audited K)
+auditing told = record {
+  pairs = told.pairs;
+  leaves = λ old new left. IsAudit told old new left;
+  period = λ left. period_between left.opening left.history left.rows [];
+  ended = λ left. left.ended;
+}
+
+-- All parts were handed out: the command ran over them, the world keeps the period that it left, and has the parts
+-- again.
+pub record HasRun {S T K E D C L P X : Type 0} (over : OverParts S T K X) (name : List ℕ)
+    (old new : Seen S T K E D C L P) (status : Status)
     : Type 0 where
   pub before : Parts S T K
   pub after : Parts S T K
-  pub left : Replayed K
-  pub replayed : IsReplay told before after left
+  pub left : X
+  pub ran : over.leaves before after left
   pub took_config : old.tells ≡ true → old.source name ≡ Some before.config
   pub took_events : old.tells ≡ true → old.source standard_input ≡ Some before.events
   pub took_sink : old.tells ≡ true → old.sink ≡ Some before.out
   pub took_keeper : old.tells ≡ true → old.keeper no_name ≡ Some before.keeper
   -- where the world doesn't tell its keeper, that holds no pair
-  pub no_pair : old.tells ≡ false → told.pairs before.keeper ≡ Some []
+  pub no_pair : old.tells ≡ false → over.pairs before.keeper ≡ Some []
   pub gave_config : old.tells ≡ true → new.source name ≡ Some after.config
   pub gave_events : old.tells ≡ true → new.source standard_input ≡ Some after.events
   pub gave_sink : old.tells ≡ true → new.sink ≡ Some after.out
@@ -114,14 +142,25 @@ pub record HasRun {S T K E D C L P : Type 0} (told : Telling S T K) (name : List
   pub caller : new.caller ≡ old.caller
   pub spawner : new.spawner ≡ old.spawner
   pub asked : old.tells ≡ true → new.asked ≡ old.asked ++ wanted name
-  pub keeps : Keeps old new (period_of left) left.status status
+  pub keeps : Keeps old new (over.period left) (over.ended left) status
 
--- A replay ran over parts that were out: the world keeps the period that it left, and has the parts again.
-pub record Returned {S T K E D C L P : Type 0} (told : Telling S T K) (name : List ℕ) (before : Parts S T K)
+-- All parts were taken, one after the other.
+pub record TakesParts {S T K E D C L P : Type 0} (pairs : K → Option (List Pair)) (name : List ℕ)
+    (old new : Seen S T K E D C L P) (parts : Parts S T K) : Type 0 where
+  pub one : Seen S T K E D C L P
+  pub two : Seen S T K E D C L P
+  pub three : Seen S T K E D C L P
+  pub config : TakesSource old one name (Ok parts.config)
+  pub events : TakesSource one two standard_input (Ok parts.events)
+  pub sink : TakesSink two three (Ok parts.out)
+  pub keeper : TakesKeeper pairs three new no_name (Ok parts.keeper)
+
+-- The command ran over parts that were out: the world keeps the period that it left, and has the parts again.
+pub record Returned {S T K E D C L P X : Type 0} (over : OverParts S T K X) (name : List ℕ) (before : Parts S T K)
     (old new : Seen S T K E D C L P) (status : Status) : Type 0 where
   pub after : Parts S T K
-  pub left : Replayed K
-  pub replayed : IsReplay told before after left
+  pub left : X
+  pub ran : over.leaves before after left
   pub gave_config : old.tells ≡ true → old.knows name ≡ true → new.source name ≡ Some after.config
   pub gave_events : old.tells ≡ true → old.knows standard_input ≡ true → new.source standard_input ≡ Some after.events
   pub gave_sink : old.tells ≡ true → new.sink ≡ Some after.out
@@ -132,11 +171,11 @@ pub record Returned {S T K E D C L P : Type 0} (told : Telling S T K) (name : Li
   pub caller : new.caller ≡ old.caller
   pub spawner : new.spawner ≡ old.spawner
   pub asked : new.asked ≡ old.asked
-  pub keeps : Keeps old new (period_of left) left.status status
+  pub keeps : Keeps old new (over.period left) (over.ended left) status
 
-abbrev pub Commanded : {S T K E D C L P : Type 0} → Telling S T K → List ℕ → Seen S T K E D C L P → Seen S T K E D C L P
-    → Status → Type 0
-Commanded told name old new status = NotHandedOut (wanted name) old new status ⊎ HasRun told name old new status
+abbrev pub Commanded : {S T K E D C L P X : Type 0} → OverParts S T K X → List ℕ → Seen S T K E D C L P
+    → Seen S T K E D C L P → Status → Type 0
+Commanded over name old new status = NotHandedOut (wanted name) old new status ⊎ HasRun over name old new status
 
 abbrev pub read_status : TakeError → Status
 read_status Failed = ReadFault

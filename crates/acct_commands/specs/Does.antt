@@ -3,9 +3,9 @@ use Rattle.std.specs.Prelude.{◌≡◌, ℕ, List, true}
 use Rattle.acct_server.specs.Replaying.{Telling}
 use Rattle.acct_server.specs.declared.status.Status.{Status}
 use Rattle.acct_server.specs.declared.status.Status.TheVariants.{Usage, NoMemory}
-use Rattle.acct_commands.specs.Words.{Form, Replay, Generate, Serve, Hooks, Call, is_call_form}
+use Rattle.acct_commands.specs.Words.{Form, Replay, Audit, Generate, Serve, Hooks, Call, is_call_form}
 use Rattle.acct_world.specs.World.{Seen}
-use Rattle.acct_commands.specs.Commanded.{Commanded}
+use Rattle.acct_commands.specs.Commanded.{Commanded, auditing, replaying}
 use Rattle.acct_commands.specs.Generates.{Generates}
 use Rattle.acct_commands.specs.Serving.{TellingServe, Serves}
 use Rattle.acct_commands.specs.Calling.{TellingCall, Calls}
@@ -20,7 +20,8 @@ pub record TellingAll (S T K E D F C L P : Type 0) : Type 1 where
 
 abbrev pub Does : {S T K E D F C L P : Type 0} → TellingAll S T K E D F C L P → Form → Seen S T K E D C L P
     → Seen S T K E D C L P → Status → Type 0
-Does told (Replay name) old new status = Commanded told.replay name old new status
+Does told (Replay name) old new status = Commanded (replaying told.replay) name old new status
+Does told (Audit name) old new status = Commanded (auditing told.replay) name old new status
 Does told (Generate users) old new status =
     Generates told.replay.held told.replay.write_faults users old new status
 Does told (Serve names) old new status = Serves told.serve names old new status

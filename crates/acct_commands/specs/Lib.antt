@@ -1,5 +1,7 @@
 pub mod Words
 pub mod Commanded
+pub mod AuditLines
+pub mod Auditing
 pub mod Generates
 pub mod Calling
 pub mod Serving

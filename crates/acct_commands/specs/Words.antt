@@ -20,10 +20,11 @@ pub record ServeNames : Type 0 where
   pub config : List ℕ
   pub store : List ℕ
 
--- what the words ask for, with what they name: the configuration of a replay, how many users the generator makes, the
--- configuration and the store of a server or of an outbox, or what is asked for at which address
+-- what the words ask for, with what they name: the configuration of a replay or of an audit, how many users the
+-- generator makes, the configuration and the store of a server or of an outbox, or what is asked for at which address
 pub data Form : Type 0 where
   Replay : List ℕ → Form
+  Audit : List ℕ → Form
   Generate : ℕ → Form
   Serve : ServeNames → Form
   Hooks : ServeNames → Form
@@ -38,6 +39,12 @@ abbrev pub replay_form : List (List ℕ) → Option (List ℕ)
 replay_form (command ∷ name ∷ []) =
     if bytes_eq command (codes "replay") then (if begins_with_dash name then None else Some name) else None
 replay_form _ = None
+
+-- `audit CONFIG`, whose second word doesn't begin with a dash: the name of the configuration
+abbrev pub audit_form : List (List ℕ) → Option (List ℕ)
+audit_form (command ∷ name ∷ []) =
+    if bytes_eq command (codes "audit") then (if begins_with_dash name then None else Some name) else None
+audit_form _ = None
 
 abbrev pub from_1_to_most : Option ℕ → Option ℕ
 from_1_to_most None = None
@@ -84,6 +91,7 @@ call_form words = if is_call_form words then calling_at (get_or words 1 []) (dro
 -- what the words ask for, if they have a form
 abbrev pub form_of : List (List ℕ) → Option Form
 form_of words = option_or (option_map Replay (replay_form words))
+    (option_or (option_map Audit (audit_form words))
     (option_or (option_map Generate (gen_form words))
     (option_or (option_map Serve (serve_form words))
-    (option_or (option_map Hooks (hooks_form words)) (option_map Call (call_form words)))))
+    (option_or (option_map Hooks (hooks_form words)) (option_map Call (call_form words))))))
