@@ -13,9 +13,9 @@ use Rattle.acct_client.specs.declared.ends.TalkEnd.TheVariants as talk
 use Rattle.acct_world.specs.declared.part.Part.TheVariants as part
 use Rattle.acct_server.specs.declared.status.Status.{Status}
 use Rattle.acct_commands.specs.Statuses.{talk_status}
-use Rattle.acct_commands.specs.Words.{Form, Replay, Generate, Serve, Hooks, Call, Calling, ServeNames, calling}
-use Rattle.acct_commands.specs.Words.{calling_at, call_form, is_call_form, replay_form, gen_form, serve_form}
-use Rattle.acct_commands.specs.Words.{hooks_form, form_of}
+use Rattle.acct_commands.specs.Words.{Form, Replay, Audit, Generate, Serve, Hooks, Call, Calling, ServeNames, calling}
+use Rattle.acct_commands.specs.Words.{calling_at, call_form, is_call_form, replay_form, audit_form, gen_form}
+use Rattle.acct_commands.specs.Words.{serve_form, hooks_form, form_of}
 use Rattle.acct_client.specs.declared.dialogue.Talk.{Talk}
 use Rattle.acct_client.specs.Dialogues.{begun}
 use Rattle.acct_client.specs.Talks.{IsBegun}
@@ -170,15 +170,17 @@ call-form words rest address command is here behind known =
 
 -- ---- the words of no other command
 
-call-alone : (words : List (List ℕ)) (form : Form) → replay_form words ≡ None → gen_form words ≡ None
-    → serve_form words ≡ None → hooks_form words ≡ None → form_of words ≡ Some form
+call-alone : (words : List (List ℕ)) (form : Form) → replay_form words ≡ None → audit_form words ≡ None
+    → gen_form words ≡ None → serve_form words ≡ None → hooks_form words ≡ None → form_of words ≡ Some form
     → option_map Call (call_form words) ≡ Some form
-call-alone words form no_replay no_gen no_serve no_hooks is =
+call-alone words form no_replay no_audit no_gen no_serve no_hooks is =
     let called : Option Form = option_map Call (call_form words) in
     let drained : Option Form = option_or (option_map Hooks (hooks_form words)) called in
     let behind : Option Form = option_or (option_map Serve (serve_form words)) drained in
-    sym (ap (λ (o : Option (List ℕ)). option_or (option_map Replay o)
-    (option_or (option_map Generate (gen_form words)) behind)) no_replay
+    let made : Option Form = option_or (option_map Generate (gen_form words)) behind in
+    let audited : Option Form = option_or (option_map Audit (audit_form words)) made in
+    sym (ap (λ (o : Option (List ℕ)). option_or (option_map Replay o) audited) no_replay
+    ∙ ap (λ (o : Option (List ℕ)). option_or (option_map Audit o) made) no_audit
     ∙ ap (λ (o : Option ℕ). option_or (option_map Generate o) behind) no_gen
     ∙ ap (λ (o : Option ServeNames). option_or (option_map Serve o) drained) no_serve
     ∙ ap (λ (o : Option ServeNames). option_or (option_map Hooks o) called) no_hooks) ∙ is
@@ -193,10 +195,10 @@ does-of told old new status (Some calling) form is calls =
 
 -- what a call does is what the words that have no other form ask for
 pub does-call : {S T K E D F C L P : Type 0} (told : TellingAll S T K E D F C L P) (words : List (List ℕ))
-    (old new : Seen S T K E D C L P) (status : Status) → replay_form words ≡ None → gen_form words ≡ None
-    → serve_form words ≡ None → hooks_form words ≡ None
+    (old new : Seen S T K E D C L P) (status : Status) → replay_form words ≡ None → audit_form words ≡ None
+    → gen_form words ≡ None → serve_form words ≡ None → hooks_form words ≡ None
     → ((calling : Calling) → call_form words ≡ Some calling → Calls told.call calling old new status) → (form : Form)
     → form_of words ≡ Some form → Does told form old new status
-does-call told words old new status no_replay no_gen no_serve no_hooks calls form is =
+does-call told words old new status no_replay no_audit no_gen no_serve no_hooks calls form is =
     does-of told old new status (call_form words) form
-    (call-alone words form no_replay no_gen no_serve no_hooks is) calls
+    (call-alone words form no_replay no_audit no_gen no_serve no_hooks is) calls

@@ -1,3 +1,5 @@
+pub mod Unhooked
+pub mod Audits
 pub mod Worlds
 pub mod Usages
 pub mod Generations

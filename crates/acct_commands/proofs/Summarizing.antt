@@ -70,7 +70,7 @@ Causes told old new s =
     ⊎ (EventsCause (told.left old.events) (told.read_faults old.events) (told.read_faults new.events) s
     ⊎ StoreCause (told.pairs old.keeper) (told.store_faults old.keeper) (told.store_faults new.keeper) s)
 
-not-run-has-cause : {S T K : Type 0} (told : Telling S T K) (old new : Parts S T K) (left : Replayed K) (s : Status)
+pub not-run-has-cause : {S T K : Type 0} (told : Telling S T K) (old new : Parts S T K) (left : Replayed K) (s : Status)
     → HasNotRun told old new left → left.status ≡ s → Causes told old new s
 not-run-has-cause told old new left s none is =
     let C : Status → Type 0 = λ (x : Status).
@@ -108,7 +108,7 @@ left-not-usage users left by is = elim by.replayed.leaves [
   | inr runs ↦ subst IsOfRun is runs.runs.possible
 ]
 
-written-not-usage : (text : List ℕ) (held now : Option (List ℕ)) (before after : ℕ) (ended : Status)
+pub written-not-usage : (text : List ℕ) (held now : Option (List ℕ)) (before after : ℕ) (ended : Status)
     → IsWritten text held now before after ended → ended ≢ Usage
 written-not-usage text held now before after ended written is =
     subst (λ (s : Status). IsWritten text held now before after s) is written

@@ -12,7 +12,7 @@ use Rattle.acct_client.specs.declared.ends.TalkEnd.{TalkEnd}
 use Rattle.acct_client.specs.declared.ends.TalkEnd.TheVariants as talk
 use Rattle.acct_commands.specs.Statuses.{talk_status}
 use Rattle.acct_world.specs.World.{Seen}
-use Rattle.acct_commands.specs.Commanded.{TakeCause, NotHandedOut, HasRun, Keeps, period_of}
+use Rattle.acct_commands.specs.Commanded.{TakeCause, NotHandedOut, OverParts, HasRun, Keeps}
 
 not-run-not-usage : {S T K : Type 0} (told : Telling S T K) (old new : Parts S T K) (left : Replayed K)
     → HasNotRun told old new left → left.status ≢ Usage
@@ -28,7 +28,7 @@ not-run-not-usage told old new left none is =
       | inr other ↦ elim other [ inl events ↦ subst E is events.cause | inr store ↦ subst K is store.cause ]
     ]
 
-replay-not-usage : {S T K : Type 0} (told : Telling S T K) (old new : Parts S T K) (left : Replayed K)
+pub replay-not-usage : {S T K : Type 0} (told : Telling S T K) (old new : Parts S T K) (left : Replayed K)
     → IsReplay told old new left → left.status ≢ Usage
 replay-not-usage told old new left by is = elim by.leaves [
   | inl none ↦ not-run-not-usage told old new left none is
@@ -49,12 +49,14 @@ pub refused-not-usage : {S T K E D C L P : Type 0} (parts : List Part) (old new 
     → NotHandedOut parts old new status → status ≢ Usage
 refused-not-usage parts old new status fails is = subst (λ (s : Status). TakeCause old new s) is fails.cause
 
-pub run-not-usage : {S T K E D C L P : Type 0} (told : Telling S T K) (name : List ℕ) (old new : Seen S T K E D C L P)
-    (status : Status)
-    → HasRun told name old new status → status ≢ Usage
-run-not-usage told name old new status run =
-    kept-not-usage old new (period_of run.left) run.left.status status run.keeps
-    (replay-not-usage told run.before run.after run.left run.replayed)
+-- a command over its parts answers it only where what it left did
+pub run-not-usage : {S T K E D C L P X : Type 0} (over : OverParts S T K X) (name : List ℕ)
+    (old new : Seen S T K E D C L P) (status : Status)
+    → ((before after : Parts S T K) (left : X) → over.leaves before after left → over.ended left ≢ Usage)
+    → HasRun over name old new status → status ≢ Usage
+run-not-usage over name old new status other run =
+    kept-not-usage old new (over.period run.left) (over.ended run.left) status run.keeps
+    (other run.before run.after run.left run.ran)
 
 -- nor does the end of a dialogue
 not-of-talk : {E : Type 0} (end : TalkEnd) (printing : Result (Unit {0}) E) → talk_status end printing ≢ Usage

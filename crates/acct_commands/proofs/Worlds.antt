@@ -7,8 +7,7 @@ use Rattle.std.proofs.lemmas.List.{append-nil}
 use Rattle.std.proofs.lemmas.Slice.Eq.{bytes_eq-Decides}
 use Rattle.acct_keeper.specs.declared.pairs.Pair.{Pair}
 use Rattle.acct_keeper.specs.Causes.{Rose}
-use Rattle.acct_server.specs.declared.replays.Replayed.{Replayed}
-use Rattle.acct_server.specs.Replaying.{Telling, Parts, IsReplay}
+use Rattle.acct_server.specs.Replaying.{Parts}
 use Rattle.acct_world.specs.declared.period.Period.{Period}
 use Rattle.acct_server.specs.declared.status.Status.{Status}
 use Rattle.acct_server.specs.declared.status.Status.TheVariants.{ReadFault, WriteFault, StoreFault, DoorFault}
@@ -21,7 +20,7 @@ use Rattle.acct_world.specs.World.{Seen, Asks, TakesSource, GivesSource, TakesSi
 use Rattle.acct_world.specs.World.{TakesEntrance, TakesCaller, GivesCaller, TakesSpawner, KeepsPeriod}
 use Rattle.acct_commands.specs.Commanded.{standard_input, no_name, AsksFront, TakeCause, NotHandedOut, Returned}
 use Rattle.acct_commands.specs.Commanded.{HasRun, read_status, write_status, store_status, link_status, door_status}
-use Rattle.acct_commands.specs.Commanded.{spawn_status, period_of, Keeps}
+use Rattle.acct_commands.specs.Commanded.{spawn_status, OverParts, TakesParts, Keeps}
 use Rattle.acct_commands.specs.Commanded.{KeepsAny}
 
 -- what holds of a name and of each other name holds of all
@@ -556,12 +555,12 @@ keeps-earlier old mid new (Some period) ended status same telling (inr is) = inr
 
 -- ---- the command
 
-pub returned : {S T K E D C L P : Type 0} (told : Telling S T K) (name : List ℕ) (before after : Parts S T K)
-    (w4 w5 w6 w7 w8 w9 : Seen S T K E D C L P) (left : Replayed K) (status : Status) → name ≢ standard_input
-    → IsReplay told before after left → KeepsAny w4 w5 (period_of left) left.status status
+pub returned : {S T K E D C L P X : Type 0} (over : OverParts S T K X) (name : List ℕ) (before after : Parts S T K)
+    (w4 w5 w6 w7 w8 w9 : Seen S T K E D C L P) (left : X) (status : Status) → name ≢ standard_input
+    → over.leaves before after left → KeepsAny w4 w5 (over.period left) (over.ended left) status
     → GivesKeeper w5 w6 no_name after.keeper → GivesSink w6 w7 after.out → GivesSource w7 w8 standard_input after.events
-    → GivesSource w8 w9 name after.config → Returned told name before w4 w9 status
-returned told name before after w4 w5 w6 w7 w8 w9 left status differs replayed keeps keeper sink events config =
+    → GivesSource w8 w9 name after.config → Returned over name before w4 w9 status
+returned over name before after w4 w5 w6 w7 w8 w9 left status differs ran keeps keeper sink events config =
     let tells5 : w5.tells ≡ w4.tells = ap (λ (s : Seen _ _ _ _ _ _ _ _). s.tells) keeps.others in
     let tells6 : w6.tells ≡ w4.tells = ap (λ (s : Seen _ _ _ _ _ _ _ _). s.tells) keeper.others ∙ tells5 in
     let tells7 : w7.tells ≡ w4.tells = ap (λ (s : Seen _ _ _ _ _ _ _ _). s.tells) sink.others ∙ tells6 in
@@ -576,7 +575,7 @@ returned told name before after w4 w5 w6 w7 w8 w9 left status differs replayed k
     record {
       after = after;
       left = left;
-      replayed = replayed;
+      ran = ran;
       gave_config = λ tells knows.
           config.holds (tells8 ∙ tells)
           (ap (λ (s : Seen _ _ _ _ _ _ _ _). s.knows name) events.others ∙ knows7 name ∙ knows);
@@ -613,7 +612,7 @@ returned told name before after w4 w5 w6 w7 w8 w9 left status differs replayed k
           ∙ ap (λ (s : Seen _ _ _ _ _ _ _ _). s.asked) sink.others
           ∙ ap (λ (s : Seen _ _ _ _ _ _ _ _). s.asked) keeper.others
           ∙ ap (λ (s : Seen _ _ _ _ _ _ _ _). s.asked) keeps.others;
-      keeps = keeps-later w4 w5 w9 (period_of left) left.status status
+      keeps = keeps-later w4 w5 w9 (over.period left) (over.ended left) status
           (ap (λ (s : Seen _ _ _ _ _ _ _ _). s.periods) config.others
           ∙ ap (λ (s : Seen _ _ _ _ _ _ _ _). s.periods) events.others
           ∙ ap (λ (s : Seen _ _ _ _ _ _ _ _). s.periods) sink.others
@@ -621,14 +620,18 @@ returned told name before after w4 w5 w6 w7 w8 w9 left status differs replayed k
           keeps.periods;
     }
 
-pub has-run : {S T K E D C L P : Type 0} (told : Telling S T K) (name : List ℕ)
-    (w0 w1 w2 w3 w4 w9 : Seen S T K E D C L P)
-    (config events : S) (out : T) (keeper : K) (status : Status) → name ≢ standard_input
-    → TakesSource w0 w1 name (Ok config) → TakesSource w1 w2 standard_input (Ok events) → TakesSink w2 w3 (Ok out)
-    → TakesKeeper told.pairs w3 w4 no_name (Ok keeper)
-    → Returned told name (record { config = config; events = events; out = out; keeper = keeper }) w4 w9 status
-    → HasRun told name w0 w9 status
-has-run told name w0 w1 w2 w3 w4 w9 config events out keeper status differs takes taken sink store back =
+-- all parts were taken, and then the command ran over them
+pub has-run : {S T K E D C L P X : Type 0} (over : OverParts S T K X) (name : List ℕ) (w0 w4 w9 : Seen S T K E D C L P)
+    (parts : Parts S T K) (status : Status) → name ≢ standard_input → TakesParts over.pairs name w0 w4 parts
+    → Returned over name parts w4 w9 status → HasRun over name w0 w9 status
+has-run over name w0 w4 w9 parts status differs took back =
+    let w1 = took.one in
+    let w2 = took.two in
+    let w3 = took.three in
+    let takes = took.config in
+    let taken = took.events in
+    let sink = took.sink in
+    let store = took.keeper in
     let input : standard_input ≢ name = λ same. differs (sym same) in
     let tells1 : w1.tells ≡ w0.tells = ap (λ (s : Seen _ _ _ _ _ _ _ _). s.tells) takes.others in
     let tells2 : w2.tells ≡ w0.tells = ap (λ (s : Seen _ _ _ _ _ _ _ _). s.tells) taken.others ∙ tells1 in
@@ -645,10 +648,10 @@ has-run told name w0 w1 w2 w3 w4 w9 config events out keeper status differs take
     ∙ ap (λ (s : Seen _ _ _ _ _ _ _ _). s.keeper n) taken.others
     ∙ ap (λ (s : Seen _ _ _ _ _ _ _ _). s.keeper n) takes.others in
     record {
-      before = record { config = config; events = events; out = out; keeper = keeper };
+      before = parts;
       after = back.after;
       left = back.left;
-      replayed = back.replayed;
+      ran = back.ran;
       took_config = λ tells. (takes.part tells).0;
       took_events = λ tells. sym (takes.sources standard_input input) ∙ (taken.part (tells1 ∙ tells)).0;
       took_sink = λ tells. sym (ap (λ (s : Seen _ _ _ _ _ _ _ _). s.sink) taken.others
@@ -678,11 +681,13 @@ has-run told name w0 w1 w2 w3 w4 w9 config events out keeper status differs take
           ∙ ap (λ (s : Seen _ _ _ _ _ _ _ _). s.spawner) taken.others
           ∙ ap (λ (s : Seen _ _ _ _ _ _ _ _). s.spawner) takes.others;
       asked = λ tells.
-          let first = asked-ok (part.Source name) w0.asked w1.asked config (Ok config) refl (takes.asked tells) in
-          let second = asked-ok (part.Source standard_input) w1.asked w2.asked events (Ok events) refl
+          let first = asked-ok (part.Source name) w0.asked w1.asked parts.config (Ok parts.config) refl
+          (takes.asked tells) in
+          let second = asked-ok (part.Source standard_input) w1.asked w2.asked parts.events (Ok parts.events) refl
           (taken.asked (tells1 ∙ tells)) in
-          let third = asked-ok part.Sink w2.asked w3.asked out (Ok out) refl (sink.asked (tells2 ∙ tells)) in
-          let fourth = asked-ok (part.Keeper no_name) w3.asked w4.asked keeper (Ok keeper) refl
+          let third = asked-ok part.Sink w2.asked w3.asked parts.out (Ok parts.out) refl
+          (sink.asked (tells2 ∙ tells)) in
+          let fourth = asked-ok (part.Keeper no_name) w3.asked w4.asked parts.keeper (Ok parts.keeper) refl
           (store.asked (tells3 ∙ tells)) in
           back.asked
           ∙ asked-more w0.asked w3.asked w4.asked
@@ -690,7 +695,7 @@ has-run told name w0 w1 w2 w3 w4 w9 config events out keeper status differs take
           (asked-more w0.asked w2.asked w3.asked (part.Source name ∷ part.Source standard_input ∷ []) part.Sink
           (asked-more w0.asked w1.asked w2.asked (part.Source name ∷ []) (part.Source standard_input) first second)
           third) fourth;
-      keeps = keeps-earlier w0 w4 w9 (period_of back.left) back.left.status status
+      keeps = keeps-earlier w0 w4 w9 (over.period back.left) (over.ended back.left) status
           (ap (λ (s : Seen _ _ _ _ _ _ _ _). s.periods) store.others
           ∙ ap (λ (s : Seen _ _ _ _ _ _ _ _). s.periods) sink.others
           ∙ ap (λ (s : Seen _ _ _ _ _ _ _ _). s.periods) taken.others

@@ -1,17 +1,21 @@
 // The program's commands, over a world.
-ghost use Rattle.std.specs.Prelude.{◌≡◌, ◌≢◌, ◌≤◌, Some, None, length, map, true};
+ghost use Rattle.std.specs.Prelude.{◌≡◌, ◌≢◌, ◌≤◌, Some, None, length, map, true, MatchResult};
 ghost use Rattle.std.specs.String.{string_bytes};
 ghost use Rattle.acct_commands.specs.Calls.{most_users};
 ghost use Rattle.acct_client.specs.Talks.{IsBegun};
 ghost use Rattle.client_commands.specs.declared.command.Command.{Command};
 ghost use Rattle.acct_server.specs.declared.status.Status.TheVariants.{Usage};
 ghost use Rattle.acct_commands.specs.Words.{Form, Calling, form_of, is_call_form, call_form};
-ghost use Rattle.acct_commands.specs.Commanded.{Commanded, Returned, standard_input};
+ghost use Rattle.acct_commands.specs.Commanded.{Commanded, NotHandedOut, TakesParts, Returned, standard_input, wanted};
+ghost use Rattle.acct_commands.specs.Commanded.{auditing, replaying};
 ghost use Rattle.acct_commands.specs.Calling.{Calls};
 ghost use Rattle.acct_commands.specs.Generates.{Generates};
 ghost use Rattle.acct_commands.specs.Does.{Does, IsFormless};
 
-use crate::forms::{behind_two, gen_users, hooks_names, is_call_form, replay_name, serve_names};
+use crate::auditing::{Audited, audit};
+use crate::forms::{
+    audit_name, behind_two, gen_users, hooks_names, is_call_form, replay_name, serve_names,
+};
 use crate::generating::{Generation, generate};
 use crate::hooking::run_outbox;
 use crate::keeping::keep;
@@ -27,6 +31,45 @@ use std::alloc::Global;
 use std::sync::Wait;
 use std::thread::Threads;
 
+// The parts of a replay or of an audit: the configuration, the standard input, the sink and the keeper with the empty
+// name, taken in this order. Where one isn't handed out, those before it are given back.
+fn take_parts<W: World>(name: &str, world: &mut W) -> Result<(W::S, W::S, W::T, W::K), Status>
+    ensures { MatchResult result
+        (λ parts. TakesParts W.K.held name.now (W.seen world.old) (W.seen world.new)
+        (record { config = parts.0; events = parts.1; out = parts.2; keeper = parts.3 }))
+        (λ status. NotHandedOut (wanted name.now) (W.seen world.old) (W.seen world.new) status) }
+{
+    let config = match world.take_source(name) {
+        Ok(config) => config,
+        Err(e) => return Err(read_status(e)),
+    };
+    let events = match world.take_source("-") {
+        Ok(events) => events,
+        Err(e) => {
+            world.give_source(name, config);
+            return Err(read_status(e));
+        }
+    };
+    let out = match world.take_sink() {
+        Ok(out) => out,
+        Err(e) => {
+            world.give_source("-", events);
+            world.give_source(name, config);
+            return Err(write_status(e));
+        }
+    };
+    let keeper = match world.take_keeper("") {
+        Ok(keeper) => keeper,
+        Err(e) => {
+            world.give_sink(out);
+            world.give_source("-", events);
+            world.give_source(name, config);
+            return Err(store_status(e));
+        }
+    };
+    Ok((config, events, out, keeper))
+}
+
 // Runs a replay over parts that were handed out, leaves its period to the world, and gives the parts back.
 fn run_parts<W: World>(
     alloc: Global,
@@ -38,14 +81,14 @@ fn run_parts<W: World>(
     keeper: W::K,
 ) -> Status
     requires { name.now ≢ standard_input }
-    ensures { Returned (record {
+    ensures { Returned (replaying (record {
       left = W.S.left;
       read_faults = W.S.faults;
       held = W.T.held;
       write_faults = W.T.faults;
       pairs = W.K.held;
       store_faults = W.K.faults;
-    }) name.now (record { config = config; events = events; out = out; keeper = keeper }) (W.seen world.old)
+    })) name.now (record { config = config; events = events; out = out; keeper = keeper }) (W.seen world.old)
         (W.seen world.new) result }
 {
     let left = replay(alloc, &mut config, &mut events, &mut out, keeper);
@@ -58,49 +101,83 @@ fn run_parts<W: World>(
     status
 }
 
-// The command `replay`: it takes the configuration, the standard input, the sink and the keeper with the empty name, in
-// this order.
+// The command `replay`.
 fn run_replay<W: World>(alloc: Global, name: &str, world: &mut W) -> Status
     requires { name.now ≢ standard_input }
-    ensures commanded { Commanded (record {
+    ensures commanded { Commanded (replaying (record {
       left = W.S.left;
       read_faults = W.S.faults;
       held = W.T.held;
       write_faults = W.T.faults;
       pairs = W.K.held;
       store_faults = W.K.faults;
-    }) name.now (W.seen world.old) (W.seen world.new) result }
+    })) name.now (W.seen world.old) (W.seen world.new) result }
     ensures not_usage { result ≢ Usage }
 {
-    let config = match world.take_source(name) {
-        Ok(config) => config,
-        Err(e) => return read_status(e),
-    };
-    let events = match world.take_source("-") {
-        Ok(events) => events,
-        Err(e) => {
-            world.give_source(name, config);
-            return read_status(e);
+    match take_parts(name, world) {
+        Ok((config, events, out, keeper)) => {
+            run_parts(alloc, name, world, config, events, out, keeper)
         }
-    };
-    let out = match world.take_sink() {
-        Ok(out) => out,
-        Err(e) => {
-            world.give_source("-", events);
-            world.give_source(name, config);
-            return write_status(e);
+        Err(status) => status,
+    }
+}
+
+// Runs an audit over such parts, leaves its period to the world, and gives the parts back.
+fn run_audit_parts<W: World>(
+    alloc: Global,
+    name: &str,
+    world: &mut W,
+    mut config: W::S,
+    mut events: W::S,
+    mut out: W::T,
+    keeper: W::K,
+) -> Status
+    requires { name.now ≢ standard_input }
+    ensures { Returned (auditing (record {
+      left = W.S.left;
+      read_faults = W.S.faults;
+      held = W.T.held;
+      write_faults = W.T.faults;
+      pairs = W.K.held;
+      store_faults = W.K.faults;
+    })) name.now (record { config = config; events = events; out = out; keeper = keeper }) (W.seen world.old)
+        (W.seen world.new) result }
+{
+    let Audited {
+        ended,
+        opening,
+        history,
+        rows,
+        keeper,
+    } = audit(alloc, &mut config, &mut events, &mut out, keeper);
+    let period = period_between(opening, history, rows, Seq::new(alloc));
+    let status = keep(world, period, ended);
+    world.give_keeper("", keeper);
+    world.give_sink(out);
+    world.give_source("-", events);
+    world.give_source(name, config);
+    status
+}
+
+// The command `audit`.
+fn run_audit<W: World>(alloc: Global, name: &str, world: &mut W) -> Status
+    requires { name.now ≢ standard_input }
+    ensures commanded { Commanded (auditing (record {
+      left = W.S.left;
+      read_faults = W.S.faults;
+      held = W.T.held;
+      write_faults = W.T.faults;
+      pairs = W.K.held;
+      store_faults = W.K.faults;
+    })) name.now (W.seen world.old) (W.seen world.new) result }
+    ensures not_usage { result ≢ Usage }
+{
+    match take_parts(name, world) {
+        Ok((config, events, out, keeper)) => {
+            run_audit_parts(alloc, name, world, config, events, out, keeper)
         }
-    };
-    let keeper = match world.take_keeper("") {
-        Ok(keeper) => keeper,
-        Err(e) => {
-            world.give_sink(out);
-            world.give_source("-", events);
-            world.give_source(name, config);
-            return store_status(e);
-        }
-    };
-    run_parts(alloc, name, world, config, events, out, keeper)
+        Err(status) => status,
+    }
 }
 
 // The command `gen`: it takes the sink alone.
@@ -187,11 +264,11 @@ fn run_client<W: World>(alloc: Global, words: &Vec<String>, world: &mut W) -> St
     }
 }
 
-/// Does all that the program does. The words are `replay CONFIG`; or `gen N` for the summary of a replay of events that
-/// make N users, 1 to 10,000; or `serve CONFIG STORE` for a server, which may wait for its clients; or `hooks CONFIG
-/// STORE` to run the hook for the changes in a store; or `call ADDRESS WORD..` for a command of the client. Other words
-/// take no part of the world, and are answered by usage; or, where they may be a command of the client, that memory ran
-/// out.
+/// Does all that the program does. The words are `replay CONFIG`; or `audit CONFIG` for a line for each call of such a
+/// replay whose handle was let pass; or `gen N` for the summary of a replay of events that make N users, 1 to 10,000;
+/// or `serve CONFIG STORE` for a server, which may wait for its clients; or `hooks CONFIG STORE` to run the hook for
+/// the changes in a store; or `call ADDRESS WORD..` for a command of the client. Other words take no part of the world,
+/// and are answered by usage; or, where they may be a command of the client, that memory ran out.
 pub fn account<R: Threads + Wait + Sync, W: World>(
     rt: &R,
     alloc: Global,
@@ -237,6 +314,9 @@ where
 {
     if let Some(name) = replay_name(words) {
         return run_replay(alloc, name, world);
+    }
+    if let Some(name) = audit_name(words) {
+        return run_audit(alloc, name, world);
     }
     if let Some(users) = gen_users(words) {
         return run_generator(alloc, users, world);

@@ -2,8 +2,8 @@
 ghost use Rattle.std.specs.Prelude.{◌≡◌, ◌≤◌, None, Some, length, drop, map, MatchOption, IfSome, IsTrue};
 ghost use Rattle.std.specs.List.{list_any};
 ghost use Rattle.std.specs.String.{string_bytes};
-ghost use Rattle.acct_commands.specs.Words.{replay_form, gen_form, names_form, serve_form, hooks_form, users_in};
-ghost use Rattle.acct_commands.specs.Words.{is_call_form, begins_with_dash};
+ghost use Rattle.acct_commands.specs.Words.{replay_form, audit_form, gen_form, names_form, serve_form, hooks_form};
+ghost use Rattle.acct_commands.specs.Words.{users_in, is_call_form, begins_with_dash};
 ghost use Rattle.acct_commands.specs.Calls.{most_users};
 
 use crate::calls::MOST_USERS;
@@ -20,6 +20,21 @@ pub fn replay_name(words: &Vec<String>) -> Option<&str>
     }
     let name = words[1].as_str();
     if words[0].as_str() != "replay" || name.as_bytes().first() == Some(&b'-') {
+        return None;
+    }
+    Some(name)
+}
+
+/// The configuration's name, of the words `audit CONFIG`.
+pub fn audit_name(words: &Vec<String>) -> Option<&str>
+    ensures { MatchOption result (audit_form (map string_bytes words.now.items) ≡ None)
+        (λ name. audit_form (map string_bytes words.now.items) ≡ Some name.now) }
+{
+    if words.len() != 2 {
+        return None;
+    }
+    let name = words[1].as_str();
+    if words[0].as_str() != "audit" || name.as_bytes().first() == Some(&b'-') {
         return None;
     }
     Some(name)

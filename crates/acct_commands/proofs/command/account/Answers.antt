@@ -1,8 +1,8 @@
--- Where the words are no replay, no `gen`, no `serve` and no `hooks`, what `account` does is the call that their form
--- spells.
+-- Where the words are no replay, no audit, no `gen`, no `serve` and no `hooks`, what `account` does is the call that
+-- their form spells.
 use Rattle.std.proofs.Common.{◌≡◌, List, ℕ, None, map, sym}
 use Rattle.std.specs.String.{string_bytes}
-use Rattle.acct_commands.specs.Words.{gen_form, serve_form, hooks_form}
+use Rattle.acct_commands.specs.Words.{audit_form, gen_form, serve_form, hooks_form}
 use Rattle.acct_commands.proofs.Callings.{does-call}
 use Rattle.acct_commands.proofs.command.account.Goals as goal
 
@@ -14,6 +14,7 @@ returns-then-is_call_form-clause-commanded g c =
     let e = g.W.E.Entrance in
     let w = g.W.World in
     let words : List (List ℕ) = map string_bytes c.args.words.now.items in
+    let no_audit : audit_form words ≡ None = c.in_default-audit_name.ensures in
     let no_gen : gen_form words ≡ None = sym c.in_default-gen_users.ensures.value in
     let no_serve : serve_form words ≡ None = c.in_default-serve_names.ensures in
     let no_hooks : hooks_form words ≡ None = c.in_default-hooks_names.ensures in
@@ -49,5 +50,5 @@ returns-then-is_call_form-clause-commanded g c =
           failed = g.W.P.Spawner.failed;
         };
       };
-    }) words (w.seen c.args.world.now) (w.seen c.run_client.new.world) c.run_client.result c.in_default.ensures no_gen
-    no_serve no_hooks c.run_client.ensures.calls
+    }) words (w.seen c.args.world.now) (w.seen c.run_client.new.world) c.run_client.result c.in_default.ensures no_audit
+    no_gen no_serve no_hooks c.run_client.ensures.calls

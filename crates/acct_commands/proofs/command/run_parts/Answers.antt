@@ -1,4 +1,5 @@
 -- `run_parts` has the period kept, and then gives back the keeper, the sink and both sources as the replay left them.
+use Rattle.acct_commands.specs.Commanded.{replaying}
 use Rattle.acct_commands.proofs.Worlds.{returned}
 use Rattle.acct_commands.proofs.command.run_parts.Goals as goal
 
@@ -10,14 +11,14 @@ returns g c =
     let w = g.W.World in
     let r = c.replay-left in
     let p = c.parted-ended.ensures in
-    returned (record {
+    returned (replaying (record {
       left = s.left;
       read_faults = s.faults;
       held = t.held;
       write_faults = t.faults;
       pairs = k.held;
       store_faults = k.faults;
-    }) c.args.name.now
+    })) c.args.name.now
     (record { config = c.args.config; events = c.args.events; out = c.args.out; keeper = c.args.keeper })
     (record { config = r.new.config; events = r.new.events; out = r.new.out; keeper = r.result.keeper })
     (w.seen c.args.world.now) (w.seen c.keep-status.new.world) (w.seen c.give_keeper.new.self)

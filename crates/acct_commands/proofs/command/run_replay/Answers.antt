@@ -1,84 +1,38 @@
--- Where `run_replay` is refused a part, it returns what it took, and else it runs over all; its status isn't usage.
-use Rattle.std.proofs.Common.{◌∷◌, [], inl, inr}
-use Rattle.acct_world.specs.declared.part.Part.TheVariants.{Source, Sink, Keeper}
-use Rattle.acct_commands.specs.Commanded.{standard_input, no_name}
-use Rattle.acct_commands.proofs.Worlds.{source-refused, sink-refused, keeper-refused, source-back, sink-back, has-run}
-use Rattle.acct_commands.proofs.Usages.{refused-not-usage, run-not-usage}
+-- Where `run_replay` isn't handed out all parts, it has nothing else to do, and else it runs over them; its
+-- status isn't usage.
+use Rattle.std.proofs.Common.{inl, inr}
+use Rattle.acct_server.specs.Replaying.{Telling}
+use Rattle.acct_commands.specs.Commanded.{replaying}
+use Rattle.acct_commands.proofs.Worlds.{has-run}
+use Rattle.acct_commands.proofs.Usages.{refused-not-usage, run-not-usage, replay-not-usage}
 use Rattle.acct_commands.proofs.command.run_replay.Goals as goal
 
 pub returns-in-Err : goal.returns-in-Err
-returns-in-Err g c =
-    let w = g.W.World in
-    let fails = source-refused c.args.name.now (Source standard_input ∷ Sink ∷ Keeper no_name ∷ [])
-    (w.seen c.args.world.now) (w.seen c.take_source.new.self) c.in-Err.e c.read_status.result
-    c.in-Err.ensures.takes c.read_status.ensures in
-    record { commanded = inl fails; not_usage = refused-not-usage _ _ _ _ fails }
+returns-in-Err g c = record {
+  commanded = inl c.in-Err.ensures;
+  not_usage = refused-not-usage _ _ _ _ c.in-Err.ensures;
+}
 
-pub returns-in-Err-take_source : goal.returns-in-Err-take_source
-returns-in-Err-take_source g c =
-    let w = g.W.World in
-    let status = c.read_status-in-Err-take_source in
-    let fails = source-back c.args.name.now (Source standard_input ∷ Sink ∷ Keeper no_name ∷ [])
-    (w.seen c.args.world.now) (w.seen c.take_source.new.self) (w.seen c.take_source-2.new.self)
-    (w.seen c.give_source.new.self) c.in-Ok.config status.result c.in-Ok.ensures.takes
-    (source-refused standard_input (Sink ∷ Keeper no_name ∷ []) (w.seen c.take_source.new.self)
-    (w.seen c.take_source-2.new.self) c.in-Err-take_source.e status.result c.in-Err-take_source.ensures.takes
-    status.ensures) c.give_source.ensures.gives in
-    record { commanded = inl fails; not_usage = refused-not-usage _ _ _ _ fails }
-
-pub returns-in-Err-take_sink : goal.returns-in-Err-take_sink
-returns-in-Err-take_sink g c =
-    let w = g.W.World in
-    let input = c.give_source-in-Err-take_sink in
-    let config = c.give_source-in-Err-take_sink-2 in
-    let fails = source-back c.args.name.now (Source standard_input ∷ Sink ∷ Keeper no_name ∷ [])
-    (w.seen c.args.world.now) (w.seen c.take_source.new.self) (w.seen input.new.self) (w.seen config.new.self)
-    c.in-Ok.config c.write_status.result c.in-Ok.ensures.takes
-    (source-back standard_input (Sink ∷ Keeper no_name ∷ []) (w.seen c.take_source.new.self)
-    (w.seen c.take_source-2.new.self) (w.seen c.take_sink.new.self) (w.seen input.new.self)
-    c.in-Ok-take_source.events c.write_status.result c.in-Ok-take_source.ensures.takes
-    (sink-refused (Keeper no_name ∷ []) (w.seen c.take_source-2.new.self) (w.seen c.take_sink.new.self)
-    c.in-Err-take_sink.e c.write_status.result c.in-Err-take_sink.ensures.takes c.write_status.ensures)
-    input.ensures.gives) config.ensures.gives in
-    record { commanded = inl fails; not_usage = refused-not-usage _ _ _ _ fails }
-
-pub returns-in-Err-take_keeper : goal.returns-in-Err-take_keeper
-returns-in-Err-take_keeper g c =
-    let w = g.W.World in
-    let sink = c.give_sink in
-    let input = c.give_source-in-Err-take_keeper in
-    let config = c.give_source-in-Err-take_keeper-2 in
-    let status = c.store_status in
-    let fails = source-back c.args.name.now (Source standard_input ∷ Sink ∷ Keeper no_name ∷ [])
-    (w.seen c.args.world.now) (w.seen c.take_source.new.self) (w.seen input.new.self) (w.seen config.new.self)
-    c.in-Ok.config status.result c.in-Ok.ensures.takes
-    (source-back standard_input (Sink ∷ Keeper no_name ∷ []) (w.seen c.take_source.new.self)
-    (w.seen c.take_source-2.new.self) (w.seen sink.new.self) (w.seen input.new.self)
-    c.in-Ok-take_source.events status.result c.in-Ok-take_source.ensures.takes
-    (sink-back (Keeper no_name ∷ []) (w.seen c.take_source-2.new.self) (w.seen c.take_sink.new.self)
-    (w.seen c.take_keeper.new.self) (w.seen sink.new.self) c.in-Ok-take_sink.out status.result
-    c.in-Ok-take_sink.ensures.takes
-    (keeper-refused g.W.K.Keeper.held no_name [] (w.seen c.take_sink.new.self) (w.seen c.take_keeper.new.self)
-    c.in-Err-take_keeper.e status.result c.in-Err-take_keeper.ensures.takes status.ensures)
-    sink.ensures.gives) input.ensures.gives) config.ensures.gives in
-    record { commanded = inl fails; not_usage = refused-not-usage _ _ _ _ fails }
-
-pub returns : goal.returns
-returns g c =
+pub returns-in-Ok : goal.returns-in-Ok
+returns-in-Ok g c =
     let s = g.W.S.Source in
     let t = g.W.T.Sink in
     let k = g.W.K.Keeper in
     let w = g.W.World in
-    let runs = has-run (record {
+    let parts = c.in-Ok in
+    let told : Telling _ _ _ = record {
       left = s.left;
       read_faults = s.faults;
       held = t.held;
       write_faults = t.faults;
       pairs = k.held;
       store_faults = k.faults;
-    }) c.args.name.now (w.seen c.args.world.now) (w.seen c.take_source.new.self) (w.seen c.take_source-2.new.self)
-    (w.seen c.take_sink.new.self) (w.seen c.take_keeper.new.self) (w.seen c.run_parts.new.world) c.in-Ok.config
-    c.in-Ok-take_source.events c.in-Ok-take_sink.out c.in-Ok-take_keeper.keeper c.run_parts.result c.requires
-    c.in-Ok.ensures.takes c.in-Ok-take_source.ensures.takes c.in-Ok-take_sink.ensures.takes
-    c.in-Ok-take_keeper.ensures.takes c.run_parts.ensures in
-    record { commanded = inr runs; not_usage = run-not-usage _ _ _ _ _ runs }
+    } in
+    let runs = has-run (replaying told) c.args.name.now (w.seen c.args.world.now) (w.seen c.take_parts.new.world)
+    (w.seen c.run_parts.new.world)
+    (record { config = parts.config; events = parts.events; out = parts.out; keeper = parts.keeper }) c.run_parts.result
+    c.requires parts.ensures c.run_parts.ensures in
+    record {
+      commanded = inr runs;
+      not_usage = run-not-usage (replaying told) _ _ _ _ (replay-not-usage told) runs;
+    }
