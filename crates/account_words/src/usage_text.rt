@@ -10,6 +10,7 @@ const FORMS: &str = "account replay CONFIG
        account serve CONFIG STORE
        account hooks CONFIG STORE
        account call ADDRESS WORD..
+       account audit CONFIG
        account gen N";
 
 const REPLAY: &str = "Answer the events of the standard input under the configuration in a file";
@@ -21,6 +22,9 @@ const HOOKS: &str =
     "Run the program of the configuration for each change of an account that waits in a store";
 
 const CALL: &str = "Ask the server at an address, tcp:HOST:PORT or unix:PATH, and print its answer";
+
+const AUDIT: &str =
+    "Replay such events, and tell of each call that was let pass which opening gave its handle";
 
 const GENERATE: &str =
     "Make N users, from 1 to 10000, by a replay, and print the counts of what is there";
@@ -41,6 +45,7 @@ Examples:
   account replay examples/first.toml < examples/first.events
   account serve examples/first.toml accounts.db
   account call tcp:127.0.0.1:4045 users CORP
+  account audit examples/first.toml < examples/first.events
   account gen 100";
 
 /// Running out of memory, which is the only fault here.
@@ -58,6 +63,7 @@ fn account<'a>(alloc: Global) -> Result<Command<'a>, NoMemory> {
             .subcommand(named(alloc, "serve", SERVE))?
             .subcommand(named(alloc, "hooks", HOOKS))?
             .subcommand(named(alloc, "call", CALL))?
+            .subcommand(named(alloc, "audit", AUDIT))?
             .subcommand(named(alloc, "gen", GENERATE))?
             .disable_help_flag(true)
             .disable_help_subcommand(true)
