@@ -1,6 +1,6 @@
 // Lines of events and of what is written by their names, and the columns of a row.
 use super::runs::{
-    accounts, later, limits, names, objects, rights, security, several, stores, tables,
+    accounts, audits, later, limits, names, objects, rights, security, several, stores, tables,
 };
 use super::{calls, generated, serving};
 use std::alloc::Global;
@@ -21,6 +21,7 @@ pub fn line_in(lines: &'static str, name: &str) -> Option<&'static str> {
 pub fn line_of(name: &str) -> &'static str {
     for lines in [
         accounts::LINES,
+        audits::LINES,
         calls::LINES,
         generated::LINES,
         later::LINES,

@@ -3,7 +3,7 @@ use super::configs::config_of;
 use super::left::{ended, is_left, push_asked, push_count, push_histories, push_rows, written};
 use super::lines::{column, front_of, joined, lines_of};
 use super::runs::{
-    accounts, later, limits, names, objects, rights, security, several, stores, tables,
+    accounts, audits, later, limits, names, objects, rights, security, several, stores, tables,
 };
 use super::worlds::{Making, Steady, Told, making_of, steady_world, world_of, world_of_stored};
 use acct_base::Seq;
@@ -16,6 +16,8 @@ use std::test::Fail;
 use std::thread::Threads;
 
 pub const REPLAY: &str = "replay first.toml";
+
+pub const AUDIT: &str = "audit first.toml";
 
 /// The histories of the periods, and what was written.
 fn push_left(text: &mut String, world: &Told) -> Result<(), Fail> {
@@ -129,6 +131,27 @@ fn faults_of_the_store_and_of_the_outside(rt: HostRuntime) -> Result<(), Fail> {
     tell_all(&rt, rt.alloc(), tables::FAULTS)
 }
 
+#[test]
+fn audits(rt: HostRuntime) -> Result<(), Fail> {
+    tell_all(&rt, rt.alloc(), audits::AUDITS)
+}
+
+/// The row of an audit whose sink takes one byte a write, and fails at this write after so many bytes.
+fn cut_audit(alloc: Global, number: u32, written: u32) -> Result<String, Fail> {
+    let run = audits::CUT_RUN;
+    let left = audits::CUT_LEFT;
+    Ok(format!(in alloc; "s1 w{number}|{run}/{written}|{left}")?)
+}
+
+#[test]
+fn an_audit_whose_sink_fails_at_each_write(rt: HostRuntime) -> Result<(), Fail> {
+    for written in 0..audits::CUT_SIZE {
+        let row = cut_audit(rt.alloc(), written + 1, written)?;
+        tell(&rt, rt.alloc(), row.as_str())?;
+    }
+    Ok(())
+}
+
 /// What a replay over a world is asked for, and the rows before and after it.
 fn asked<R: Threads + Wait + Sync>(
     rt: &R,
@@ -214,14 +237,15 @@ fn stored_with(alloc: Global, pairs: &[Pair], change: &str) -> Result<SteadyKeep
     Ok(stored)
 }
 
-/// Replays over a world to the end: a keeper with the pairs that are stored then, except for a change.
+/// Runs words over a world to the end: a keeper with the pairs that are stored then, except for a change.
 fn stored_by<R: Abort + Threads + Wait + Sync>(
     rt: &R,
     alloc: Global,
+    words: &str,
     world: &mut Told,
     change: &str,
 ) -> Result<SteadyKeeper, Fail> {
-    let ended = ended(rt, alloc, REPLAY, world)?;
+    let ended = ended(rt, alloc, words, world)?;
     assert_eq!(rt; ended.as_str(), "Done");
     let pairs = world.keeper().map_or(&[][..], |keeper| keeper.as_slice());
     stored_with(alloc, pairs, change)
@@ -246,37 +270,52 @@ pub fn stored_under<R: Abort + Threads + Wait + Sync>(
     change: &str,
 ) -> Result<SteadyKeeper, Fail> {
     let texts = texts_of(alloc, config, events)?;
+    stored_from(rt, alloc, REPLAY, texts, change)
+}
+
+/// The same of words, over these texts of the configuration and of the events.
+fn stored_from<R: Abort + Threads + Wait + Sync>(
+    rt: &R,
+    alloc: Global,
+    words: &str,
+    texts: (String, String),
+    change: &str,
+) -> Result<SteadyKeeper, Fail> {
     let mut world = world_of(alloc, texts, making_of(""))?;
-    let stored = stored_by(rt, alloc, &mut world, change);
+    let stored = stored_by(rt, alloc, words, &mut world, change);
     drop(world);
     stored
 }
 
-/// What a replay leaves over what a keeper holds.
+/// What words leave over what a keeper holds.
 fn left_over<R: Threads + Wait + Sync>(
     rt: &R,
     alloc: Global,
+    words: &str,
     stored: SteadyKeeper,
     events: &str,
 ) -> Result<String, Fail> {
     let texts = texts_of(alloc, "", events)?;
     let mut world = world_of_stored(alloc, stored, texts, making_of(""))?;
-    let text = left(rt, alloc, REPLAY, &mut world);
+    let text = left(rt, alloc, words, &mut world);
     drop(world);
     text
 }
 
-/// Tells a row: the events of a first replay, a change of what it stored, the events of a second, and what that leaves.
+/// Tells a row: the events of a first run of words, a change of what it stored, the events of a second, and what that
+/// leaves.
 fn tell_second<R: Abort + Threads + Wait + Sync>(
     rt: &R,
     alloc: Global,
+    words: &str,
     row: &str,
 ) -> Result<(), Fail> {
     let (first, rest) = column(row);
     let (change, rest) = column(rest);
     let (second, rest) = column(rest);
-    let stored = stored_after(rt, alloc, first, change)?;
-    let left = left_over(rt, alloc, stored, second)?;
+    let texts = texts_of(alloc, "", first)?;
+    let stored = stored_from(rt, alloc, words, texts, change)?;
+    let left = left_over(rt, alloc, words, stored, second)?;
     let wanted = wanted_of(alloc, rest)?;
     is_left(rt, left.as_str(), wanted.as_str(), row);
     Ok(())
@@ -285,7 +324,15 @@ fn tell_second<R: Abort + Threads + Wait + Sync>(
 #[test]
 fn a_replay_begins_from_what_the_last_one_stored(rt: HostRuntime) -> Result<(), Fail> {
     for row in stores::SECOND.lines() {
-        tell_second(&rt, rt.alloc(), row)?;
+        tell_second(&rt, rt.alloc(), REPLAY, row)?;
+    }
+    Ok(())
+}
+
+#[test]
+fn an_audit_begins_from_what_the_last_one_stored(rt: HostRuntime) -> Result<(), Fail> {
+    for row in audits::SECOND.lines() {
+        tell_second(&rt, rt.alloc(), AUDIT, row)?;
     }
     Ok(())
 }

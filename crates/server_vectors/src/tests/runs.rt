@@ -1,5 +1,6 @@
 // Rows of runs of the program, as texts: lines of events and lines that are written, by their names, and the runs.
 pub mod accounts;
+pub mod audits;
 pub mod later;
 pub mod limits;
 pub mod names;

@@ -2,7 +2,7 @@
 use super::configs::config_of;
 use super::left::is_left;
 use super::lines::{joined, line_of};
-use super::replays::{REPLAY, left_of, wanted_of};
+use super::replays::{AUDIT, REPLAY, left_of, wanted_of};
 use super::worlds::making_of;
 use std::alloc::Global;
 use std::process::Abort;
@@ -10,11 +10,30 @@ use std::sync::Wait;
 use std::test::Fail;
 use std::thread::Threads;
 
-/// What a replay of the events as they are leaves.
-fn left_by<R: Threads + Wait + Sync>(rt: &R, alloc: Global, events: &str) -> Result<String, Fail> {
+/// What words leave over the events as they are.
+fn left_by<R: Threads + Wait + Sync>(
+    rt: &R,
+    alloc: Global,
+    words: &str,
+    events: &str,
+) -> Result<String, Fail> {
     let config = config_of(alloc, "")?;
     let events = joined(alloc, &[events])?;
-    left_of(rt, alloc, REPLAY, (config, events), making_of(""))
+    left_of(rt, alloc, words, (config, events), making_of(""))
+}
+
+/// Tells what words leave over the events, by the columns of a row.
+fn tell_words<R: Abort + Threads + Wait + Sync>(
+    rt: &R,
+    alloc: Global,
+    words: &str,
+    events: &str,
+    row: &str,
+) -> Result<(), Fail> {
+    let left = left_by(rt, alloc, words, events)?;
+    let wanted = wanted_of(alloc, row)?;
+    is_left(rt, left.as_str(), wanted.as_str(), row);
+    Ok(())
 }
 
 /// Tells what a replay of the events leaves, by the columns of a row.
@@ -24,10 +43,7 @@ fn tell<R: Abort + Threads + Wait + Sync>(
     events: &str,
     row: &str,
 ) -> Result<(), Fail> {
-    let left = left_by(rt, alloc, events)?;
-    let wanted = wanted_of(alloc, row)?;
-    is_left(rt, left.as_str(), wanted.as_str(), row);
-    Ok(())
+    tell_words(rt, alloc, REPLAY, events, row)
 }
 
 #[test]
@@ -122,5 +138,14 @@ fn a_source_above_the_limit_is_too_long(rt: HostRuntime) -> Result<(), Fail> {
     assert_eq!(rt; text.len(), 67108864);
     tell(&rt, rt.alloc(), text.as_str(), "/0|Done|")?;
     text.push('#')?;
-    tell(&rt, rt.alloc(), text.as_str(), "/0|InputTooLong|none")
+    for words in [REPLAY, AUDIT] {
+        tell_words(
+            &rt,
+            rt.alloc(),
+            words,
+            text.as_str(),
+            "/0|InputTooLong|none",
+        )?;
+    }
+    Ok(())
 }

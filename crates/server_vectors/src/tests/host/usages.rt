@@ -9,6 +9,7 @@ Usage: account replay CONFIG
        account serve CONFIG STORE
        account hooks CONFIG STORE
        account call ADDRESS WORD..
+       account audit CONFIG
        account gen N
 
 Commands:
@@ -16,6 +17,7 @@ Commands:
   serve   Listen under the configuration in a file, with the accounts in a store, and answer clients
   hooks   Run the program of the configuration for each change of an account that waits in a store
   call    Ask the server at an address, tcp:HOST:PORT or unix:PATH, and print its answer
+  audit   Replay such events, and tell of each call that was let pass which opening gave its handle
   gen     Make N users, from 1 to 10000, by a replay, and print the counts of what is there
 
 Words of call:
@@ -34,6 +36,7 @@ Examples:
   account replay examples/first.toml < examples/first.events
   account serve examples/first.toml accounts.db
   account call tcp:127.0.0.1:4045 users CORP
+  account audit examples/first.toml < examples/first.events
   account gen 100
 ";
 
