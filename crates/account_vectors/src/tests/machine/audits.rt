@@ -1,13 +1,14 @@
 // What the audit tells of scripts: which event gave the handle of each call that was let pass. The two connections are
 // events 1 and 2, so the first line of a script is event 3.
-ghost use Rattle.std.specs.Prelude.{◌≡◌, true};
+ghost use Rattle.std.specs.Prelude.{◌≡◌, true, IfOk};
 ghost use Rattle.acct_machine.specs.State.{is_live};
 ghost use Rattle.acct_machine.specs.Machine.{state_of};
 
 use super::configs::{ADMINISTRATORS, PLAIN, configured};
-use super::scripts::{started_under, tell};
+use super::hooks::{filled, is_told, with_hook};
+use super::scripts::{started_over, started_under, tell};
 use acct_keeper::MemoryKeeper;
-use acct_machine::Machine;
+use acct_machine::{HookedEnd, Machine};
 use grant_audit::{Trace, hooked_count, trace_of};
 use std::alloc::Global;
 use std::process::Abort;
@@ -61,6 +62,18 @@ const FAILING: &str = "\
 
 const FAILING_TRACED: &str = "\
 4 1 1 3 00000010 00000010;5 1 1 3 00000010 00000010;6 1 1 3 00000010 00000010;7 1 2 5 00000001 00000000;";
+
+/// Calls before and after event 5, at which a row leaves the outbox. It gives no handle, and it has no trace.
+const BEFORE: &str = "\
+1 connect2 02000000 = 0 1.1
+1 domains 1.1 = 0";
+
+const AFTER: &str = "\
+1 domain 02000000 1.1 = 0 1.2
+1 user 1 1.2 = 0 1.3";
+
+const AROUND_TRACED: &str = "\
+4 1 1 3 000f003f 00000010;6 1 1 3 000f003f 00000020;7 1 2 6 000f07ff 00000200;";
 
 fn push_trace(text: &mut String, trace: &Trace) -> Result<(), Fail> {
     write!(
@@ -124,4 +137,55 @@ fn calls_are_traced_to_their_openings(rt: HostRuntime) -> Result<(), Fail> {
     is_traced(&rt, alloc, PLAIN, &[], HANDLES, HANDLES_TRACED)?;
     is_traced(&rt, alloc, ADMINISTRATORS, &[], CHANGED, CHANGED_TRACED)?;
     is_traced(&rt, alloc, PLAIN, &[3], FAILING, FAILING_TRACED)
+}
+
+/// A machine with both connections over a store with one row in its outbox.
+fn started_with_row(rt: &impl Abort, alloc: Global) -> Result<Machine<MemoryKeeper>, Fail>
+    ensures first { IfOk result (λ machine. is_live 1 (state_of machine.past).conns ≡ true) }
+    ensures second { IfOk result (λ machine. is_live 2 (state_of machine.past).conns ≡ true) }
+{
+    let config = with_hook(rt, alloc)?;
+    match filled(alloc, &config, 2, &[]) {
+        Ok(keeper) => started_over(rt, alloc, config, keeper),
+        Err(fail) => {
+            drop(config);
+            Err(fail)
+        }
+    }
+}
+
+/// The row leaves the outbox.
+fn take_row(rt: &impl Abort, machine: &mut Machine<MemoryKeeper>)
+    requires first { is_live 1 (state_of machine.old.past).conns ≡ true }
+    requires second { is_live 2 (state_of machine.old.past).conns ≡ true }
+    ensures first { is_live 1 (state_of machine.new.past).conns ≡ true }
+    ensures second { is_live 2 (state_of machine.new.past).conns ≡ true }
+{
+    is_told(rt, machine.config());
+    let end = machine.hooked(1);
+    assert!(rt; matches!(end, HookedEnd::Done));
+}
+
+/// What the audit tells of calls before and after the row leaves.
+fn traced_around_row(
+    rt: &impl Abort,
+    alloc: Global,
+    machine: &mut Machine<MemoryKeeper>,
+) -> Result<String, Fail>
+    requires first { is_live 1 (state_of machine.old.past).conns ≡ true }
+    requires second { is_live 2 (state_of machine.old.past).conns ≡ true }
+{
+    tell(rt, alloc, machine, BEFORE)?;
+    take_row(rt, machine);
+    tell(rt, alloc, machine, AFTER)?;
+    traced(rt, alloc, machine)
+}
+
+#[test]
+fn a_row_leaves_between_traced_calls(rt: HostRuntime) -> Result<(), Fail> {
+    let mut machine = started_with_row(&rt, rt.alloc())?;
+    let text = traced_around_row(&rt, rt.alloc(), &mut machine);
+    drop(machine);
+    assert_eq!(rt; text?.as_str(), AROUND_TRACED);
+    Ok(())
 }

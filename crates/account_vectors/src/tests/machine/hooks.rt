@@ -1,10 +1,10 @@
 // Rows that leave the outbox: in order, each once, and as the store lets them.
-ghost use Rattle.std.specs.Prelude.{◌≡◌, true, IfOk};
+ghost use Rattle.std.specs.Prelude.{◌≡◌, true, IfOk, length};
 ghost use Rattle.acct_config.specs.Right.{IsRight};
 ghost use Rattle.acct_machine.specs.Outbox.{has_hook};
 
 use super::configs::{PLAIN, configured};
-use super::scripts::keeper_with;
+use super::scripts::{keeper_with, machine_over};
 use acct_base::Seq;
 use acct_keeper::{Change, Keeper, MemoryKeeper};
 use acct_machine::{Config, Machine, open_store};
@@ -20,15 +20,17 @@ const ALICE: [u8; 19] = [
     1, 0, 0xe8, 3, 0, 0, 1, 5, 0, 0x61, 0, 0x6c, 0, 0x69, 0, 0x63, 0, 0x65, 0,
 ];
 
-fn is_told(rt: &impl Abort, config: &Config)
+/// A program is told of changes.
+pub fn is_told(rt: &impl Abort, config: &Config)
     ensures { has_hook config.now ≡ true }
 {
     assert!(rt; config.hook.is_some());
 }
 
 /// The plain configuration with a program that is told of changes.
-fn with_hook(rt: &impl Abort, alloc: Global) -> Result<Config, Fail>
+pub fn with_hook(rt: &impl Abort, alloc: Global) -> Result<Config, Fail>
     ensures right { IfOk result IsRight }
+    ensures listeners { IfOk result (λ config. length config.listeners ≡ 2) }
     ensures told { IfOk result (λ config. has_hook config ≡ true) }
 {
     let document = format!(in alloc; "{PLAIN}{HOOK}")?;
@@ -87,7 +89,12 @@ fn fill(alloc: Global, config: &Config, keeper: &mut MemoryKeeper, next: u64) ->
 }
 
 /// A store that is filled so, whose calls of these numbers fail.
-fn filled(alloc: Global, config: &Config, next: u64, failing: &[u64]) -> Result<MemoryKeeper, Fail>
+pub fn filled(
+    alloc: Global,
+    config: &Config,
+    next: u64,
+    failing: &[u64],
+) -> Result<MemoryKeeper, Fail>
     requires { IsRight config.now }
 {
     let mut keeper = keeper_with(alloc, failing)?;
@@ -111,12 +118,7 @@ fn made(
     requires { IsRight config.now }
     ensures { IfOk result (λ machine. machine.past.start.config ≡ config.now) }
 {
-    let mut keeper = filled(alloc, config, next, failing)?;
-    let rows = open_store(alloc, config, &mut keeper)?;
-    match Machine::new(alloc, config, rows, keeper) {
-        Ok(machine) => Ok(machine),
-        Err(_) => panic!(rt; "memory is wanted"),
-    }
+    machine_over(rt, alloc, config, filled(alloc, config, next, failing)?)
 }
 
 /// The number of the first out row, or 0 where there is none.

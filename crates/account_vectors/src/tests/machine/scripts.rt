@@ -20,17 +20,16 @@ pub fn keeper_with(alloc: Global, failing: &[u64]) -> Result<MemoryKeeper, Fail>
     Ok(MemoryKeeper::new(SteadyKeeper::new(alloc), failing))
 }
 
-/// A machine over a keeper in memory whose calls of these numbers fail.
-fn made(
+/// A machine over a keeper in memory.
+pub fn machine_over(
     rt: &impl Abort,
     alloc: Global,
     config: &Config,
-    failing: &[u64],
+    mut keeper: MemoryKeeper,
 ) -> Result<Machine<MemoryKeeper>, Fail>
     requires { IsRight config.now }
     ensures { IfOk result (λ machine. machine.past.start.config ≡ config.now) }
 {
-    let mut keeper = keeper_with(alloc, failing)?;
     let rows = open_store(alloc, config, &mut keeper)?;
     match Machine::new(alloc, config, rows, keeper) {
         Ok(machine) => Ok(machine),
@@ -54,8 +53,26 @@ fn connect(rt: &impl Abort, machine: &mut Machine<MemoryKeeper>)
     }
 }
 
-/// A machine with both connections under a configuration of two listeners, over a keeper in memory whose calls of these
-/// numbers fail.
+/// A machine with both connections under a configuration of two listeners, over a keeper in memory.
+pub fn started_over(
+    rt: &impl Abort,
+    alloc: Global,
+    config: Config,
+    keeper: MemoryKeeper,
+) -> Result<Machine<MemoryKeeper>, Fail>
+    requires right { IsRight config }
+    requires listeners { length config.listeners ≡ 2 }
+    ensures first { IfOk result (λ machine. is_live 1 (state_of machine.past).conns ≡ true) }
+    ensures second { IfOk result (λ machine. is_live 2 (state_of machine.past).conns ≡ true) }
+{
+    let made = machine_over(rt, alloc, &config, keeper);
+    drop(config);
+    let mut machine = made?;
+    connect(rt, &mut machine);
+    Ok(machine)
+}
+
+/// The same over a keeper without a pair, whose calls of these numbers fail.
 pub fn started_under(
     rt: &impl Abort,
     alloc: Global,
@@ -67,11 +84,13 @@ pub fn started_under(
     ensures first { IfOk result (λ machine. is_live 1 (state_of machine.past).conns ≡ true) }
     ensures second { IfOk result (λ machine. is_live 2 (state_of machine.past).conns ≡ true) }
 {
-    let made = made(rt, alloc, &config, failing);
-    drop(config);
-    let mut machine = made?;
-    connect(rt, &mut machine);
-    Ok(machine)
+    match keeper_with(alloc, failing) {
+        Ok(keeper) => started_over(rt, alloc, config, keeper),
+        Err(fail) => {
+            drop(config);
+            Err(fail)
+        }
+    }
 }
 
 /// The same under the plain configuration, with these entries of the descriptor of the server or with none.
