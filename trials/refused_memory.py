@@ -8,6 +8,7 @@ refused. What the C library allocates for itself isn't. The runs are
 
     first   the first run of a replay: a bind, an opening and its closing
     gen     gen 1
+    audit   the audit of the first run's events
     call    domains, of a server of the program as it is
     serve   two links, each with a bind, two openings, the creation of a user and the closing of its handle
     disk    the same over a store in a file, and before the second link no write to a file has room any more, so that
@@ -172,6 +173,13 @@ class FirstRun(Command):
         return [bound + refused + fault + gone]
 
 
+class Audit(Command):
+    """The audit of the first run: where its opening is refused, no call has a handle."""
+
+    def others(self):
+        return [b""]
+
+
 class Summary(Command):
     """The generator: where a generated call is refused, there is less to be counted, or as much."""
 
@@ -316,6 +324,11 @@ def first_run():
         return FirstRun(["replay", os.path.join(TOP, "examples", "first.toml")], file.read())
 
 
+def audit():
+    with open(os.path.join(TOP, "examples", "first.events"), "rb") as file:
+        return Audit(["audit", os.path.join(TOP, "examples", "first.toml")], file.read())
+
+
 def allocations(program, run):
     """How many allocations a run has: the first number at which the program isn't ended."""
     low, high = 0, 1024
@@ -356,9 +369,11 @@ def main():
     if len(sys.argv) < 2:
         raise SystemExit(__doc__)
     built, wrong = os.path.abspath(sys.argv[1]), 0
-    for name in sys.argv[2:] or ["first", "gen", "call", "serve", "disk"]:
+    for name in sys.argv[2:] or ["first", "gen", "audit", "call", "serve", "disk"]:
         if name == "first":
             wrong += sweep(built, name, first_run())
+        elif name == "audit":
+            wrong += sweep(built, name, audit())
         elif name == "gen":
             wrong += sweep(built, name, Summary(["gen", "1"]))
         elif name == "serve":
