@@ -131,6 +131,12 @@ fn faults_of_the_store_and_of_the_outside(rt: HostRuntime) -> Result<(), Fail> {
     tell_all(&rt, rt.alloc(), tables::FAULTS)
 }
 
+/// It stands alone, since the trial of refused memory repeats it with each allocation refused in turn.
+#[test]
+fn a_commit_of_a_replay_fails(rt: HostRuntime) -> Result<(), Fail> {
+    tell(&rt, rt.alloc(), stores::FAILED_COMMIT)
+}
+
 #[test]
 fn audits(rt: HostRuntime) -> Result<(), Fail> {
     tell_all(&rt, rt.alloc(), audits::AUDITS)

@@ -14,10 +14,13 @@ BOB-3-1001 out 1 050002031000000034000000090000001c00000000000000000000000000000
 /// Loads and commits that fail: the first call loads, the second stores the rows of a new store.
 pub const FAULTS: &str = "k1|replay first.toml||OPEN|/0|StoreFault|none
 k2|replay first.toml||OPEN|/0|StoreFault|none
-k4|replay first.toml||OPEN BIND CONNECT OPEN-CORP CREATE-ALICE CREATE-BOB NAMES-BOB CREATE-BOB|ACK CONNECTED DOMAIN-2 \
-    ALICE-1000 STORE-FAULT-9 NONE-10 BOB-1001 GONE|Done|opened 1 0;called 1 57 Ran 8;called 1 7 Ran 52;called 1 50 Ran \
-    60;called 1 12 StoreFault(1) 52;called 1 17 Ran 62;called 1 12 Ran 52;gone 1;
 t4|replay first.toml||OPEN|/0|StoreFault|none";
+
+/// A commit of a call that fails: bob isn't made then, and has the same RID when he is.
+pub const FAILED_COMMIT: &str =
+    "k4|replay first.toml||OPEN BIND CONNECT OPEN-CORP CREATE-ALICE CREATE-BOB NAMES-BOB CREATE-BOB|ACK CONNECTED \
+    DOMAIN-2 ALICE-1000 STORE-FAULT-9 NONE-10 BOB-1001 GONE|Done|opened 1 0;called 1 57 Ran 8;called 1 7 Ran 52;\
+    called 1 50 Ran 60;called 1 12 StoreFault(1) 52;called 1 17 Ran 62;called 1 12 Ran 52;gone 1;";
 
 /// Each row: the events of a first replay, a change of a pair that it stored, the events of a second replay, the lines
 /// that it writes, its status and its history. The first has made alice; then the store has an unknown format.
