@@ -2,9 +2,10 @@
 
     python3 trials/refused_memory.py PROGRAM [RUN..]
 
-In an empty folder, with the program that ./first-look builds: built/unproved/account. In a copy of it the two functions
-that allocate and that grow an allocation call malloc and realloc through a count, and the call of one number is
-refused. What the C library allocates for itself isn't. The runs are
+In an empty folder, with the program that ./first-look or ./account builds: built/unproved/account, which checks each
+access, or built/proved/account. In a copy of it the two functions that allocate and that grow an allocation call malloc
+and realloc through a count, and the call of one number is refused. What the C library allocates for itself isn't. The
+runs are
 
     first   the first run of a replay: a bind, an opening and its closing
     gen     gen 1
@@ -12,8 +13,10 @@ refused. What the C library allocates for itself isn't. The runs are
     call    domains, of a server of the program as it is
     serve   two links, each with a bind, two openings, the creation of a user and the closing of its handle
     disk    the same over a store in a file, and before the second link no write to a file has room any more, so that
-            the commit of its creation fails; opening a store takes seconds in a program that is built so, and has
-            thousands of allocations, so only 48 of them are refused, evenly spread
+            the commit of its creation fails; opening a store takes seconds in a program that checks each access, and
+            has thousands of allocations, so that of such a one only 48 are refused, evenly spread
+    commit  a replay over a keeper in memory, of which one commit fails: PROGRAM is then the program of tests that the
+            gate leaves, crates/server_vectors/out/server_vectors_tests, and the run one of its tests
 
 For each run a line says how many allocations it has, and then how often it ended in which way. A run that crashes,
 hangs, or says or stores what it may not is told besides, with its number. The exit code is 1 where there is one.
@@ -21,6 +24,7 @@ hangs, or says or stores what it may not is told besides, with its number. The e
 import collections
 import contextlib
 import os
+import re
 import resource
 import shutil
 import signal
@@ -35,6 +39,7 @@ from common import BIND, Server, connect, pdu, read_pdu, write_configuration
 
 TOP = os.path.dirname(os.path.dirname(os.path.abspath(__file__)))
 NEVER = 77777777
+PAGE = 4096
 PORT = 4153
 
 CLOSED, CREATED, OPENED, CONNECTED = 1, 50, 7, 57
@@ -42,13 +47,13 @@ NO_MEMORY, NOT_STORED, NO_HANDLE = 0xC0000017, 0xC0000158, 0x1C00001A
 
 
 class Image:
-    """An ELF program: where its symbols and its segments are."""
+    """An ELF program for x86-64: where its functions and its segments are."""
 
     def __init__(self, whole):
         self.whole = whole
-        headers, sections = struct.unpack_from("<QQ", whole, 32)
+        self.headers, sections = struct.unpack_from("<QQ", whole, 32)
         count = struct.unpack_from("<H", whole, 56)[0]
-        self.segments = [struct.unpack_from("<IIQQQQQQ", whole, headers + 56 * at) for at in range(count)]
+        self.segments = [struct.unpack_from("<IIQQQQQQ", whole, self.headers + 56 * at) for at in range(count)]
         self.symbols = {}
         for at in range(struct.unpack_from("<H", whole, 60)[0]):
             kind, _, _, start, size, link = struct.unpack_from("<IQQQQI", whole, sections + 64 * at + 4)
@@ -63,27 +68,35 @@ class Image:
             self.symbols[self.whole[names + name:end].decode()] = value, length
 
     def place_of(self, address):
-        """Where in the file the byte of an address stands."""
-        for kind, _, start, first, _, size, _, _ in self.segments:
-            if kind == 1 and first <= address < first + size:
+        """Where in the file the byte of an address stands, or None where it isn't of the code."""
+        for kind, flags, start, first, _, size, _, _ in self.segments:
+            if kind == 1 and flags & 1 and first <= address < first + size:
                 return address - first + start
-        raise SystemExit("the program isn't built as this trial knows")
+        return None
 
-    def room(self):
-        """The address of 16 bytes behind all data, which are there and zero, since they are of its last page."""
-        end = max(first + held for kind, _, _, first, _, _, held, _ in self.segments if kind == 1)
-        if -end % 4096 < 64:
-            raise SystemExit("the program has no room for a count")
-        return (end + 31) // 16 * 16
-
-    def call_of(self, function, called):
-        """The address of the one call that a function makes of another one."""
+    def call_in(self, function):
+        """The address of the one call that a function makes, and what it calls."""
         first, size = self.symbols[function]
-        calls = [at for at in range(first, first + size - 4) if self.whole[self.place_of(at)] == 0xE8
-                 and at + 5 + struct.unpack_from("<i", self.whole, self.place_of(at + 1))[0] == self.symbols[called][0]]
+        calls = []
+        for at in range(first, first + size - 4):
+            code = self.whole[self.place_of(at):self.place_of(at) + 5]
+            called = at + 5 + struct.unpack_from("<i", code, 1)[0]
+            if code[0] == 0xE8 and self.place_of(called) is not None:
+                calls.append((at, called))
         if len(calls) != 1:
             raise SystemExit("the program allocates in another way than this trial knows")
         return calls[0]
+
+    def new_segment(self, size):
+        """The address of new pages after all others and their place in the file, and the program header of them, which
+        takes the place of a note's."""
+        notes = [at for at, segment in enumerate(self.segments) if segment[0] == 4]
+        if not notes:
+            raise SystemExit("the program has no room for a count")
+        end = max(first + held for kind, _, _, first, _, _, held, _ in self.segments if kind == 1)
+        address, place = -(-end // PAGE) * PAGE, -(-len(self.whole) // PAGE) * PAGE
+        header = struct.pack("<IIQQQQQQ", 1, 7, place, address, address, size, size, PAGE)
+        return address, place, self.headers + 56 * notes[-1], header
 
 
 class Program:
@@ -92,21 +105,21 @@ class Program:
     def __init__(self, built, path):
         self.path, self.places = path, []
         image = Image(open(built, "rb").read())
-        # A function of AddressSanitizer that no program calls has the room for both counts.
-        free, size = image.symbols["___interceptor_pvalloc"]
-        if size < 64:
-            raise SystemExit("the program has no room for what counts")
+        self.is_checked = "__asan_init" in image.symbols
+        address, place, header_at, header = image.new_segment(2 * PAGE)
         shutil.copyfile(built, path)
         os.chmod(path, 0o755)
         with open(path, "r+b") as file:
-            for function, called in ("rattle_alloc", "malloc"), ("rattle_realloc", "realloc"):
-                call = image.call_of(function, called)
+            file.seek(header_at)
+            file.write(header)
+            for at, function in (0, "rattle_alloc"), (32, "rattle_realloc"):
+                call, called = image.call_in(function)
                 file.seek(image.place_of(call + 1))
-                file.write(struct.pack("<i", free - call - 5))
-                file.seek(image.place_of(free))
-                file.write(counting(free, image.room(), image.symbols[called][0]))
-                self.places.append(image.place_of(free))
-                free += 32
+                file.write(struct.pack("<i", address + at - call - 5))
+                file.seek(place + at)
+                file.write(counting(address + at, address + PAGE, called))
+                self.places.append(place + at)
+            file.truncate(place + 2 * PAGE)
 
     def refuse(self, number, ends=False):
         with open(self.path, "r+b") as file:
@@ -150,13 +163,13 @@ class Command:
         if code == 0 and printed == self.own:
             return "its own status"
         if code == 0 and self.is_refused(printed):
-            return "its own status, and a call is answered that memory is wanted"
+            return "its own status, and a call is answered STATUS_NO_MEMORY"
         if code == 1 and any(whole.startswith(printed) for whole in [self.own, *self.others()]):
             return "status 1"
         return None
 
     def others(self):
-        """What is printed where a call is answered that memory is wanted."""
+        """What is printed where a call is answered STATUS_NO_MEMORY."""
         return []
 
     def is_refused(self, printed):
@@ -187,6 +200,62 @@ class Summary(Command):
         fewer, own = ([line.split() for line in text.splitlines()] for text in (printed, self.own))
         return [words[0] for words in fewer] == [words[0] for words in own] \
             and all(int(a[1]) <= int(b[1]) for a, b in zip(fewer, own))
+
+
+class FailedCommit(Command):
+    """A test whose assertion tells what a replay left, where that isn't what its row wants: the status, the history,
+    and the lines that were written. Where memory runs out before the replay or after it, the test says so."""
+
+    def __init__(self):
+        super().__init__(["tests::replays::a_commit_of_a_replay_fails"])
+
+    def run(self, program):
+        try:
+            done = subprocess.run([program.path, *self.words], capture_output=True, timeout=30)
+        except subprocess.TimeoutExpired:
+            return "it hangs", b""
+        texts = re.findall(r'^ *(?:left|right): "(.*)"$', done.stderr.decode(), re.M)
+        if len(texts) == 2:
+            return self.kind_of(*(text.replace("\\n", "\n") for text in texts)), done.stderr
+        if crashed(done.returncode, done.stderr):
+            return "it crashes", done.stderr
+        return "its own status" if done.returncode == 0 else "the test itself has no memory", done.stderr
+
+    def kind_of(self, left, right):
+        """How the replay ended, where it may end so. Its calls are the first ones of the row, all of them where it is
+        done. Where a call is answered STATUS_NO_MEMORY, those after it may go otherwise, but not without an
+        answer by their verdict. Where the world has no memory for the period, its history isn't told."""
+        status, calls, lines = parted(left)
+        _, whole, own = parted(right)
+        if status not in ("Done", "NoMemory"):
+            return None
+        if "|none|" in left:
+            return "status 1" if status == "NoMemory" and lines == own[:len(lines)] else None
+        verdicts = [call[3] for call in calls]
+        is_done = status == "Done"
+        may_be = [call[:3] + call[4:] for call in calls] == [call[:3] + call[4:] for call in whole][:len(calls)] \
+            and set(verdicts) <= {"Ran", "NoMemory", "StoreFault(1)"} and verdicts.count("StoreFault(1)") < 2 \
+            and verdicts.count("NoMemory") == is_done and lines[:1] == own[:len(lines)][:1] \
+            and are_answered(verdicts, lines[1:], is_done) and (not is_done or len(calls) == len(whole))
+        if not may_be:
+            return None
+        return "its own status, and a call is answered STATUS_NO_MEMORY" if is_done else "status 1"
+
+
+def parted(left):
+    """The status, the words of the calls, and the lines."""
+    status, history, lines = left.split("|")
+    return status, [entry.split() for entry in history.split(";") if entry.startswith("called")], lines.splitlines()
+
+
+def are_answered(verdicts, lines, is_whole):
+    """Whether each line answers the call of its place by its verdict, and where all lines are there, each call has
+    one."""
+    statuses = [struct.unpack("<I", bytes.fromhex(line[-8:]))[0] for line in lines if line.startswith("out 1 ")]
+    answered = all((verdict == "NoMemory") == (status == NO_MEMORY) and
+                   (verdict == "StoreFault(1)") == (status == NOT_STORED)
+                   for verdict, status in zip(verdicts, statuses))
+    return answered and len(statuses) <= len(verdicts) and (not is_whole or len(statuses) == len(verdicts))
 
 
 def request(call_id, opnum, stub):
@@ -310,7 +379,7 @@ class Serving:
         if code == 1:
             return "status 1"
         if NO_MEMORY in one + two:
-            return "its own status, and a call is answered that memory is wanted"
+            return "its own status, and a call is answered STATUS_NO_MEMORY"
         return "its own status" if whole and also else "its own status, and a link ends early"
 
 
@@ -344,16 +413,18 @@ def allocations(program, run):
     return low
 
 
-def sweep(built, name, run, most=None):
-    """Each allocation in turn, or so many at most. How many runs ended in a way in which none may end."""
+def sweep(built, name, run, most_checked=None):
+    """Each allocation in turn, or so many at most of a program that checks each access. How many runs ended in a way in
+    which none may end."""
     program = Program(built, os.path.abspath(name + ".program"))
     program.refuse(NEVER)
     kind, errors = run.run(program)
     if kind != "its own status":
         raise SystemExit(f"{name} without a refusal: {kind} {errors.decode(errors='replace')}")
     count, began = allocations(program, run), time.time()
+    most = most_checked if program.is_checked and most_checked else count
     kinds, wrong = collections.Counter(), 0
-    for number in range(1, count + 1, -(-count // most) if most else 1):
+    for number in range(1, count + 1, -(-count // most)):
         program.refuse(number)
         kind, errors = run.run(program)
         kinds[kind or "otherwise"] += 1
@@ -368,6 +439,7 @@ def sweep(built, name, run, most=None):
 def main():
     if len(sys.argv) < 2:
         raise SystemExit(__doc__)
+    resource.setrlimit(resource.RLIMIT_CORE, (0, 0))
     built, wrong = os.path.abspath(sys.argv[1]), 0
     for name in sys.argv[2:] or ["first", "gen", "audit", "call", "serve", "disk"]:
         if name == "first":
@@ -385,6 +457,8 @@ def main():
             server = Server(built, "call.toml", "")
             wrong += sweep(built, name, Command(["call", f"tcp:127.0.0.1:{PORT + 1}", "domains"]))
             server.end()
+        elif name == "commit":
+            wrong += sweep(built, name, FailedCommit())
         else:
             raise SystemExit(__doc__)
     raise SystemExit(1 if wrong else 0)
