@@ -7,6 +7,7 @@ ghost use Rattle.acct_machine.specs.Machine.{state_of};
 use super::configs::{ADMINISTRATORS, PLAIN, configured};
 use super::hooks::{filled, is_told, with_hook};
 use super::scripts::{started_over, started_under, tell};
+use crate::tests::words::repeated;
 use acct_keeper::MemoryKeeper;
 use acct_machine::{HookedEnd, Machine};
 use grant_audit::{Trace, hooked_count, trace_of};
@@ -62,6 +63,14 @@ const FAILING: &str = "\
 
 const FAILING_TRACED: &str = "\
 4 1 1 3 00000010 00000010;5 1 1 3 00000010 00000010;6 1 1 3 00000010 00000010;7 1 2 5 00000001 00000000;";
+
+/// A hundred calls by one handle, and its end.
+const LONG: &str = "\
+1 connect2 02000000 = 0 1.1
+<1-100:1 domains 1.1 = 0
+>1 close 1.1 = 0 0.0";
+
+const LONG_TRACED: &str = "<4-103:# 1 1 3 000f003f 00000010;>104 1 1 3 000f003f 00000000;";
 
 /// Calls before and after event 5, at which a row leaves the outbox. It gives no handle, and it has no trace.
 const BEFORE: &str = "\
@@ -137,6 +146,14 @@ fn calls_are_traced_to_their_openings(rt: HostRuntime) -> Result<(), Fail> {
     is_traced(&rt, alloc, PLAIN, &[], HANDLES, HANDLES_TRACED)?;
     is_traced(&rt, alloc, ADMINISTRATORS, &[], CHANGED, CHANGED_TRACED)?;
     is_traced(&rt, alloc, PLAIN, &[3], FAILING, FAILING_TRACED)
+}
+
+#[test]
+fn a_hundred_calls_are_traced(rt: HostRuntime) -> Result<(), Fail> {
+    let alloc = rt.alloc();
+    let script = repeated(alloc, LONG)?;
+    let wanted = repeated(alloc, LONG_TRACED)?;
+    is_traced(&rt, alloc, PLAIN, &[], script.as_str(), wanted.as_str())
 }
 
 /// A machine with both connections over a store with one row in its outbox.

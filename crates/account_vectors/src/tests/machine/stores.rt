@@ -209,10 +209,11 @@ fn migrated(
 }
 
 /// The format of a store, the keeper's call that fails, and what comes of it. The fifth call, after a load, the
-/// seeding, the setting of the format and a load, is the one that migrates.
-const FORMATS: [(u8, u64, &str); 4] = [
+/// seeding, the setting of the format and a load, is the one that migrates, and the last one.
+const FORMATS: [(u8, u64, &str); 5] = [
     (1, 9, "8 accounts, 19 pairs, format [2]"),
     (1, 5, "StoreFault, 19 pairs, format [1]"),
+    (1, 6, "8 accounts, 19 pairs, format [2]"),
     (2, 5, "8 accounts, 19 pairs, format [2]"),
     (3, 5, "bad pair [102], 19 pairs, format [3]"),
 ];
