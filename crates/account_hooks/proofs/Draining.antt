@@ -5,9 +5,8 @@ use Rattle.account_hooks.specs.declared.drains.Drained.{Drained}
 use Rattle.account_hooks.specs.declared.drains.Drained.TheVariants as drained
 use Rattle.std.proofs.lemmas.List.{append-nil}
 use Rattle.account_hooks.specs.declared.runs.Ran.{Ran}
-use Rattle.account_hooks.specs.Runs.{Job, Run, Follows, InOrder, ended}
-use Rattle.account_hooks.specs.Gates.{Begins, numbers, left, IsNext}
-use Rattle.account_hooks.specs.Drains.{EndsWell, FailsAll, IsDraining, HoldsAt, StaysAt, StopsBy, Drains, times_left, runs_of}
+use Rattle.account_hooks.specs.Drains.{Job, Run, Follows, InOrder, ended, Begins, numbers, left, IsNext, EndsWell}
+use Rattle.account_hooks.specs.Drains.{FailsAll, IsDraining, HoldsAt, StaysAt, StopsBy, Drains, times_left, runs_of}
 use Rattle.account_hooks.proofs.Order.{behind, follows-more, ended-more, follows-then, ended-then, times-then, behind-drop}
 use Rattle.account_hooks.proofs.Order.{fails-follow, fails-ended, job-follows, job-ended, job-times}
 

@@ -4,8 +4,7 @@ use Rattle.std.proofs.Common.{drop, get_or, refl, sym, ap, ◌∙◌, subst, ari
 use Rattle.std.proofs.lemmas.Bool.Decides.{nat_tests}
 use Rattle.std.proofs.lemmas.List.{at_drop_more, drop-map}
 use Rattle.account_hooks.specs.declared.runs.HookJob.{HookJob}
-use Rattle.account_hooks.specs.Runs.{Job, job_of}
-use Rattle.account_hooks.specs.Gates.{numbers, left, IsNext}
+use Rattle.account_hooks.specs.Drains.{Job, job_of, numbers, left, IsNext}
 use Rattle.account_hooks.specs.Memory.{is_first}
 
 from-place : {X : Type 0} (xs : List X) (i : ℕ) (x : X) → i < length xs → x ≡ get_or xs i x

@@ -3,8 +3,7 @@ use Rattle.std.proofs.Common.{◌≡◌, ℕ, ◌+◌, ◌-◌, ◌<◌, inl, in
 use Rattle.std.proofs.Common.{◌∙◌, subst, arith, append_assoc, MatchBool}
 use Rattle.std.proofs.lemmas.List.{append-nil}
 use Rattle.account_hooks.specs.declared.runs.Ran.{Ran}
-use Rattle.account_hooks.specs.Runs.{Job, Run, ended_well, Follows, InOrder}
-use Rattle.account_hooks.specs.Drains.{NoneWell, EndsWell, run_of, runs_of}
+use Rattle.account_hooks.specs.Drains.{Job, Run, ended_well, Follows, InOrder, NoneWell, EndsWell, run_of, runs_of}
 use Rattle.account_hooks.specs.Laws.{Tried, FailsSome, AllTried, IsMadeFor}
 use Rattle.account_hooks.proofs.Tries.{runs-snoc, none-snoc, length-snoc}
 

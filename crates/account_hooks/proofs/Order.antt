@@ -2,8 +2,8 @@
 use Rattle.std.proofs.Common.{◌≡◌, ◌≤◌, ◌<◌, ℕ, ◌-◌, Bool, true, false, cond, List, [], ◌∷◌, ◌++◌, length, drop, refl, sym, ap}
 use Rattle.std.proofs.Common.{◌∙◌, subst, arith, MatchBool}
 use Rattle.account_hooks.specs.declared.runs.Ran.{Ran}
-use Rattle.account_hooks.specs.Runs.{Job, Run, ended_well, Follows, ended}
-use Rattle.account_hooks.specs.Drains.{NoneWell, EndsWell, times_left, run_of, runs_of}
+use Rattle.account_hooks.specs.Drains.{Job, Run, ended_well, Follows, ended, NoneWell, EndsWell, times_left, run_of}
+use Rattle.account_hooks.specs.Drains.{runs_of}
 use Rattle.account_hooks.proofs.Tries.{runs-snoc}
 
 -- the jobs that are left after these runs

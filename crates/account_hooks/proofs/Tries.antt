@@ -3,11 +3,9 @@ use Rattle.std.proofs.Common.{◌≡◌, ◌≤◌, ℕ, ◌+◌, ◌-◌, ◌^�
 use Rattle.std.proofs.Common.{◌∙◌, subst, arith, append_assoc, Option, Some, None}
 use Rattle.std.specs.Prelude.{min, not}
 use Rattle.std.proofs.lemmas.List.{append-nil}
-use Rattle.acct_keeper.specs.Causes.{Rose}
-use Rattle.acct_keeper.specs.Counts.{faults_after}
+use Rattle.acct_keeper.specs.Faults.{Rose, faults_after}
 use Rattle.account_hooks.specs.declared.runs.Ran.{Ran}
-use Rattle.account_hooks.specs.Runs.{Job, Run, ended_well, Adds}
-use Rattle.account_hooks.specs.Drains.{NoneWell, run_of, runs_of}
+use Rattle.account_hooks.specs.Drains.{Job, Run, ended_well, Adds, NoneWell, run_of, runs_of}
 
 pub adds-none : (told : Option (List Run)) → Adds told [] told
 adds-none None = tt

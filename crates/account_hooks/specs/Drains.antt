@@ -1,10 +1,101 @@
--- What a drain does: which runs it makes, and which numbers leave.
-use Rattle.std.specs.Prelude.{◌≡◌, ℕ, ◌-◌, ◌<◌, Bool, true, false, List, [], ◌∷◌, ◌++◌, ◌⊎◌, length, map, cond, ⊤, Option, Some, None}
-use Rattle.account_hooks.specs.declared.runs.Ran.{Ran}
+-- How the outbox is drained: the runs of the hook's program, the out rows, and what a drain does.
+use Rattle.std.specs.Prelude.{◌≡◌, ℕ, ◌-◌, ◌<◌, ◌==◌, Bool, false, List, [], ◌∷◌, ◌++◌, MatchBool, cond, Option, Some}
+use Rattle.std.specs.Prelude.{None, ⊤, map, string_bytes, length, drop, true, ◌⊎◌}
 use Rattle.account_hooks.specs.declared.drains.Drained.{Drained}
 use Rattle.account_hooks.specs.declared.drains.Drained.TheVariants as drained
-use Rattle.account_hooks.specs.Runs.{Job, Run, ended_well, InOrder, ended}
-use Rattle.account_hooks.specs.Gates.{left, numbers, IsNext, Begins}
+use Rattle.account_hooks.specs.declared.gate.HookedEnd.{HookedEnd}
+use Rattle.account_hooks.specs.declared.gate.HookedEnd.TheVariants as hooked
+use Rattle.account_hooks.specs.declared.runs.HookJob.{HookJob}
+use Rattle.account_hooks.specs.declared.runs.Ran.{Ran}
+use Rattle.account_hooks.specs.declared.runs.Ran.TheVariants.{Exited, Failed}
+
+-- ======== runs of the hook's program for out rows, in order
+
+-- what the program is run for: the number of an out row, and the arguments
+pub record Job : Type 0 where
+  pub number : ℕ
+  pub arguments : List (List ℕ)
+
+-- a run of a program, and how it ended
+pub record Run : Type 0 where
+  pub program : List ℕ
+  pub arguments : List (List ℕ)
+  pub ended : Ran
+
+abbrev pub job_of : HookJob → Job
+job_of job = record { number = job.number; arguments = map string_bytes job.arguments.items }
+
+-- it ended with 0
+abbrev pub ended_well : Ran → Bool
+ended_well (Exited code) = code == 0
+ended_well Failed = false
+
+-- The jobs are run in order. Where the first may be run so many times: each run is the program's, with the arguments of
+-- the first job; after one that ended with 0 the next job is the first, and after another one the same, with a time
+-- less.
+abbrev pub Follows : List ℕ → ℕ → ℕ → List Job → List Run → Type 0
+Follows program tries times jobs [] = ⊤
+Follows program tries times [] (run ∷ runs) = ⊥
+Follows program tries times (job ∷ jobs) (run ∷ runs) =
+    (0 < times) × (run.program ≡ program) × (run.arguments ≡ job.arguments)
+    × MatchBool (ended_well run.ended) (Follows program tries tries jobs runs)
+    (Follows program tries (times - 1) (job ∷ jobs) runs)
+
+-- each job may be run so many times
+abbrev pub InOrder : List Job → List ℕ → ℕ → List Run → Type 0
+InOrder jobs program tries runs = Follows program tries tries jobs runs
+
+-- the numbers of the jobs of which a run ended with 0, where the runs are in order
+abbrev pub ended : List Job → List Run → List ℕ
+ended jobs [] = []
+ended [] (run ∷ runs) = []
+ended (job ∷ jobs) (run ∷ runs) =
+    cond (ended_well run.ended) (job.number ∷ ended jobs runs) (ended (job ∷ jobs) runs)
+
+-- These runs were told after the others, or it tells no longer.
+abbrev pub Adds : Option (List Run) → List Run → Option (List Run) → Type 0
+Adds told more None = ⊤
+Adds None more (Some now) = ⊥
+Adds (Some old) more (Some now) = now ≡ old ++ more
+
+-- ======== the out rows that a gate knows of, as the jobs that they are run as, and those of them that have left
+
+-- the first list begins the second
+abbrev pub Begins : {A : Type 0} → List A → List A → Type 0
+Begins {A} xs ys = (rest : List A) × (ys ≡ xs ++ rest)
+
+abbrev pub numbers : List Job → List ℕ
+numbers jobs = map (λ job. job.number) jobs
+
+-- the jobs that haven't left: those after as many as have left
+abbrev pub left : List Job → List ℕ → List Job
+left jobs gone = drop (length gone) jobs
+
+-- this job is the first of those that haven't left
+abbrev pub IsNext : List Job → List ℕ → Job → Type 0
+IsNext jobs gone job = (rest : List Job) × (left jobs gone ≡ job ∷ rest)
+
+-- the first job that hasn't left, where there is one
+abbrev pub IsFirstLeft : List Job → List ℕ → Option HookJob → Type 0
+IsFirstLeft jobs gone (Some job) = IsNext jobs gone (job_of job)
+IsFirstLeft jobs gone None = left jobs gone ≡ []
+
+-- the numbers that have left, before and after one was to leave
+abbrev pub LeavesBy : HookedEnd → ℕ → List ℕ → List ℕ → Type 0
+LeavesBy hooked.Done number before after = after ≡ before ++ number ∷ []
+LeavesBy (hooked.Past n) number before after = after ≡ before
+LeavesBy (hooked.StoreFault n) number before after = after ≡ before
+LeavesBy hooked.NoMemory number before after = after ≡ before
+
+abbrev pub IfPast : HookedEnd → Type 0 → Type 0
+IfPast (hooked.Past n) P = P
+IfPast _ P = ⊤
+
+abbrev pub IfFault : HookedEnd → (ℕ → Type 0) → Type 0
+IfFault (hooked.StoreFault n) P = P n
+IfFault _ P = ⊤
+
+-- ======== what a drain does: which runs it makes, and which numbers leave
 
 -- ---- the runs of one job
 

@@ -1,9 +1,7 @@
 -- What runs in order are, in other words: job by job.
 use Rattle.std.specs.Prelude.{◌≡◌, ℕ, ◌<◌, ◌≤◌, ◌⊎◌, List, [], ◌∷◌, ◌++◌, length, ⊤}
 use Rattle.account_hooks.specs.declared.runs.Ran.{Ran}
-use Rattle.account_hooks.specs.Runs.{Job, Run, InOrder}
-use Rattle.account_hooks.specs.Gates.{Begins}
-use Rattle.account_hooks.specs.Drains.{NoneWell, EndsWell, runs_of}
+use Rattle.account_hooks.specs.Drains.{Job, Run, InOrder, Begins, NoneWell, EndsWell, runs_of}
 
 -- a job, and how its runs ended
 pub record Tried : Type 0 where

@@ -1,5 +1,3 @@
-pub mod Runs
-pub mod Gates
 pub mod Drains
-pub mod Memory
 pub mod Laws
+pub mod Memory

@@ -2,10 +2,9 @@
 use Rattle.std.specs.Prelude.{◌≡◌, ℕ, zero, suc, ◌+◌, ◌==◌, Bool, true, false, List, [], ◌∷◌, map, take, drop}
 use Rattle.std.specs.Prelude.{string_bytes, Option, Some, None, option_map, slice_get, Vec, refl}
 use Rattle.std.proofs.Common.{ap}
-use Rattle.acct_keeper.specs.Counts.{one_more}
+use Rattle.acct_keeper.specs.Faults.{one_more}
 use Rattle.acct_keeper.specs.Memory.{is_among}
-use Rattle.account_hooks.specs.Runs.{Job, Run, job_of}
-use Rattle.account_hooks.specs.Gates.{Begins, numbers}
+use Rattle.account_hooks.specs.Drains.{Job, Run, job_of, Begins, numbers}
 use Rattle.account_hooks.specs.declared.runs.Ran.{Ran}
 use Rattle.account_hooks.specs.declared.runs.Ran.TheVariants.{Exited}
 use Rattle.account_hooks.specs.declared.gate.HookedEnd.{HookedEnd}

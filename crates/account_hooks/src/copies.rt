@@ -1,6 +1,6 @@
 // Copies of texts and of jobs.
 ghost use Rattle.std.specs.Prelude.{◌≡◌, map, string_bytes, IfOk};
-ghost use Rattle.account_hooks.specs.Runs.{job_of};
+ghost use Rattle.account_hooks.specs.Drains.{job_of};
 
 use crate::runs::HookJob;
 use std::alloc::{AllocError, Global};

@@ -1,11 +1,9 @@
 // Draining: the program is run for one out row after the other.
 ghost use Rattle.std.specs.Prelude.{◌≡◌, ◌≤◌, ◌<◌, ℕ, List, Bool, true, false, None, ◌++◌, IfNone, IfSome};
-ghost use Rattle.acct_keeper.specs.Causes.{Rose};
-ghost use Rattle.account_hooks.specs.Runs.{Run, job_of, Adds};
+ghost use Rattle.acct_keeper.specs.Faults.{Rose};
+ghost use Rattle.account_hooks.specs.Drains.{Run, job_of, Adds, Begins, IsNext, TriedAs, runs_of, IsDraining, Drains};
+ghost use Rattle.account_hooks.specs.Drains.{GoesTo, IfHeld, IfStoreFault, IfNoMemory};
 ghost use Rattle.account_hooks.specs.declared.runs.Ran.{Ran};
-ghost use Rattle.account_hooks.specs.Gates.{Begins, IsNext};
-ghost use Rattle.account_hooks.specs.Drains.{TriedAs, runs_of, IsDraining, Drains, GoesTo, IfHeld, IfStoreFault};
-ghost use Rattle.account_hooks.specs.Drains.{IfNoMemory};
 
 use crate::gate::{HookGate, HookedEnd};
 use crate::runs::{HookJob, Ran, Spawner};

@@ -1,8 +1,7 @@
 // How a drain reaches the out rows.
 ghost use Rattle.std.specs.Prelude.{◌≡◌, ◌≤◌, ◌<◌, ℕ, List, IfOk, OnErr};
-ghost use Rattle.account_hooks.specs.Runs.{Job};
+ghost use Rattle.account_hooks.specs.Drains.{Job, Begins, numbers, IsNext, IsFirstLeft, LeavesBy, IfPast, IfFault};
 ghost use Rattle.account_hooks.specs.declared.gate.HookedEnd.TheVariants as hooked;
-ghost use Rattle.account_hooks.specs.Gates.{Begins, numbers, IsNext, IsFirstLeft, LeavesBy, IfPast, IfFault};
 
 use crate::runs::HookJob;
 use std::alloc::AllocError;

@@ -4,8 +4,8 @@
 //! It stands on the counts of faults of `acct_keeper`. A [`Spawner`] runs programs; a [`HookGate`] gives the first job
 //! that is left and takes it out. The layers above use the contract of [`drain`]: a program is run for a job only after
 //! one for the job before ended with 0, at most so many times, and the numbers that were taken out are those whose
-//! program ended with 0, except the last one where the taking out failed. In specs/ `Runs` says what runs in order are,
-//! `Gates` what a gate knows, and `Drains` where a drain stops; the law [`order_is_by_jobs`] says it job by job.
+//! program ended with 0, except the last one where the taking out failed. In specs/ `Drains` says what runs in order
+//! are, what a gate knows, and where a drain stops; the law [`order_is_by_jobs`] says it job by job.
 #![tactic(auto)]
 
 mod copies;

@@ -1,7 +1,7 @@
 // Spawners in memory.
 ghost use Rattle.std.specs.Prelude.{◌≡◌, ◌≤◌, ◌+◌, ◌∷◌, [], map, drop, not, option_map, string_bytes, IfOk, Some, None};
-ghost use Rattle.acct_keeper.specs.Counts.{faults_after};
-ghost use Rattle.account_hooks.specs.Runs.{Adds, ended_well};
+ghost use Rattle.acct_keeper.specs.Faults.{faults_after};
+ghost use Rattle.account_hooks.specs.Drains.{Adds, ended_well};
 ghost use Rattle.account_hooks.specs.Memory.{seen_run, seen_runs, EndsNext, to_come};
 
 use crate::copies::copy_all;

@@ -1,8 +1,8 @@
 // A gate in memory.
 ghost use Rattle.std.specs.Prelude.{◌≡◌, ◌≤◌, ◌<◌, ◌-◌, ◌^◌, [], true, map, take, length, slice_get, IfSome, IfOk, OnErr};
-ghost use Rattle.account_hooks.specs.Runs.{Job, job_of};
+ghost use Rattle.account_hooks.specs.Drains.{Job, job_of, Begins, numbers, IsNext, IsFirstLeft, LeavesBy, IfPast};
+ghost use Rattle.account_hooks.specs.Drains.{IfFault};
 ghost use Rattle.account_hooks.specs.declared.gate.HookedEnd.TheVariants as hooked;
-ghost use Rattle.account_hooks.specs.Gates.{Begins, numbers, IsNext, IsFirstLeft, LeavesBy, IfPast, IfFault};
 ghost use Rattle.account_hooks.specs.Memory.{jobs_in, gone_in, first_in, is_first, TakesOut, begins-taken};
 
 use crate::copies::copy_job;

@@ -1,7 +1,7 @@
 // What runs programs for account changes.
 ghost use Rattle.std.specs.Prelude.{◌≡◌, ◌≤◌, ◌∷◌, [], ℕ, not, List, Option, map, string_bytes};
-ghost use Rattle.account_hooks.specs.Runs.{Run, ended_well, Adds};
-ghost use Rattle.acct_keeper.specs.Counts.{faults_after};
+ghost use Rattle.account_hooks.specs.Drains.{Run, ended_well, Adds};
+ghost use Rattle.acct_keeper.specs.Faults.{faults_after};
 
 /// How a run of a program ended.
 #[derive(Clone, Copy, Debug, PartialEq, Eq)]

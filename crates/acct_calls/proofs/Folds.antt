@@ -13,8 +13,8 @@ use Rattle.ucd_table.proofs.RangedFacts.{values_ok, Stepped-at_values}
 use Rattle.ucd_case.specs.CaseFolding.{simple_folding, simple_fold}
 use Rattle.ucd_case.proofs.CaseFoldingLemmas.{simple_folding_stepped}
 use Rattle.ucd_case.proofs.BoundLemmas.{simple_fold_idem}
-use Rattle.acct_calls.specs.CodePoints.{AreUnits, is_surrogate, code_points, units_of}
-use Rattle.acct_calls.specs.Folding.{folded_point, folded_points, folded, is_same, AreSame, IsEquivalence}
+use Rattle.acct_calls.specs.Names.{AreUnits, is_surrogate, code_points, units_of, folded_point, folded_points, folded}
+use Rattle.acct_calls.specs.Names.{is_same, AreSame, IsEquivalence}
 use Rattle.acct_calls.proofs.Points.{Apart, Fits-from, starts_low, code_points-nil, code_points-alone, code_points-pair}
 use Rattle.acct_calls.proofs.Points.{units_of-nil, units_of-cons, code_points-units_of, Apart-code_points}
 

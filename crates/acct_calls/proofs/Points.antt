@@ -11,7 +11,7 @@ use Rattle.std.proofs.Math.Seq.{take-length}
 use Rattle.std.proofs.Math.Utf8.{scalar_cases}
 use Rattle.std.proofs.lemmas.List.{append-nil}
 use Rattle.std.proofs.lemmas.Grind.{flat_map-append}
-use Rattle.acct_calls.specs.CodePoints.{AreUnits, code_points, units_of}
+use Rattle.acct_calls.specs.Names.{AreUnits, code_points, units_of}
 
 -- the list begins with a low surrogate
 abbrev pub starts_low : List ℕ → Bool

@@ -1,5 +1,2 @@
 pub mod Calls
-pub mod CodePoints
-pub mod Domains
-pub mod Folding
-pub mod Validity
+pub mod Names

@@ -1,7 +1,7 @@
 // Code points off the beginning of UTF-16 units, and their units at the end of a list.
 ghost use Rattle.std.specs.Prelude.{◌≡◌, ◌<◌, ◌≤◌, [], ◌∷◌, ◌++◌, length, MatchOption, IfSome, OnOk};
 ghost use Rattle.std.specs.Char.Escape.{encode_utf16};
-ghost use Rattle.acct_calls.specs.CodePoints.{code_points};
+ghost use Rattle.acct_calls.specs.Names.{code_points};
 
 use std::alloc::AllocError;
 

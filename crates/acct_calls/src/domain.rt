@@ -1,6 +1,6 @@
 //! Which names and SIDs the account domain may have, beside the domain BUILTIN.
 ghost use Rattle.std.specs.Prelude.{◌≡◌, IfOk};
-ghost use Rattle.acct_calls.specs.Domains.{builtin_sid, is_domain_name, is_domain_sid};
+ghost use Rattle.acct_calls.specs.Names.{builtin_sid, is_domain_name, is_domain_sid};
 
 use crate::{Name, NoMemory};
 use acct_codes::Kind;
@@ -24,7 +24,7 @@ pub fn builtin_sid() -> Sid
 
 /// Whether the account domain may have the name: one that a group may have, of at most 15 units, and neither BUILTIN
 /// nor NT AUTHORITY by any spelling.
-#[tactic(auto, unfolding(crate::specs::Domains::is_domain_name))]
+#[tactic(auto, unfolding(crate::specs::Names::is_domain_name))]
 pub fn is_domain_name(alloc: Global, name: &Name) -> Result<bool, NoMemory>
     ensures { IfOk result (λ may. may ≡ is_domain_name name.now) }
 {
@@ -40,7 +40,7 @@ pub fn is_domain_name(alloc: Global, name: &Name) -> Result<bool, NoMemory>
 
 /// Whether the account domain may have the SID: one of 1 to 14 sub-authorities, so that an account's may have one more,
 /// but not BUILTIN's.
-#[tactic(auto, unfolding(crate::specs::Domains::is_domain_sid))]
+#[tactic(auto, unfolding(crate::specs::Names::is_domain_sid))]
 pub fn is_domain_sid(sid: &Sid) -> bool
     ensures { result ≡ is_domain_sid sid.now }
 {

@@ -1,13 +1,13 @@
 // Simple case folding of units, and their comparison after it.
 ghost use Rattle.std.specs.Prelude.{◌≡◌, ◌≤◌, IfOk};
-ghost use Rattle.acct_calls.specs.Folding.{folded_point, folded, is_same};
+ghost use Rattle.acct_calls.specs.Names.{folded_point, folded, is_same};
 
 use crate::NoMemory;
 use crate::code_points::{FirstPoint, first_point, push_point};
 use std::alloc::Global;
 use unicode::case::simple_fold;
 
-#[tactic(auto, unfolding(crate::specs::Folding::folded_point))]
+#[tactic(auto, unfolding(crate::specs::Names::folded_point))]
 pub fn fold_point(point: u32) -> u32
     requires { point ≤ 0x10_FFFF }
     ensures value { result ≡ folded_point point }

@@ -1,6 +1,6 @@
 //! Laws of names, each the contract of a function that does nothing.
-ghost use Rattle.acct_calls.specs.CodePoints.{PointsSpellUnits, CharactersAreRead};
-ghost use Rattle.acct_calls.specs.Folding.{TestTellsSame, IsEquivalence, FoldedIsSame, FoldsOnce, SameFoldAlike};
+ghost use Rattle.acct_calls.specs.Names.{PointsSpellUnits, CharactersAreRead, TestTellsSame, IsEquivalence};
+ghost use Rattle.acct_calls.specs.Names.{FoldedIsSame, FoldsOnce, SameFoldAlike};
 
 /// The code points of a list of units spell it.
 pub fn points_spell_units()

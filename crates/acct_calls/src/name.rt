@@ -3,9 +3,7 @@ ghost use Rattle.std.specs.Prelude.{◌≡◌, ◌↔◌, chars, IfOk, IsTrue};
 ghost use Rattle.std.specs.Str.{bytes_eq};
 ghost use Rattle.std.proofs.Common.{rules};
 ghost use Rattle.std.specs.Cmp.Rules.{comparing};
-ghost use Rattle.acct_calls.specs.CodePoints.{AreUnits, units_of};
-ghost use Rattle.acct_calls.specs.Folding.{folded, is_same, AreSame};
-ghost use Rattle.acct_calls.specs.Validity.{is_valid_name};
+ghost use Rattle.acct_calls.specs.Names.{AreUnits, units_of, folded, is_same, AreSame, is_valid_name};
 
 use crate::NoMemory;
 use crate::code_points::push_point;

@@ -1,7 +1,7 @@
 // The rules for names of accounts.
 ghost use Rattle.std.specs.Prelude.{◌≡◌, ◌≤◌};
-ghost use Rattle.acct_calls.specs.Validity.{most_units, has_length, may_stand, all_may_stand, is_dots_and_spaces};
-ghost use Rattle.acct_calls.specs.Validity.{is_valid_name};
+ghost use Rattle.acct_calls.specs.Names.{most_units, has_length, may_stand, all_may_stand, is_dots_and_spaces};
+ghost use Rattle.acct_calls.specs.Names.{is_valid_name};
 
 use crate::code_points::{FirstPoint, first_point};
 use acct_codes::Kind;
@@ -78,7 +78,7 @@ fn has_length(units: &[u16], kind: Kind) -> bool
     1 <= units.len() && units.len() <= most_units(kind)
 }
 
-#[tactic(auto, unfolding(crate::specs::Validity::is_valid_name))]
+#[tactic(auto, unfolding(crate::specs::Names::is_valid_name))]
 pub fn is_valid_name(units: &[u16], kind: Kind) -> bool
     ensures { result ≡ is_valid_name kind units.now }
 {

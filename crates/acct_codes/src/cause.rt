@@ -1,8 +1,8 @@
 //! The causes for which a PDU is refused and its connection closed, as this project numbers them.
 ghost use Rattle.std.specs.Prelude.{◌≡◌};
-ghost use Rattle.acct_codes.specs.Causes.{cause_version, cause_representation, cause_packet_type, cause_length};
-ghost use Rattle.acct_codes.specs.Causes.{cause_verifier, cause_body, cause_first_twice, cause_no_first};
-ghost use Rattle.acct_codes.specs.Causes.{cause_stub_too_long, cause_bind_order, cause_too_many_contexts};
+ghost use Rattle.acct_codes.specs.Pdus.{cause_version, cause_representation, cause_packet_type, cause_length};
+ghost use Rattle.acct_codes.specs.Pdus.{cause_verifier, cause_body, cause_first_twice, cause_no_first};
+ghost use Rattle.acct_codes.specs.Pdus.{cause_stub_too_long, cause_bind_order, cause_too_many_contexts};
 
 /// The version isn't 5.0 or 5.1.
 pub const CAUSE_VERSION: u8 = 1;

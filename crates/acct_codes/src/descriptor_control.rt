@@ -1,6 +1,6 @@
 //! The control bits of a security descriptor that are read and written (MS-DTYP 2.4.6).
 ghost use Rattle.std.specs.Prelude.{◌≡◌};
-ghost use Rattle.acct_codes.specs.DescriptorControl.{se_dacl_present, se_self_relative};
+ghost use Rattle.acct_codes.specs.Descriptors.{se_dacl_present, se_self_relative};
 
 /// There is a discretionary list.
 pub const SE_DACL_PRESENT: u16 = 0x0004;

@@ -1,7 +1,7 @@
 //! The revisions, types and flags in a security descriptor and its list (MS-DTYP 2.4.4.1, 2.4.5, 2.4.6).
 ghost use Rattle.std.specs.Prelude.{◌≡◌};
-ghost use Rattle.acct_codes.specs.DescriptorParts.{security_descriptor_revision, acl_revision};
-ghost use Rattle.acct_codes.specs.DescriptorParts.{access_allowed_ace_type, access_denied_ace_type, inherit_only_ace};
+ghost use Rattle.acct_codes.specs.Descriptors.{security_descriptor_revision, acl_revision, access_allowed_ace_type};
+ghost use Rattle.acct_codes.specs.Descriptors.{access_denied_ace_type, inherit_only_ace};
 
 /// The revision of a descriptor (MS-DTYP 2.4.6).
 pub const SECURITY_DESCRIPTOR_REVISION: u8 = 1;

@@ -1,7 +1,7 @@
 //! Statuses of RPC faults (C706, appendix E; MS-RPCE 3.1.1.5.5; MS-ERREF 2.2).
 ghost use Rattle.std.specs.Prelude.{◌≡◌};
-ghost use Rattle.acct_codes.specs.Faults.{fault_operation_range, fault_unknown_interface, fault_protocol_error};
-ghost use Rattle.acct_codes.specs.Faults.{fault_server_too_busy, fault_context_mismatch, fault_bad_stub_data};
+ghost use Rattle.acct_codes.specs.Pdus.{fault_operation_range, fault_unknown_interface, fault_protocol_error};
+ghost use Rattle.acct_codes.specs.Pdus.{fault_server_too_busy, fault_context_mismatch, fault_bad_stub_data};
 
 /// The operation number is not served.
 pub const NCA_S_OP_RNG_ERROR: u32 = 0x1C01_0002;

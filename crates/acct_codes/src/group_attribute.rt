@@ -1,7 +1,7 @@
 //! Attributes of a group, and of a membership in one (MS-SAMR 2.2.1.10).
 ghost use Rattle.std.specs.Prelude.{◌≡◌};
-ghost use Rattle.acct_codes.specs.GroupAttributes.{se_group_mandatory, se_group_enabled_by_default};
-ghost use Rattle.acct_codes.specs.GroupAttributes.{se_group_enabled, new_group_attributes};
+ghost use Rattle.acct_codes.specs.Accounts.{se_group_mandatory, se_group_enabled_by_default, se_group_enabled};
+ghost use Rattle.acct_codes.specs.Accounts.{new_group_attributes};
 
 /// The membership can't be switched off.
 pub const SE_GROUP_MANDATORY: u32 = 0x0000_0001;

@@ -1,6 +1,6 @@
 // Kinds of objects, and what the generic bits stand for at each.
 ghost use Rattle.std.specs.Prelude.{◌≡◌};
-ghost use Rattle.acct_codes.specs.Mappings.{generic_mapping, valid_rights};
+ghost use Rattle.acct_codes.specs.Rights.{generic_mapping, valid_rights};
 
 use crate::account_rights::{ACCOUNT_ALL_ACCESS, ACCOUNT_EXECUTE, ACCOUNT_READ, ACCOUNT_WRITE};
 use crate::alias_rights::{ALIAS_ALL_ACCESS, ALIAS_EXECUTE, ALIAS_READ, ALIAS_WRITE};

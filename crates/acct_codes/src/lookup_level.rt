@@ -1,6 +1,6 @@
 //! How far a name or a SID is looked up (LSAP_LOOKUP_LEVEL, MS-LSAT 2.2.16).
 ghost use Rattle.std.specs.Prelude.{◌≡◌};
-ghost use Rattle.acct_codes.specs.LookupLevels.{lsap_lookup_wksta, lsap_lookup_rodc_referral_to_full_dc};
+ghost use Rattle.acct_codes.specs.Accounts.{lsap_lookup_wksta, lsap_lookup_rodc_referral_to_full_dc};
 
 /// The least level: at the machine itself.
 pub const LSAP_LOOKUP_WKSTA: u16 = 1;

@@ -1,8 +1,8 @@
 //! What is answered to the presentation contexts of a bind, and to a bind (C706 12.6.3.1).
 ghost use Rattle.std.specs.Prelude.{◌≡◌};
-ghost use Rattle.acct_codes.specs.Negotiation.{result_acceptance, result_provider_rejection, reason_none};
-ghost use Rattle.acct_codes.specs.Negotiation.{reason_abstract_syntax, reason_transfer_syntaxes, reject_none};
-ghost use Rattle.acct_codes.specs.Negotiation.{reject_protocol_version};
+ghost use Rattle.acct_codes.specs.Pdus.{result_acceptance, result_provider_rejection, reason_none};
+ghost use Rattle.acct_codes.specs.Pdus.{reason_abstract_syntax, reason_transfer_syntaxes, reject_none};
+ghost use Rattle.acct_codes.specs.Pdus.{reject_protocol_version};
 
 /// The context is accepted (acceptance of p_cont_def_result_t).
 pub const RESULT_ACCEPTANCE: u16 = 0;

@@ -1,8 +1,7 @@
 //! The header of a PDU: its versions, its flags and its data representation (C706 12.6.3.1, 14.1).
 ghost use Rattle.std.specs.Prelude.{◌≡◌};
-ghost use Rattle.acct_codes.specs.PduHeaders.{rpc_vers, rpc_vers_minor, most_rpc_vers_minor, pfc_first_frag};
-ghost use Rattle.acct_codes.specs.PduHeaders.{pfc_last_frag, pfc_did_not_execute, pfc_object_uuid};
-ghost use Rattle.acct_codes.specs.PduHeaders.{drep_little_endian_ascii, drep_ieee};
+ghost use Rattle.acct_codes.specs.Pdus.{rpc_vers, rpc_vers_minor, most_rpc_vers_minor, pfc_first_frag, pfc_last_frag};
+ghost use Rattle.acct_codes.specs.Pdus.{pfc_did_not_execute, pfc_object_uuid, drep_little_endian_ascii, drep_ieee};
 
 /// The version (rpc_vers).
 pub const RPC_VERS: u8 = 5;

@@ -1,8 +1,8 @@
 //! The types of PDUs (PTYPE, C706 12.6.1), each by its section.
 ghost use Rattle.std.specs.Prelude.{◌≡◌};
-ghost use Rattle.acct_codes.specs.PduTypes.{ptype_request, ptype_response, ptype_fault, ptype_bind, ptype_bind_ack};
-ghost use Rattle.acct_codes.specs.PduTypes.{ptype_bind_nak, ptype_alter_context, ptype_alter_context_resp};
-ghost use Rattle.acct_codes.specs.PduTypes.{ptype_shutdown, ptype_co_cancel, ptype_orphaned};
+ghost use Rattle.acct_codes.specs.Pdus.{ptype_request, ptype_response, ptype_fault, ptype_bind, ptype_bind_ack};
+ghost use Rattle.acct_codes.specs.Pdus.{ptype_bind_nak, ptype_alter_context, ptype_alter_context_resp, ptype_shutdown};
+ghost use Rattle.acct_codes.specs.Pdus.{ptype_co_cancel, ptype_orphaned};
 
 /// A request (C706 12.6.4.9).
 pub const PTYPE_REQUEST: u8 = 0;

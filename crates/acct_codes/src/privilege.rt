@@ -2,13 +2,12 @@
 ghost use Rattle.std.specs.Prelude.{◌≡◌};
 ghost use Rattle.acct_codes.specs.Privileges.{se_create_token, se_assign_primary_token, se_lock_memory};
 ghost use Rattle.acct_codes.specs.Privileges.{se_increase_quota, se_machine_account, se_tcb, se_security};
-ghost use Rattle.acct_codes.specs.Privileges.{se_take_ownership, se_load_driver, se_system_profile};
-ghost use Rattle.acct_codes.specs.Privileges.{se_systemtime, se_prof_single_process, se_inc_base_priority};
-ghost use Rattle.acct_codes.specs.Privileges.{se_create_pagefile, se_create_permanent, se_backup, se_restore};
-ghost use Rattle.acct_codes.specs.Privileges.{se_shutdown, se_debug, se_audit, se_system_environment};
-ghost use Rattle.acct_codes.specs.Privileges.{se_change_notify, se_remote_shutdown, se_undock, se_sync_agent};
-ghost use Rattle.acct_codes.specs.Privileges.{se_enable_delegation, se_manage_volume, se_impersonate};
-ghost use Rattle.acct_codes.specs.Privileges.{se_create_global};
+ghost use Rattle.acct_codes.specs.Privileges.{se_take_ownership, se_load_driver, se_system_profile, se_systemtime};
+ghost use Rattle.acct_codes.specs.Privileges.{se_prof_single_process, se_inc_base_priority, se_create_pagefile};
+ghost use Rattle.acct_codes.specs.Privileges.{se_create_permanent, se_backup, se_restore, se_shutdown, se_debug};
+ghost use Rattle.acct_codes.specs.Privileges.{se_audit, se_system_environment, se_change_notify, se_remote_shutdown};
+ghost use Rattle.acct_codes.specs.Privileges.{se_undock, se_sync_agent, se_enable_delegation, se_manage_volume};
+ghost use Rattle.acct_codes.specs.Privileges.{se_impersonate, se_create_global};
 
 /// To create tokens; the least LUID.
 pub const SE_CREATE_TOKEN: u32 = 2;

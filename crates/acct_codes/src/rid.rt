@@ -1,12 +1,12 @@
 //! Well-known relative identifiers of accounts (MS-DTYP 2.4.2.4), and the bounds of those that are given out.
 ghost use Rattle.std.specs.Prelude.{◌≡◌};
-ghost use Rattle.acct_codes.specs.Rids.{security_world_authority, security_nt_authority, security_world_rid};
-ghost use Rattle.acct_codes.specs.Rids.{security_anonymous_logon_rid, security_authenticated_user_rid};
-ghost use Rattle.acct_codes.specs.Rids.{security_local_system_rid, security_builtin_domain_rid};
-ghost use Rattle.acct_codes.specs.Rids.{domain_user_rid_admin, domain_user_rid_guest, domain_group_rid_admins};
-ghost use Rattle.acct_codes.specs.Rids.{domain_group_rid_users, domain_group_rid_guests};
-ghost use Rattle.acct_codes.specs.Rids.{domain_alias_rid_admins, domain_alias_rid_users};
-ghost use Rattle.acct_codes.specs.Rids.{domain_alias_rid_guests, first_created_rid, most_rid};
+ghost use Rattle.acct_codes.specs.Accounts.{security_world_authority, security_nt_authority, security_world_rid};
+ghost use Rattle.acct_codes.specs.Accounts.{security_anonymous_logon_rid, security_authenticated_user_rid};
+ghost use Rattle.acct_codes.specs.Accounts.{security_local_system_rid, security_builtin_domain_rid};
+ghost use Rattle.acct_codes.specs.Accounts.{domain_user_rid_admin, domain_user_rid_guest, domain_group_rid_admins};
+ghost use Rattle.acct_codes.specs.Accounts.{domain_group_rid_users, domain_group_rid_guests, domain_alias_rid_admins};
+ghost use Rattle.acct_codes.specs.Accounts.{domain_alias_rid_users, domain_alias_rid_guests, first_created_rid};
+ghost use Rattle.acct_codes.specs.Accounts.{most_rid};
 
 /// The identifier authority of everyone, S-1-1.
 pub const SECURITY_WORLD_AUTHORITY: u64 = 1;

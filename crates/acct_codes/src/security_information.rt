@@ -1,7 +1,7 @@
 //! The bits that name the parts of a security descriptor (SECURITY_INFORMATION, MS-DTYP 2.4.7).
 ghost use Rattle.std.specs.Prelude.{◌≡◌};
-ghost use Rattle.acct_codes.specs.SecurityInformation.{owner_security_information, group_security_information};
-ghost use Rattle.acct_codes.specs.SecurityInformation.{dacl_security_information};
+ghost use Rattle.acct_codes.specs.Descriptors.{owner_security_information, group_security_information};
+ghost use Rattle.acct_codes.specs.Descriptors.{dacl_security_information};
 
 /// The owner.
 pub const OWNER_SECURITY_INFORMATION: u32 = 0x0000_0001;

@@ -1,7 +1,7 @@
 //! What a name or a SID is used for (SID_NAME_USE, MS-SAMR 2.2.2.3).
 ghost use Rattle.std.specs.Prelude.{◌≡◌};
-ghost use Rattle.acct_codes.specs.Uses.{sid_type_user, sid_type_group, sid_type_domain, sid_type_alias};
-ghost use Rattle.acct_codes.specs.Uses.{sid_type_well_known_group, sid_type_unknown};
+ghost use Rattle.acct_codes.specs.Accounts.{sid_type_user, sid_type_group, sid_type_domain, sid_type_alias};
+ghost use Rattle.acct_codes.specs.Accounts.{sid_type_well_known_group, sid_type_unknown};
 
 /// The account of a user.
 pub const SID_TYPE_USER: u32 = 1;

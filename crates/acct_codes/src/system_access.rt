@@ -1,11 +1,10 @@
 //! Bits of an account's system access: its rights to log on (MS-LSAD 2.2.1.2).
 ghost use Rattle.std.specs.Prelude.{◌≡◌};
-ghost use Rattle.acct_codes.specs.SystemAccess.{policy_mode_interactive, policy_mode_network};
-ghost use Rattle.acct_codes.specs.SystemAccess.{policy_mode_batch, policy_mode_service};
-ghost use Rattle.acct_codes.specs.SystemAccess.{policy_mode_deny_interactive, policy_mode_deny_network};
-ghost use Rattle.acct_codes.specs.SystemAccess.{policy_mode_deny_batch, policy_mode_deny_service};
-ghost use Rattle.acct_codes.specs.SystemAccess.{policy_mode_remote_interactive};
-ghost use Rattle.acct_codes.specs.SystemAccess.{policy_mode_deny_remote_interactive, known_system_access};
+ghost use Rattle.acct_codes.specs.Privileges.{policy_mode_interactive, policy_mode_network, policy_mode_batch};
+ghost use Rattle.acct_codes.specs.Privileges.{policy_mode_service, policy_mode_deny_interactive};
+ghost use Rattle.acct_codes.specs.Privileges.{policy_mode_deny_network, policy_mode_deny_batch};
+ghost use Rattle.acct_codes.specs.Privileges.{policy_mode_deny_service, policy_mode_remote_interactive};
+ghost use Rattle.acct_codes.specs.Privileges.{policy_mode_deny_remote_interactive, known_system_access};
 
 /// To log on interactively.
 pub const POLICY_MODE_INTERACTIVE: u32 = 0x0000_0001;

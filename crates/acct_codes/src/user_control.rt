@@ -1,8 +1,7 @@
 //! Bits of a user's account control (MS-SAMR 2.2.1.12).
 ghost use Rattle.std.specs.Prelude.{◌≡◌};
-ghost use Rattle.acct_codes.specs.UserControl.{user_account_disabled, user_password_not_required};
-ghost use Rattle.acct_codes.specs.UserControl.{user_normal_account, user_workstation_trust_account};
-ghost use Rattle.acct_codes.specs.UserControl.{user_server_trust_account};
+ghost use Rattle.acct_codes.specs.Accounts.{user_account_disabled, user_password_not_required, user_normal_account};
+ghost use Rattle.acct_codes.specs.Accounts.{user_workstation_trust_account, user_server_trust_account};
 
 /// The account is disabled.
 pub const USER_ACCOUNT_DISABLED: u32 = 0x0000_0001;

@@ -1,9 +1,9 @@
 //! Rights to a user object (MS-SAMR 2.2.1.7).
 ghost use Rattle.std.specs.Prelude.{◌≡◌};
 ghost use Rattle.acct_codes.specs.Rights.{user_read_general, user_read_preferences, user_write_preferences};
-ghost use Rattle.acct_codes.specs.Rights.{user_read_logon, user_read_account, user_write_account};
-ghost use Rattle.acct_codes.specs.Rights.{user_change_password, user_force_password_change, user_list_groups};
-ghost use Rattle.acct_codes.specs.Rights.{user_read_group_information, user_write_group_information};
+ghost use Rattle.acct_codes.specs.Rights.{user_read_logon, user_read_account, user_write_account, user_change_password};
+ghost use Rattle.acct_codes.specs.Rights.{user_force_password_change, user_list_groups, user_read_group_information};
+ghost use Rattle.acct_codes.specs.Rights.{user_write_group_information};
 
 use crate::standard_rights::STANDARD_RIGHTS_REQUIRED;
 

@@ -10,7 +10,7 @@ use Rattle.std.specs.List.{starts_with}
 use Rattle.std.specs.Option.{option_map_or}
 use Rattle.acct_config.proofs.Decimals.{decimal_of-decimal, decimal_of-is}
 use Rattle.acct_config.proofs.Parts.{parted_at, parted_is}
-use Rattle.acct_config.specs.Address.{is_port, is_parted_host_port, is_host_port, is_address}
+use Rattle.acct_config.specs.Values.{is_port, is_parted_host_port, is_host_port, is_address}
 use Rattle.acct_config.specs.Grammar.{IsTcp, IsUnix, AddressesAreSpelled}
 use Rattle.acct_base.specs.Words.{is_within, parted, decimal_of}
 

@@ -11,7 +11,7 @@ use Rattle.std.specs.Char.{digit_value, is_digit}
 use Rattle.std.specs.Fmt.{decimal}
 use Rattle.std.specs.Str.Parse.{AllDigits, digits_value, digits_value_after}
 use Rattle.acct_base.specs.Words.{is_within, decimal_from, begins_with_zero, decimal_of}
-use Rattle.acct_config.specs.Words.{hexadecimal_from}
+use Rattle.acct_config.specs.Values.{hexadecimal_from}
 
 own : IsNumeralModel (AllDigits 10) (digits_value 10)
 own = record { to = λ ds h. h; from = λ ds h. h; same = λ ds h. refl }

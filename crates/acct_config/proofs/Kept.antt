@@ -6,7 +6,7 @@ use Rattle.std.specs.Prelude.{All, IfSome}
 use Rattle.std.proofs.lemmas.List.Elements.{All-cons}
 use Rattle.dtyp_access.specs.declared.ace.Ace.{Ace}
 use Rattle.dtyp_access.specs.declared.descriptor.Descriptor.{Descriptor}
-use Rattle.dtyp_access.specs.Limits.{HasFewAces, IsDescriptor}
+use Rattle.dtyp_access.specs.Parts.{HasFewAces, IsDescriptor}
 use Rattle.std.proofs.lemmas.Bool.{and_parts, and_from}
 use Rattle.std.proofs.lemmas.Bool.Decides.{nat_tests}
 use Rattle.std.proofs.lemmas.List.{length-map}
@@ -15,23 +15,20 @@ use Rattle.std.specs.List.{list_all, slice_get, filter_map, cons_option}
 use Rattle.std.specs.Option.{option_map_or}
 use Rattle.toml.specs.Data.{Data, get}
 use Rattle.acct_codes.specs.declared.kind.Kind.{Kind}
-use Rattle.dtyp_sid.specs.Value.{SidValue}
+use Rattle.dtyp_sid.specs.Sids.{SidValue}
 use Rattle.acct_config.specs.declared.limits.Limit.{Limit}
 use Rattle.acct_config.specs.declared.limits.Limit.TheVariants.{Calls, Bytes, Conns, Read, Periods}
-use Rattle.acct_config.specs.Document.{elements, elements_of}
+use Rattle.acct_config.specs.Document.{elements, elements_of, each_limit, range_of, found}
 use Rattle.acct_config.specs.Kinds.{kinds}
-use Rattle.acct_config.specs.Ranges.{each_limit, range_of}
-use Rattle.acct_config.specs.Right.{IsRight, AreLimits, IsInRange, is_right_listener, is_right_list}
-use Rattle.acct_config.specs.Right.{is_right_descriptor, IsRightHook}
+use Rattle.acct_config.specs.Spelled.{IsRightConfig, AreLimits, IsInRange, is_right_listener, is_right_list}
+use Rattle.acct_config.specs.Spelled.{is_right_descriptor, IsRightHook, count_of, listener_of, ace_at, acl_of}
+use Rattle.acct_config.specs.Spelled.{descriptor_of, limit_of, limits_of, hook_of, config_of}
 use Rattle.acct_config.specs.Rules.{first_broken_from, kept, domain_sid, listeners, listener_name, have_names}
 use Rattle.acct_config.specs.Rules.{has_address, sid_of, is_sid, token_texts, has_token, is_number_within, workers}
 use Rattle.acct_config.specs.Rules.{links, has_counts, descriptor_table, is_ace, ace_texts, has_aces, aces_are_entries}
 use Rattle.acct_config.specs.Rules.{limit_number, is_in_range, hook_table, program, tries, names_program}
 use Rattle.acct_config.specs.Rules.{hook_is_right}
-use Rattle.acct_config.specs.Shape.{found}
-use Rattle.acct_config.specs.Spelled.{count_of, listener_of, ace_at, acl_of, descriptor_of, limit_of, limits_of}
-use Rattle.acct_config.specs.Spelled.{hook_of, config_of}
-use Rattle.acct_calls.specs.Domains.{is_domain_sid}
+use Rattle.acct_calls.specs.Names.{is_domain_sid}
 use Rattle.acct_config.specs.Values.{administrators, is_listener_name, are_distinct}
 use Rattle.acct_base.specs.Words.{is_within}
 
@@ -184,7 +181,7 @@ few-read d none =
     few-aces (config_of d).descriptors (descriptors-kept d kinds (nth_kept 1 (kept d) 8 _ none refl))
 
 pub right-read : (d : Data) → first_broken_from 1 (kept d) ≡ None → All IsDescriptor (config_of d).descriptors
-    → IsRight (config_of d)
+    → IsRightConfig (config_of d)
 unfolding kept hook_is_right
 right-read d none parts =
     let names : have_names (listeners d) ≡ true = nth_kept 1 (kept d) 3 _ none refl in

@@ -11,17 +11,16 @@ use Rattle.std.specs.Prelude.{option_and_then, if◌then◌else◌}
 use Rattle.std.specs.Str.{bytes_eq}
 use Rattle.std.specs.Str.Parse.{AllDigits, digits_value}
 use Rattle.dtyp_sid.specs.Reading.{sid_of_text, ReadTextsAreTexts}
-use Rattle.dtyp_sid.specs.Value.{SidValue}
+use Rattle.dtyp_sid.specs.Sids.{SidValue}
 use Rattle.dtyp_access.specs.declared.ace.Ace.{Ace}
 use Rattle.dtyp_access.specs.declared.ace.AceKind.{AceKind}
 use Rattle.dtyp_access.specs.declared.ace.AceKind.TheVariants.{Allow, Deny}
 use Rattle.acct_config.proofs.Decimals.{hexadecimal_digits, digits_hexadecimal_from, decimal_of-decimal, decimal_of-is}
 use Rattle.acct_config.proofs.Parts.{parted_at, IsParted, parted_is, digits_have_none}
-use Rattle.acct_config.specs.Entries.{kind_of_word, mask_of_word, up_to_255, flags_of_word, ace_of, ace_behind_mask}
-use Rattle.acct_config.specs.Entries.{ace_behind_kind, ace_of_parts, ace_of_text}
+use Rattle.acct_config.specs.Values.{kind_of_word, mask_of_word, up_to_255, flags_of_word, ace_of, ace_behind_mask}
+use Rattle.acct_config.specs.Values.{ace_behind_kind, ace_of_parts, ace_of_text, hexadecimal_from}
 use Rattle.acct_config.specs.Grammar.{word_of_kind, IsEntry, EntriesAreSpelled}
 use Rattle.acct_base.specs.Words.{parted, decimal_of}
-use Rattle.acct_config.specs.Words.{hexadecimal_from}
 
 -- what an answer of a test says
 some_if : {X : Type 0} (b : Bool) (o : Option X) (x : X) → (if b then o else None) ≡ Some x → (b ≡ true) × (o ≡ Some x)

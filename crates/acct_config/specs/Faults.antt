@@ -9,13 +9,11 @@ use Rattle.acct_codes.specs.declared.kind.Kind.{Kind}
 use Rattle.acct_config.specs.declared.sections.Section.{Section}
 use Rattle.acct_config.specs.declared.sections.Section.TheVariants.{Document, Domain, Listener, Descriptors, Descriptor}
 use Rattle.acct_config.specs.declared.sections.Section.TheVariants.{Limits, Hook}
-use Rattle.acct_config.specs.Document.{keys}
+use Rattle.acct_config.specs.Document.{keys, each_limit, limit_key, limit_keys, is_among, required, optional, is_text}
+use Rattle.acct_config.specs.Document.{is_number, is_array_of, is_listener, is_descriptor, table_names}
 use Rattle.acct_config.specs.Kinds.{kinds, kind_name, kind_names}
-use Rattle.acct_config.specs.Ranges.{each_limit, limit_key, limit_keys}
 use Rattle.acct_config.specs.Rules.{listeners, listener_name, has_address, has_token, has_counts, is_number_within}
 use Rattle.acct_config.specs.Rules.{workers, owner_is_sid, aces_are_entries, is_in_range, hook_table, program}
-use Rattle.acct_config.specs.Shape.{is_among, required, optional, is_text, is_number, is_array_of, is_listener}
-use Rattle.acct_config.specs.Shape.{is_descriptor, table_names}
 use Rattle.acct_config.specs.Values.{is_listener_name}
 use Rattle.acct_base.specs.Words.{is_within}
 

@@ -7,8 +7,7 @@ use Rattle.dtyp_sid.specs.Text.{IsText}
 use Rattle.dtyp_access.specs.declared.ace.Ace.{Ace}
 use Rattle.dtyp_access.specs.declared.ace.AceKind.{AceKind}
 use Rattle.dtyp_access.specs.declared.ace.AceKind.TheVariants.{Allow, Deny}
-use Rattle.acct_config.specs.Address.{is_address}
-use Rattle.acct_config.specs.Entries.{ace_of_text}
+use Rattle.acct_config.specs.Values.{is_address, ace_of_text}
 
 -- a host that has no colon, and a port in decimal
 pub record IsTcp (text : List ℕ) : Type 0 where

@@ -1,16 +1,10 @@
-pub mod Address
 pub mod Document
-pub mod Entries
 pub mod Errors
 pub mod Faults
 pub mod Grammar
 pub mod Kinds
 pub mod Laws
 pub mod Places
-pub mod Ranges
-pub mod Right
 pub mod Rules
-pub mod Shape
 pub mod Spelled
 pub mod Values
-pub mod Words

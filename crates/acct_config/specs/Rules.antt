@@ -5,18 +5,15 @@ use Rattle.std.specs.Prelude.{◌==◌, List, [], ◌∷◌, length, map, Option
 use Rattle.std.specs.List.{list_all}
 use Rattle.std.specs.Option.{option_map_or}
 use Rattle.toml.specs.Data.{Data, get}
-use Rattle.dtyp_sid.specs.Value.{SidValue}
+use Rattle.dtyp_sid.specs.Sids.{SidValue}
 use Rattle.dtyp_sid.specs.Reading.{sid_of_text}
 use Rattle.acct_codes.specs.declared.kind.Kind.{Kind}
 use Rattle.acct_config.specs.declared.limits.Limit.{Limit}
-use Rattle.acct_config.specs.Address.{is_address}
-use Rattle.acct_config.specs.Document.{document, whole, get_in, text_of, number_of, elements_of}
-use Rattle.acct_config.specs.Entries.{ace_of_text}
+use Rattle.acct_config.specs.Values.{is_address, ace_of_text, is_listener_name, are_distinct}
+use Rattle.acct_config.specs.Document.{document, whole, get_in, text_of, number_of, elements_of, each_limit, limit_key}
+use Rattle.acct_config.specs.Document.{range_of, is_document, found}
 use Rattle.acct_config.specs.Kinds.{kinds, kind_name}
-use Rattle.acct_config.specs.Ranges.{each_limit, limit_key, range_of}
-use Rattle.acct_config.specs.Shape.{is_document, found}
-use Rattle.acct_calls.specs.Domains.{name_of_text, is_domain_name, is_domain_sid}
-use Rattle.acct_config.specs.Values.{is_listener_name, are_distinct}
+use Rattle.acct_calls.specs.Names.{name_of_text, is_domain_name, is_domain_sid}
 use Rattle.acct_base.specs.Words.{is_within}
 
 -- the account domain

@@ -1,11 +1,11 @@
 // The addresses of listeners.
 ghost use Rattle.std.specs.Prelude.{◌≡◌};
-ghost use Rattle.acct_config.specs.Address.{is_port, is_host_port, is_address};
+ghost use Rattle.acct_config.specs.Values.{is_port, is_host_port, is_address};
 
 use crate::words::parted;
 use acct_base::decimal_of;
 
-#[tactic(auto, unfolding(crate::specs::Address::is_port))]
+#[tactic(auto, unfolding(crate::specs::Values::is_port))]
 fn is_port(text: &str) -> bool
     ensures { result ≡ is_port text.now }
 {
@@ -15,7 +15,7 @@ fn is_port(text: &str) -> bool
     }
 }
 
-#[tactic(auto, unfolding(crate::specs::Address::is_host_port))]
+#[tactic(auto, unfolding(crate::specs::Values::is_host_port))]
 fn is_host_port(text: &str) -> bool
     ensures { result ≡ is_host_port text.now }
 {
@@ -27,7 +27,7 @@ fn is_host_port(text: &str) -> bool
 
 /// Whether a listener may have the address: `tcp:HOST:PORT`, the host without a colon and the port from 1 to 65535, or
 /// `unix:PATH`. Neither host nor path is empty.
-#[tactic(auto, unfolding(crate::specs::Address::is_address))]
+#[tactic(auto, unfolding(crate::specs::Values::is_address))]
 pub fn is_address(text: &str) -> bool
     ensures { result ≡ is_address text.now }
 {

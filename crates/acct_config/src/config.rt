@@ -1,7 +1,7 @@
 // A configuration, and its copies.
 ghost use Rattle.std.specs.Prelude.{◌≡◌, Some, IfOk, slice_get};
 ghost use Rattle.acct_config.specs.Kinds.{kind_place};
-ghost use Rattle.acct_config.specs.Right.{IsRight};
+ghost use Rattle.acct_config.specs.Spelled.{IsRightConfig};
 
 use crate::kinds::kind_place;
 use crate::{Limits, Text};
@@ -127,7 +127,7 @@ impl Config {
 
     /// The descriptor of the objects of a kind.
     pub fn descriptor(&self, kind: Kind) -> &Descriptor
-        requires { IsRight self.now }
+        requires { IsRightConfig self.now }
         ensures { slice_get self.now.descriptors (kind_place kind) ≡ Some result.now }
     {
         &self.descriptors.as_slice()[kind_place(kind)]

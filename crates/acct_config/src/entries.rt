@@ -2,8 +2,8 @@
 ghost use Rattle.std.specs.Prelude.{◌≡◌};
 ghost use Rattle.dtyp_sid.specs.Reading.{sid_of_text};
 ghost use Rattle.acct_base.specs.Words.{parted};
-ghost use Rattle.acct_config.specs.Entries.{kind_of_word, mask_of_word, flags_of_word, ace_of_text};
-ghost use Rattle.acct_config.specs.Entries.{ace_of, ace_behind_mask, ace_behind_kind};
+ghost use Rattle.acct_config.specs.Values.{kind_of_word, mask_of_word, flags_of_word, ace_of_text, ace_of};
+ghost use Rattle.acct_config.specs.Values.{ace_behind_mask, ace_behind_kind};
 
 use crate::words::{hexadecimal_of, parted};
 use acct_base::{decimal_of, rest_of};
@@ -17,7 +17,7 @@ pub fn sid_of_text(text: &str) -> Option<Sid>
     parse_text(text).ok()
 }
 
-#[tactic(auto, unfolding(crate::specs::Entries::kind_of_word))]
+#[tactic(auto, unfolding(crate::specs::Values::kind_of_word))]
 fn kind_of_word(word: &str) -> Option<AceKind>
     ensures { result ≡ kind_of_word word.now }
 {
@@ -30,7 +30,7 @@ fn kind_of_word(word: &str) -> Option<AceKind>
     None
 }
 
-#[tactic(auto, unfolding(crate::specs::Entries::mask_of_word))]
+#[tactic(auto, unfolding(crate::specs::Values::mask_of_word))]
 fn mask_of_word(word: &[u8]) -> Option<u32>
     ensures { result ≡ mask_of_word word.now }
 {
@@ -41,7 +41,7 @@ fn mask_of_word(word: &[u8]) -> Option<u32>
     }
 }
 
-#[tactic(auto, unfolding(crate::specs::Entries::flags_of_word))]
+#[tactic(auto, unfolding(crate::specs::Values::flags_of_word))]
 fn flags_of_word(word: &[u8]) -> Option<u8>
     ensures { result ≡ flags_of_word word.now }
 {
@@ -81,7 +81,7 @@ fn ace_behind_kind(kind: &str, text: &str) -> Option<Ace>
 }
 
 /// The entry that a text spells: `allow MASK FLAGS SID` or `deny MASK FLAGS SID`.
-#[tactic(auto, unfolding(crate::specs::Entries::ace_of_text))]
+#[tactic(auto, unfolding(crate::specs::Values::ace_of_text))]
 pub fn ace_of_text(text: &str) -> Option<Ace>
     ensures { result ≡ ace_of_text text.now }
 {

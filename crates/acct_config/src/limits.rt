@@ -1,6 +1,6 @@
 // The limits of a server, and the table of their keys, their ranges and what they are where no key sets them.
 ghost use Rattle.std.specs.Prelude.{◌≡◌};
-ghost use Rattle.acct_config.specs.Ranges.{limit_key, range_of};
+ghost use Rattle.acct_config.specs.Document.{limit_key, range_of};
 
 /// What a server takes at most.
 #[derive(Clone, Copy, Debug, PartialEq, Eq)]

@@ -2,11 +2,9 @@
 ghost use Rattle.std.specs.Prelude.{◌≡◌, map, option_map, not, find, position, string_bytes};
 ghost use Rattle.std.specs.List.{list_all};
 ghost use Rattle.toml.specs.View.{view, table_view};
-ghost use Rattle.acct_config.specs.Document.{keys};
+ghost use Rattle.acct_config.specs.Document.{keys, limit_key, is_among, required, optional, is_number, is_array_of};
+ghost use Rattle.acct_config.specs.Document.{is_descriptor, is_listener};
 ghost use Rattle.acct_config.specs.Kinds.{kind_name};
-ghost use Rattle.acct_config.specs.Ranges.{limit_key};
-ghost use Rattle.acct_config.specs.Shape.{is_among, required, optional, is_number, is_array_of, is_descriptor};
-ghost use Rattle.acct_config.specs.Shape.{is_listener};
 ghost use Rattle.acct_config.specs.Faults.{unknown_key, is_table, whole_misfit, domain_misfit, listener_misfit};
 ghost use Rattle.acct_config.specs.Faults.{descriptor_misfit, descriptors_misfit, limits_misfit, domain_shape};
 ghost use Rattle.acct_config.specs.Faults.{listeners_shape, descriptors_shape, each_descriptor_shape, limits_shape};

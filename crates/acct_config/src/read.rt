@@ -1,11 +1,10 @@
 // How a configuration is read.
 ghost use Rattle.std.specs.Prelude.{◌≡◌, None, All, IsSome, IfOk, IfErr};
-ghost use Rattle.dtyp_access.specs.Limits.{HasFewAces, IsDescriptor};
+ghost use Rattle.dtyp_access.specs.Parts.{HasFewAces, IsDescriptor};
 ghost use Rattle.acct_config.specs.Document.{document, whole};
 ghost use Rattle.acct_config.specs.Errors.{IfRule, IsFirst};
-ghost use Rattle.acct_config.specs.Right.{IsRight};
+ghost use Rattle.acct_config.specs.Spelled.{IsRightConfig, config_of, IsConfigOf, IsSpelledBy};
 ghost use Rattle.acct_config.specs.Rules.{kept, first_broken, first_broken_from};
-ghost use Rattle.acct_config.specs.Spelled.{config_of, IsConfigOf, IsSpelledBy};
 ghost use Rattle.toml.specs.View.{view};
 
 use crate::{Config, ConfigError, rules, spelled};
@@ -36,7 +35,7 @@ fn keep_limits(descriptors: &[Descriptor])
 fn right_config(alloc: Global, document: &Value) -> Result<Config, AllocError>
     requires { first_broken_from 1 (kept (view document.now)) ≡ None }
     ensures value { IfOk result (λ config. config ≡ config_of (view document.now)) }
-    ensures right { IfOk result IsRight }
+    ensures right { IfOk result IsRightConfig }
 {
     let config = spelled::config_of(alloc, document)?;
     keep_limits(config.descriptors.as_slice());
@@ -46,7 +45,7 @@ fn right_config(alloc: Global, document: &Value) -> Result<Config, AllocError>
 /// The configuration that a parsed document spells, or the first rule from 1 on that it breaks.
 fn checked(alloc: Global, document: &Value) -> Result<Config, ConfigError>
     ensures spelled { IfOk result (IsConfigOf (view document.now)) }
-    ensures right { IfOk result IsRight }
+    ensures right { IfOk result IsRightConfig }
     ensures rule { IfErr result (IsFirst (first_broken_from 1 (kept (view document.now)))) }
 {
     match rules::first_broken(alloc, document)? {
@@ -59,7 +58,7 @@ fn checked(alloc: Global, document: &Value) -> Result<Config, ConfigError>
 /// of the bytes.
 pub fn read_config(alloc: Global, bytes: &[u8]) -> Result<Config, ConfigError>
     ensures spelled { IfOk result (IsSpelledBy bytes.now) }
-    ensures right { IfOk result IsRight }
+    ensures right { IfOk result IsRightConfig }
     ensures rule { IfErr result (IsFirst (first_broken bytes.now)) }
 {
     let document = parse(alloc, bytes)?;

@@ -2,12 +2,10 @@
 ghost use Rattle.std.specs.Prelude.{◌≡◌, map, codes};
 ghost use Rattle.std.specs.List.{list_all};
 ghost use Rattle.toml.specs.View.{view, table_view};
-ghost use Rattle.acct_config.specs.Document.{keys};
+ghost use Rattle.acct_config.specs.Document.{keys, limit_key, is_among, has_only, required, optional, is_text};
+ghost use Rattle.acct_config.specs.Document.{is_number, is_array_of, is_domain, is_listener, is_descriptor};
+ghost use Rattle.acct_config.specs.Document.{are_descriptors, are_limits, is_hook, is_document};
 ghost use Rattle.acct_config.specs.Kinds.{kind_name};
-ghost use Rattle.acct_config.specs.Ranges.{limit_key};
-ghost use Rattle.acct_config.specs.Shape.{is_among, has_only, required, optional, is_text, is_number, is_array_of};
-ghost use Rattle.acct_config.specs.Shape.{is_domain, is_listener, is_descriptor, are_descriptors, are_limits};
-ghost use Rattle.acct_config.specs.Shape.{is_hook, is_document};
 
 use crate::document::elements;
 use crate::kinds::{KIND_NAMES, KINDS, kind_name};
@@ -92,7 +90,7 @@ pub fn allows_texts(value: &Value, key: &str) -> bool
     }
 }
 
-#[tactic(auto, unfolding(crate::specs::Shape::is_domain))]
+#[tactic(auto, unfolding(crate::specs::Document::is_domain))]
 fn is_domain(value: &Value) -> bool
     ensures { result ≡ is_domain (view value.now) }
 {
@@ -108,7 +106,7 @@ fn requires_domain(value: &Value, key: &str) -> bool
     }
 }
 
-#[tactic(auto, unfolding(crate::specs::Shape::is_listener))]
+#[tactic(auto, unfolding(crate::specs::Document::is_listener))]
 pub fn is_listener(value: &Value) -> bool
     ensures { result ≡ is_listener (view value.now) }
 {
@@ -135,7 +133,7 @@ fn requires_listeners(value: &Value, key: &str) -> bool
     }
 }
 
-#[tactic(auto, unfolding(crate::specs::Shape::is_descriptor))]
+#[tactic(auto, unfolding(crate::specs::Document::is_descriptor))]
 fn is_descriptor(value: &Value) -> bool
     ensures { result ≡ is_descriptor (view value.now) }
 {
@@ -161,7 +159,7 @@ fn each_allows_descriptor(value: &Value, kinds: &[Kind]) -> bool
         .all(|kind| allows_descriptor(value, kind_name(*kind)))
 }
 
-#[tactic(auto, unfolding(crate::specs::Shape::are_descriptors))]
+#[tactic(auto, unfolding(crate::specs::Document::are_descriptors))]
 fn are_descriptors(value: &Value) -> bool
     ensures { result ≡ are_descriptors (view value.now) }
 {
@@ -185,7 +183,7 @@ fn each_allows_number(value: &Value, limits: &[Limit]) -> bool
         .all(|limit| allows_number(value, limit_key(*limit)))
 }
 
-#[tactic(auto, unfolding(crate::specs::Shape::are_limits))]
+#[tactic(auto, unfolding(crate::specs::Document::are_limits))]
 fn are_limits(value: &Value) -> bool
     ensures { result ≡ are_limits (view value.now) }
 {
@@ -201,7 +199,7 @@ fn allows_limits(value: &Value, key: &str) -> bool
     }
 }
 
-#[tactic(auto, unfolding(crate::specs::Shape::is_hook))]
+#[tactic(auto, unfolding(crate::specs::Document::is_hook))]
 fn is_hook(value: &Value) -> bool
     ensures { result ≡ is_hook (view value.now) }
 {
@@ -220,7 +218,7 @@ fn allows_hook(value: &Value, key: &str) -> bool
 }
 
 /// Whether the document has only the keys that a configuration has, with their types, and those that it needs.
-#[tactic(auto, unfolding(crate::specs::Shape::is_document))]
+#[tactic(auto, unfolding(crate::specs::Document::is_document))]
 pub fn is_document(value: &Value) -> bool
     ensures { result ≡ is_document (view value.now) }
 {

@@ -1,7 +1,7 @@
 // Words and hexadecimal numbers in a text.
 ghost use Rattle.std.specs.Prelude.{◌≡◌, ◌<◌, ◌≤◌, length, option_map};
 ghost use Rattle.acct_base.specs.Words.{parted};
-ghost use Rattle.acct_config.specs.Words.{hexadecimal_from};
+ghost use Rattle.acct_config.specs.Values.{hexadecimal_from};
 
 /// What stands before the first separator, and what stands after it.
 pub fn parted(text: &str, separator: char) -> Option<(&str, &str)>

@@ -9,7 +9,7 @@ use Rattle.std.specs.Cmp.{first_so, second_so}
 use Rattle.std.specs.Cmp.Lexicographic.{nat_list_cmp_total}
 use Rattle.acct_keeper.specs.declared.pairs.Pair.{Pair}
 use Rattle.acct_keeper.specs.Pairs.{compare, by_order, below_all, is_ascending}
-use Rattle.acct_keeper.specs.Places.{place, further}
+use Rattle.acct_keeper.specs.steps.Places.{place, further}
 use Rattle.acct_keeper.proofs.Ordered.{tied-is, less}
 
 turned : (j k : List ℕ) (r : Ordering) → compare j k ≡ r → compare k j ≡ ordering_reverse r

@@ -6,7 +6,7 @@ use Rattle.std.specs.Ordering.{is_eq}
 use Rattle.std.specs.Cmp.{first_so, second_so}
 use Rattle.acct_keeper.specs.declared.pairs.Pair.{Pair}
 use Rattle.acct_keeper.specs.Pairs.{compare, by_order, put, without, is_ascending, below_all}
-use Rattle.acct_keeper.specs.Places.{place, further}
+use Rattle.acct_keeper.specs.steps.Places.{place, further}
 use Rattle.acct_keeper.proofs.Ordered.{tied-is, less, below_less}
 
 abbrev pub put_at : Result ℕ ℕ → Pair → List Pair → List Pair

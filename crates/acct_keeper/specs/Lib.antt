@@ -1,7 +1,5 @@
-pub mod Causes
-pub mod Counts
 pub mod Ends
+pub mod Faults
 pub mod Memory
 pub mod Pairs
-pub mod Places
-pub mod Whole
+pub mod steps

@@ -2,7 +2,7 @@
 use Rattle.std.specs.Prelude.{◌≡◌, ℕ, ◌-◌, ◌==◌, ◌||◌, Bool, true, false, List, length, nat_lt, is_err}
 use Rattle.std.specs.Prelude.{if◌then◌else◌, Result, Ok, Err}
 use Rattle.std.specs.List.{list_any}
-use Rattle.acct_keeper.specs.Counts.{one_more}
+use Rattle.acct_keeper.specs.Faults.{one_more}
 use Rattle.acct_keeper.specs.declared.keeper.KeepError.{KeepError}
 use Rattle.acct_keeper.specs.declared.keeper.KeepError.TheVariants.{Failed, NoMemory}
 use Rattle.acct_keeper.specs.declared.pairs.Pair.{Pair}

@@ -3,8 +3,7 @@ ghost use Rattle.std.specs.Prelude.{◌≡◌, ◌≤◌, ℕ, List, true, optio
 ghost use Rattle.std.specs.declared.option.Option.{Option};
 ghost use Rattle.acct_keeper.specs.declared.keeper.KeepError.TheVariants.{NoMemory};
 ghost use Rattle.acct_keeper.specs.declared.pairs.Pair.{Pair};
-ghost use Rattle.acct_keeper.specs.Causes.{KeepCause};
-ghost use Rattle.acct_keeper.specs.Counts.{after_call};
+ghost use Rattle.acct_keeper.specs.Faults.{KeepCause, after_call};
 ghost use Rattle.acct_keeper.specs.Pairs.{is_ascending, after};
 
 use crate::pairs::{Change, Pair};

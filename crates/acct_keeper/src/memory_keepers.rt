@@ -1,8 +1,7 @@
 // Keepers in memory.
 ghost use Rattle.std.specs.Prelude.{◌≡◌, ◌≤◌, [], true, Some, IfOk, IfErr, OnOk, OnErr};
 ghost use Rattle.acct_keeper.specs.declared.keeper.KeepError.TheVariants.{NoMemory};
-ghost use Rattle.acct_keeper.specs.Causes.{KeepCause};
-ghost use Rattle.acct_keeper.specs.Counts.{after_call};
+ghost use Rattle.acct_keeper.specs.Faults.{KeepCause, after_call};
 ghost use Rattle.acct_keeper.specs.Memory.{CallsInMemory};
 ghost use Rattle.acct_keeper.specs.Pairs.{is_ascending, after};
 

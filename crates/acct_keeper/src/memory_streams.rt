@@ -2,8 +2,7 @@
 ghost use Rattle.std.specs.Prelude.{◌≡◌, ◌+◌, ◌-◌, ◌^◌, ◌<◌, ◌≤◌, ◌||◌, [], length, take, min, false, is_err, Some, None, IfOk};
 ghost use Rattle.std.specs.Io.{ReadsAtMost, WritesAtMost};
 ghost use Rattle.std.specs.Io.KnownBytes.{ReadConsumes, WriteAppends};
-ghost use Rattle.acct_keeper.specs.Causes.{HasCause};
-ghost use Rattle.acct_keeper.specs.Counts.{one_more, faults_after};
+ghost use Rattle.acct_keeper.specs.Faults.{HasCause, one_more, faults_after};
 ghost use Rattle.acct_keeper.specs.Ends.{answers_end};
 ghost use Rattle.acct_keeper.specs.Memory.{ReadsInMemory, WritesInMemory};
 

@@ -1,7 +1,7 @@
 // Pairs in a vector, each at its place.
 ghost use Rattle.std.specs.Prelude.{◌≡◌, ◌+◌, ◌<◌, ◌≤◌, true, MatchResult, length, vec_len, vec_capacity};
 ghost use Rattle.acct_keeper.specs.Pairs.{is_ascending, put, without, set_key, after};
-ghost use Rattle.acct_keeper.specs.Places.{place};
+ghost use Rattle.acct_keeper.specs.steps.Places.{place};
 
 use crate::pairs::{Change, Pair};
 

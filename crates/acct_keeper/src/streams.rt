@@ -3,8 +3,7 @@ ghost use Rattle.std.specs.Prelude.{◌≡◌, ◌<◌, ◌||◌, Bool, List, �
 ghost use Rattle.std.specs.declared.option.Option.{Option};
 ghost use Rattle.std.specs.Io.{ReadsAtMost, WritesAtMost};
 ghost use Rattle.std.specs.Io.KnownBytes.{ReadConsumes, WriteAppends};
-ghost use Rattle.acct_keeper.specs.Causes.{HasCause};
-ghost use Rattle.acct_keeper.specs.Counts.{faults_after};
+ghost use Rattle.acct_keeper.specs.Faults.{HasCause, faults_after};
 ghost use Rattle.acct_keeper.specs.Ends.{answers_end};
 
 use thiserror::Error;

@@ -1,7 +1,7 @@
 // Reading a source to its end.
 ghost use Rattle.std.specs.Prelude.{◌≡◌, ◌≤◌, IfOk, IfErr};
 ghost use Rattle.acct_keeper.specs.declared.whole.WholeError.TheVariants.{Fault, Memory};
-ghost use Rattle.acct_keeper.specs.Whole.{WholeCause, IsWhole, counted_whole};
+ghost use Rattle.acct_keeper.specs.Faults.{WholeCause, IsWhole, counted_whole};
 
 use crate::{Failed, Source};
 use std::alloc::{AllocError, Global};

@@ -1,8 +1,7 @@
 // Writing to a sink.
 ghost use Rattle.std.specs.Prelude.{◌≡◌, take, ℕ, is_err, OnOk, OnErr};
 ghost use Rattle.std.specs.Io.KnownBytes.{Appends};
-ghost use Rattle.acct_keeper.specs.Causes.{HasCause};
-ghost use Rattle.acct_keeper.specs.Counts.{faults_after};
+ghost use Rattle.acct_keeper.specs.Faults.{HasCause, faults_after};
 
 use crate::{Failed, Sink};
 use acct_base::rest_of;

@@ -1,18 +1,16 @@
 -- The outputs of a refusal have the shape of their operation.
 use Rattle.std.proofs.Common.{◌≡◌, ℕ, ◌^◌, ◌<◌, [], Option, Some, None, refl, sym, subst, lit<}
 use Rattle.std.proofs.lemmas.List.Elements.{All-nil}
-use Rattle.dtyp_sid.specs.Value.{IsSid}
+use Rattle.dtyp_sid.specs.Sids.{IsSid}
 use Rattle.acct_calls.specs.declared.calls.Args.{Args}
 use Rattle.acct_calls.specs.declared.calls.Args.TheVariants as args
 use Rattle.acct_calls.specs.declared.handle.Handle.{Handle}
 use Rattle.acct_calls.specs.declared.replies.Reply.TheVariants.{Done}
-use Rattle.acct_layouts.specs.Bounds.{IsDomain, IsHandle, IsAccount, IsListed, IsLong, IsText}
-use Rattle.acct_layouts.specs.Bounds.{IsDisplayedGroup, IsDisplayedUser}
-use Rattle.acct_layouts.specs.Bounds.{IsTranslatedName, IsTranslatedSid, IsSidRef}
+use Rattle.acct_layouts.specs.Values.{IsDomain, IsHandle, IsAccount, IsListed, IsLong, IsText, IsDisplayedGroup}
+use Rattle.acct_layouts.specs.Values.{IsDisplayedUser, IsTranslatedName, IsTranslatedSid, IsSidRef, display_arm}
 use Rattle.acct_layouts.specs.CallShapes.{AreArguments, AreConnectArgs, ArePlainArgs, ArePolicyArgs, AreSearchArgs}
 use Rattle.acct_layouts.specs.CallShapes.{AreSecurityArgs, AreTranslationArgs, HasArguments, IsHandleOf, CanBeSpelled}
 use Rattle.acct_layouts.specs.Laws.{RefusalsHaveShape}
-use Rattle.acct_layouts.specs.Classes.{display_arm}
 use Rattle.acct_layouts.specs.Refusals.{context_of, display_class_of, refused_outs}
 use Rattle.acct_layouts.specs.ReplyShapes.{AreDisplayed, AreOutputs, HasOutputs, HasShape, domains_of}
 use Rattle.acct_layouts.specs.declared.classes.DisplayArm.{DisplayArm}

@@ -1,7 +1,7 @@
 -- The shape of a call: what its operation is brought (MS-SAMR 3.1.5, MS-LSAD 3.1.4, MS-LSAT 3.1.4), and which values
 -- this may have.
 use Rattle.std.specs.Prelude.{◌≡◌, ℕ, ◌^◌, ◌<◌, ◌≤◌, false, All, length, Option, Some, None}
-use Rattle.dtyp_sid.specs.Value.{IsSid}
+use Rattle.dtyp_sid.specs.Sids.{IsSid}
 use Rattle.acct_calls.specs.declared.calls.Args.{Args}
 use Rattle.acct_calls.specs.declared.calls.Args.TheVariants as args
 use Rattle.acct_calls.specs.declared.calls.Call.{Call}
@@ -10,10 +10,9 @@ use Rattle.acct_calls.specs.declared.info.Info.{Info}
 use Rattle.acct_calls.specs.declared.info.Info.TheVariants as info
 use Rattle.acct_codes.specs.Limits.{most_descriptor, most_searched, most_member_sids, most_rights}
 use Rattle.acct_codes.specs.Limits.{most_translated_names, most_translated_sids}
-use Rattle.acct_codes.specs.UserControl.{user_normal_account}
-use Rattle.acct_layouts.specs.Bounds.{IsHandle, IsLong, IsSmall, IsText, IsPrivilegeSet, IfThere}
-use Rattle.acct_layouts.specs.Classes.{set_arm, is_password_class}
-use Rattle.acct_layouts.specs.InfoShapes.{IsValue}
+use Rattle.acct_codes.specs.Accounts.{user_normal_account}
+use Rattle.acct_layouts.specs.Values.{IsHandle, IsLong, IsSmall, IsText, IsPrivilegeSet, IfThere, set_arm}
+use Rattle.acct_layouts.specs.Values.{is_password_class, IsValue}
 use Rattle.acct_layouts.specs.Table.{layout_of}
 use Rattle.acct_layouts.specs.declared.classes.Arm.{Arm}
 use Rattle.acct_layouts.specs.declared.classes.Subject.{Subject}

@@ -2,7 +2,7 @@
 use Rattle.std.specs.Prelude.{◌≡◌, ℕ, Some}
 use Rattle.acct_calls.specs.declared.calls.Call.{Call}
 use Rattle.acct_calls.specs.declared.replies.Reply.TheVariants.{Done}
-use Rattle.acct_layouts.specs.Bounds.{IsLong}
+use Rattle.acct_layouts.specs.Values.{IsLong}
 use Rattle.acct_layouts.specs.CallShapes.{CanBeSpelled}
 use Rattle.acct_layouts.specs.Refusals.{refused_outs}
 use Rattle.acct_layouts.specs.ReplyShapes.{HasShape}

@@ -1,7 +1,7 @@
 -- The shape of a reply: which outputs its operation has (MS-SAMR 3.1.5, MS-LSAD 3.1.4, MS-LSAT 3.1.4), and which values
 -- these may have.
 use Rattle.std.specs.Prelude.{◌≡◌, ℕ, ◌^◌, ◌<◌, true, List, [], Option, Some, None}
-use Rattle.dtyp_sid.specs.Value.{IsSid}
+use Rattle.dtyp_sid.specs.Sids.{IsSid}
 use Rattle.acct_calls.specs.declared.calls.Face.{Face}
 use Rattle.acct_calls.specs.declared.info.Info.{Info}
 use Rattle.acct_calls.specs.declared.lists.DisplayRow.{DisplayRow}
@@ -10,11 +10,9 @@ use Rattle.acct_calls.specs.declared.replies.Outs.{Outs}
 use Rattle.acct_calls.specs.declared.replies.Outs.TheVariants as outs
 use Rattle.acct_calls.specs.declared.replies.Reply.{Reply}
 use Rattle.acct_calls.specs.declared.replies.Reply.TheVariants as reply
-use Rattle.acct_layouts.specs.Bounds.{IsAccount, IsDomain, IsHandle, IsLong, IsMember, IsPrivilegeSet, IsSmall, IsText}
-use Rattle.acct_layouts.specs.Bounds.{IsTranslatedName, IsTranslatedSid, IsSidRef, IsDisplayedUser, IsDisplayedGroup}
-use Rattle.acct_layouts.specs.Bounds.{IfThere, IsListed}
-use Rattle.acct_layouts.specs.Classes.{display_arm, shown_arm}
-use Rattle.acct_layouts.specs.InfoShapes.{IsOfArm}
+use Rattle.acct_layouts.specs.Values.{IsAccount, IsDomain, IsHandle, IsLong, IsMember, IsPrivilegeSet, IsSmall, IsText}
+use Rattle.acct_layouts.specs.Values.{IsTranslatedName, IsTranslatedSid, IsSidRef, IsDisplayedUser, IsDisplayedGroup}
+use Rattle.acct_layouts.specs.Values.{IfThere, IsListed, display_arm, shown_arm, IsOfArm}
 use Rattle.acct_layouts.specs.Refusals.{is_refusal}
 use Rattle.acct_layouts.specs.Table.{layout_of}
 use Rattle.acct_layouts.specs.declared.classes.DisplayArm.{DisplayArm}

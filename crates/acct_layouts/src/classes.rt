@@ -1,6 +1,6 @@
 // Information classes: which value a class has, by the object that it is of.
 ghost use Rattle.std.specs.Prelude.{◌≡◌};
-ghost use Rattle.acct_layouts.specs.Classes.{display_arm, is_password_class, set_arm, shown_arm};
+ghost use Rattle.acct_layouts.specs.Values.{display_arm, is_password_class, set_arm, shown_arm};
 
 use acct_codes::info_class::{
     ALIAS_ADMIN_COMMENT_INFORMATION, ALIAS_GENERAL_INFORMATION, ALIAS_NAME_INFORMATION,

@@ -3,26 +3,23 @@ use Rattle.std.proofs.Common.{ℕ, ◌^◌, ◌<◌, ◌≤◌, All, List, lengt
 use Rattle.std.proofs.lemmas.Bool.{leb-true}
 use Rattle.ndr_core.specs.Parts.{Part, PartFits, flat, list, list_of, whole}
 use Rattle.ndr_core.specs.Shapes.{u32}
-use Rattle.dtyp_sid.specs.Value.{SidValue}
+use Rattle.dtyp_sid.specs.Sids.{SidValue}
 use Rattle.acct_codes.specs.Limits.{most_searched}
 use Rattle.acct_calls.specs.declared.lists.RidBits.{RidBits}
 use Rattle.acct_calls.specs.declared.lists.RidName.{RidName}
-use Rattle.acct_layouts.specs.Bounds.{IfThere, IsAccount, IsListed, IsMember, IsText}
+use Rattle.acct_layouts.specs.Values.{IfThere, IsAccount, IsListed, IsMember, IsText}
 use Rattle.ndr_types.proofs.Parts.{all_as, array_all, whole_kind}
 use Rattle.ndr_types.proofs.Records.{rid_bits_has}
 use Rattle.ndr_types.proofs.ShapeValues.{list_values, rid_names_values}
 use Rattle.ndr_types.proofs.Sids.{long_has, sid_pointer_has}
 use Rattle.ndr_types.proofs.Texts.{text_has}
-use Rattle.ndr_types.specs.Accounts.{any, rid_names}
+use Rattle.ndr_types.specs.Listed.{any, rid_names, rid_bits}
 use Rattle.ndr_types.specs.Bounds.{AnyValue, HasShortName, IsShort}
 use Rattle.ndr_types.specs.Laws.{IsListOf}
-use Rattle.ndr_types.specs.Lists.{rid_list, sid_list, text_list}
-use Rattle.ndr_types.specs.Members.{rid_bits}
-use Rattle.ndr_types.specs.Sids.{sid_pointer}
-use Rattle.ndr_types.specs.Texts.{text}
+use Rattle.ndr_types.specs.Values.{rid_list, sid_list, text_list, sid_pointer, text}
 use Rattle.acct_stubs.proofs.MemberLists.{members_values}
 use Rattle.acct_stubs.specs.Arguments.{sought}
-use Rattle.acct_stubs.specs.Members.{members}
+use Rattle.acct_stubs.specs.Infos.{members}
 
 pub short_text : (us : List ℕ) → (whole text).Fits us → IsShort us
 short_text us h = (whole_kind text text_has us h).0

@@ -4,10 +4,9 @@ use Rattle.std.proofs.Common.{refl, ◌⊎◌, inl, inr, sym, ap, subst, ◌∙�
 use Rattle.std.specs.Prelude.{IfOk}
 use Rattle.std.proofs.lemmas.List.{append-nil}
 use Rattle.std.proofs.lemmas.List.Elements.{All-nil}
-use Rattle.ndr_core.specs.Cursor.{Cursor}
+use Rattle.ndr_core.specs.Cursor.{Cursor, IsByte, IsBytes}
 use Rattle.ndr_core.specs.Shapes.{u16}
-use Rattle.ndr_core.specs.Steps.{ok_is}
-use Rattle.ndr_core.specs.Written.{IsByte, IsBytes}
+use Rattle.ndr_core.specs.steps.Steps.{ok_is}
 use Rattle.ndr_core.specs.declared.error.NdrError.{NdrError}
 use Rattle.ndr_core.specs.declared.error.NdrError.TheVariants as ndr
 use Rattle.acct_calls.specs.declared.calls.Args.{Args}
@@ -18,10 +17,10 @@ use Rattle.acct_layouts.specs.Table.{layout_of}
 use Rattle.acct_layouts.specs.declared.fields.Fields.{Fields}
 use Rattle.acct_layouts.specs.declared.fields.Fields.TheVariants as fields
 use Rattle.acct_layouts.specs.declared.table.Layout.{Layout}
-use Rattle.ndr_types.specs.Handles.{handle}
+use Rattle.ndr_types.specs.Values.{handle}
 use Rattle.acct_stubs.proofs.CallValues.{FieldsFit, call_fits, call_kind, class_of}
 use Rattle.acct_stubs.proofs.Complete.{stub_complete}
-use Rattle.acct_stubs.specs.Arguments.{arguments}
+use Rattle.acct_stubs.specs.Arguments.{arguments, Wire}
 use Rattle.acct_stubs.specs.Calls.{ReadsAllIfRoom, AreTheSpelledCalls, HasOneCall, IsCallOf, IsReadAgain}
 use Rattle.acct_stubs.specs.Calls.{IsReadWhereSpelled}
 use Rattle.acct_stubs.specs.Calls.{IsServed, IsSpelled, Spells, call_at, call_in, call_of, call_read, carries_password}
@@ -29,7 +28,6 @@ use Rattle.acct_stubs.specs.Calls.{class_behind, is_withheld, nothing_written, s
 use Rattle.acct_stubs.specs.Calls.{withheld_class}
 use Rattle.acct_stubs.specs.Infos.{class_set}
 use Rattle.acct_stubs.specs.Lawful.{IsLawful}
-use Rattle.acct_stubs.specs.Wire.{Wire}
 use Rattle.acct_stubs.specs.declared.errors.WireError.{WireError}
 use Rattle.acct_stubs.specs.declared.errors.WireError.TheVariants.{NotServed}
 

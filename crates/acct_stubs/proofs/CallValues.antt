@@ -14,7 +14,7 @@ use Rattle.acct_calls.specs.declared.calls.Face.{Face}
 use Rattle.acct_calls.specs.declared.handle.Handle.{Handle}
 use Rattle.acct_layouts.specs.CallShapes.{AreArguments, ArePlainArgs, AreSearchArgs, CanBeSpelled, HasArguments}
 use Rattle.acct_layouts.specs.CallShapes.{IsHandleOf}
-use Rattle.acct_layouts.specs.Classes.{set_arm}
+use Rattle.acct_layouts.specs.Values.{set_arm}
 use Rattle.acct_layouts.specs.Table.{layout_of}
 use Rattle.acct_layouts.specs.declared.fields.Fields.{Fields}
 use Rattle.acct_layouts.specs.declared.fields.Fields.TheVariants as fields
@@ -28,19 +28,16 @@ use Rattle.ndr_types.proofs.Parts.{Has, all_as, array_all, array_fits, whole_fit
 use Rattle.ndr_types.proofs.ShapeValues.{list_values}
 use Rattle.ndr_types.proofs.Sids.{long_has, sid_fits, sid_kind, sid_pointer_has}
 use Rattle.ndr_types.proofs.Texts.{text_has}
-use Rattle.ndr_types.specs.Handles.{handle_of}
-use Rattle.ndr_types.specs.Sids.{sid_pointer}
-use Rattle.ndr_types.specs.Texts.{text}
+use Rattle.ndr_types.specs.Values.{handle_of, sid_pointer, text}
 use Rattle.acct_stubs.proofs.Asked.{sought_count}
 use Rattle.acct_stubs.proofs.InfoValues.{set_fits, set_kind}
 use Rattle.acct_stubs.proofs.SecurityValues.{security_fits, security_kind}
 use Rattle.acct_stubs.proofs.Shared.{layouts_of_their_face}
-use Rattle.acct_stubs.specs.Arguments.{arguments, plain_args, searched, sought}
+use Rattle.acct_stubs.specs.Arguments.{arguments, plain_args, searched, sought, Wire}
 use Rattle.acct_stubs.specs.Calls.{IsCallOf, carries_password, stub_of}
 use Rattle.acct_stubs.specs.Infos.{class_set}
 use Rattle.acct_stubs.specs.Lawful.{IsLawful}
 use Rattle.acct_stubs.specs.Shared.{are_own, are_shared}
-use Rattle.acct_stubs.specs.Wire.{Wire}
 
 -- ---- numbers, SIDs and texts
 

@@ -10,12 +10,11 @@ use Rattle.ndr_core.specs.Codec.{Codec}
 use Rattle.ndr_core.specs.Cursor.{is_zero, second}
 use Rattle.ndr_core.specs.Parts.{Part, PartFits, array, flat, join, there, times, whole}
 use Rattle.ndr_core.specs.Shapes.{chain, ignored, u32, u32_such, unspelled}
-use Rattle.dtyp_sid.specs.Value.{IsSid}
+use Rattle.dtyp_sid.specs.Sids.{IsSid}
 use Rattle.acct_codes.specs.Limits.{most_searched, most_member_sids}
 use Rattle.acct_calls.specs.declared.calls.Args.TheVariants as args
 use Rattle.acct_calls.specs.declared.info.Info.TheVariants as info
-use Rattle.acct_layouts.specs.Bounds.{IsLong, IsText}
-use Rattle.acct_layouts.specs.Classes.{set_arm}
+use Rattle.acct_layouts.specs.Values.{IsLong, IsText, set_arm}
 use Rattle.acct_layouts.specs.declared.classes.Arm.{Arm}
 use Rattle.acct_layouts.specs.declared.classes.Arm.TheVariants as arm
 use Rattle.acct_layouts.specs.declared.classes.Subject.{Subject}
@@ -30,19 +29,15 @@ use Rattle.ndr_types.proofs.Parts.{Has, array_all, array_complete, join_has, who
 use Rattle.ndr_types.proofs.ShapeValues.{list_complete, text_complete}
 use Rattle.ndr_types.proofs.Sids.{long_has, sid_complete, sid_pointer_has}
 use Rattle.ndr_types.proofs.Texts.{text_has}
-use Rattle.ndr_types.specs.Handles.{handle}
-use Rattle.ndr_types.specs.Sids.{sid_pointer}
-use Rattle.ndr_types.specs.Texts.{text, text_tail}
+use Rattle.ndr_types.specs.Values.{handle, sid_pointer, text, text_tail}
 use Rattle.acct_stubs.proofs.SecurityValues.{security_complete}
 use Rattle.acct_stubs.specs.Arguments.{access_rid_in, access_sid_in, arguments, class_in, filtered_page_in, name_in}
 use Rattle.acct_stubs.specs.Arguments.{names_in, page_in, plain_args, put_in, rid_bits_in, rid_in, rids_in, searched}
-use Rattle.acct_stubs.specs.Arguments.{display_in, sid_in, sids_in, sought}
+use Rattle.acct_stubs.specs.Arguments.{display_in, sid_in, sids_in, sought, server_name, Wire}
 use Rattle.acct_stubs.specs.Calls.{stub_of, without_handle}
 use Rattle.acct_stubs.specs.Infos.{alias_in, class_set, empty_head, empty_text, group_in, nothing_of, number_in}
 use Rattle.acct_stubs.specs.Infos.{place_in, set_value, text_in, two_texts_in, user_in, value_of}
 use Rattle.acct_stubs.specs.Lawful.{IsLawful}
-use Rattle.acct_stubs.specs.ServerNames.{server_name}
-use Rattle.acct_stubs.specs.Wire.{Wire}
 
 -- ---- openings
 

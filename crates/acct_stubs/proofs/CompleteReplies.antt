@@ -5,18 +5,16 @@ use Rattle.ndr_core.proofs.Complete.{padding_complete}
 use Rattle.ndr_core.proofs.Complete.{IsComplete, chain_complete, given_complete, ignored_complete, made_complete}
 use Rattle.ndr_core.proofs.Complete.{such_complete, u16_complete, u32_complete}
 use Rattle.ndr_core.specs.Codec.{Codec}
-use Rattle.ndr_core.specs.Cursor.{Cursor}
+use Rattle.ndr_core.specs.Cursor.{Cursor, IsBytes}
 use Rattle.ndr_core.specs.Parts.{flat, list_of, pointer_to, whole}
 use Rattle.ndr_core.specs.Shapes.{chain, u16_such}
-use Rattle.ndr_core.specs.Written.{IsBytes}
 use Rattle.acct_calls.specs.declared.info.Info.{Info}
 use Rattle.acct_calls.specs.declared.info.Info.TheVariants as info
 use Rattle.acct_calls.specs.declared.lists.RidName.{RidName}
 use Rattle.acct_calls.specs.declared.replies.Outs.{Outs}
 use Rattle.acct_calls.specs.declared.replies.Outs.TheVariants as outs
 use Rattle.acct_calls.specs.declared.replies.Reply.{Reply}
-use Rattle.acct_layouts.specs.Bounds.{IfThere, IsAccount}
-use Rattle.acct_layouts.specs.Classes.{shown_arm}
+use Rattle.acct_layouts.specs.Values.{IfThere, IsAccount, shown_arm}
 use Rattle.acct_layouts.specs.ReplyShapes.{RefersRightly}
 use Rattle.acct_layouts.specs.declared.classes.Arm.{Arm}
 use Rattle.acct_layouts.specs.declared.classes.Subject.{Subject}
@@ -32,11 +30,9 @@ use Rattle.ndr_types.proofs.Records.{pointer_has, rid_bits_has}
 use Rattle.ndr_types.proofs.ShapeValues.{list_complete, rid_names_complete, rid_names_values}
 use Rattle.ndr_types.proofs.Sids.{long_has, sid_complete, sid_pointer_has}
 use Rattle.ndr_types.proofs.Texts.{text_has}
-use Rattle.ndr_types.specs.Accounts.{any, rid_names}
+use Rattle.ndr_types.specs.Listed.{any, rid_names, rid_bits}
 use Rattle.ndr_types.specs.Laws.{IsListOf}
-use Rattle.ndr_types.specs.Members.{rid_bits}
-use Rattle.ndr_types.specs.Sids.{sid, sid_pointer}
-use Rattle.ndr_types.specs.Texts.{text}
+use Rattle.ndr_types.specs.Values.{sid, sid_pointer, text}
 use Rattle.acct_stubs.proofs.Complete.{value_complete}
 use Rattle.acct_stubs.proofs.DisplayValues.{displayed_complete}
 use Rattle.acct_stubs.proofs.MemberLists.{members_complete}
@@ -49,7 +45,7 @@ use Rattle.acct_stubs.specs.Outputs.{name_uses_out, page_out, pairs_out, parts_o
 use Rattle.acct_stubs.specs.Outputs.{revision_answered, rid_uses_out, rids_out, shown_out, shown_outs, sid_out}
 use Rattle.acct_stubs.specs.Outputs.{display_out, sids_out, with_status}
 use Rattle.acct_stubs.specs.Shared.{shared_outputs}
-use Rattle.acct_stubs.specs.Wire.{Wire}
+use Rattle.acct_stubs.specs.Arguments.{Wire}
 
 -- a pointer, null or to a value
 pub to_complete : {A : Type 0} (a : Codec A) → IsComplete a → IsComplete (whole (pointer_to a))

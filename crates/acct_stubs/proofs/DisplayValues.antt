@@ -4,8 +4,7 @@ use Rattle.ndr_core.proofs.Complete.{IsComplete, chain_complete, given_complete,
 use Rattle.ndr_core.proofs.Complete.{such_complete, u16_complete, u32_complete}
 use Rattle.ndr_core.specs.Cursor.{is_zero}
 use Rattle.acct_calls.specs.declared.lists.DisplayRow.{DisplayRow}
-use Rattle.acct_layouts.specs.Bounds.{IsDisplayedGroup, IsDisplayedUser, IsListed}
-use Rattle.acct_layouts.specs.Classes.{display_arm}
+use Rattle.acct_layouts.specs.Values.{IsDisplayedGroup, IsDisplayedUser, IsListed, display_arm}
 use Rattle.acct_layouts.specs.ReplyShapes.{AreDisplayed}
 use Rattle.acct_layouts.specs.declared.classes.DisplayArm.{DisplayArm}
 use Rattle.acct_layouts.specs.declared.classes.DisplayArm.TheVariants as display
@@ -14,8 +13,8 @@ use Rattle.ndr_types.proofs.DisplayRows.{users_complete, users_values}
 use Rattle.ndr_types.proofs.Onward.{Takes, short, such_long, takes_chain, takes_given, takes_ignored, takes_padding}
 use Rattle.ndr_types.proofs.Parts.{all_as}
 use Rattle.ndr_types.specs.Bounds.{HasShortTexts}
-use Rattle.ndr_types.specs.Displays.{display_rows}
-use Rattle.acct_stubs.specs.Displayed.{displayed, rows_of}
+use Rattle.ndr_types.specs.Listed.{display_rows}
+use Rattle.acct_stubs.specs.Infos.{displayed, rows_of}
 
 -- ---- the entries of a class
 

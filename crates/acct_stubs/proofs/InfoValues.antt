@@ -5,10 +5,8 @@ use Rattle.std.proofs.lemmas.Bool.{eqb-true, eq-eqb}
 use Rattle.ndr_core.specs.Parts.{pointer_to}
 use Rattle.acct_calls.specs.declared.info.Info.{Info}
 use Rattle.acct_calls.specs.declared.info.Info.TheVariants as info
-use Rattle.acct_layouts.specs.Bounds.{IfThere}
+use Rattle.acct_layouts.specs.Values.{IfThere, set_arm, shown_arm, IsOfArm, IsValue}
 use Rattle.acct_layouts.specs.CallShapes.{IsPut}
-use Rattle.acct_layouts.specs.Classes.{set_arm, shown_arm}
-use Rattle.acct_layouts.specs.InfoShapes.{IsOfArm, IsValue}
 use Rattle.acct_layouts.specs.ReplyShapes.{IsShown}
 use Rattle.acct_layouts.specs.declared.classes.Arm.{Arm}
 use Rattle.acct_layouts.specs.declared.classes.Arm.TheVariants as arm
@@ -17,12 +15,10 @@ use Rattle.acct_layouts.specs.declared.classes.Subject.TheVariants as subject
 use Rattle.ndr_types.proofs.Parts.{Has, whole_fits, whole_kind}
 use Rattle.ndr_types.proofs.Records.{pointer_has}
 use Rattle.ndr_types.proofs.Texts.{text_has}
-use Rattle.ndr_types.specs.Sids.{sid}
-use Rattle.ndr_types.specs.Texts.{text}
+use Rattle.ndr_types.specs.Values.{sid, text}
 use Rattle.acct_stubs.proofs.Complete.{alias_has, group_has, place_has, two_texts_has, user_has}
 use Rattle.acct_stubs.proofs.CompleteReplies.{value_shown, value_shown_complete}
-use Rattle.acct_stubs.specs.Infos.{class_shown, is_named, named_value, set_value, value_of}
-use Rattle.acct_stubs.specs.Members.{members}
+use Rattle.acct_stubs.specs.Infos.{class_shown, is_named, named_value, set_value, value_of, members}
 
 -- ---- values
 

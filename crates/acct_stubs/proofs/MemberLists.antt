@@ -13,14 +13,14 @@ use Rattle.ndr_core.proofs.Complete.{pointer_complete, such_complete, times_comp
 use Rattle.ndr_core.specs.Parts.{Part, PartFits, pointer_to, times, whole}
 use Rattle.ndr_core.specs.Shapes.{given, u32}
 use Rattle.acct_calls.specs.declared.lists.RidBits.{RidBits}
-use Rattle.acct_layouts.specs.Bounds.{IfThere, IsListed, IsLong, IsMember}
+use Rattle.acct_layouts.specs.Values.{IfThere, IsListed, IsLong, IsMember}
 use Rattle.ndr_types.proofs.Parts.{Has, times_all, times_fit, whole_complete, whole_fits, whole_kind}
 use Rattle.ndr_types.proofs.Records.{pointer_has}
 use Rattle.ndr_types.proofs.ShapeValues.{whole_values}
 use Rattle.ndr_types.specs.Laws.{HasValues}
-use Rattle.ndr_types.specs.Members.{rid_bits_of}
-use Rattle.acct_stubs.specs.Members.{bits_of, both_numbers, members, members_buffer, members_head, numbers, paired}
-use Rattle.acct_stubs.specs.Members.{parted, rid_of}
+use Rattle.ndr_types.specs.Listed.{rid_bits_of}
+use Rattle.acct_stubs.specs.Infos.{bits_of, both_numbers, members, members_buffer, members_head, numbers, paired}
+use Rattle.acct_stubs.specs.Infos.{parted, rid_of}
 
 -- ---- numbers
 

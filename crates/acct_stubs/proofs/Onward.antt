@@ -17,7 +17,7 @@ use Rattle.acct_calls.specs.declared.info.Info.TheVariants as info
 use Rattle.acct_calls.specs.declared.replies.Outs.{Outs}
 use Rattle.acct_calls.specs.declared.replies.Outs.TheVariants as outs
 use Rattle.acct_calls.specs.declared.replies.Reply.{Reply}
-use Rattle.acct_layouts.specs.Classes.{set_arm, shown_arm}
+use Rattle.acct_layouts.specs.Values.{set_arm, shown_arm}
 use Rattle.acct_layouts.specs.Table.{layout_of}
 use Rattle.acct_layouts.specs.declared.classes.Arm.{Arm}
 use Rattle.acct_layouts.specs.declared.classes.Arm.TheVariants as arm
@@ -42,24 +42,19 @@ use Rattle.ndr_types.proofs.Onward.{such_long, takes_padding}
 use Rattle.ndr_types.proofs.Onward.{takes_given, takes_ignored, takes_join, takes_led_by, takes_made, takes_pointer}
 use Rattle.ndr_types.proofs.Onward.{takes_pointer_to, takes_sid_pointer, takes_such, takes_text, takes_times, takes_u16}
 use Rattle.ndr_types.proofs.Onward.{takes_varying, takes_whole, text_list_onward, text_onward}
-use Rattle.ndr_types.specs.Accounts.{any}
-use Rattle.ndr_types.specs.Handles.{handle}
+use Rattle.ndr_types.specs.Listed.{any, membership, rid_bits}
+use Rattle.ndr_types.specs.Values.{handle, sid, sid_pointer, text, text_tail}
 use Rattle.ndr_types.specs.Laws.{Onward}
-use Rattle.ndr_types.specs.Members.{membership, rid_bits}
-use Rattle.ndr_types.specs.Sids.{sid, sid_pointer}
-use Rattle.ndr_types.specs.Texts.{text, text_tail}
-use Rattle.acct_stubs.specs.Arguments.{arguments, plain_args, searched, sought}
+use Rattle.acct_stubs.specs.Arguments.{arguments, plain_args, searched, sought, server_name, string, Wire}
 use Rattle.acct_stubs.proofs.DisplayValues.{displayed_onward}
 use Rattle.acct_stubs.proofs.SecurityValues.{outs_onward, security_onward}
 use Rattle.acct_stubs.specs.Calls.{NoCallWantsMemory, call_at, call_in, call_read, is_withheld, start, stub_of}
-use Rattle.acct_stubs.specs.Infos.{class_set, class_shown, empty_text, named_value, set_value, value_of}
+use Rattle.acct_stubs.specs.Infos.{class_set, class_shown, empty_text, named_value, set_value, value_of, members}
+use Rattle.acct_stubs.specs.Infos.{members_buffer, numbers}
 use Rattle.acct_stubs.specs.Lawful.{IsLawful}
-use Rattle.acct_stubs.specs.Members.{members, members_buffer, numbers}
 use Rattle.acct_stubs.specs.Outputs.{is_one, is_three, listed_outs, plain_outs, reply_stub, revision_answered}
 use Rattle.acct_stubs.specs.Outputs.{shown_outs, with_status}
 use Rattle.acct_stubs.specs.Replies.{NoReplyWantsMemory, reply_at, reply_in, reply_read}
-use Rattle.acct_stubs.specs.ServerNames.{server_name, string}
-use Rattle.acct_stubs.specs.Wire.{Wire}
 use Rattle.acct_stubs.specs.declared.errors.WireError.{WireError}
 use Rattle.acct_stubs.specs.declared.errors.WireError.TheVariants.{Memory, NotServed}
 

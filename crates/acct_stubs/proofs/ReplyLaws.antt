@@ -4,8 +4,7 @@ use Rattle.std.proofs.Common.{ap, subst, ◌∙◌}
 use Rattle.std.specs.Prelude.{IfOk, ◌||◌}
 use Rattle.std.proofs.lemmas.List.{append-nil}
 use Rattle.std.proofs.lemmas.List.Elements.{All-nil}
-use Rattle.ndr_core.specs.Cursor.{Cursor}
-use Rattle.ndr_core.specs.Written.{IsByte, IsBytes}
+use Rattle.ndr_core.specs.Cursor.{Cursor, IsByte, IsBytes}
 use Rattle.ndr_core.specs.declared.error.NdrError.{NdrError}
 use Rattle.acct_calls.specs.declared.replies.Reply.{Reply}
 use Rattle.acct_layouts.specs.ReplyShapes.{HasShape, RefersRightly}
@@ -22,7 +21,7 @@ use Rattle.acct_stubs.specs.Replies.{AreTheSpelledReplies, EachSpelledReplyHasSh
 use Rattle.acct_stubs.specs.Replies.{IsReplyReadWhereSpelled, IsSpelledReply, SpellsReply, reply_at, reply_in}
 use Rattle.acct_stubs.specs.Replies.{reply_read, reply_spelled_in, spell_reply}
 use Rattle.acct_stubs.specs.Shared.{own_outputs, shared_outputs}
-use Rattle.acct_stubs.specs.Wire.{Wire}
+use Rattle.acct_stubs.specs.Arguments.{Wire}
 use Rattle.acct_stubs.specs.declared.errors.WireError.{WireError}
 
 abbrev some_layout : Layout → Option Layout

@@ -4,14 +4,14 @@ use Rattle.std.proofs.Common.{◌≡◌, ℕ, true, List, [], Option, Some, None
 use Rattle.ndr_core.specs.Codec.{Codec}
 use Rattle.ndr_core.specs.Parts.{Part, flat, list_of, pointer_to}
 use Rattle.ndr_core.specs.Shapes.{u32}
-use Rattle.dtyp_sid.specs.Value.{IsSid}
+use Rattle.dtyp_sid.specs.Sids.{IsSid}
 use Rattle.acct_calls.specs.declared.calls.Face.{Face}
 use Rattle.acct_calls.specs.declared.lists.RidName.{RidName}
 use Rattle.acct_calls.specs.declared.replies.Outs.{Outs}
 use Rattle.acct_calls.specs.declared.replies.Outs.TheVariants as outs
 use Rattle.acct_calls.specs.declared.replies.Reply.{Reply}
 use Rattle.acct_calls.specs.declared.replies.Reply.TheVariants as reply
-use Rattle.acct_layouts.specs.Bounds.{IfThere, IsAccount, IsListed, IsLong, IsMember}
+use Rattle.acct_layouts.specs.Values.{IfThere, IsAccount, IsListed, IsLong, IsMember, display_arm}
 use Rattle.acct_layouts.specs.ReplyShapes.{AreLists, AreOutputs, ArePlain, AreShown, HasOutputs, HasShape, IsReplyOf}
 use Rattle.acct_layouts.specs.ReplyShapes.{AreSecurity, RefersRightly, domains_of}
 use Rattle.acct_layouts.specs.Table.{layout_of}
@@ -29,24 +29,20 @@ use Rattle.ndr_types.proofs.Records.{pointer_has, rid_bits_has}
 use Rattle.ndr_types.proofs.ShapeValues.{list_complete, list_values, rid_names_values}
 use Rattle.ndr_types.proofs.Sids.{long_has, sid_complete, sid_fits, sid_kind, sid_pointer_has}
 use Rattle.ndr_types.proofs.Texts.{text_has}
-use Rattle.ndr_types.specs.Accounts.{any}
+use Rattle.ndr_types.specs.Listed.{any, rid_bits}
 use Rattle.ndr_types.specs.Laws.{IsListOf}
-use Rattle.ndr_types.specs.Members.{rid_bits}
-use Rattle.ndr_types.specs.Sids.{sid, sid_pointer}
-use Rattle.ndr_types.specs.Texts.{text}
+use Rattle.ndr_types.specs.Values.{sid, sid_pointer, text}
 use Rattle.acct_stubs.proofs.CompleteReplies.{count_fits, revision_fits}
 use Rattle.acct_stubs.proofs.DisplayValues.{rows_fit, rows_kind}
 use Rattle.acct_stubs.proofs.InfoValues.{class_fits, class_kind}
-use Rattle.acct_layouts.specs.Classes.{display_arm}
-use Rattle.acct_stubs.specs.Displayed.{displayed}
+use Rattle.acct_stubs.specs.Infos.{displayed, members}
 use Rattle.acct_stubs.proofs.MemberLists.{members_values}
 use Rattle.acct_stubs.proofs.SecurityValues.{outs_fit, outs_kind, outs_refer}
 use Rattle.acct_stubs.proofs.Shared.{layouts_of_their_face}
 use Rattle.acct_stubs.specs.Lawful.{IsLawful}
-use Rattle.acct_stubs.specs.Members.{members}
 use Rattle.acct_stubs.specs.Outputs.{listed_outs, plain_outs, reply_stub, shown_outs, with_status}
 use Rattle.acct_stubs.specs.Shared.{own_outputs, shared_outputs}
-use Rattle.acct_stubs.specs.Wire.{Wire}
+use Rattle.acct_stubs.specs.Arguments.{Wire}
 
 -- ---- handles, numbers and SIDs
 

@@ -7,7 +7,7 @@ use Rattle.acct_calls.specs.declared.calls.Args.{Args}
 use Rattle.acct_calls.specs.declared.calls.Args.TheVariants as args
 use Rattle.acct_calls.specs.declared.replies.Outs.{Outs}
 use Rattle.acct_calls.specs.declared.replies.Outs.TheVariants as outs
-use Rattle.acct_layouts.specs.Bounds.{IfThere, IsListed, IsSmall}
+use Rattle.acct_layouts.specs.Values.{IfThere, IsListed, IsSmall}
 use Rattle.acct_layouts.specs.CallShapes.{AreSecurityArgs}
 use Rattle.acct_layouts.specs.ReplyShapes.{AreSecurity, domains_of}
 use Rattle.acct_layouts.specs.declared.fields.SecurityFields.{SecurityFields}
@@ -15,11 +15,10 @@ use Rattle.acct_layouts.specs.declared.fields.SecurityFields.TheVariants as secu
 use Rattle.ndr_types.proofs.ByteArrays.{descriptor_complete, descriptor_onward, descriptor_pointer_complete}
 use Rattle.ndr_types.proofs.ByteArrays.{descriptor_pointer_onward, descriptor_pointer_values, descriptor_values}
 use Rattle.ndr_types.proofs.Onward.{Takes, long, takes_chain, takes_made}
-use Rattle.ndr_types.specs.Accounts.{any}
+use Rattle.ndr_types.specs.Listed.{any, descriptor, descriptor_pointer}
 use Rattle.ndr_types.specs.Bounds.{IsCounted}
-use Rattle.ndr_types.specs.Descriptors.{descriptor, descriptor_pointer}
 use Rattle.ndr_types.specs.Laws.{IsListOf}
-use Rattle.acct_stubs.specs.Security.{bits_in, security_args, security_in, security_out, security_outs}
+use Rattle.acct_stubs.specs.Arguments.{bits_in, security_args, security_in, security_out, security_outs}
 
 -- ---- what is asked for and set
 

@@ -5,7 +5,7 @@ use Rattle.acct_calls.specs.declared.calls.Face.{Face}
 use Rattle.acct_calls.specs.declared.calls.Face.TheVariants.{Lsa, Samr}
 use Rattle.acct_layouts.specs.Table.{layout_in, lsa_layout, lsa_table, samr_layout, samr_table}
 use Rattle.acct_layouts.specs.declared.table.Layout.{Layout}
-use Rattle.ndr_types.specs.Domains.{first}
+use Rattle.ndr_types.specs.Translations.{first}
 use Rattle.acct_stubs.specs.Shared.{AreLayoutsOfTheirFace, are_own, are_shared, own_outputs, shared_outputs}
 
 -- a test that each layout of a table passes

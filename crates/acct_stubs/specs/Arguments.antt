@@ -1,28 +1,95 @@
--- What stands after the handle in the stubs of calls: the fields of each layout that both interfaces have, as they
--- stand in the IDL, and the arguments that they make.
-use Rattle.std.specs.Prelude.{ℕ, Some, List, [], length, ◌==◌, nat_le}
-use Rattle.ndr_core.specs.Codec.{Codec}
-use Rattle.ndr_core.specs.Cursor.{is_zero}
-use Rattle.ndr_core.specs.Parts.{Part, array, flat, whole}
-use Rattle.ndr_core.specs.Shapes.{chain, given, ignored, led_by, made, u16, u32, u32_such}
-use Rattle.dtyp_sid.specs.Value.{SidValue}
+-- What stands in the stubs of calls: the fields of each layout that both interfaces have.
+use Rattle.std.specs.Prelude.{◌≡◌, ℕ, List, length, Option, None, Result, Ok, Err, [], Some, ◌==◌, nat_le}
+use Rattle.acct_codes.specs.Limits.{most_descriptor, most_searched, most_member_sids}
+use Rattle.dtyp_sid.specs.Sids.{SidValue}
 use Rattle.acct_calls.specs.declared.calls.Args.{Args}
 use Rattle.acct_calls.specs.declared.calls.Args.TheVariants as args
+use Rattle.acct_calls.specs.declared.calls.Face.{Face}
 use Rattle.acct_calls.specs.declared.info.Info.{Info}
 use Rattle.acct_calls.specs.declared.info.Info.TheVariants as info
-use Rattle.acct_codes.specs.Limits.{most_searched, most_member_sids}
+use Rattle.acct_calls.specs.declared.replies.Outs.{Outs}
+use Rattle.acct_calls.specs.declared.replies.Outs.TheVariants as outs
+use Rattle.acct_calls.specs.declared.replies.Reply.{Reply}
+use Rattle.ndr_core.specs.Codec.{Codec}
+use Rattle.ndr_core.specs.Cursor.{Cursor, is_zero}
+use Rattle.ndr_core.specs.Parts.{pointer_to, times, whole, Part, array, flat}
+use Rattle.ndr_core.specs.Shapes.{conformant, led_by, made, u16, varying, chain, u32, given, ignored, u32_such}
+use Rattle.ndr_core.specs.declared.error.NdrError.{NdrError}
 use Rattle.acct_layouts.specs.declared.fields.Fields.{Fields}
 use Rattle.acct_layouts.specs.declared.fields.Fields.TheVariants as fields
 use Rattle.acct_layouts.specs.declared.fields.ScalarFields.{ScalarFields}
 use Rattle.acct_layouts.specs.declared.fields.ScalarFields.TheVariants as plain
 use Rattle.acct_layouts.specs.declared.fields.Search.{Search}
 use Rattle.acct_layouts.specs.declared.fields.Search.TheVariants as search
-use Rattle.ndr_types.specs.Lists.{sid_list}
-use Rattle.ndr_types.specs.Sids.{sid}
-use Rattle.ndr_types.specs.Texts.{text}
+use Rattle.acct_layouts.specs.declared.fields.SecurityFields.{SecurityFields}
+use Rattle.acct_layouts.specs.declared.fields.SecurityFields.TheVariants as security
+use Rattle.acct_layouts.specs.declared.outputs.Outputs.{Outputs}
+use Rattle.ndr_types.specs.Listed.{descriptor, descriptor_pointer}
+use Rattle.ndr_types.specs.Values.{sid_list, sid, text}
 use Rattle.acct_stubs.specs.Infos.{class_set, no_sid}
-use Rattle.acct_stubs.specs.Security.{security_args}
-use Rattle.acct_stubs.specs.Wire.{Wire}
+
+-- ======== what the stubs of an interface are beside those of both: the codecs of the layouts that it has alone
+
+-- An interface, what stands after the handle in its calls, and its whole replies. Of a layout that it doesn't have
+-- nothing is spelled.
+pub record Wire : Type 1 where
+  pub face : Face
+  pub fields : Fields → Codec Args
+  pub replies : Outputs → Codec Reply
+
+-- ======== the name of the server, with which the openings of the server and of the policy begin
+
+-- A string: a maximum count, an offset of 0, an actual count of at most the maximum, and so many units.
+abbrev pub string : Codec (List ℕ)
+string = led_by length conformant (λ maximum. led_by length (varying maximum) (λ actual. times actual u16))
+
+abbrev pub no_name : Option (List ℕ) → Unit {0}
+no_name name = tt
+
+-- ServerName (PSAMPR_SERVER_NAME, MS-SAMR 2.2.3.1): a unique pointer to a string, which isn't looked at. It is written
+-- as null.
+unfoldable pub server_name : Codec (Unit {0})
+server_name = made no_name (λ u. None) (whole (pointer_to string))
+
+-- ReadsPast, of the family of Reads: of the value nothing is kept but the cursor after it; refusal as of Reads, and
+-- memory never runs out.
+abbrev pub ReadsPast : {A : Type 0} → Result (Unit {0}) NdrError → Cursor → Result (A × Cursor) NdrError → Type 0
+ReadsPast {A = A} (Ok u) after read = (x : A) × (read ≡ Ok (x, after))
+ReadsPast (Err e) after read = read ≡ Err e
+
+-- ======== how an object's security descriptor stands in the stubs that ask for it and that set it:
+-- SamrQuerySecurityObject (MS-SAMR 3.1.5.12.2) and LsarQuerySecurityObject (MS-LSAD 3.1.4.9.1), SamrSetSecurityObject
+-- (MS-SAMR 3.1.5.12.1) and LsarSetSecurityObject (MS-LSAD 3.1.4.9.2)
+
+-- ---- what is written for arguments and outputs: their parts, in the fields' order
+
+abbrev pub bits_in : Args → ℕ
+bits_in (args.Bits info) = info
+bits_in _ = 0
+
+abbrev pub security_in : Args → ℕ × List ℕ
+security_in (args.Security info bytes) = (info, bytes)
+security_in _ = (0, [])
+
+abbrev pub security_out : Outs → Option (List ℕ)
+security_out (outs.Security bytes) = bytes
+security_out _ = None
+
+-- ---- the layouts
+
+unfoldable pub security_args : SecurityFields → Codec Args
+-- SecurityInformation
+security_args security.Query = made args.Bits bits_in u32
+-- SecurityInformation, SecurityDescriptor
+security_args security.Set =
+    made (λ (info, bytes). args.Security info bytes) security_in (chain u32 (λ _. descriptor most_descriptor))
+
+-- SecurityDescriptor
+unfoldable pub security_outs : Codec Outs
+security_outs = made outs.Security security_out descriptor_pointer
+
+-- ======== what stands after the handle in the stubs of calls: the fields of each layout that both interfaces have, as
+-- they stand in the IDL, and the arguments that they make
 
 -- ---- what is written for arguments: their parts, in the fields' order
 

@@ -3,9 +3,8 @@
 use Rattle.std.specs.Prelude.{◌≡◌, ◌≢◌, ℕ, Bool, false, List, [], ◌++◌, ◌↔◌, Option, Some, None, Result, Ok, Err}
 use Rattle.std.specs.Prelude.{if◌then◌else◌}
 use Rattle.ndr_core.specs.Codec.{Codec}
-use Rattle.ndr_core.specs.Cursor.{Cursor, second}
+use Rattle.ndr_core.specs.Cursor.{Cursor, second, IsBytes, Written}
 use Rattle.ndr_core.specs.Shapes.{chain, made, u16}
-use Rattle.ndr_core.specs.Written.{IsBytes, Written}
 use Rattle.ndr_core.specs.declared.error.NdrError.{NdrError}
 use Rattle.ndr_core.specs.declared.error.NdrError.TheVariants as ndr
 use Rattle.acct_calls.specs.declared.calls.Args.{Args}
@@ -13,15 +12,14 @@ use Rattle.acct_calls.specs.declared.calls.Call.{Call}
 use Rattle.acct_calls.specs.declared.calls.Face.{Face}
 use Rattle.acct_calls.specs.declared.handle.Handle.{Handle}
 use Rattle.acct_layouts.specs.CallShapes.{CanBeSpelled}
-use Rattle.acct_layouts.specs.Classes.{is_password_class}
+use Rattle.acct_layouts.specs.Values.{is_password_class}
 use Rattle.acct_layouts.specs.Table.{layout_of}
 use Rattle.acct_layouts.specs.declared.fields.Fields.{Fields}
 use Rattle.acct_layouts.specs.declared.fields.Fields.TheVariants as fields
 use Rattle.acct_layouts.specs.declared.table.Layout.{Layout}
-use Rattle.ndr_types.specs.Domains.{place}
-use Rattle.ndr_types.specs.Handles.{handle, handle_of}
-use Rattle.acct_stubs.specs.Arguments.{arguments}
-use Rattle.acct_stubs.specs.Wire.{Wire}
+use Rattle.ndr_types.specs.Translations.{place}
+use Rattle.ndr_types.specs.Values.{handle, handle_of}
+use Rattle.acct_stubs.specs.Arguments.{arguments, Wire}
 use Rattle.acct_stubs.specs.declared.errors.WireError.{WireError}
 use Rattle.acct_stubs.specs.declared.errors.WireError.TheVariants.{BadStub, Memory, NotServed}
 

@@ -1,19 +1,80 @@
--- How the value of an information class stands in a stub (MS-SAMR 2.2.3 to 2.2.6, MS-LSAD 2.2.4).
-use Rattle.std.specs.Prelude.{ℕ, Bool, true, false, ◌==◌, List, [], Option, Some, None}
-use Rattle.ndr_core.specs.Codec.{Codec}
-use Rattle.ndr_core.specs.Cursor.{is_zero}
-use Rattle.ndr_core.specs.Parts.{Part, flat, join, pointer_to, whole}
-use Rattle.ndr_core.specs.Shapes.{chain, given, ignored, made, padding4, pointer, u16, u16_such, u32}
-use Rattle.dtyp_sid.specs.Value.{SidValue}
+-- How information, members and displayed accounts stand in a stub.
+use Rattle.std.specs.Prelude.{ℕ, Bool, true, false, ◌==◌, ◌||◌, Option, List, [], length, map, Some, None}
+use Rattle.std.specs.List.{zip}
+use Rattle.dtyp_sid.specs.Sids.{SidValue}
 use Rattle.acct_calls.specs.declared.info.Info.{Info}
 use Rattle.acct_calls.specs.declared.info.Info.TheVariants as info
-use Rattle.acct_layouts.specs.Classes.{set_arm, shown_arm}
+use Rattle.acct_calls.specs.declared.lists.DisplayRow.{DisplayRow}
+use Rattle.acct_calls.specs.declared.lists.RidBits.{RidBits}
+use Rattle.ndr_core.specs.Codec.{Codec}
+use Rattle.ndr_core.specs.Cursor.{is_zero}
+use Rattle.ndr_core.specs.Parts.{Part, is_there_list, list, pointer_to, times, whole, flat, join}
+use Rattle.ndr_core.specs.Shapes.{chain, given, ignored, made, pointer_such, u32, u32_such, padding4, u16, pointer}
+use Rattle.ndr_core.specs.Shapes.{u16_such}
+use Rattle.acct_layouts.specs.Values.{display_arm, set_arm, shown_arm}
 use Rattle.acct_layouts.specs.declared.classes.Arm.{Arm}
 use Rattle.acct_layouts.specs.declared.classes.Arm.TheVariants as arm
+use Rattle.acct_layouts.specs.declared.classes.DisplayArm.{DisplayArm}
 use Rattle.acct_layouts.specs.declared.classes.Subject.{Subject}
-use Rattle.ndr_types.specs.Sids.{sid, sid_pointer}
-use Rattle.ndr_types.specs.Texts.{text, text_tail, units}
-use Rattle.acct_stubs.specs.Members.{members}
+use Rattle.ndr_types.specs.Listed.{display_rows, rid_bits_of}
+use Rattle.ndr_types.specs.Values.{sid, sid_pointer, text, text_tail, units}
+
+-- ======== the members of a group, with their attributes: a pointer to SAMPR_GET_MEMBERS_BUFFER (MS-SAMR 2.2.3.14)
+
+abbrev pub rid_of : RidBits → ℕ
+rid_of r = r.rid
+
+abbrev pub bits_of : RidBits → ℕ
+bits_of r = r.bits
+
+abbrev pub paired : List ℕ × List ℕ → List RidBits
+paired x = map rid_bits_of (zip x.0 x.1)
+
+abbrev pub parted : List RidBits → List ℕ × List ℕ
+parted list = (map rid_of list, map bits_of list)
+
+-- a pointer that is null only where there is nothing
+abbrev pub pointer_for : ℕ → Codec Bool
+pointer_for count = pointer_such (λ there. there || (count == 0))
+
+-- so many numbers after the same count, where their pointer isn't null
+abbrev pub numbers : ℕ → Bool → Codec (List ℕ)
+numbers count true = ignored count (u32_such (λ maximum. maximum == count)) (times count u32)
+numbers count false = given []
+
+-- MemberCount, and pointers to Members and to Attributes
+abbrev pub members_head : Codec (ℕ × (Bool × Bool))
+members_head = chain u32 (λ count. chain (pointer_for count) (λ _. pointer_for count))
+
+abbrev pub both_numbers : ℕ × (Bool × Bool) → Codec (List ℕ × List ℕ)
+both_numbers head = chain (numbers head.0 head.1.0) (λ _. numbers head.0 head.1.1)
+
+-- The two arrays stand after the structure, in the pointers' order. Where there is no member, both pointers are
+-- written as null.
+unfoldable pub members_buffer : Part (ℕ × (Bool × Bool)) (List RidBits)
+members_buffer = record {
+  head = members_head;
+  tail = λ head. made paired parted (both_numbers head);
+  head_of = λ list. (length list, (is_there_list list, is_there_list list));
+}
+
+-- A pointer, null or to this.
+unfoldable pub members : Codec (Option (List RidBits))
+members = whole (pointer_to (whole members_buffer))
+
+-- ======== how the accounts of a domain that are displayed stand in a stub: SAMPR_DISPLAY_INFO_BUFFER (MS-SAMR
+-- 2.2.8.13)
+
+-- Of a class that isn't served, a number of entries and a pointer, both 0.
+abbrev pub rows_of : Option DisplayArm → Codec (List DisplayRow)
+rows_of None = ignored 0 (u32_such is_zero) (ignored 0 (u32_such is_zero) (given []))
+rows_of (Some arm) = display_rows arm
+
+-- The class, padding to 4, and the entries of the class.
+unfoldable pub displayed : Codec (ℕ × List DisplayRow)
+displayed = chain u16 (λ class. ignored tt padding4 (rows_of (display_arm class)))
+
+-- ======== how the value of an information class stands in a stub (MS-SAMR 2.2.3 to 2.2.6, MS-LSAD 2.2.4)
 
 abbrev pub no_sid : SidValue
 no_sid = record { authority = 0; subs = [] }

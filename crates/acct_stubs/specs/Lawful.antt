@@ -1,7 +1,6 @@
 -- What an interface owes for the codecs of the layouts that it has alone.
 use Rattle.std.specs.Prelude.{◌≡◌, true}
-use Rattle.ndr_core.specs.Cursor.{Cursor}
-use Rattle.ndr_core.specs.Written.{IsBytes}
+use Rattle.ndr_core.specs.Cursor.{Cursor, IsBytes}
 use Rattle.acct_calls.specs.declared.calls.Args.{Args}
 use Rattle.acct_calls.specs.declared.replies.Reply.{Reply}
 use Rattle.acct_layouts.specs.CallShapes.{AreArguments}
@@ -10,7 +9,7 @@ use Rattle.acct_layouts.specs.declared.fields.Fields.{Fields}
 use Rattle.acct_layouts.specs.declared.outputs.Outputs.{Outputs}
 use Rattle.ndr_types.specs.Laws.{GoesOnward, IsWritable}
 use Rattle.acct_stubs.specs.Shared.{are_own, own_outputs}
-use Rattle.acct_stubs.specs.Wire.{Wire}
+use Rattle.acct_stubs.specs.Arguments.{Wire}
 
 -- What some bytes spell can be written, and is of the layout's kind. What is of the kind can be written, where the
 -- interface has the layout. Reading goes onward, and takes no memory. A refusal that refers to a domain may be spelled,

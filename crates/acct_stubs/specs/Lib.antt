@@ -1,12 +1,7 @@
-pub mod ServerNames
-pub mod Infos
-pub mod Displayed
-pub mod Security
-pub mod Members
-pub mod Wire
 pub mod Arguments
-pub mod Outputs
-pub mod Shared
 pub mod Calls
-pub mod Replies
+pub mod Infos
 pub mod Lawful
+pub mod Outputs
+pub mod Replies
+pub mod Shared

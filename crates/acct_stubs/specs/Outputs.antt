@@ -5,7 +5,7 @@ use Rattle.ndr_core.specs.Codec.{Codec}
 use Rattle.ndr_core.specs.Cursor.{is_zero}
 use Rattle.ndr_core.specs.Parts.{list_of, pointer_to, whole}
 use Rattle.ndr_core.specs.Shapes.{chain, given, ignored, made, u32, u32_such}
-use Rattle.dtyp_sid.specs.Value.{SidValue}
+use Rattle.dtyp_sid.specs.Sids.{SidValue}
 use Rattle.acct_calls.specs.declared.handle.Handle.{Handle}
 use Rattle.acct_calls.specs.declared.info.Info.{Info}
 use Rattle.acct_calls.specs.declared.lists.DisplayRow.{DisplayRow}
@@ -22,16 +22,10 @@ use Rattle.acct_layouts.specs.declared.outputs.Outputs.{Outputs}
 use Rattle.acct_layouts.specs.declared.outputs.Outputs.TheVariants as outputs
 use Rattle.acct_layouts.specs.declared.outputs.ScalarOutputs.{ScalarOutputs}
 use Rattle.acct_layouts.specs.declared.outputs.ScalarOutputs.TheVariants as scalar
-use Rattle.ndr_types.specs.Accounts.{any, rid_names}
-use Rattle.ndr_types.specs.Handles.{handle, handle_of}
-use Rattle.ndr_types.specs.Lists.{rid_list, sid_list, text_list}
-use Rattle.ndr_types.specs.Members.{rid_bits}
-use Rattle.ndr_types.specs.Sids.{sid}
-use Rattle.acct_stubs.specs.Displayed.{displayed}
-use Rattle.acct_stubs.specs.Infos.{class_shown}
-use Rattle.acct_stubs.specs.Members.{members}
-use Rattle.acct_stubs.specs.Security.{security_outs}
-use Rattle.acct_stubs.specs.Wire.{Wire}
+use Rattle.ndr_types.specs.Listed.{any, rid_names, rid_bits}
+use Rattle.ndr_types.specs.Values.{handle, handle_of, rid_list, sid_list, text_list, sid}
+use Rattle.acct_stubs.specs.Infos.{displayed, class_shown, members}
+use Rattle.acct_stubs.specs.Arguments.{security_outs, Wire}
 
 -- ---- what is written for outputs: their parts, in the fields' order
 

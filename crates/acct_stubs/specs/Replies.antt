@@ -1,8 +1,7 @@
 -- Replies as stubs: which bytes spell a reply, which reply some bytes are, or why they are none, how a reply is
 -- spelled, and the laws of these.
 use Rattle.std.specs.Prelude.{◌≡◌, ◌≢◌, ℕ, List, [], ◌++◌, ◌↔◌, Option, Some, None, Result, Ok, Err}
-use Rattle.ndr_core.specs.Cursor.{Cursor}
-use Rattle.ndr_core.specs.Written.{IsBytes}
+use Rattle.ndr_core.specs.Cursor.{Cursor, IsBytes}
 use Rattle.ndr_core.specs.declared.error.NdrError.{NdrError}
 use Rattle.acct_calls.specs.declared.replies.Reply.{Reply}
 use Rattle.acct_layouts.specs.ReplyShapes.{HasShape, RefersRightly}
@@ -10,7 +9,7 @@ use Rattle.acct_layouts.specs.Table.{layout_of}
 use Rattle.acct_layouts.specs.declared.table.Layout.{Layout}
 use Rattle.acct_stubs.specs.Calls.{nothing_written, refused_at, start}
 use Rattle.acct_stubs.specs.Outputs.{reply_stub}
-use Rattle.acct_stubs.specs.Wire.{Wire}
+use Rattle.acct_stubs.specs.Arguments.{Wire}
 use Rattle.acct_stubs.specs.declared.errors.WireError.{WireError}
 use Rattle.acct_stubs.specs.declared.errors.WireError.TheVariants.{Memory, NotServed}
 

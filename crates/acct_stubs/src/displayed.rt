@@ -1,8 +1,8 @@
 // The accounts of a domain that are displayed.
 ghost use Rattle.std.specs.Prelude.{◌≡◌, OnOk};
-ghost use Rattle.acct_layouts.specs.Classes.{display_arm};
+ghost use Rattle.acct_layouts.specs.Values.{display_arm};
 ghost use Rattle.ndr_types.specs.Outcomes.{ReadsIfRoom};
-ghost use Rattle.acct_stubs.specs.Displayed.{displayed, rows_of};
+ghost use Rattle.acct_stubs.specs.Infos.{displayed, rows_of};
 
 use crate::NoMemory;
 use crate::numbers::read_wanted;
@@ -38,7 +38,7 @@ fn write_rows(to: &mut Out, class: u16, rows: &DisplayRows) -> Result<(), NoMemo
 }
 
 /// A class, and the accounts that it displays.
-#[tactic(auto, unfolding(crate::specs::Displayed::displayed))]
+#[tactic(auto, unfolding(crate::specs::Infos::displayed))]
 pub fn read_displayed(alloc: Global, from: &mut In<'_>) -> Result<(u16, DisplayRows), NdrError>
     ensures { ReadsIfRoom result from.new (displayed.read from.old) }
 {
@@ -49,7 +49,7 @@ pub fn read_displayed(alloc: Global, from: &mut In<'_>) -> Result<(u16, DisplayR
 }
 
 /// A class, and the accounts that it displays.
-#[tactic(auto, unfolding(crate::specs::Displayed::displayed))]
+#[tactic(auto, unfolding(crate::specs::Infos::displayed))]
 pub fn write_displayed(to: &mut Out, class: u16, rows: &DisplayRows) -> Result<(), NoMemory>
     requires { displayed.Fits (class, rows.now) }
     ensures { OnOk result (to.new ≡ displayed.write (class, rows.now) to.old) }

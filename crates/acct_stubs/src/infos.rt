@@ -5,9 +5,8 @@ ghost use Rattle.ndr_core.specs.Parts.{flat, join, whole};
 ghost use Rattle.ndr_core.specs.Shapes.{u32};
 ghost use Rattle.ndr_types.specs.Bounds.{IsShort};
 ghost use Rattle.ndr_types.specs.Outcomes.{ReadsIfRoom};
-ghost use Rattle.ndr_types.specs.Sids.{sid_pointer};
-ghost use Rattle.ndr_types.specs.Texts.{text};
-ghost use Rattle.acct_layouts.specs.Classes.{is_password_class, set_arm, shown_arm};
+ghost use Rattle.ndr_types.specs.Values.{sid_pointer, text};
+ghost use Rattle.acct_layouts.specs.Values.{is_password_class, set_arm, shown_arm};
 ghost use Rattle.acct_stubs.specs.Infos.{class_set, class_shown, empty_text, value_of};
 
 use crate::NoMemory;
@@ -37,7 +36,7 @@ fn read_empty_head(from: &mut In<'_>) -> Result<(u16, bool), NdrError>
     Ok((length, there))
 }
 
-#[tactic(auto, unfolding(crate::specs::Infos::empty_text, ndr_types::specs::Texts::text))]
+#[tactic(auto, unfolding(crate::specs::Infos::empty_text, ndr_types::specs::Values::text))]
 fn read_empty_tail(alloc: Global, from: &mut In<'_>, head: &(u16, bool)) -> Result<(), NdrError>
     ensures { ReadsIfRoom result from.new ((empty_text.tail head.now).read from.old) }
 {

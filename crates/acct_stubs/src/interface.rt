@@ -3,7 +3,7 @@ ghost use Rattle.std.specs.Prelude.{◌≡◌, true, OnOk};
 ghost use Rattle.ndr_types.specs.Outcomes.{ReadsIfRoom};
 ghost use Rattle.acct_stubs.specs.Lawful.{IsLawful};
 ghost use Rattle.acct_stubs.specs.Shared.{own_outputs};
-ghost use Rattle.acct_stubs.specs.Wire.{Wire};
+ghost use Rattle.acct_stubs.specs.Arguments.{Wire};
 
 use crate::NoMemory;
 use acct_calls::{Args, Face, Reply};

@@ -3,11 +3,11 @@ ghost use Rattle.std.specs.Prelude.{◌≡◌, IfOk, OnOk, length, map};
 ghost use Rattle.ndr_core.specs.Cursor.{Reads};
 ghost use Rattle.ndr_core.specs.Parts.{times, whole};
 ghost use Rattle.ndr_core.specs.Shapes.{u32};
-ghost use Rattle.acct_layouts.specs.Bounds.{IfThere, IsListed};
+ghost use Rattle.acct_layouts.specs.Values.{IfThere, IsListed};
 ghost use Rattle.ndr_types.specs.Bounds.{AnyValue};
 ghost use Rattle.ndr_types.specs.Outcomes.{ReadsIfRoom};
-ghost use Rattle.acct_stubs.specs.Members.{bits_of, members, members_buffer, members_head, numbers, paired};
-ghost use Rattle.acct_stubs.specs.Members.{pointer_for, rid_of};
+ghost use Rattle.acct_stubs.specs.Infos.{bits_of, members, members_buffer, members_head, numbers, paired, pointer_for};
+ghost use Rattle.acct_stubs.specs.Infos.{rid_of};
 
 use crate::NoMemory;
 use acct_base::Seq;
@@ -62,7 +62,7 @@ fn read_buffer_head(from: &mut In<'_>) -> Result<(u32, (bool, bool)), NdrError>
     Ok((count, (rids_there, attributes_there)))
 }
 
-#[tactic(auto, unfolding(crate::specs::Members::members_buffer))]
+#[tactic(auto, unfolding(crate::specs::Infos::members_buffer))]
 fn read_buffer(alloc: Global, from: &mut In<'_>) -> Result<RidBitsList, NdrError>
     ensures { ReadsIfRoom result from.new ((whole members_buffer).read from.old) }
 {
@@ -82,7 +82,7 @@ fn read_buffer(alloc: Global, from: &mut In<'_>) -> Result<RidBitsList, NdrError
 }
 
 /// The members of a group, or none where the pointer is null.
-#[tactic(auto, unfolding(crate::specs::Members::members))]
+#[tactic(auto, unfolding(crate::specs::Infos::members))]
 pub fn read_members(alloc: Global, from: &mut In<'_>) -> Result<Option<RidBitsList>, NdrError>
     ensures { ReadsIfRoom result from.new (members.read from.old) }
 {
@@ -111,7 +111,7 @@ fn write_attributes(to: &mut Out, list: &[RidBits]) -> Result<(), NoMemory>
     Ok(())
 }
 
-#[tactic(auto, unfolding(crate::specs::Members::members_buffer))]
+#[tactic(auto, unfolding(crate::specs::Infos::members_buffer))]
 fn write_buffer(to: &mut Out, list: &[RidBits]) -> Result<(), NoMemory>
     requires { IsListed AnyValue list.now }
     ensures { OnOk result (to.new ≡ (whole members_buffer).write list.now to.old) }
@@ -130,7 +130,7 @@ fn write_buffer(to: &mut Out, list: &[RidBits]) -> Result<(), NoMemory>
 }
 
 /// Writes the members of a group, or a null pointer.
-#[tactic(auto, unfolding(crate::specs::Members::members))]
+#[tactic(auto, unfolding(crate::specs::Infos::members))]
 pub fn write_members(to: &mut Out, value: &Option<RidBitsList>) -> Result<(), NoMemory>
     requires { IfThere (IsListed AnyValue) value.now }
     ensures { OnOk result (to.new ≡ members.write value.now to.old) }

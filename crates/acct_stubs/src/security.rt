@@ -1,7 +1,7 @@
 // The security descriptor of an object, where it is asked for and where it is set.
 ghost use Rattle.std.specs.Prelude.{◌≡◌, OnOk};
 ghost use Rattle.ndr_types.specs.Outcomes.{ReadsIfRoom};
-ghost use Rattle.acct_stubs.specs.Security.{security_args, security_outs};
+ghost use Rattle.acct_stubs.specs.Arguments.{security_args, security_outs};
 
 use crate::NoMemory;
 use acct_calls::{Args, Outs};
@@ -14,7 +14,7 @@ use ndr_types::{
 use std::alloc::Global;
 
 /// The parts that are asked for, or those that are set and a descriptor with them.
-#[tactic(auto, unfolding(crate::specs::Security::security_args))]
+#[tactic(auto, unfolding(crate::specs::Arguments::security_args))]
 pub fn read_security_args(
     alloc: Global,
     from: &mut In<'_>,
@@ -32,7 +32,7 @@ pub fn read_security_args(
     }
 }
 
-#[tactic(auto, using(crate::proofs::SecurityValues::bytes_counted), unfolding(crate::specs::Security::security_args))]
+#[tactic(auto, using(crate::proofs::SecurityValues::bytes_counted), unfolding(crate::specs::Arguments::security_args))]
 pub fn write_security_args(
     to: &mut Out,
     layout: SecurityFields,
@@ -52,7 +52,7 @@ pub fn write_security_args(
 }
 
 /// The descriptor that is answered.
-#[tactic(auto, unfolding(crate::specs::Security::security_outs))]
+#[tactic(auto, unfolding(crate::specs::Arguments::security_outs))]
 pub fn read_security(alloc: Global, from: &mut In<'_>) -> Result<Outs, NdrError>
     ensures { ReadsIfRoom result from.new (security_outs.read from.old) }
 {
@@ -60,7 +60,7 @@ pub fn read_security(alloc: Global, from: &mut In<'_>) -> Result<Outs, NdrError>
     Ok(Outs::Security(bytes))
 }
 
-#[tactic(auto, using(crate::proofs::SecurityValues::pointer_counted), unfolding(crate::specs::Security::security_outs))]
+#[tactic(auto, using(crate::proofs::SecurityValues::pointer_counted), unfolding(crate::specs::Arguments::security_outs))]
 pub fn write_security(to: &mut Out, outs: &Outs) -> Result<(), NoMemory>
     requires { security_outs.Fits outs.now }
     ensures { OnOk result (to.new ≡ security_outs.write outs.now to.old) }

@@ -3,7 +3,7 @@ ghost use Rattle.std.specs.Prelude.{◌≡◌, OnOk};
 ghost use Rattle.ndr_core.specs.Cursor.{Reads};
 ghost use Rattle.ndr_core.specs.Shapes.{u16};
 ghost use Rattle.ndr_core.specs.Parts.{times};
-ghost use Rattle.acct_stubs.specs.ServerNames.{ReadsPast, server_name};
+ghost use Rattle.acct_stubs.specs.Arguments.{ReadsPast, server_name};
 
 use crate::NoMemory;
 use ndr_core::{In, NdrError, Out};
@@ -19,7 +19,7 @@ fn skip_units(from: &mut In<'_>, count: u32) -> Result<(), NdrError>
 }
 
 /// Passes over the name of the server.
-#[tactic(auto, unfolding(crate::specs::ServerNames::server_name))]
+#[tactic(auto, unfolding(crate::specs::Arguments::server_name))]
 pub fn read_server_name(from: &mut In<'_>) -> Result<(), NdrError>
     ensures { Reads result from.new (server_name.read from.old) }
 {
@@ -32,7 +32,7 @@ pub fn read_server_name(from: &mut In<'_>) -> Result<(), NdrError>
 }
 
 /// Writes no name.
-#[tactic(auto, unfolding(crate::specs::ServerNames::server_name))]
+#[tactic(auto, unfolding(crate::specs::Arguments::server_name))]
 pub fn write_server_name(to: &mut Out) -> Result<(), NoMemory>
     ensures { OnOk result (to.new ≡ server_name.write tt to.old) }
 {

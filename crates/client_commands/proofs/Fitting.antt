@@ -3,8 +3,8 @@ use Rattle.std.proofs.Common.{◌≡◌, ℕ, ◌≤◌, true, List, length, All
 use Rattle.std.specs.List.{list_all}
 use Rattle.std.proofs.lemmas.Bool.{leb-true}
 use Rattle.std.proofs.lemmas.List.Sums.{AllPass-from_list_all}
-use Rattle.acct_calls.specs.CodePoints.{AreUnits}
-use Rattle.acct_layouts.specs.Bounds.{IsText}
+use Rattle.acct_calls.specs.Names.{AreUnits}
+use Rattle.acct_layouts.specs.Values.{IsText}
 use Rattle.client_commands.specs.Words.{is_short, most_units}
 
 pub text_of_short : (name : List ℕ) → is_short name ≡ true → AreUnits name → IsText name

@@ -5,8 +5,8 @@ use Rattle.client_commands.specs.declared.command.Command.TheVariants.{InDomain}
 use Rattle.client_commands.specs.declared.command.Task.{Task}
 use Rattle.client_commands.specs.declared.command.Task.TheVariants.{CreateUser, Named}
 use Rattle.client_commands.specs.declared.command.NamedTask.TheVariants.{DeleteUser, Members, AddMember}
-use Rattle.client_commands.specs.Words.{name_of, pair_of, two_names, in_domain, adding}
-use Rattle.client_commands.specs.Words.{create_form, delete_form, members_form}
+use Rattle.client_commands.specs.Words.{name_of, both_of, two_names, in_domain, adding, create_form, delete_form}
+use Rattle.client_commands.specs.Words.{members_form}
 
 -- the command that a pair is, if there is one
 abbrev pub with_pair : (List ℕ → Task) → Option (List ℕ × List ℕ) → Option Command
@@ -14,7 +14,7 @@ with_pair task None = None
 with_pair task (Some names) = Some (InDomain names.0 (task names.1))
 
 of_pair : (task : List ℕ → Task) (domain name : Option (List ℕ))
-    → in_domain domain (option_map task name) ≡ with_pair task (pair_of domain name)
+    → in_domain domain (option_map task name) ≡ with_pair task (both_of domain name)
 of_pair task None name = refl
 of_pair task (Some domain) None = refl
 of_pair task (Some domain) (Some name) = refl
@@ -45,7 +45,7 @@ adding_pair domain None = None
 adding_pair domain (Some names) = Some (InDomain domain (Named (AddMember names.0 names.1)))
 
 pub adding_is : (domain : List ℕ) (group user : Option (List ℕ))
-    → in_domain (Some domain) (adding group user) ≡ adding_pair domain (pair_of group user)
+    → in_domain (Some domain) (adding group user) ≡ adding_pair domain (both_of group user)
 adding_is domain None user = refl
 adding_is domain (Some group) None = refl
 adding_is domain (Some group) (Some user) = refl

@@ -1,8 +1,8 @@
 -- The text of a name, a code point at a time.
 use Rattle.std.proofs.Common.{◌≡◌, ℕ, List, [], ◌∷◌, ◌++◌, encode_utf8, ap}
 use Rattle.std.specs.List.{flat_map}
-use Rattle.acct_calls.specs.CodePoints.{code_points}
-use Rattle.client_commands.specs.Texts.{glyph, name_text}
+use Rattle.acct_calls.specs.Names.{code_points}
+use Rattle.client_commands.specs.Outcomes.{glyph, name_text}
 
 pub name_text-nil : (units : List ℕ) → units ≡ [] → name_text units ≡ []
 unfolding name_text code_points

@@ -2,7 +2,7 @@
 use Rattle.std.proofs.Common.{zero, suc, ◌≤◌, [], ◌∷◌, All, arith, refl, subst, sym}
 use Rattle.std.proofs.lemmas.List.{length-map}
 use Rattle.acct_codes.specs.Limits.{most_translated_sids}
-use Rattle.acct_layouts.specs.Bounds.{IsText}
+use Rattle.acct_layouts.specs.Values.{IsText}
 use Rattle.acct_layouts.specs.CallShapes.{CanBeSpelled}
 use Rattle.acct_layouts.specs.Table.{lsa_layout, samr_layout}
 use Rattle.client_commands.specs.declared.command.Command.TheVariants.{Domains, InDomain, AtPolicy}
@@ -12,7 +12,7 @@ use Rattle.client_commands.specs.declared.command.Query.TheVariants.{Names, Sids
 use Rattle.client_commands.specs.declared.steps.GroupTask.TheVariants as group_task
 use Rattle.client_commands.specs.declared.steps.Step.TheVariants as step
 use Rattle.client_commands.specs.Fit.{FitStepsAreSpelled}
-use Rattle.client_commands.specs.Steps.{sid_of_word}
+use Rattle.client_commands.specs.Words.{sid_of_word}
 
 one : {X : Type 0} (P : X → Type 0) (x : X) → P x → All P (x ∷ [])
 one P x p zero d h = p

@@ -3,7 +3,7 @@ use Rattle.std.proofs.Common.{◌≡◌, ℕ, List, Option, refl}
 use Rattle.acct_calls.specs.declared.handle.Handle.{Handle}
 use Rattle.acct_calls.specs.declared.replies.Outs.{Outs}
 use Rattle.acct_calls.specs.declared.replies.Outs.TheVariants as outs
-use Rattle.dtyp_sid.specs.Value.{SidValue}
+use Rattle.dtyp_sid.specs.Sids.{SidValue}
 use Rattle.client_commands.specs.declared.command.NamedTask.{NamedTask}
 use Rattle.client_commands.specs.declared.command.Task.{Task}
 use Rattle.client_commands.specs.declared.outcomes.Outcome.TheVariants.{Unfit}

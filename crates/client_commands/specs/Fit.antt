@@ -1,9 +1,9 @@
 -- Which commands and steps have calls that can be written: names, lists and SIDs within the bounds of their operations.
 use Rattle.std.specs.Prelude.{◌≤◌, length, map, All}
 use Rattle.acct_codes.specs.Limits.{most_rights, most_translated_names, most_translated_sids}
-use Rattle.acct_layouts.specs.Bounds.{IsHandle, IsLong, IsText}
+use Rattle.acct_layouts.specs.Values.{IsHandle, IsLong, IsText}
 use Rattle.acct_layouts.specs.CallShapes.{CanBeSpelled}
-use Rattle.dtyp_sid.specs.Value.{IsSid}
+use Rattle.dtyp_sid.specs.Sids.{IsSid}
 use Rattle.client_commands.specs.declared.command.Command.{Command}
 use Rattle.client_commands.specs.declared.command.Command.TheVariants.{Domains, InDomain, AtPolicy}
 use Rattle.client_commands.specs.declared.command.Task.{Task}
@@ -18,7 +18,7 @@ use Rattle.client_commands.specs.declared.steps.GroupTask.{GroupTask}
 use Rattle.client_commands.specs.declared.steps.GroupTask.TheVariants as group_task
 use Rattle.client_commands.specs.declared.steps.Step.{Step}
 use Rattle.client_commands.specs.declared.steps.Step.TheVariants as step
-use Rattle.client_commands.specs.Steps.{sid_of_word, call_of}
+use Rattle.client_commands.specs.Words.{sid_of_word, call_of}
 
 abbrev pub IsFitNamed : NamedTask → Type 0
 IsFitNamed (DeleteUser name) = IsText name

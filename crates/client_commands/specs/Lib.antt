@@ -1,5 +1,3 @@
-pub mod Words
-pub mod Texts
-pub mod Steps
-pub mod Outcomes
 pub mod Fit
+pub mod Outcomes
+pub mod Words

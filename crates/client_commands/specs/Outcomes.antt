@@ -1,8 +1,13 @@
--- What each reply brings: the lines that are printed of it, and the next step.
-use Rattle.std.specs.Prelude.{ℕ, ◌==◌, List, [], ◌∷◌, ◌++◌, codes, drop, slice_get, Option, Some, None}
-use Rattle.std.specs.Prelude.{if◌then◌else◌, negsuc}
+-- What each reply brings, as lines and as the next step.
+use Rattle.std.specs.Prelude.{ℕ, List, encode_utf8, if◌then◌else◌, ◌==◌, [], ◌∷◌, ◌++◌, codes, drop, slice_get, Option}
+use Rattle.std.specs.Prelude.{Some, None, negsuc}
 use Rattle.std.specs.Fmt.{decimal, signed_decimal}
 use Rattle.std.specs.List.{flat_map}
+use Rattle.acct_codes.specs.Statuses.{status_more_entries, status_none_mapped}
+use Rattle.acct_codes.specs.Accounts.{sid_type_unknown}
+use Rattle.dtyp_sid.specs.Text.{hexadecimal, text_of}
+use Rattle.dtyp_sid.specs.Sids.{SidValue}
+use Rattle.acct_calls.specs.Names.{is_surrogate, code_points}
 use Rattle.acct_calls.specs.declared.handle.Handle.{Handle}
 use Rattle.acct_calls.specs.declared.lists.RidBits.{RidBits}
 use Rattle.acct_calls.specs.declared.lists.RidName.{RidName}
@@ -12,27 +17,34 @@ use Rattle.acct_calls.specs.declared.replies.Outs.{Outs}
 use Rattle.acct_calls.specs.declared.replies.Outs.TheVariants as outs
 use Rattle.acct_calls.specs.declared.replies.Reply.{Reply}
 use Rattle.acct_calls.specs.declared.replies.Reply.TheVariants as reply
-use Rattle.acct_codes.specs.Statuses.{status_more_entries, status_none_mapped}
-use Rattle.acct_codes.specs.Uses.{sid_type_unknown}
 use Rattle.acct_layouts.specs.Refusals.{is_refusal}
-use Rattle.dtyp_sid.specs.Text.{hexadecimal, text_of}
-use Rattle.dtyp_sid.specs.Value.{SidValue}
 use Rattle.client_commands.specs.declared.command.Command.{Command}
 use Rattle.client_commands.specs.declared.command.Command.TheVariants.{Domains, InDomain, AtPolicy}
-use Rattle.client_commands.specs.declared.command.Task.{Task}
-use Rattle.client_commands.specs.declared.command.Task.TheVariants.{Users, CreateUser, Named}
 use Rattle.client_commands.specs.declared.command.NamedTask.{NamedTask}
 use Rattle.client_commands.specs.declared.command.NamedTask.TheVariants.{DeleteUser, Members, AddMember}
-use Rattle.client_commands.specs.declared.command.SidWord.{SidWord}
 use Rattle.client_commands.specs.declared.command.Query.{Query}
 use Rattle.client_commands.specs.declared.command.Query.TheVariants.{Names, Sids, Rights, Grant}
+use Rattle.client_commands.specs.declared.command.SidWord.{SidWord}
+use Rattle.client_commands.specs.declared.command.Task.{Task}
+use Rattle.client_commands.specs.declared.command.Task.TheVariants.{Users, CreateUser, Named}
+use Rattle.client_commands.specs.declared.outcomes.Outcome.{Outcome}
+use Rattle.client_commands.specs.declared.outcomes.Outcome.TheVariants.{Goes, Ends, Refuses, Unfit}
 use Rattle.client_commands.specs.declared.steps.GroupTask.{GroupTask}
 use Rattle.client_commands.specs.declared.steps.GroupTask.TheVariants as group_task
 use Rattle.client_commands.specs.declared.steps.Step.{Step}
 use Rattle.client_commands.specs.declared.steps.Step.TheVariants as step
-use Rattle.client_commands.specs.declared.outcomes.Outcome.{Outcome}
-use Rattle.client_commands.specs.declared.outcomes.Outcome.TheVariants.{Goes, Ends, Refuses, Unfit}
-use Rattle.client_commands.specs.Texts.{name_text}
+
+-- ======== names as text
+
+-- `?` (63) in place of a surrogate that stands alone
+abbrev pub glyph : ℕ → ℕ
+glyph point = if is_surrogate point then 63 else point
+
+-- the name in UTF-8
+unfoldable pub name_text : List ℕ → List ℕ
+name_text units = flat_map (λ point. encode_utf8 (glyph point)) (code_points units)
+
+-- ======== what each reply brings: the lines that are printed of it, and the next step
 
 -- ---- lines, each ended by LF (10), with single spaces (32)
 

@@ -1,9 +1,8 @@
 // The calls of a command, one after the other.
 ghost use Rattle.std.specs.Prelude.{◌≡◌, ◌∷◌, ◌++◌, [], map, IfOk, OnOk};
-ghost use Rattle.client_commands.specs.Steps.{domain_access, policy_access, group_access};
-ghost use Rattle.client_commands.specs.Steps.{asked_names, sid_of_word, page};
+ghost use Rattle.client_commands.specs.Words.{domain_access, policy_access, group_access, asked_names, sid_of_word};
+ghost use Rattle.client_commands.specs.Words.{page, opening_call, query_call, call_of};
 ghost use Rattle.acct_calls.specs.declared.handle.Handle.{Handle};
-ghost use Rattle.client_commands.specs.Steps.{opening_call, query_call, call_of};
 ghost use Rattle.client_commands.specs.Fit.{FitStepsAreSpelled};
 
 use crate::NoMemory;

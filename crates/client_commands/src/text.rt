@@ -3,7 +3,7 @@ ghost use Rattle.std.specs.Prelude.{◌≡◌, ◌++◌, ◌≤◌, [], OnOk, On
 ghost use Rattle.std.specs.Fmt.{decimal, signed_decimal};
 ghost use Rattle.std.specs.String.{string_bytes};
 ghost use Rattle.dtyp_sid.specs.Text.{hexadecimal};
-ghost use Rattle.client_commands.specs.Texts.{name_text, glyph};
+ghost use Rattle.client_commands.specs.Outcomes.{name_text, glyph};
 
 use crate::NoMemory;
 use acct_calls::{FirstPoint, first_point};

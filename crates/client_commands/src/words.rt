@@ -4,17 +4,15 @@ ghost use Rattle.std.specs.String.{string_bytes};
 ghost use Rattle.std.specs.List.{list_all};
 ghost use Rattle.client_commands.specs.declared.words.WordError.TheVariants.{NoMemory, Refused};
 ghost use Rattle.client_commands.specs.Words.{name_in, is_short, name_of, names_of, sid_word, all_sids, sids_of};
-ghost use Rattle.client_commands.specs.Words.{pair_of, two_names, in_domain, adding, granting};
-ghost use Rattle.client_commands.specs.Words.{domains_form, users_form, create_form};
-ghost use Rattle.client_commands.specs.Words.{delete_form, members_form, add_form};
-ghost use Rattle.client_commands.specs.Words.{names_form, sids_form, rights_form, grant_form, verb_form, command_of};
+ghost use Rattle.client_commands.specs.Words.{both_of, two_names, in_domain, adding, granting, domains_form};
+ghost use Rattle.client_commands.specs.Words.{users_form, create_form, delete_form, members_form, add_form, names_form};
+ghost use Rattle.client_commands.specs.Words.{sids_form, rights_form, grant_form, verb_form, command_of, sid_of_word};
 ghost use Rattle.dtyp_sid.specs.Reading.{sid_of_text};
-ghost use Rattle.acct_calls.specs.CodePoints.{AreUnits};
+ghost use Rattle.acct_calls.specs.Names.{AreUnits};
 ghost use Rattle.acct_codes.specs.Limits.{most_rights, most_translated_names};
-ghost use Rattle.acct_layouts.specs.Bounds.{IsText};
-ghost use Rattle.dtyp_sid.specs.Value.{IsSid};
+ghost use Rattle.acct_layouts.specs.Values.{IsText};
+ghost use Rattle.dtyp_sid.specs.Sids.{IsSid};
 ghost use Rattle.client_commands.specs.Fit.{IsFitCommand};
-ghost use Rattle.client_commands.specs.Steps.{sid_of_word};
 
 use crate::command::{Command, NamedTask, Query, SidWord, Task};
 use crate::text::Text;
@@ -83,8 +81,8 @@ fn name_of(alloc: Global, word: &str) -> Result<Name, WordError>
 
 /// The names of two words.
 fn pair_of(alloc: Global, first: &str, second: &str) -> Result<(Name, Name), WordError>
-    ensures found { IfOk result (λ names. pair_of (name_of first.now) (name_of second.now) ≡ Some names) }
-    ensures refused { result ≡ Err Refused → pair_of (name_of first.now) (name_of second.now) ≡ None }
+    ensures found { IfOk result (λ names. both_of (name_of first.now) (name_of second.now) ≡ Some names) }
+    ensures refused { result ≡ Err Refused → both_of (name_of first.now) (name_of second.now) ≡ None }
     ensures fit { IfOk result (λ names. IsText names.0 × IsText names.1) }
 {
     let first = name_of(alloc, first)?;

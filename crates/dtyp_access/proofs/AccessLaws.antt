@@ -7,14 +7,12 @@ use Rattle.std.specs.Option.{option_map_or}
 use Rattle.std.proofs.lemmas.Nat.{and_le_l}
 use Rattle.acct_codes.specs.declared.kind.Kind.{Kind}
 use Rattle.acct_codes.specs.Rights.{read_control, write_dac, access_system_security, maximum_allowed, generic_all}
-use Rattle.acct_codes.specs.Rights.{generic_read, generic_write, generic_execute}
-use Rattle.acct_codes.specs.Mappings.{valid_rights}
-use Rattle.dtyp_sid.specs.Value.{SidValue}
+use Rattle.acct_codes.specs.Rights.{generic_read, generic_write, generic_execute, valid_rights}
+use Rattle.dtyp_sid.specs.Sids.{SidValue}
 use Rattle.dtyp_access.specs.declared.ace.Ace.{Ace}
 use Rattle.dtyp_access.specs.declared.descriptor.Descriptor.{Descriptor}
 use Rattle.dtyp_access.specs.Granted.{shares, names, applies, is_inherit_only, is_allow, has_sid, acl_grants, is_owners}
-use Rattle.dtyp_access.specs.Granted.{grants, granted}
-use Rattle.dtyp_access.specs.Opening.{asks, may_have, gives, all_rights, mask_of, opened}
+use Rattle.dtyp_access.specs.Granted.{grants, granted, asks, may_have, gives, all_rights, mask_of, opened}
 use Rattle.dtyp_access.specs.Laws.{DeniesNothing}
 use Rattle.std.proofs.Common.{w32}
 use Rattle.std.specs.Int.{bit_not}

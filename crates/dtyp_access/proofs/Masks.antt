@@ -9,8 +9,7 @@ use Rattle.std.proofs.lemmas.Bool.Decides.{nat_tests}
 use Rattle.std.proofs.lemmas.Bool.{cases_lt}
 use Rattle.std.proofs.Math.Nat.{one-le-pow}
 use Rattle.std.proofs.lemmas.Grind.{pow_more}
-use Rattle.dtyp_access.specs.Granted.{shares}
-use Rattle.dtyp_access.specs.Opening.{all_rights, mask_of}
+use Rattle.dtyp_access.specs.Granted.{shares, all_rights, mask_of}
 
 bit_test : (bit power number : ℕ) → bit < 2 → 1 ≤ power → number ≡ bit * power → not (number == 0) ≡ (bit == 1)
 bit_test zero power number few some is = let none : number ≡ 0 = omega arith in rw none refl

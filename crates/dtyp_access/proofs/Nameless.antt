@@ -2,8 +2,7 @@
 use Rattle.std.proofs.Common.{◌≡◌, ℕ, ◌^◌, ◌<◌, refl, true}
 use Rattle.std.specs.Prelude.{not, ◌||◌, ◌==◌}
 use Rattle.acct_codes.specs.Rights.{read_control, write_dac, access_system_security, maximum_allowed}
-use Rattle.dtyp_access.specs.Granted.{shares, is_generic}
-use Rattle.dtyp_access.specs.Opening.{all_rights}
+use Rattle.dtyp_access.specs.Granted.{shares, is_generic, all_rights}
 use Rattle.dtyp_access.proofs.Masks.{by_checks}
 
 -- all bits but the generic ones and MAXIMUM_ALLOWED

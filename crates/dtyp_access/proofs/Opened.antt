@@ -4,16 +4,14 @@ use Rattle.std.proofs.Common.{None, w32, arith}
 use Rattle.std.specs.Prelude.{not, ◌&&◌, ◌||◌, if◌then◌else◌}
 use Rattle.std.specs.Int.{bit_not}
 use Rattle.acct_codes.specs.declared.kind.Kind.{Kind}
-use Rattle.acct_codes.specs.Rights.{maximum_allowed}
-use Rattle.dtyp_sid.specs.Value.{SidValue}
+use Rattle.acct_codes.specs.Rights.{maximum_allowed, valid_rights}
+use Rattle.dtyp_sid.specs.Sids.{SidValue}
 use Rattle.dtyp_access.specs.declared.descriptor.Descriptor.{Descriptor}
-use Rattle.dtyp_access.specs.Granted.{shares, granted}
-use Rattle.dtyp_access.specs.Opening.{asks, may_have, gives, all_rights, mask_of, opened}
+use Rattle.dtyp_access.specs.Granted.{shares, granted, asks, may_have, gives, all_rights, mask_of, opened}
 use Rattle.dtyp_access.proofs.Masks.{shares-and, shares-or, shares-not, shares-none, shares-mask_of, mask_of-fits}
 use Rattle.dtyp_access.proofs.Masks.{same_masks, passes_all, all_rights-at}
 use Rattle.dtyp_access.proofs.Walk.{or_false}
 use Rattle.std.proofs.lemmas.Nat.{and_le_l, and_le_r}
-use Rattle.acct_codes.specs.Mappings.{valid_rights}
 
 -- masks of the rights that are asked for and of those that may be had
 pub record AreMasks (kind : Kind) (descriptor : Descriptor) (token : List SidValue)

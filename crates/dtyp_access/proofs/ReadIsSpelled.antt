@@ -4,10 +4,9 @@ use Rattle.std.proofs.Common.{ap, arith, subst, Bool, true, false, Option, Some,
 use Rattle.std.specs.Prelude.{nat_lt, not, ◌==◌, ◌||◌, if◌then◌else◌, slice_index, IfOk}
 use Rattle.std.proofs.lemmas.Bool.Decides.{nat_tests}
 use Rattle.std.proofs.lemmas.List.Elements.{All-take, All-drop}
-use Rattle.dtyp_sid.specs.Value.{SidValue}
-use Rattle.dtyp_sid.specs.Bytes.{sid_of_bytes, ReadBytesAreWritten as SidsAreWritten}
+use Rattle.dtyp_sid.specs.Sids.{SidValue, sid_of_bytes, ReadBytesAreWritten as SidsAreWritten}
 use Rattle.dtyp_sid.specs.declared.errors.BytesError.{BytesError}
-use Rattle.acct_codes.specs.DescriptorControl.{se_dacl_present, se_self_relative}
+use Rattle.acct_codes.specs.Descriptors.{se_dacl_present, se_self_relative}
 use Rattle.dtyp_access.specs.declared.ace.Ace.{Ace}
 use Rattle.dtyp_access.specs.declared.ace.AceKind.{AceKind}
 use Rattle.dtyp_access.specs.declared.ace.AceKind.TheVariants.{Allow, Deny}
@@ -16,11 +15,10 @@ use Rattle.dtyp_access.specs.declared.parts.Parts.{Parts}
 use Rattle.dtyp_access.specs.declared.errors.DescError.{DescError}
 use Rattle.dtyp_access.specs.declared.errors.DescError.TheVariants.{Short, Revision, Offset, AceType}
 use Rattle.dtyp_access.specs.Granted.{shares}
-use Rattle.dtyp_access.specs.Parts.{parts_of}
+use Rattle.dtyp_access.specs.Parts.{parts_of, type_of}
 use Rattle.dtyp_access.specs.Reading.{then_read, u16_at, u32_at, or_no_sid, is_outside, sid_of_field, sid_if_any}
 use Rattle.dtyp_access.specs.Reading.{owner_of, group_of, kind_of, next_ace, ace_at, aces_at, acl_at, list_of}
 use Rattle.dtyp_access.specs.Reading.{parts_if, parts_of_bytes, with_owner, descriptor_of_bytes, ReadsAllIfRoom}
-use Rattle.dtyp_access.specs.Written.{type_of}
 use Rattle.dtyp_access.specs.Spelled.{IsInside, SpellSid, PointsToSid, SpellAce, SpellAces, SpellAcl, SpellList}
 use Rattle.dtyp_access.specs.Spelled.{SpellSidOrNone, SpellParts, SpellDescriptor, ReadPartsSpell, ReadBytesSpell}
 

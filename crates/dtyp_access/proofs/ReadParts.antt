@@ -5,10 +5,10 @@ use Rattle.std.specs.Int.{w32, from_le_bytes}
 use Rattle.std.proofs.lemmas.List.{get_or-drop, get_or_past}
 use Rattle.std.proofs.lemmas.List.Elements.{All-nil, All-cons}
 use Rattle.std.proofs.lemmas.Bool.{cases_lt}
-use Rattle.dtyp_sid.specs.Value.{SidValue}
+use Rattle.dtyp_sid.specs.Sids.{SidValue}
 use Rattle.dtyp_access.specs.declared.ace.Ace.{Ace}
 use Rattle.dtyp_access.specs.declared.parts.Parts.{Parts}
-use Rattle.dtyp_access.specs.Limits.{IsAce, IsSidOrNone, IsList, AreParts, HasFewAces}
+use Rattle.dtyp_access.specs.Parts.{IsAce, IsSidOrNone, IsList, AreParts, HasFewAces}
 use Rattle.dtyp_access.specs.Reading.{u32_at, next_ace}
 use Rattle.dtyp_access.specs.Spelled.{SpellAce, SpellAces, SpellSidOrNone, SpellList, ReadPartsSpell, ReadPartsAreParts}
 

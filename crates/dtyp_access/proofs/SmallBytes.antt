@@ -4,16 +4,15 @@ use Rattle.std.proofs.Common.{Option, Some, None, All, arith}
 use Rattle.std.specs.Int.{w16, w32, to_le_bytes, byte_at, bytes_low_first, bytes_high_first}
 use Rattle.std.proofs.lemmas.List.{length-append}
 use Rattle.std.proofs.lemmas.List.Elements.{All-nil, All-cons, All-append, All-head, All-tail}
-use Rattle.dtyp_sid.specs.Value.{SidValue, IsSid}
-use Rattle.dtyp_sid.specs.Bytes.{bytes_of, header_of, sub_bytes, WrittenBytesHaveLengths as SidsHaveLengths}
+use Rattle.dtyp_sid.specs.Sids.{SidValue, IsSid, bytes_of, header_of, sub_bytes}
+use Rattle.dtyp_sid.specs.Sids.{WrittenBytesHaveLengths as SidsHaveLengths}
 use Rattle.dtyp_access.specs.declared.ace.Ace.{Ace}
 use Rattle.dtyp_access.specs.declared.ace.AceKind.{AceKind}
 use Rattle.dtyp_access.specs.declared.ace.AceKind.TheVariants.{Allow, Deny}
 use Rattle.dtyp_access.specs.declared.parts.Parts.{Parts}
-use Rattle.dtyp_access.specs.Limits.{IsAce, IsSidOrNone, IsList}
+use Rattle.dtyp_access.specs.Parts.{IsAce, IsSidOrNone, IsList, type_of, ace_bytes, aces_bytes, acl_bytes, sid_bytes}
+use Rattle.dtyp_access.specs.Parts.{list_bytes, header_bytes, parts_bytes, control_of, offset_if}
 use Rattle.dtyp_access.specs.Spelled.{WrittenAreBytes}
-use Rattle.dtyp_access.specs.Written.{type_of, ace_bytes, aces_bytes, acl_bytes, sid_bytes, list_bytes, header_bytes}
-use Rattle.dtyp_access.specs.Written.{parts_bytes, control_of, offset_if}
 use Rattle.std.specs.Prelude.{is_some}
 use Rattle.dtyp_access.proofs.WrittenIsSpelled.{aces_short, sid_or_none_short, header_length}
 

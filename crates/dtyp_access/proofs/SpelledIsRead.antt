@@ -3,9 +3,8 @@ use Rattle.std.proofs.Common.{◌≡◌, ℕ, ◌+◌, ◌-◌, ◌≤◌, ⊎_e
 use Rattle.std.proofs.Common.{Bool, true, false, Option, Some, None, Result, Ok, Err}
 use Rattle.std.specs.Prelude.{nat_lt, not, ◌==◌, ◌||◌, if◌then◌else◌, slice_index, is_some}
 use Rattle.std.proofs.lemmas.Bool.Decides.{nat_tests}
-use Rattle.dtyp_sid.specs.Value.{SidValue}
-use Rattle.dtyp_sid.specs.Bytes.{sid_of_bytes, WrittenBytesAreRead as SidsAreRead}
-use Rattle.acct_codes.specs.DescriptorControl.{se_dacl_present}
+use Rattle.dtyp_sid.specs.Sids.{SidValue, sid_of_bytes, WrittenBytesAreRead as SidsAreRead}
+use Rattle.acct_codes.specs.Descriptors.{se_dacl_present}
 use Rattle.dtyp_access.specs.declared.ace.Ace.{Ace}
 use Rattle.dtyp_access.specs.declared.ace.AceKind.{AceKind}
 use Rattle.dtyp_access.specs.declared.ace.AceKind.TheVariants.{Allow, Deny}
@@ -14,11 +13,10 @@ use Rattle.dtyp_access.specs.declared.parts.Parts.{Parts}
 use Rattle.dtyp_access.specs.declared.errors.DescError.{DescError}
 use Rattle.dtyp_access.specs.declared.errors.DescError.TheVariants.{Offset}
 use Rattle.dtyp_access.specs.Granted.{shares}
-use Rattle.dtyp_access.specs.Parts.{parts_of}
+use Rattle.dtyp_access.specs.Parts.{parts_of, type_of}
 use Rattle.dtyp_access.specs.Reading.{then_read, u16_at, u32_at, or_no_sid, is_outside, sid_of_field, sid_if_any}
 use Rattle.dtyp_access.specs.Reading.{owner_of, kind_of, next_ace, ace_at, aces_at, acl_at, list_of, parts_if}
 use Rattle.dtyp_access.specs.Reading.{descriptor_of_bytes}
-use Rattle.dtyp_access.specs.Written.{type_of}
 use Rattle.dtyp_access.specs.Spelled.{IsInside, SpellSid, PointsToSid, SpellAce, SpellAces, SpellAcl, SpellList}
 use Rattle.dtyp_access.specs.Spelled.{SpellSidOrNone, SpellParts, SpellDescriptor}
 

@@ -3,9 +3,9 @@ use Rattle.std.proofs.Common.{◌≡◌, ℕ, ◌+◌, ◌<◌, List, [], ◌∷
 use Rattle.std.specs.List.{flat_map}
 use Rattle.std.proofs.lemmas.List.{append-nil}
 use Rattle.std.proofs.lemmas.Grind.{flat_map-append}
-use Rattle.dtyp_sid.specs.Bytes.{bytes_of}
+use Rattle.dtyp_sid.specs.Sids.{bytes_of}
 use Rattle.dtyp_access.specs.declared.ace.Ace.{Ace}
-use Rattle.dtyp_access.specs.Written.{ace_bytes, aces_bytes}
+use Rattle.dtyp_access.specs.Parts.{ace_bytes, aces_bytes}
 
 pub aces_bytes-none : aces_bytes [] ≡ []
 unfolding aces_bytes

@@ -7,18 +7,16 @@ use Rattle.std.specs.Int.{w16, w32, to_le_bytes, from_le_bytes}
 use Rattle.std.proofs.lemmas.Nat.{from_le_bytes-to_le_bytes_2, from_le_bytes-to_le_bytes_4}
 use Rattle.std.proofs.lemmas.List.{length-append, append-nil, drop-drop, length-drop, get_or-drop}
 use Rattle.std.proofs.Math.Seq.{take-append_seam, drop-append_seam}
-use Rattle.dtyp_sid.specs.Value.{SidValue, IsSid}
-use Rattle.dtyp_sid.specs.Bytes.{bytes_of, WrittenBytesHaveLengths as SidsHaveLengths}
-use Rattle.acct_codes.specs.DescriptorControl.{se_dacl_present, se_self_relative}
+use Rattle.dtyp_sid.specs.Sids.{SidValue, IsSid, bytes_of, WrittenBytesHaveLengths as SidsHaveLengths}
+use Rattle.acct_codes.specs.Descriptors.{se_dacl_present, se_self_relative}
 use Rattle.dtyp_access.specs.declared.ace.Ace.{Ace}
 use Rattle.dtyp_access.specs.declared.parts.Parts.{Parts}
 use Rattle.dtyp_access.specs.Granted.{shares}
 use Rattle.dtyp_access.specs.Reading.{u16_at, u32_at, next_ace}
-use Rattle.dtyp_access.specs.Written.{type_of, ace_bytes, aces_bytes, acl_bytes, sid_bytes, list_bytes, control_of}
-use Rattle.dtyp_access.specs.Written.{offset_if, header_bytes, parts_bytes}
+use Rattle.dtyp_access.specs.Parts.{type_of, ace_bytes, aces_bytes, acl_bytes, sid_bytes, list_bytes, control_of}
+use Rattle.dtyp_access.specs.Parts.{offset_if, header_bytes, parts_bytes, IsAce, IsSidOrNone, IsList, AreParts}
 use Rattle.dtyp_access.specs.Spelled.{PointsToSid, SpellAce, SpellAces, SpellAcl, SpellSidOrNone, SpellList}
 use Rattle.dtyp_access.specs.Spelled.{SpellParts}
-use Rattle.dtyp_access.specs.Limits.{IsAce, IsSidOrNone, IsList, AreParts}
 use Rattle.std.proofs.lemmas.List.Elements.{All-head, All-tail}
 
 -- what stands at a place

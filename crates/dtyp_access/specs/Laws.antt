@@ -4,13 +4,11 @@ use Rattle.std.specs.List.{list_all}
 use Rattle.std.specs.declared.option.Option.{Option}
 use Rattle.std.specs.declared.option.Option.TheVariants.{Some, None}
 use Rattle.acct_codes.specs.declared.kind.Kind.{Kind}
-use Rattle.acct_codes.specs.Rights.{maximum_allowed}
-use Rattle.acct_codes.specs.Mappings.{valid_rights}
-use Rattle.dtyp_sid.specs.Value.{SidValue}
+use Rattle.acct_codes.specs.Rights.{maximum_allowed, valid_rights}
+use Rattle.dtyp_sid.specs.Sids.{SidValue}
 use Rattle.dtyp_access.specs.declared.ace.Ace.{Ace}
 use Rattle.dtyp_access.specs.declared.descriptor.Descriptor.{Descriptor}
-use Rattle.dtyp_access.specs.Granted.{shares, has_sid, is_allow, granted}
-use Rattle.dtyp_access.specs.Opening.{opened}
+use Rattle.dtyp_access.specs.Granted.{shares, has_sid, is_allow, granted, opened}
 
 -- no entry of the list denies
 abbrev pub DeniesNothing : Option (List Ace) → Type 0

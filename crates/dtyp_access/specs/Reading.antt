@@ -6,11 +6,9 @@ use Rattle.std.specs.declared.option.Option.{Option}
 use Rattle.std.specs.declared.option.Option.TheVariants.{Some, None}
 use Rattle.std.specs.declared.result.Result.{Result}
 use Rattle.std.specs.declared.result.Result.TheVariants.{Ok, Err}
-use Rattle.acct_codes.specs.DescriptorControl.{se_dacl_present, se_self_relative}
-use Rattle.acct_codes.specs.DescriptorParts.{security_descriptor_revision, acl_revision, access_allowed_ace_type}
-use Rattle.acct_codes.specs.DescriptorParts.{access_denied_ace_type}
-use Rattle.dtyp_sid.specs.Value.{SidValue}
-use Rattle.dtyp_sid.specs.Bytes.{sid_of_bytes}
+use Rattle.acct_codes.specs.Descriptors.{se_dacl_present, se_self_relative, security_descriptor_revision, acl_revision}
+use Rattle.acct_codes.specs.Descriptors.{access_allowed_ace_type, access_denied_ace_type}
+use Rattle.dtyp_sid.specs.Sids.{SidValue, sid_of_bytes}
 use Rattle.dtyp_sid.specs.declared.errors.BytesError.{BytesError}
 use Rattle.dtyp_access.specs.declared.ace.Ace.{Ace}
 use Rattle.dtyp_access.specs.declared.ace.AceKind.{AceKind}

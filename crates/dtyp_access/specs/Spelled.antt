@@ -4,18 +4,15 @@ use Rattle.std.specs.Prelude.{drop, slice_index, All}
 use Rattle.std.specs.declared.option.Option.{Option}
 use Rattle.std.specs.declared.option.Option.TheVariants.{Some, None}
 use Rattle.std.specs.declared.result.Result.TheVariants.{Ok}
-use Rattle.acct_codes.specs.DescriptorControl.{se_dacl_present, se_self_relative}
-use Rattle.acct_codes.specs.DescriptorParts.{security_descriptor_revision, acl_revision}
-use Rattle.dtyp_sid.specs.Value.{SidValue, IsSid}
-use Rattle.dtyp_sid.specs.Bytes.{BeginWithSid}
+use Rattle.acct_codes.specs.Descriptors.{se_dacl_present, se_self_relative, security_descriptor_revision, acl_revision}
+use Rattle.dtyp_sid.specs.Sids.{SidValue, IsSid, BeginWithSid}
 use Rattle.dtyp_access.specs.declared.ace.Ace.{Ace}
 use Rattle.dtyp_access.specs.declared.descriptor.Descriptor.{Descriptor}
 use Rattle.dtyp_access.specs.declared.parts.Parts.{Parts}
 use Rattle.dtyp_access.specs.Granted.{shares}
-use Rattle.dtyp_access.specs.Parts.{parts_of}
-use Rattle.dtyp_access.specs.Limits.{AreParts, IsDescriptor, HasFewAces}
+use Rattle.dtyp_access.specs.Parts.{parts_of, AreParts, IsDescriptor, HasFewAces, type_of, parts_bytes}
+use Rattle.dtyp_access.specs.Parts.{descriptor_bytes}
 use Rattle.dtyp_access.specs.Reading.{u16_at, u32_at, next_ace, parts_of_bytes, descriptor_of_bytes}
-use Rattle.dtyp_access.specs.Written.{type_of, parts_bytes, descriptor_bytes}
 
 -- an offset that is neither in the header nor past the end
 pub record IsInside (offset : ℕ) (bytes : List ℕ) : Type 0 where

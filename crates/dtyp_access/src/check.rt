@@ -1,8 +1,7 @@
 // The access check.
 ghost use Rattle.std.specs.Prelude.{◌≡◌, ℕ, ◌^◌, ◌<◌, if◌then◌else◌, not, ◌&&◌, ◌||◌, Some};
-ghost use Rattle.dtyp_access.specs.Granted.{IsRight, shares, granted, grants, has_sid, is_owners, is_inherit_only};
-ghost use Rattle.dtyp_access.specs.Granted.{allows};
-ghost use Rattle.dtyp_access.specs.Opening.{asks, opened};
+ghost use Rattle.dtyp_access.specs.Granted.{IsOneRight, shares, granted, grants, has_sid, is_owners, is_inherit_only};
+ghost use Rattle.dtyp_access.specs.Granted.{allows, asks, opened};
 
 use crate::{Ace, AceKind, Descriptor, Token};
 use acct_codes::descriptor_part::INHERIT_ONLY_ACE;
@@ -16,7 +15,7 @@ use dtyp_sid::Sid;
 /// Whether a descriptor grants a right, which is an access mask of one bit, to a token. It takes no memory.
 #[tactic(auto, unfolding(crate::specs::Granted::shares))]
 pub fn is_granted(token: &Token, d: &Descriptor, bit: u32) -> bool
-    requires { IsRight bit }
+    requires { IsOneRight bit }
     ensures { result ≡ granted token.now d.now bit }
 {
     granted_rights(token.sids(), d) & bit != 0

@@ -15,7 +15,7 @@ pub struct Token {
 
 impl Model for Token {
     ghost use Rattle.std.specs.Prelude.{List};
-    ghost use Rattle.dtyp_sid.specs.Value.{SidValue};
+    ghost use Rattle.dtyp_sid.specs.Sids.{SidValue};
 
     ghost Value = { List SidValue };
 

@@ -1,6 +1,6 @@
 // The limits of a descriptor's parts, which the types keep.
 ghost use Rattle.std.specs.Prelude.{All};
-ghost use Rattle.dtyp_access.specs.Limits.{IsAce, IsSidOrNone, IsList, AreParts, IsDescriptor, HasFewAces};
+ghost use Rattle.dtyp_access.specs.Parts.{IsAce, IsSidOrNone, IsList, AreParts, IsDescriptor, HasFewAces};
 
 use crate::{Ace, Acl, Descriptor, Parts};
 use dtyp_sid::Sid;

@@ -1,7 +1,6 @@
 // The parts of a descriptor, of which each may be absent.
 ghost use Rattle.std.specs.Prelude.{◌≡◌, IfOk};
-ghost use Rattle.dtyp_access.specs.Limits.{HasFewAces};
-ghost use Rattle.dtyp_access.specs.Parts.{HasOwnerIfNamed, named_parts, replaced};
+ghost use Rattle.dtyp_access.specs.Parts.{HasFewAces, HasOwnerIfNamed, named_parts, replaced};
 
 use crate::{Acl, Descriptor};
 use acct_codes::security_information::{

@@ -1,6 +1,6 @@
 // Reading a descriptor from its bytes.
 ghost use Rattle.std.specs.Prelude.{◌≡◌, ◌+◌, ◌≤◌, length, nat_lt, true, false, IfOk, IfErr, Ok, Err};
-ghost use Rattle.dtyp_sid.specs.Bytes.{sid_of_bytes};
+ghost use Rattle.dtyp_sid.specs.Sids.{sid_of_bytes};
 ghost use Rattle.dtyp_access.specs.Granted.{shares};
 ghost use Rattle.dtyp_access.specs.Spelled.{SpellParts, SpellDescriptor};
 ghost use Rattle.dtyp_access.specs.Reading.{ReadsAllIfRoom, OnlyAtList, OnlyWithEntry, WantsOnlyIf, NeverMemory};

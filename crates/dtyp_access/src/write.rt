@@ -1,10 +1,10 @@
 // Writing the bytes of a descriptor.
 ghost use Rattle.std.specs.Prelude.{◌≡◌, ◌++◌, ◌+◌, ◌≤◌, length, IfOk, OnOk, Ok, IsTrue, ◌↔◌};
-ghost use Rattle.dtyp_sid.specs.Bytes.{bytes_of};
-ghost use Rattle.dtyp_access.specs.Limits.{HasFewAces, has_few_aces};
+ghost use Rattle.dtyp_sid.specs.Sids.{bytes_of};
+ghost use Rattle.dtyp_access.specs.Parts.{HasFewAces, has_few_aces, descriptor_bytes, parts_bytes, header_bytes};
+ghost use Rattle.dtyp_access.specs.Parts.{sid_bytes, list_bytes, acl_bytes, ace_bytes, aces_bytes, type_of, control_of};
+ghost use Rattle.dtyp_access.specs.Parts.{offset_if};
 ghost use Rattle.dtyp_access.specs.Reading.{parts_of_bytes, descriptor_of_bytes};
-ghost use Rattle.dtyp_access.specs.Written.{descriptor_bytes, parts_bytes, header_bytes, sid_bytes, list_bytes};
-ghost use Rattle.dtyp_access.specs.Written.{acl_bytes, ace_bytes, aces_bytes, type_of, control_of, offset_if};
 
 use crate::laws::{written_bytes_are_read, written_parts_are_read};
 use crate::{Ace, AceKind, Acl, Descriptor, Parts};
@@ -52,7 +52,7 @@ pub fn has_few_aces(acl: &Option<Acl>) -> bool
     }
 }
 
-#[tactic(auto, unfolding(crate::specs::Written::parts_bytes))]
+#[tactic(auto, unfolding(crate::specs::Parts::parts_bytes))]
 fn bytes_of_parts(
     alloc: Global,
     owner: &Option<Sid>,
@@ -109,7 +109,7 @@ fn control_of(acl: &Option<Acl>) -> u16
     }
 }
 
-#[tactic(auto, unfolding(crate::specs::Written::sid_bytes))]
+#[tactic(auto, unfolding(crate::specs::Parts::sid_bytes))]
 fn push_if_any(out: &mut Vec<u8>, sid: &Option<Sid>) -> Result<(), AllocError>
     ensures { OnOk result (out.new.items ≡ out.old.items ++ sid_bytes sid.now) }
 {
@@ -119,7 +119,7 @@ fn push_if_any(out: &mut Vec<u8>, sid: &Option<Sid>) -> Result<(), AllocError>
     Ok(())
 }
 
-#[tactic(auto, unfolding(crate::specs::Written::list_bytes))]
+#[tactic(auto, unfolding(crate::specs::Parts::list_bytes))]
 fn push_list(out: &mut Vec<u8>, acl: &Option<Acl>) -> Result<(), AllocError>
     requires { HasFewAces acl.now }
     ensures { OnOk result (out.new.items ≡ out.old.items ++ list_bytes acl.now) }
@@ -131,7 +131,7 @@ fn push_list(out: &mut Vec<u8>, acl: &Option<Acl>) -> Result<(), AllocError>
 }
 
 /// Adds a list: its revision, its size, the count of its entries, and the entries.
-#[tactic(auto, unfolding(crate::specs::Written::acl_bytes))]
+#[tactic(auto, unfolding(crate::specs::Parts::acl_bytes))]
 fn push_acl(out: &mut Vec<u8>, aces: &[Ace]) -> Result<(), AllocError>
     requires { length aces.now ≤ 800 }
     ensures { OnOk result (out.new.items ≡ out.old.items ++ acl_bytes aces.now) }
@@ -165,7 +165,7 @@ fn push_aces(out: &mut Vec<u8>, aces: &[Ace]) -> Result<(), AllocError>
 }
 
 /// Adds an entry: type, flags, its size, mask and SID.
-#[tactic(auto, unfolding(crate::specs::Written::ace_bytes))]
+#[tactic(auto, unfolding(crate::specs::Parts::ace_bytes))]
 fn push_ace(out: &mut Vec<u8>, ace: &Ace) -> Result<(), AllocError>
     ensures { OnOk result (out.new.items ≡ out.old.items ++ ace_bytes ace.now) }
 {
@@ -194,7 +194,7 @@ fn ace_size(ace: &Ace) -> u16
 }
 
 /// The number of bytes of an owner or a group, 0 where there is none.
-#[tactic(auto, unfolding(crate::specs::Written::sid_bytes))]
+#[tactic(auto, unfolding(crate::specs::Parts::sid_bytes))]
 fn size_if_any(sid: &Option<Sid>) -> u32
     ensures size { result ≡ length (sid_bytes sid.now) }
     ensures small { result ≤ 68 }

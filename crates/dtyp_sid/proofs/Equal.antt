@@ -10,8 +10,7 @@ use Rattle.std.specs.declared.cmp.Ordering.TheVariants.{Less, Equal, Greater}
 use Rattle.std.proofs.lemmas.Slice.Eq.{bytes_eq-Decides}
 use Rattle.std.proofs.lemmas.Map.Text.{is_eq-slice_cmp}
 use Rattle.std.proofs.lemmas.Bool.Decides.{Decides-and, Decides-eqb, Decides-like, nat_tests}
-use Rattle.dtyp_sid.specs.Value.{SidValue}
-use Rattle.dtyp_sid.specs.Order.{sid_eq, sid_cmp}
+use Rattle.dtyp_sid.specs.Sids.{SidValue, sid_eq, sid_cmp}
 
 abbrev made : ℕ → List ℕ → SidValue
 made authority subs = record { authority = authority; subs = subs }

@@ -12,8 +12,7 @@ use Rattle.std.proofs.lemmas.Bool.Decides.{nat_tests}
 use Rattle.std.proofs.lemmas.List.{append-nil, length-append, take_more}
 use Rattle.std.proofs.lemmas.List.Elements.{All-push}
 use Rattle.std.proofs.lemmas.Int.Digits.{digits_push, digits_value_push, digits_value-lt}
-use Rattle.dtyp_sid.specs.Value.{SidValue}
-use Rattle.dtyp_sid.specs.Made.{with_last, authority_alone}
+use Rattle.dtyp_sid.specs.Sids.{SidValue, with_last, authority_alone}
 use Rattle.dtyp_sid.specs.Text.{IsText, IsDecimalAuthority, IsHexadecimalAuthority, subs_text}
 use Rattle.dtyp_sid.specs.Reading.{first_digit, more_digits, stage_after, read_on, finished}
 use Rattle.dtyp_sid.specs.declared.reading.Stage.{Stage}

@@ -11,14 +11,13 @@ use Rattle.std.proofs.lemmas.List.{length-append, append-nil, drop-drop, length-
 use Rattle.std.proofs.lemmas.List.{length-take-le}
 use Rattle.std.proofs.Math.Seq.{take-append_seam, drop-append-add}
 use Rattle.std.proofs.lemmas.Grind.{flat_map-append}
-use Rattle.dtyp_sid.specs.Value.{SidValue, IsSid}
+use Rattle.dtyp_sid.specs.Sids.{SidValue, IsSid, header_of, sub_bytes, bytes_of, authority_at_front, subs_at_front}
+use Rattle.dtyp_sid.specs.Sids.{sid_of_bytes, BeginWithSid}
 use Rattle.std.proofs.lemmas.List.{get_or_past}
 use Rattle.std.proofs.lemmas.List.Elements.{All-cons}
 use Rattle.std.proofs.lemmas.Bool.{cases_lt}
 use Rattle.dtyp_sid.specs.declared.errors.BytesError.{BytesError}
 use Rattle.dtyp_sid.specs.declared.errors.BytesError.TheVariants.{Short, Revision, Count}
-use Rattle.dtyp_sid.specs.Bytes.{header_of, sub_bytes, bytes_of, authority_at_front, subs_at_front, sid_of_bytes}
-use Rattle.dtyp_sid.specs.Bytes.{BeginWithSid}
 
 -- one number more at the beginning
 pub subs_at_front-more : (count : ℕ) (bytes : List ℕ) → subs_at_front (suc count) bytes ≡ subs_at_front count bytes

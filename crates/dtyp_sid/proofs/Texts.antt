@@ -10,8 +10,7 @@ use Rattle.std.proofs.lemmas.Bool.Decides.{nat_tests}
 use Rattle.std.proofs.lemmas.List.{append-nil, length-append, take_more, take-append-drop, length-replicate, take_all}
 use Rattle.std.proofs.Math.Seq.{take-add}
 use Rattle.std.proofs.lemmas.Int.Digits.{digits_push}
-use Rattle.dtyp_sid.specs.Value.{SidValue, IsSid}
-use Rattle.dtyp_sid.specs.Made.{with_last, authority_alone}
+use Rattle.dtyp_sid.specs.Sids.{SidValue, IsSid, with_last, authority_alone}
 use Rattle.dtyp_sid.specs.Text.{IsText, IsDecimalAuthority, IsHexadecimalAuthority, IsSidText, BeginsText, IsBadPlace}
 use Rattle.dtyp_sid.specs.Text.{text_of, authority_text, hexadecimal}
 use Rattle.dtyp_sid.specs.Reading.{stage_after, read_on, finished, sid_of_text}

@@ -1,7 +1,4 @@
-pub mod Bytes
-pub mod Made
-pub mod Order
 pub mod Reading
-pub mod Slots
+pub mod Sids
 pub mod Text
-pub mod Value
+pub mod steps

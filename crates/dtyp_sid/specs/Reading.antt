@@ -4,9 +4,8 @@ use Rattle.std.specs.Prelude.{nat_lt, ◌==◌, if◌then◌else◌, codes, opti
 use Rattle.std.specs.Char.{is_ascii_digit, digit_value, is_digit}
 use Rattle.std.specs.declared.option.Option.{Option}
 use Rattle.std.specs.declared.option.Option.TheVariants.{Some, None}
-use Rattle.dtyp_sid.specs.Value.{SidValue, sid_max_sub_authorities}
+use Rattle.dtyp_sid.specs.Sids.{SidValue, sid_max_sub_authorities, with_last, authority_alone}
 use Rattle.dtyp_sid.specs.Text.{IsText}
-use Rattle.dtyp_sid.specs.Made.{with_last, authority_alone}
 use Rattle.dtyp_sid.specs.declared.reading.Stage.{Stage}
 use Rattle.dtyp_sid.specs.declared.reading.Stage.TheVariants.{Opening, Decimal, Hexadecimal, Dashed, Sub}
 

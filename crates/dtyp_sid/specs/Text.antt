@@ -5,7 +5,7 @@ use Rattle.std.specs.Char.{digit_char}
 use Rattle.std.specs.Fmt.{decimal}
 use Rattle.std.specs.List.{flat_map}
 use Rattle.std.specs.Str.Parse.{AllDigits, digits_value}
-use Rattle.dtyp_sid.specs.Value.{SidValue, IsSid}
+use Rattle.dtyp_sid.specs.Sids.{SidValue, IsSid}
 
 -- a number in so many lower-case hexadecimal digits
 unfoldable pub hexadecimal : ℕ → ℕ → List ℕ

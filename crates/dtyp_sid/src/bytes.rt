@@ -1,13 +1,13 @@
 // Reading and writing the bytes of a SID.
 ghost use Rattle.std.specs.Prelude.{◌≡◌, ◌+◌, ◌*◌, ◌^◌, ◌<◌, ◌≤◌, ◌++◌, length, take, drop, IfOk};
-ghost use Rattle.dtyp_sid.specs.Bytes.{bytes_of, sid_of_bytes, authority_at_front, BeginWithSid};
+ghost use Rattle.dtyp_sid.specs.Sids.{bytes_of, sid_of_bytes, authority_at_front, BeginWithSid};
 
 use crate::{BytesError, SID_MAX_SUB_AUTHORITIES, SID_REVISION, Sid};
 use acct_base::rest_of;
 
 impl Sid {
     /// The SID at the beginning of the bytes. It takes no memory.
-    #[tactic(auto, unfolding(crate::specs::Bytes::sid_of_bytes))]
+    #[tactic(auto, unfolding(crate::specs::Sids::sid_of_bytes))]
     pub fn from_bytes(bytes: &[u8]) -> Result<Sid, BytesError>
         ensures value { result ≡ sid_of_bytes bytes.now }
         ensures spelled { IfOk result (λ sid. BeginWithSid bytes.now sid) }
@@ -30,7 +30,7 @@ impl Sid {
     }
 
     /// Writes the bytes of the SID at the beginning and gives their number. The bytes after stay as they were.
-    #[tactic(auto, unfolding(crate::specs::Bytes::bytes_of, crate::specs::Bytes::header_of))]
+    #[tactic(auto, unfolding(crate::specs::Sids::bytes_of, crate::specs::Sids::header_of))]
     pub fn to_bytes(&self, out: &mut [u8; 68]) -> usize
         ensures written { out.new ≡ bytes_of self.now ++ drop result out.old }
         ensures count { result ≡ 8 + 4 * length self.now.subs }
@@ -57,7 +57,7 @@ fn put(out: &mut [u8; 68], place: usize, bytes: &[u8])
 }
 
 /// The number of the six bytes at the beginning, the highest first.
-#[tactic(auto, unfolding(crate::specs::Bytes::authority_at_front))]
+#[tactic(auto, unfolding(crate::specs::Sids::authority_at_front))]
 fn authority_at_front(bytes: &[u8]) -> u64
     requires { 6 ≤ length bytes.now }
     ensures value { result ≡ authority_at_front bytes.now }

@@ -1,10 +1,9 @@
 //! Laws of SIDs, their texts and bytes, each the contract of a function that does nothing.
 ghost use Rattle.std.specs.Prelude.{◌≡◌};
-ghost use Rattle.dtyp_sid.specs.Value.{sid_max_sub_authorities, sid_revision};
+ghost use Rattle.dtyp_sid.specs.Sids.{sid_max_sub_authorities, sid_revision, WrittenBytesAreRead};
+ghost use Rattle.dtyp_sid.specs.Sids.{WrittenBytesHaveLengths, ReadBytesAreWritten, EqualSidsAreOne};
 ghost use Rattle.dtyp_sid.specs.Text.{TextsAreOfOne, WrittenTextsAreTexts, WrittenTextsDiffer};
 ghost use Rattle.dtyp_sid.specs.Reading.{ReadTextsAreTexts};
-ghost use Rattle.dtyp_sid.specs.Bytes.{WrittenBytesAreRead, WrittenBytesHaveLengths, ReadBytesAreWritten};
-ghost use Rattle.dtyp_sid.specs.Order.{EqualSidsAreOne};
 
 use crate::{SID_MAX_SUB_AUTHORITIES, SID_REVISION};
 

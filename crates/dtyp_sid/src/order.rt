@@ -2,7 +2,7 @@
 ghost use Rattle.std.proofs.Common.{rules};
 ghost use Rattle.std.specs.Cmp.{partial_order_from_own_ties};
 ghost use Rattle.std.specs.Cmp.Rules.{comparing, hashing};
-ghost use Rattle.dtyp_sid.specs.Order.{sid_eq, sid_cmp, sid_partial_cmp, sid_hashed};
+ghost use Rattle.dtyp_sid.specs.Sids.{sid_eq, sid_cmp, sid_partial_cmp, sid_hashed};
 
 use crate::Sid;
 use std::cmp::Ordering;

@@ -3,7 +3,7 @@ ghost use Rattle.std.specs.Prelude.{◌≡◌, ◌<◌, ◌≤◌, ◌^◌, leng
 ghost use Rattle.std.specs.Result.{result_ok};
 ghost use Rattle.dtyp_sid.specs.Reading.{first_digit, more_digits, stage_after, finished, IsStage, sid_of_text};
 ghost use Rattle.dtyp_sid.specs.Text.{IsText, IsBadPlace};
-ghost use Rattle.dtyp_sid.specs.Value.{sid_max_sub_authorities};
+ghost use Rattle.dtyp_sid.specs.Sids.{sid_max_sub_authorities};
 
 use crate::{BadText, SID_MAX_SUB_AUTHORITIES, Sid};
 

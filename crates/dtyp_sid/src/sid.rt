@@ -1,6 +1,6 @@
 // The value of a SID.
 ghost use Rattle.std.specs.Prelude.{◌≡◌, ◌+◌, ◌*◌, ◌<◌, ◌≤◌, ◌^◌, [], length, MatchOption, Some, None};
-ghost use Rattle.dtyp_sid.specs.Value.{IsSid, sid_max_sub_authorities};
+ghost use Rattle.dtyp_sid.specs.Sids.{IsSid, sid_max_sub_authorities};
 
 use crate::errors::SidError;
 use acct_base::{front_u32, rest_of};
@@ -27,8 +27,8 @@ pub struct Sid {
 impl Model for Sid {
     ghost use Rattle.std.specs.Prelude.{◌-◌, ◌≡◌, ◌++◌, ◌<◌, ◌≤◌, ◌^◌, length, replicate, take, drop};
     ghost use Rattle.std.proofs.Common.{ap};
-    ghost use Rattle.dtyp_sid.specs.Value.{SidValue};
-    ghost use Rattle.dtyp_sid.specs.Slots.{AreSlots, slots_of, length_taken, slots_of_taken};
+    ghost use Rattle.dtyp_sid.specs.Sids.{SidValue};
+    ghost use Rattle.dtyp_sid.specs.steps.Slots.{AreSlots, slots_of, length_taken, slots_of_taken};
 
     ghost Value = { SidValue };
 
@@ -44,9 +44,7 @@ impl Model for Sid {
 }
 
 impl Sid {
-    ghost use Rattle.dtyp_sid.specs.Value.{SidValue, IsSid};
-    ghost use Rattle.dtyp_sid.specs.Made.{sid_of, with_last, authority_alone};
-    ghost use Rattle.dtyp_sid.specs.Bytes.{subs_at_front};
+    ghost use Rattle.dtyp_sid.specs.Sids.{SidValue, IsSid, sid_of, with_last, authority_alone, subs_at_front};
 
     /// The SID of an authority and its sub-authorities.
     pub fn new(authority: u64, subs: &[u32]) -> Result<Sid, SidError>

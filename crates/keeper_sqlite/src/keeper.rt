@@ -1,8 +1,7 @@
 // Pairs in a table.
 ghost use Rattle.std.specs.Prelude.{◌≡◌, ◌≤◌, true, None, IfOk, IfErr};
 ghost use Rattle.acct_keeper.specs.Pairs.{is_ascending};
-ghost use Rattle.acct_keeper.specs.Causes.{KeepCause};
-ghost use Rattle.acct_keeper.specs.Counts.{counted, after_call};
+ghost use Rattle.acct_keeper.specs.Faults.{KeepCause, counted, after_call};
 
 use crate::files::make_private;
 use crate::keys::Keys;

@@ -8,17 +8,13 @@ use Rattle.acct_calls.specs.declared.lists.RidName.{RidName}
 use Rattle.acct_calls.specs.declared.lists.SidRef.{SidRef}
 use Rattle.acct_calls.specs.declared.lists.TranslatedName.{TranslatedName}
 use Rattle.acct_calls.specs.declared.lists.TranslatedSid.{TranslatedSid}
-use Rattle.acct_layouts.specs.Bounds.{IfThere, IsAccount, IsDomain, IsListed, IsPrivilegeSet, IsText, IsTranslatedName}
-use Rattle.ndr_types.specs.Accounts.{any}
+use Rattle.acct_layouts.specs.Values.{IfThere, IsAccount, IsDomain, IsListed, IsPrivilegeSet, IsText, IsTranslatedName}
+use Rattle.ndr_types.specs.Listed.{any, privilege_names}
 use Rattle.ndr_types.specs.Bounds.{HasShortName, HasShortText, IsShort, IsShortPlace}
-use Rattle.ndr_types.specs.Domains.{referenced}
+use Rattle.ndr_types.specs.Translations.{referenced, flagged, flagged_names, flagged_sids, sid_ref, sid_refs}
+use Rattle.ndr_types.specs.Translations.{translated_name, translated_names, translated_sid, translated_sids}
 use Rattle.ndr_types.specs.Laws.{IsListOf}
-use Rattle.ndr_types.specs.Pointers.{IsFew, text_pointer, privilege_set_pointer}
-use Rattle.ndr_types.specs.Privileges.{privilege_set}
-use Rattle.ndr_types.specs.PrivilegeNames.{privilege_names}
-use Rattle.ndr_types.specs.Texts.{text}
-use Rattle.ndr_types.specs.Translations.{flagged, flagged_names, flagged_sids, sid_ref, sid_refs, translated_name}
-use Rattle.ndr_types.specs.Translations.{translated_names, translated_sid, translated_sids}
+use Rattle.ndr_types.specs.Values.{IsFew, text_pointer, privilege_set_pointer, privilege_set, text}
 use Rattle.ndr_types.proofs.Entries.{privilege_names_values, privilege_set_pointer_values, text_pointer_values}
 use Rattle.ndr_types.proofs.Entries.{translated_name_has, translated_sid_has}
 use Rattle.ndr_types.proofs.LaterEntries.{flagged_name_has, flagged_ref_has, flagged_sid_has}

@@ -1,15 +1,15 @@
--- What stands after the handle in the calls that this interface has alone: the fields of each layout, as they stand in
--- the IDL, and the arguments that they make.
+-- What stands in the calls that this interface has alone.
 use Rattle.std.specs.Prelude.{ℕ, Bool, true, false, Option, Some, None, List, [], length, nat_le, ◌==◌}
-use Rattle.ndr_core.specs.Codec.{Codec}
-use Rattle.ndr_core.specs.Cursor.{is_there}
-use Rattle.ndr_core.specs.Shapes.{u8, u16, u32, u32_such, unspelled, chain, made, led_by, ignored, followed}
-use Rattle.ndr_core.specs.Parts.{Part, whole, array}
-use Rattle.dtyp_sid.specs.Value.{SidValue}
 use Rattle.acct_codes.specs.Limits.{most_rights, most_translated_names, most_translated_sids}
+use Rattle.dtyp_sid.specs.Sids.{SidValue}
 use Rattle.acct_calls.specs.declared.calls.Args.{Args}
 use Rattle.acct_calls.specs.declared.calls.Args.TheVariants as args
 use Rattle.acct_calls.specs.declared.lists.Privilege.{Privilege}
+use Rattle.ndr_core.specs.Codec.{Codec}
+use Rattle.ndr_core.specs.Cursor.{is_there}
+use Rattle.ndr_core.specs.Parts.{when_there, Part, whole, array}
+use Rattle.ndr_core.specs.Shapes.{u8, u16, u32, pointer, pointer_such, given, chain, led_by, ignored, u32_such}
+use Rattle.ndr_core.specs.Shapes.{unspelled, made, followed}
 use Rattle.acct_layouts.specs.declared.fields.Connect.{Connect}
 use Rattle.acct_layouts.specs.declared.fields.Connect.TheVariants as connect
 use Rattle.acct_layouts.specs.declared.fields.Fields.{Fields}
@@ -18,15 +18,47 @@ use Rattle.acct_layouts.specs.declared.fields.PolicyFields.{PolicyFields}
 use Rattle.acct_layouts.specs.declared.fields.PolicyFields.TheVariants as policy
 use Rattle.acct_layouts.specs.declared.fields.Translation.{Translation}
 use Rattle.acct_layouts.specs.declared.fields.Translation.TheVariants as translation
-use Rattle.acct_stubs.specs.Infos.{no_sid}
-use Rattle.acct_stubs.specs.ServerNames.{server_name}
-use Rattle.ndr_types.specs.Lists.{sid_list, text_list}
-use Rattle.ndr_types.specs.Pointers.{text_pointer, privilege_set_pointer}
-use Rattle.ndr_types.specs.Privileges.{privilege_set}
-use Rattle.ndr_types.specs.Sids.{sid}
-use Rattle.ndr_types.specs.Texts.{text}
+use Rattle.ndr_types.specs.Values.{sid_list, text_list, text_pointer, privilege_set_pointer, privilege_set, sid, text}
 use Rattle.ndr_types.specs.Translations.{flagged_names, flagged_sids, sid_refs, translated_names, translated_sids}
-use Rattle.lsa_wire.specs.Opening.{object_attributes}
+use Rattle.acct_stubs.specs.Infos.{no_sid}
+use Rattle.acct_stubs.specs.Arguments.{server_name}
+
+-- ======== the object attributes with which the policy is opened (LSAPR_OBJECT_ATTRIBUTES, MS-LSAD 2.2.2.4)
+
+abbrev pub is_null : Bool → Bool
+is_null true = false
+is_null false = true
+
+-- Length, RootDirectory, ObjectName, Attributes, SecurityDescriptor and SecurityQualityOfService: whether there is a
+-- root, and whether there
+-- is a quality. The name and the descriptor are null. Neither the length nor the attributes are looked at; they are
+-- written as 24 and 0.
+abbrev pub attributes_head : Codec (Bool × Bool)
+attributes_head =
+    ignored 24 u32
+    (chain pointer
+    (λ root. ignored false (pointer_such is_null) (ignored 0 u32 (ignored false (pointer_such is_null) pointer))))
+
+-- Length, ImpersonationLevel, ContextTrackingMode and EffectiveOnly (SECURITY_QUALITY_OF_SERVICE, MS-LSAD 2.2.3), which
+-- aren't looked at.
+unfoldable pub quality : Codec (Unit {0})
+quality = ignored 0 u32 (ignored 0 u16 (ignored 0 u8 (ignored 0 u8 (given tt))))
+
+-- the byte that a root refers to, as it is written
+abbrev pub root_byte : Bool → Option ℕ
+root_byte true = Some 0
+root_byte false = None
+
+-- what the pointers refer to, of which nothing is looked at
+abbrev pub attributes_tail : Bool × Bool → Codec Bool
+attributes_tail x = ignored (root_byte x.0) (when_there x.0 u8) (ignored None (when_there x.1 quality) (given x.0))
+
+-- Whether they name a root. They are written without a quality.
+unfoldable pub object_attributes : Codec Bool
+object_attributes = led_by (λ rooted. (rooted, false)) attributes_head attributes_tail
+
+-- ======== what stands after the handle in the calls that this interface has alone: the fields of each layout, as they
+-- stand in the IDL, and the arguments that they make
 
 -- ---- what is written for arguments: their parts, in the fields' order
 

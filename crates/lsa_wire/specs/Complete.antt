@@ -21,8 +21,7 @@ use Rattle.acct_layouts.specs.declared.fields.PolicyFields.{PolicyFields}
 use Rattle.acct_layouts.specs.declared.fields.PolicyFields.TheVariants as policy
 use Rattle.acct_layouts.specs.declared.fields.Translation.{Translation}
 use Rattle.acct_layouts.specs.declared.fields.Translation.TheVariants as translation
-use Rattle.ndr_types.specs.Sids.{sid_pointer}
-use Rattle.ndr_types.specs.Texts.{text}
+use Rattle.ndr_types.specs.Values.{sid_pointer, text}
 use Rattle.ndr_types.specs.Translations.{flagged, sid_ref, translated_name, translated_sid}
 use Rattle.ndr_types.proofs.Entries.{privilege_set_pointer_complete, text_pointer_complete, translated_name_has}
 use Rattle.ndr_types.proofs.Entries.{translated_sid_has}
@@ -35,8 +34,7 @@ use Rattle.ndr_types.proofs.Texts.{text_has}
 use Rattle.lsa_wire.specs.Arguments.{connect_args, flag, flag_number, policy_args, counted, translation_args}
 use Rattle.lsa_wire.specs.Arguments.{own_fields, opening_in, account_in, added_in, removed_in, bits_in, luid_in}
 use Rattle.lsa_wire.specs.Arguments.{right_in, rights_in, all_rights_in, names_in, sids_in, level_asked}
-use Rattle.lsa_wire.specs.Arguments.{later_level_asked, names_asked, sids_asked}
-use Rattle.lsa_wire.specs.Opening.{object_attributes}
+use Rattle.lsa_wire.specs.Arguments.{later_level_asked, names_asked, sids_asked, object_attributes}
 use Rattle.acct_stubs.proofs.Complete.{server_name_complete, server_name_fits, unspelled_complete}
 
 -- ---- the opening of the policy

@@ -8,7 +8,7 @@ use Rattle.acct_codes.specs.Limits.{most_rights, most_translated_names, most_tra
 use Rattle.acct_calls.specs.declared.calls.Args.{Args}
 use Rattle.acct_calls.specs.declared.calls.Args.TheVariants as args
 use Rattle.acct_calls.specs.declared.calls.Face.TheVariants.{Lsa}
-use Rattle.acct_layouts.specs.Bounds.{IsText}
+use Rattle.acct_layouts.specs.Values.{IsText}
 use Rattle.acct_layouts.specs.CallShapes.{AreArguments, AreConnectArgs, AreNamesAsked, ArePolicyArgs, AreSidsAsked}
 use Rattle.acct_layouts.specs.CallShapes.{AreTranslationArgs}
 use Rattle.acct_layouts.specs.declared.fields.Connect.{Connect}
@@ -20,8 +20,7 @@ use Rattle.acct_layouts.specs.declared.fields.PolicyFields.TheVariants as policy
 use Rattle.acct_layouts.specs.declared.fields.Translation.{Translation}
 use Rattle.acct_layouts.specs.declared.fields.Translation.TheVariants as translation
 use Rattle.acct_stubs.specs.Shared.{are_own}
-use Rattle.ndr_types.specs.Sids.{sid_pointer}
-use Rattle.ndr_types.specs.Texts.{text}
+use Rattle.ndr_types.specs.Values.{sid_pointer, text}
 use Rattle.ndr_types.specs.Translations.{flagged, flagged_names, flagged_sids, sid_ref, sid_refs, translated_name}
 use Rattle.ndr_types.specs.Translations.{translated_names, translated_sid, translated_sids}
 use Rattle.ndr_types.proofs.Entries.{privilege_set_pointer_values, text_pointer_values, translated_name_has}
@@ -32,8 +31,8 @@ use Rattle.ndr_types.proofs.Records.{privilege_set_fits, privilege_set_kind}
 use Rattle.ndr_types.proofs.ShapeValues.{list_values}
 use Rattle.ndr_types.proofs.Sids.{sid_fits, sid_kind, sid_pointer_has}
 use Rattle.ndr_types.proofs.Texts.{text_has}
-use Rattle.lsa_wire.specs.Arguments.{connect_args, flag, policy_args, counted, translation_args}
-use Rattle.lsa_wire.specs.Arguments.{own_fields, level_asked, later_level_asked, names_asked, sids_asked}
+use Rattle.lsa_wire.specs.Arguments.{connect_args, flag, policy_args, counted, translation_args, own_fields}
+use Rattle.lsa_wire.specs.Arguments.{level_asked, later_level_asked, names_asked, sids_asked}
 use Rattle.lsa_wire.specs.Complete.{attributes_fit, none_fit}
 use Rattle.acct_stubs.proofs.Complete.{server_name_fits}
 

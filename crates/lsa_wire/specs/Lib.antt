@@ -1,9 +1,7 @@
-pub mod Opening
 pub mod Arguments
-pub mod Outputs
-pub mod Interface
 pub mod Complete
 pub mod FieldValues
-pub mod ReplyValues
-pub mod Onward
+pub mod Interface
 pub mod Lawful
+pub mod Onward
+pub mod ReplyValues

@@ -16,8 +16,8 @@ use Rattle.acct_layouts.specs.declared.outputs.Outputs.{Outputs}
 use Rattle.acct_layouts.specs.declared.outputs.Outputs.TheVariants as outputs
 use Rattle.acct_layouts.specs.declared.outputs.PolicyOutputs.{PolicyOutputs}
 use Rattle.acct_layouts.specs.declared.outputs.PolicyOutputs.TheVariants as outs
-use Rattle.ndr_types.specs.Accounts.{any}
-use Rattle.ndr_types.specs.Texts.{text}
+use Rattle.ndr_types.specs.Listed.{any}
+use Rattle.ndr_types.specs.Values.{text}
 use Rattle.ndr_types.proofs.Onward.{Takes, TakesPart, any_size, long, short, takes_followed, takes_u8}
 use Rattle.ndr_types.proofs.Onward.{takes_u32}
 use Rattle.ndr_types.proofs.Onward.{takes_pointer}
@@ -29,11 +29,10 @@ use Rattle.ndr_types.proofs.OnwardEntries.{privilege_names_onward, privilege_set
 use Rattle.ndr_types.proofs.OnwardEntries.{translated_names_onward, translated_sids_onward}
 use Rattle.ndr_types.proofs.LaterEntries.{flagged_names_onward, flagged_sids_onward, sid_refs_onward}
 use Rattle.lsa_wire.specs.Arguments.{connect_args, flag, policy_args, counted, translation_args, own_fields}
-use Rattle.lsa_wire.specs.Arguments.{level_asked, later_level_asked, names_asked, sids_asked}
-use Rattle.lsa_wire.specs.Opening.{is_null, attributes_head, attributes_tail, quality, object_attributes}
-use Rattle.lsa_wire.specs.Opening.{root_byte}
+use Rattle.lsa_wire.specs.Arguments.{level_asked, later_level_asked, names_asked, sids_asked, is_null, attributes_head}
+use Rattle.lsa_wire.specs.Arguments.{attributes_tail, quality, object_attributes, root_byte}
 use Rattle.acct_stubs.specs.Outputs.{with_status}
-use Rattle.lsa_wire.specs.Outputs.{policy_outs, translated, translated_fields, own_replies}
+use Rattle.lsa_wire.specs.Interface.{policy_outs, translated, translated_fields, own_replies}
 use Rattle.acct_stubs.proofs.Onward.{server_name_onward, takes_unspelled}
 
 small : Takes 0 u8

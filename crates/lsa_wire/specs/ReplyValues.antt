@@ -2,9 +2,8 @@
 use Rattle.std.proofs.Common.{◌≡◌, ℕ, Bool, true, false, cond, List, [], Option, Some, None, refl, sym}
 use Rattle.std.proofs.Common.{ap, subst, arith, lit<}
 use Rattle.std.proofs.lemmas.List.Elements.{All-nil}
-use Rattle.ndr_core.specs.Cursor.{Cursor}
+use Rattle.ndr_core.specs.Cursor.{Cursor, IsBytes}
 use Rattle.ndr_core.specs.Parts.{Part, flat, list_of}
-use Rattle.ndr_core.specs.Written.{IsBytes}
 use Rattle.ndr_core.proofs.Complete.{IsComplete, u32_complete, chain_complete, made_complete}
 use Rattle.acct_calls.specs.declared.calls.Face.TheVariants.{Lsa}
 use Rattle.acct_calls.specs.declared.lists.ReferencedDomain.{ReferencedDomain}
@@ -12,7 +11,7 @@ use Rattle.acct_calls.specs.declared.replies.Outs.{Outs}
 use Rattle.acct_calls.specs.declared.replies.Outs.TheVariants as outs
 use Rattle.acct_calls.specs.declared.replies.Reply.{Reply}
 use Rattle.acct_calls.specs.declared.replies.Reply.TheVariants as reply
-use Rattle.acct_layouts.specs.Bounds.{IsDomain, IsListed, IsLong}
+use Rattle.acct_layouts.specs.Values.{IsDomain, IsListed, IsLong}
 use Rattle.acct_layouts.specs.Refusals.{is_refusal}
 use Rattle.acct_layouts.specs.ReplyShapes.{ArePolicyOuts, IsReplyOf, RefersRightly, domains_of}
 use Rattle.acct_layouts.specs.declared.fields.Translation.{Translation}
@@ -23,11 +22,9 @@ use Rattle.acct_layouts.specs.declared.outputs.PolicyOutputs.{PolicyOutputs}
 use Rattle.acct_layouts.specs.declared.outputs.PolicyOutputs.TheVariants as policy
 use Rattle.acct_stubs.specs.Outputs.{with_status, done_of, parts_of_reply}
 use Rattle.acct_stubs.specs.Shared.{own_outputs}
-use Rattle.ndr_types.specs.Accounts.{any}
-use Rattle.ndr_types.specs.Domains.{or_empty, referenced}
-use Rattle.ndr_types.specs.Sids.{sid_pointer}
-use Rattle.ndr_types.specs.Texts.{text}
-use Rattle.ndr_types.specs.Translations.{flagged, sid_ref, translated_name, translated_sid}
+use Rattle.ndr_types.specs.Listed.{any}
+use Rattle.ndr_types.specs.Translations.{or_empty, referenced, flagged, sid_ref, translated_name, translated_sid}
+use Rattle.ndr_types.specs.Values.{sid_pointer, text}
 use Rattle.ndr_types.proofs.Entries.{privilege_names_complete, privilege_names_values, privilege_set_pointer_complete}
 use Rattle.ndr_types.proofs.Entries.{privilege_set_pointer_values, text_pointer_complete, text_pointer_values}
 use Rattle.ndr_types.proofs.Entries.{translated_name_has, translated_sid_has}
@@ -36,9 +33,9 @@ use Rattle.ndr_types.proofs.Parts.{Has}
 use Rattle.ndr_types.proofs.ShapeValues.{list_complete, list_values, referenced_complete, referenced_values}
 use Rattle.ndr_types.proofs.Sids.{sid_pointer_has}
 use Rattle.ndr_types.proofs.Texts.{text_has}
-use Rattle.lsa_wire.specs.Outputs.{policy_outs, privilege_page_out, sid_page_out, privileges_out, bits_out, luid_out}
-use Rattle.lsa_wire.specs.Outputs.{name_out, names_out, referred_of, TranslatedParts, sids_done, names_done}
-use Rattle.lsa_wire.specs.Outputs.{refs_done, translated, translated_fields, own_replies}
+use Rattle.lsa_wire.specs.Interface.{policy_outs, privilege_page_out, sid_page_out, privileges_out, bits_out, luid_out}
+use Rattle.lsa_wire.specs.Interface.{name_out, names_out, referred_of, TranslatedParts, sids_done, names_done}
+use Rattle.lsa_wire.specs.Interface.{refs_done, translated, translated_fields, own_replies}
 
 -- ---- lists of any length that a count can say
 

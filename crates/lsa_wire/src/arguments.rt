@@ -5,9 +5,9 @@ ghost use Rattle.acct_codes.specs.Limits.{most_translated_names};
 ghost use Rattle.lsa_wire.specs.Arguments.{counted, flag, later_level_asked, level_asked, own_fields, policy_args};
 ghost use Rattle.lsa_wire.specs.Arguments.{translation_args};
 ghost use Rattle.ndr_types.specs.Outcomes.{ReadsIfRoom};
-ghost use Rattle.ndr_types.specs.Texts.{text};
-ghost use Rattle.ndr_types.specs.Translations.{flagged_names, flagged_sids, sid_refs};
-ghost use Rattle.ndr_types.specs.Translations.{translated_names, translated_sids};
+ghost use Rattle.ndr_types.specs.Values.{text};
+ghost use Rattle.ndr_types.specs.Translations.{flagged_names, flagged_sids, sid_refs, translated_names};
+ghost use Rattle.ndr_types.specs.Translations.{translated_sids};
 
 use crate::NoMemory;
 use crate::opening::{read_connect, write_connect};

@@ -1,5 +1,5 @@
 // The interface, by the codecs of the layouts that it has alone.
-ghost use Rattle.acct_stubs.specs.Wire.{Wire};
+ghost use Rattle.acct_stubs.specs.Arguments.{Wire};
 ghost use Rattle.lsa_wire.specs.Interface.{lsa};
 ghost use Rattle.lsa_wire.specs.Lawful.{lsa_lawful};
 
@@ -33,7 +33,7 @@ impl Interface for Lsa {
         outputs::read_own(alloc, from, outputs)
     }
 
-    #[tactic(auto, unfolding(crate::specs::Outputs::own_replies))]
+    #[tactic(auto, unfolding(crate::specs::Interface::own_replies))]
     fn write_reply(to: &mut Out, outputs: Outputs, reply: &Reply) -> Result<(), NoMemory> {
         match outputs {
             Outputs::Policy(_) | Outputs::Translation(_) => outputs::write_own(to, outputs, reply),

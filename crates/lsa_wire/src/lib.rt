@@ -2,13 +2,13 @@
 //! replies, read and written.
 //!
 //! It stands on the table of layouts of `acct_layouts`, on `acct_stubs` for what the stubs of both interfaces have, and
-//! on `ndr_types` and `ndr_core` for the shapes of their fields. In specs/, `Arguments`, `Opening` and
-//! `Outputs` define the fields of the layouts that this interface has alone, in the order of the standard's IDL, and
-//! `Interface` names the interface. The layers above use that `read_call` gives the call exactly where the stub is
-//! served and a prefix of it spells the call, and else why there is none; that `write_call` and `write_reply` give the
-//! one written spelling of each call that some served stub spells, and of each reply that has its operation's shape;
-//! and that, by the laws, each is read again as the same value whatever bytes follow, no stub spells two calls or two
-//! replies of one opnum, and no definition runs out of memory.
+//! on `ndr_types` and `ndr_core` for the shapes of their fields. In specs/, `Arguments` and `Interface` define the
+//! fields of the layouts that this interface has alone, of calls and of replies, in the order of the standard's IDL.
+//! The layers above use that `read_call` gives the call exactly where the stub is served and a prefix of it spells the
+//! call, and else why there is none; that `write_call` and `write_reply` give the one written spelling of each call
+//! that some served stub spells, and of each reply that has its operation's shape; and that, by the laws, each is read
+//! again as the same value whatever bytes follow, no stub spells two calls or two replies of one opnum, and no
+//! definition runs out of memory.
 #![tactic(auto)]
 
 mod arguments;

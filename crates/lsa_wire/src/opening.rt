@@ -3,8 +3,7 @@ ghost use Rattle.std.specs.Prelude.{◌≡◌, OnOk};
 ghost use Rattle.ndr_core.specs.Cursor.{Reads};
 ghost use Rattle.ndr_core.specs.Shapes.{u8};
 ghost use Rattle.ndr_core.specs.Parts.{when_there};
-ghost use Rattle.lsa_wire.specs.Arguments.{connect_args};
-ghost use Rattle.lsa_wire.specs.Opening.{attributes_head, object_attributes, quality};
+ghost use Rattle.lsa_wire.specs.Arguments.{connect_args, attributes_head, object_attributes, quality};
 
 use crate::NoMemory;
 use acct_calls::Args;
@@ -41,7 +40,7 @@ fn read_root(from: &mut In<'_>, there: bool) -> Result<Option<u8>, NdrError>
 }
 
 /// Passes over a quality.
-#[tactic(auto, unfolding(crate::specs::Opening::quality))]
+#[tactic(auto, unfolding(crate::specs::Arguments::quality))]
 fn read_quality(from: &mut In<'_>, there: bool) -> Result<Option<()>, NdrError>
     ensures { Reads result from.new ((when_there there quality).read from.old) }
 {
@@ -56,7 +55,7 @@ fn read_quality(from: &mut In<'_>, there: bool) -> Result<Option<()>, NdrError>
 }
 
 /// Whether the object attributes name a root.
-#[tactic(auto, unfolding(crate::specs::Opening::object_attributes))]
+#[tactic(auto, unfolding(crate::specs::Arguments::object_attributes))]
 fn read_attributes(from: &mut In<'_>) -> Result<bool, NdrError>
     ensures { Reads result from.new (object_attributes.read from.old) }
 {
@@ -67,7 +66,7 @@ fn read_attributes(from: &mut In<'_>) -> Result<bool, NdrError>
 }
 
 /// Object attributes whose root, if they name one, refers to a zero byte.
-#[tactic(auto, unfolding(crate::specs::Opening::object_attributes))]
+#[tactic(auto, unfolding(crate::specs::Arguments::object_attributes))]
 fn write_attributes(to: &mut Out, rooted: bool) -> Result<(), NoMemory>
     ensures { OnOk result (to.new ≡ object_attributes.write rooted to.old) }
 {

@@ -1,10 +1,10 @@
 // Replies that this interface has alone.
 ghost use Rattle.std.specs.Prelude.{◌≡◌, OnOk};
 ghost use Rattle.std.specs.Option.{option_copied};
-ghost use Rattle.lsa_wire.specs.Outputs.{names_done, own_replies, policy_outs, referred_of, refs_done, sids_done};
-ghost use Rattle.lsa_wire.specs.Outputs.{translated};
+ghost use Rattle.lsa_wire.specs.Interface.{names_done, own_replies, policy_outs, referred_of, refs_done, sids_done};
+ghost use Rattle.lsa_wire.specs.Interface.{translated};
 ghost use Rattle.acct_stubs.specs.Outputs.{with_status};
-ghost use Rattle.ndr_types.specs.Domains.{or_empty};
+ghost use Rattle.ndr_types.specs.Translations.{or_empty};
 ghost use Rattle.ndr_types.specs.Outcomes.{ReadsIfRoom};
 
 use crate::NoMemory;
@@ -22,7 +22,7 @@ use ndr_types::{
 };
 use std::alloc::Global;
 
-#[tactic(auto, unfolding(crate::specs::Outputs::policy_outs))]
+#[tactic(auto, unfolding(crate::specs::Interface::policy_outs))]
 fn read_policy(alloc: Global, from: &mut In<'_>, row: PolicyOutputs) -> Result<Outs, NdrError>
     ensures { ReadsIfRoom result from.new ((policy_outs row).read from.old) }
 {
@@ -61,7 +61,7 @@ fn read_policy(alloc: Global, from: &mut In<'_>, row: PolicyOutputs) -> Result<O
     }
 }
 
-#[tactic(auto, using(crate::proofs::Asked::policy_outs_asked), unfolding(crate::specs::Outputs::policy_outs))]
+#[tactic(auto, using(crate::proofs::Asked::policy_outs_asked), unfolding(crate::specs::Interface::policy_outs))]
 fn write_policy(to: &mut Out, row: PolicyOutputs, outs: &Outs) -> Result<(), NoMemory>
     requires { (policy_outs row).Fits outs.now }
     ensures { OnOk result (to.new ≡ (policy_outs row).write outs.now to.old) }
@@ -195,7 +195,7 @@ fn refs_done(
     }
 }
 
-#[tactic(auto, unfolding(crate::specs::Outputs::translated))]
+#[tactic(auto, unfolding(crate::specs::Interface::translated))]
 fn read_translated(alloc: Global, from: &mut In<'_>, row: Translation) -> Result<Reply, NdrError>
     ensures { ReadsIfRoom result from.new ((translated row).read from.old) }
 {
@@ -234,7 +234,7 @@ fn read_translated(alloc: Global, from: &mut In<'_>, row: Translation) -> Result
     }
 }
 
-#[tactic(auto, using(crate::proofs::Asked::translated_asked), unfolding(crate::specs::Outputs::translated))]
+#[tactic(auto, using(crate::proofs::Asked::translated_asked), unfolding(crate::specs::Interface::translated))]
 fn write_translated(to: &mut Out, row: Translation, reply: &Reply) -> Result<(), NoMemory>
     requires { (translated row).Fits reply.now }
     ensures { OnOk result (to.new ≡ (translated row).write reply.now to.old) }
@@ -313,7 +313,7 @@ fn write_translated(to: &mut Out, row: Translation, reply: &Reply) -> Result<(),
 }
 
 /// A reply of a layout that this interface has alone.
-#[tactic(auto, unfolding(crate::specs::Outputs::own_replies))]
+#[tactic(auto, unfolding(crate::specs::Interface::own_replies))]
 pub fn read_own(alloc: Global, from: &mut In<'_>, outputs: Outputs) -> Result<Reply, NdrError>
     ensures { ReadsIfRoom result from.new ((own_replies outputs).read from.old) }
 {
@@ -325,7 +325,7 @@ pub fn read_own(alloc: Global, from: &mut In<'_>, outputs: Outputs) -> Result<Re
 }
 
 /// Writes a reply of a layout that this interface has alone.
-#[tactic(auto, unfolding(crate::specs::Outputs::own_replies))]
+#[tactic(auto, unfolding(crate::specs::Interface::own_replies))]
 pub fn write_own(to: &mut Out, outputs: Outputs, reply: &Reply) -> Result<(), NoMemory>
     requires { (own_replies outputs).Fits reply.now }
     ensures { OnOk result (to.new ≡ (own_replies outputs).write reply.now to.old) }

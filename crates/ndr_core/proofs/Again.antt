@@ -3,7 +3,7 @@ use Rattle.std.proofs.Common.{sym, ap, ◌∙◌}
 use Rattle.ndr_core.specs.declared.error.NdrError.TheVariants.{Count}
 use Rattle.ndr_core.specs.Cursor.{Cursor}
 use Rattle.ndr_core.specs.Codec.{Codec}
-use Rattle.ndr_core.specs.Steps.{ok_is}
+use Rattle.ndr_core.specs.steps.Steps.{ok_is}
 use Rattle.ndr_core.specs.Again.{IsReadAgain, HasOneReading}
 
 pub read_again : {A : Type 0} (shape : Codec A) → IsReadAgain shape

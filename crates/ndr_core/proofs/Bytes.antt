@@ -9,8 +9,7 @@ use Rattle.std.proofs.lemmas.List.Elements.{All-tail}
 use Rattle.ndr_core.specs.declared.error.NdrError.{NdrError}
 use Rattle.ndr_core.specs.declared.error.NdrError.TheVariants.{Short}
 use Rattle.ndr_core.specs.Bytes.{AreReadAtOnce, AreWrittenAtOnce}
-use Rattle.ndr_core.specs.Cursor.{Cursor, ◌>>=◌, aligned, done, left}
-use Rattle.ndr_core.specs.Written.{IsByte, Written, put_bytes, put_number}
+use Rattle.ndr_core.specs.Cursor.{Cursor, ◌>>=◌, aligned, done, left, IsByte, Written, put_bytes, put_number}
 use Rattle.ndr_core.specs.Parts.{times}
 use Rattle.ndr_core.specs.Shapes.{u8}
 use Rattle.ndr_core.proofs.Loop.{first_read}

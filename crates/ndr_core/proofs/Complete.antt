@@ -5,8 +5,7 @@ use Rattle.std.specs.Int.{Width, w8, w16, w32, byte_len, from_le_bytes}
 use Rattle.std.proofs.lemmas.Bool.{cases_lt}
 use Rattle.std.proofs.lemmas.List.{get_or_past}
 use Rattle.std.proofs.lemmas.List.Elements.{All-get_or, All-take, All-drop}
-use Rattle.ndr_core.specs.Cursor.{Cursor, number_start, second}
-use Rattle.ndr_core.specs.Written.{IsByte, IsBytes}
+use Rattle.ndr_core.specs.Cursor.{Cursor, number_start, second, IsByte, IsBytes}
 use Rattle.ndr_core.specs.Codec.{Codec}
 use Rattle.ndr_core.specs.Numbers.{Number}
 use Rattle.ndr_core.specs.Shapes.{u8, u16, u32, given, chain, made, such, led_by, ignored, followed, padding4, pointer}

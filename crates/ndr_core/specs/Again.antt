@@ -1,7 +1,6 @@
 -- Two laws of a shape: what is written is read again, and no stub has two readings.
 use Rattle.std.specs.Prelude.{◌≡◌, ℕ, List, ◌++◌, Ok}
-use Rattle.ndr_core.specs.Cursor.{Cursor}
-use Rattle.ndr_core.specs.Written.{Written}
+use Rattle.ndr_core.specs.Cursor.{Cursor, Written}
 use Rattle.ndr_core.specs.Codec.{Codec, behind}
 
 -- What is written for a value is read again as that value and no further, whatever stands before and after it.

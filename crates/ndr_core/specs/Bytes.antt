@@ -1,7 +1,6 @@
 -- Bytes that are read or written at once are as many smalls, one after the other.
 use Rattle.std.specs.Prelude.{◌≡◌, ℕ, List, length}
-use Rattle.ndr_core.specs.Cursor.{Cursor, bytes_at}
-use Rattle.ndr_core.specs.Written.{Written, IsBytes, put_bytes}
+use Rattle.ndr_core.specs.Cursor.{Cursor, bytes_at, Written, IsBytes, put_bytes}
 use Rattle.ndr_core.specs.Shapes.{u8}
 use Rattle.ndr_core.specs.Parts.{times}
 

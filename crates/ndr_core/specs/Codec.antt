@@ -1,8 +1,7 @@
 -- What a shape of the transfer syntax is, as one record: how it is read, what spells a value of it, which values it
 -- has, how they are written, and the laws that tie these together.
 use Rattle.std.specs.Prelude.{◌≡◌, ℕ, List, ◌++◌, length, Ok}
-use Rattle.ndr_core.specs.Cursor.{Cursor, Reader}
-use Rattle.ndr_core.specs.Written.{Written, IsBytes}
+use Rattle.ndr_core.specs.Cursor.{Cursor, Reader, Written, IsBytes}
 
 -- o with more bytes after it
 abbrev pub Grows : Written → Written → Type 0

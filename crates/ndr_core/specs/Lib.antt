@@ -1,10 +1,8 @@
-pub mod Cursor
-pub mod Written
-pub mod Codec
-pub mod Steps
-pub mod Numbers
-pub mod Laws
-pub mod Shapes
-pub mod Parts
 pub mod Again
 pub mod Bytes
+pub mod Codec
+pub mod Cursor
+pub mod Numbers
+pub mod Parts
+pub mod Shapes
+pub mod steps

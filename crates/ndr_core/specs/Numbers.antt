@@ -8,9 +8,8 @@ use Rattle.std.proofs.lemmas.List.{take_at, drop_at, length-replicate}
 use Rattle.std.proofs.lemmas.Nat.{from_le_bytes-to_le_bytes_2, from_le_bytes-to_le_bytes_4}
 use Rattle.ndr_core.specs.declared.error.NdrError.TheVariants.{Short, Count}
 use Rattle.ndr_core.specs.Cursor.{Cursor, aligned, done, number_start, number_end, after_number, number_there}
-use Rattle.ndr_core.specs.Cursor.{number_at}
-use Rattle.ndr_core.specs.Written.{Written, IsByte, IsBytes, padded, put_number}
-use Rattle.ndr_core.specs.Steps.{ok_is, reached}
+use Rattle.ndr_core.specs.Cursor.{number_at, Written, IsByte, IsBytes, padded, put_number}
+use Rattle.ndr_core.specs.steps.Steps.{ok_is, reached}
 use Rattle.ndr_core.specs.Codec.{Grows, behind}
 
 -- The number n stands at c, after padding, and ends at d.

@@ -3,10 +3,9 @@
 use Rattle.std.proofs.Common.{◌≡◌, ℕ, zero, suc, Bool, true, false, nat_le, ◌==◌, ◌||◌, Option, Some, None, List, []}
 use Rattle.std.proofs.Common.{◌∷◌, ◌++◌, length, map, refl, sym}
 use Rattle.std.proofs.lemmas.List.{append-nil}
-use Rattle.ndr_core.specs.Cursor.{Cursor, making, both}
-use Rattle.ndr_core.specs.Written.{Written, IsBytes}
+use Rattle.ndr_core.specs.Cursor.{Cursor, making, both, Written, IsBytes}
 use Rattle.ndr_core.specs.Codec.{Codec, Grows, behind}
-use Rattle.ndr_core.specs.Laws.{grows_on, made_found, made_only}
+use Rattle.ndr_core.specs.steps.Laws.{grows_on, made_found, made_only}
 use Rattle.ndr_core.specs.Shapes.{u32_such, pointer, pointer_such, given, chain, made, led_by, ignored}
 
 -- ---- lists

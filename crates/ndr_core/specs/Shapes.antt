@@ -5,14 +5,13 @@ use Rattle.std.proofs.Common.{ap, ◌∙◌}
 use Rattle.std.proofs.lemmas.List.{append-nil}
 use Rattle.std.specs.Int.{Width, w8, w16, w32}
 use Rattle.ndr_core.specs.Cursor.{Cursor, broken, done, aligned, aligned_cursor, number_at, testing, making, both}
-use Rattle.ndr_core.specs.Cursor.{is_there, pointer_at, is_zero, second}
-use Rattle.ndr_core.specs.Written.{put_number, put_padding, put_pointer}
+use Rattle.ndr_core.specs.Cursor.{is_there, pointer_at, is_zero, second, put_number, put_padding, put_pointer}
 use Rattle.ndr_core.specs.Codec.{Codec, behind}
 use Rattle.ndr_core.specs.Numbers.{Number, IsNarrow, narrow8, narrow16, narrow32, number_found, number_only}
 use Rattle.ndr_core.specs.Numbers.{number_grows, number_bytes, number_spelled, padded_bytes}
-use Rattle.ndr_core.specs.Laws.{such_found, such_only, given_found, given_only, unspelled_found, chain_found}
-use Rattle.ndr_core.specs.Laws.{chain_only, grows_on, spelled_before, made_found, made_only, pointer_grows}
-use Rattle.ndr_core.specs.Laws.{pointer_bytes, pointer_spelled, padding_spelled, padding_found}
+use Rattle.ndr_core.specs.steps.Laws.{such_found, such_only, given_found, given_only, unspelled_found, chain_found}
+use Rattle.ndr_core.specs.steps.Laws.{chain_only, grows_on, spelled_before, made_found, made_only, pointer_grows}
+use Rattle.ndr_core.specs.steps.Laws.{pointer_bytes, pointer_spelled, padding_spelled, padding_found}
 
 -- ---- numbers: padding to the size, and the number, little-endian
 

@@ -2,8 +2,8 @@
 ghost use Rattle.std.specs.Prelude.{◌≡◌, ◌<◌, ◌≤◌, ◌^◌, ◌-◌, ◌+◌, Ok, Err, OnErr, length, nat_lt, if◌then◌else◌};
 ghost use Rattle.std.specs.Int.{w8, w16, w32};
 ghost use Rattle.ndr_core.specs.declared.error.NdrError.TheVariants.{Short};
-ghost use Rattle.ndr_core.specs.Cursor.{Cursor, Reads, IsSize, aligned_cursor, broken, number_at, pointer_at};
-ghost use Rattle.ndr_core.specs.Cursor.{ReadsBy, bytes_at, left, varying_at};
+ghost use Rattle.ndr_core.specs.Cursor.{Cursor, Reads, IsSize, aligned_cursor, broken, number_at, pointer_at, ReadsBy};
+ghost use Rattle.ndr_core.specs.Cursor.{bytes_at, left, varying_at};
 
 use crate::error::NdrError;
 use std::marker::Model;

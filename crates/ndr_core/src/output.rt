@@ -1,9 +1,8 @@
 // Writing a stub.
 ghost use Rattle.std.specs.Prelude.{◌≡◌, ◌≤◌, ◌^◌, ◌-◌, ◌++◌, OnOk, OnErr, []};
 ghost use Rattle.std.specs.Int.{w8, w16, w32};
-ghost use Rattle.ndr_core.specs.Cursor.{IsSize};
-ghost use Rattle.ndr_core.specs.Written.{Written, put_bytes, put_number, put_padding, put_pointer, put_varying};
-ghost use Rattle.ndr_core.specs.Written.{padded};
+ghost use Rattle.ndr_core.specs.Cursor.{IsSize, Written, put_bytes, put_number, put_padding, put_pointer, put_varying};
+ghost use Rattle.ndr_core.specs.Cursor.{padded};
 
 use std::alloc::{AllocError, Global};
 use std::marker::Model;
@@ -18,7 +17,7 @@ pub struct Out {
 
 impl Model for Out {
     ghost use Rattle.std.specs.Prelude.{◌<◌};
-    ghost use Rattle.ndr_core.specs.Written.{Written, referents};
+    ghost use Rattle.ndr_core.specs.Cursor.{Written, referents};
 
     ghost Value = { Written };
 

@@ -5,8 +5,7 @@ use Rattle.std.proofs.lemmas.List.{append-nil, drop_all, length-map}
 use Rattle.std.proofs.Math.ListN.{get_or-map}
 use Rattle.ndr_core.specs.declared.error.NdrError.{NdrError}
 use Rattle.ndr_core.specs.declared.error.NdrError.TheVariants.{Short, Count, Memory}
-use Rattle.ndr_core.specs.Cursor.{Cursor, ◌>>=◌, done}
-use Rattle.ndr_core.specs.Written.{Written}
+use Rattle.ndr_core.specs.Cursor.{Cursor, ◌>>=◌, done, Written}
 use Rattle.ndr_core.specs.Codec.{Codec}
 use Rattle.ndr_core.specs.Shapes.{given}
 use Rattle.ndr_core.specs.Parts.{cons, times, each, front_of, Part}

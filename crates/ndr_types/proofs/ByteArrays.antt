@@ -1,21 +1,19 @@
 -- An array of smalls is their heads alone: what is read or written at once. And the laws of descriptors.
 use Rattle.std.proofs.Common.{◌≡◌, ℕ, List, [], ◌∷◌, length, map, Result, Ok, Err, refl, ap, ◌∙◌}
 use Rattle.ndr_core.specs.declared.error.NdrError.{NdrError}
-use Rattle.ndr_core.specs.Cursor.{Cursor, ◌>>=◌, bytes_at, done, second}
-use Rattle.ndr_core.specs.Written.{IsBytes, Written, put_bytes}
+use Rattle.ndr_core.specs.Cursor.{Cursor, ◌>>=◌, bytes_at, done, second, IsBytes, Written, put_bytes}
 use Rattle.ndr_core.specs.Shapes.{u8, given}
 use Rattle.ndr_core.specs.Parts.{array, each, flat, pointer_to, times, whole}
 use Rattle.ndr_core.proofs.Bytes.{read_at_once, written_at_once}
 use Rattle.ndr_core.proofs.Complete.{IsComplete, u8_complete}
 use Rattle.ndr_core.proofs.Loop.{first_read}
-use Rattle.acct_layouts.specs.Bounds.{IfThere, IsSmall}
+use Rattle.acct_layouts.specs.Values.{IfThere, IsSmall}
 use Rattle.ndr_types.proofs.Arrays.{map_same}
 use Rattle.ndr_types.proofs.Onward.{Takes, any_size, list_onward, takes_flat, takes_pointer_to, takes_u8, takes_whole}
 use Rattle.ndr_types.proofs.Parts.{Has, flat_has, whole_complete}
 use Rattle.ndr_types.proofs.Records.{pointer_has}
 use Rattle.ndr_types.proofs.ShapeValues.{list_complete, list_values, whole_values}
-use Rattle.ndr_types.specs.Accounts.{any}
-use Rattle.ndr_types.specs.Descriptors.{descriptor, descriptor_pointer}
+use Rattle.ndr_types.specs.Listed.{any, descriptor, descriptor_pointer}
 use Rattle.ndr_types.specs.Laws.{HasValues, IsListOf}
 
 -- ---- elements without tails

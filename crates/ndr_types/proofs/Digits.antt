@@ -4,10 +4,8 @@ use Rattle.ndr_core.specs.Codec.{Codec}
 use Rattle.ndr_core.specs.Shapes.{u8, u32}
 use Rattle.ndr_core.proofs.Complete.{IsComplete, u8_complete, u16_complete, u32_complete, made_complete}
 use Rattle.ndr_core.proofs.Complete.{led_by_complete, ignored_complete}
-use Rattle.ndr_types.specs.Digits.{then_small, then_short}
-use Rattle.ndr_types.specs.Handles.{uuid, handle, handle_of}
-use Rattle.ndr_types.specs.Sids.{authority}
-use Rattle.acct_layouts.specs.Bounds.{IsHandle}
+use Rattle.ndr_types.specs.Values.{then_small, then_short, uuid, handle, handle_of, authority}
+use Rattle.acct_layouts.specs.Values.{IsHandle}
 use Rattle.ndr_types.specs.Laws.{HasValues}
 
 -- The numbers that a shape takes are those below a limit.

@@ -4,13 +4,12 @@ use Rattle.std.proofs.lemmas.List.Elements.{All-nil}
 use Rattle.ndr_core.specs.Shapes.{u32}
 use Rattle.ndr_core.specs.Parts.{join, flat}
 use Rattle.ndr_core.proofs.Complete.{IsComplete, given_complete}
-use Rattle.acct_layouts.specs.Bounds.{IsDisplayedGroup, IsDisplayedUser, IsText}
+use Rattle.acct_layouts.specs.Values.{IsDisplayedGroup, IsDisplayedUser, IsText}
 use Rattle.acct_layouts.specs.declared.classes.DisplayArm.{DisplayArm}
 use Rattle.acct_layouts.specs.declared.classes.DisplayArm.TheVariants as display
-use Rattle.ndr_types.specs.Accounts.{any}
-use Rattle.ndr_types.specs.Displays.{display_row, display_rows, full_name_of, no_full_name, parts_of_row, row_of}
+use Rattle.ndr_types.specs.Listed.{any, display_row, display_rows, full_name_of, no_full_name, parts_of_row, row_of}
 use Rattle.ndr_types.specs.Laws.{HasValues, IsListOf}
-use Rattle.ndr_types.specs.Texts.{text}
+use Rattle.ndr_types.specs.Values.{text}
 use Rattle.ndr_types.proofs.Onward.{Takes, TakesPart, list_onward, long, takes_flat, takes_given, takes_join}
 use Rattle.ndr_types.proofs.Onward.{takes_part_of, takes_text}
 use Rattle.ndr_types.proofs.Parts.{Has, join_has, part_of_has}

@@ -10,15 +10,12 @@ use Rattle.ndr_core.specs.Parts.{Part, whole, join, flat, pointer_to}
 use Rattle.ndr_core.proofs.Complete.{IsComplete, u16_complete, u32_complete, such_complete, chain_complete}
 use Rattle.ndr_core.proofs.Complete.{made_complete, ignored_complete, padding_complete}
 use Rattle.acct_calls.specs.declared.lists.TranslatedSid.{TranslatedSid}
-use Rattle.ndr_types.specs.Accounts.{any}
-use Rattle.acct_layouts.specs.Bounds.{IfThere, IsAccount, IsLong, IsPrivilegeSet, IsText, IsTranslatedName}
-use Rattle.acct_layouts.specs.Bounds.{IsTranslatedSid}
+use Rattle.ndr_types.specs.Listed.{any, low_of, with_no_high, low_part, privilege_name, privilege_name_of}
+use Rattle.ndr_types.specs.Listed.{parts_of_privilege_name, privilege_names}
+use Rattle.acct_layouts.specs.Values.{IfThere, IsAccount, IsLong, IsPrivilegeSet, IsText, IsTranslatedName}
+use Rattle.acct_layouts.specs.Values.{IsTranslatedSid}
 use Rattle.ndr_types.specs.Laws.{HasValues, IsListOf}
-use Rattle.ndr_types.specs.Privileges.{privilege_set}
-use Rattle.ndr_types.specs.Pointers.{text_pointer, privilege_set_pointer}
-use Rattle.ndr_types.specs.PrivilegeNames.{low_of, with_no_high, low_part, privilege_name, privilege_name_of}
-use Rattle.ndr_types.specs.PrivilegeNames.{parts_of_privilege_name, privilege_names}
-use Rattle.ndr_types.specs.Texts.{text}
+use Rattle.ndr_types.specs.Values.{privilege_set, text_pointer, privilege_set_pointer, text}
 use Rattle.ndr_types.specs.Translations.{signed_long, padded_part, translated_sid, translated_sid_of}
 use Rattle.ndr_types.specs.Translations.{parts_of_translated_sid, translated_name, translated_name_of}
 use Rattle.ndr_types.specs.Translations.{parts_of_translated_name}

@@ -4,9 +4,9 @@ use Rattle.std.proofs.Common.{ℕ, refl, lit<}
 use Rattle.ndr_core.specs.Shapes.{u16}
 use Rattle.ndr_core.specs.Parts.{Part, join, flat, pointer_to}
 use Rattle.ndr_core.proofs.Complete.{u32_complete, followed_complete}
-use Rattle.acct_layouts.specs.Bounds.{IfThere, IsSidRef, IsTranslatedName, IsTranslatedSid}
-use Rattle.dtyp_sid.specs.Value.{IsSid}
-use Rattle.ndr_types.specs.Sids.{sid}
+use Rattle.acct_layouts.specs.Values.{IfThere, IsSidRef, IsTranslatedName, IsTranslatedSid}
+use Rattle.dtyp_sid.specs.Sids.{IsSid}
+use Rattle.ndr_types.specs.Values.{sid}
 use Rattle.ndr_types.specs.Translations.{flagged, flagged_names, flagged_sids, parts_of_sid_ref, sid_ref, sid_ref_of}
 use Rattle.ndr_types.specs.Translations.{sid_refs, signed_long, translated_name, translated_sid}
 use Rattle.ndr_types.proofs.Entries.{short_has, signed_has, translated_name_has, translated_sid_has}

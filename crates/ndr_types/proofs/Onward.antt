@@ -11,14 +11,11 @@ use Rattle.ndr_core.specs.Shapes.{u8, u16, u32, u32_such, such, given, chain, ma
 use Rattle.ndr_core.specs.Shapes.{pointer, varying}
 use Rattle.ndr_core.specs.Parts.{Part, whole, cons, each, times, array, join, flat, part_of, front_of, some_of}
 use Rattle.ndr_core.specs.Parts.{when_there, pointer_to, there, list, list_of, list_tail}
-use Rattle.ndr_types.specs.Accounts.{any, rid_name, rid_name_of, parts_of_rid_name, rid_names}
-use Rattle.ndr_types.specs.Digits.{then_small, then_short}
-use Rattle.ndr_types.specs.Domains.{place, place_of, parts_of_place, first, with_entries, places, referenced}
-use Rattle.ndr_types.specs.Handles.{uuid, handle, handle_of}
-use Rattle.ndr_types.specs.Lists.{rid_list, sid_list, text_list}
-use Rattle.ndr_types.specs.Privileges.{privilege, privilege_of, parts_of_privilege, privilege_set}
-use Rattle.ndr_types.specs.Sids.{authority, sid, sid_of, parts_of_sid, sid_pointer}
-use Rattle.ndr_types.specs.Texts.{text, text_tail, units}
+use Rattle.ndr_types.specs.Listed.{any, rid_name, rid_name_of, parts_of_rid_name, rid_names}
+use Rattle.ndr_types.specs.Values.{then_small, then_short, uuid, handle, handle_of, rid_list, sid_list, text_list}
+use Rattle.ndr_types.specs.Values.{privilege, privilege_of, parts_of_privilege, privilege_set, authority, sid, sid_of}
+use Rattle.ndr_types.specs.Values.{parts_of_sid, sid_pointer, text, text_tail, units}
+use Rattle.ndr_types.specs.Translations.{place, place_of, parts_of_place, first, with_entries, places, referenced}
 use Rattle.ndr_types.specs.Laws.{Onward, GoesOnward}
 
 -- what is read has so many bytes at least

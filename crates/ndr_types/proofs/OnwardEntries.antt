@@ -3,12 +3,9 @@ use Rattle.std.proofs.Common.{ℕ}
 use Rattle.ndr_core.specs.Cursor.{is_zero}
 use Rattle.ndr_core.specs.Shapes.{u16}
 use Rattle.ndr_core.specs.Parts.{Part, whole, flat, pointer_to}
-use Rattle.ndr_types.specs.Accounts.{any}
-use Rattle.ndr_types.specs.Pointers.{text_pointer, privilege_set_pointer}
-use Rattle.ndr_types.specs.Privileges.{privilege_set}
-use Rattle.ndr_types.specs.PrivilegeNames.{low_part, privilege_name, privilege_name_of, parts_of_privilege_name}
-use Rattle.ndr_types.specs.PrivilegeNames.{privilege_names}
-use Rattle.ndr_types.specs.Texts.{text}
+use Rattle.ndr_types.specs.Listed.{any, low_part, privilege_name, privilege_name_of, parts_of_privilege_name}
+use Rattle.ndr_types.specs.Listed.{privilege_names}
+use Rattle.ndr_types.specs.Values.{text_pointer, privilege_set_pointer, privilege_set, text}
 use Rattle.ndr_types.specs.Translations.{signed_long, padded_part, translated_sid, translated_sids, translated_name}
 use Rattle.ndr_types.specs.Translations.{translated_name_of, parts_of_translated_name, translated_names}
 use Rattle.ndr_types.proofs.Onward.{Takes, TakesPart, any_size, takes_u32, long, short, takes_padding, takes_such}

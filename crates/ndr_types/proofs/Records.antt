@@ -13,14 +13,11 @@ use Rattle.acct_codes.specs.Limits.{most_privileges}
 use Rattle.acct_calls.specs.declared.lists.Privilege.{Privilege}
 use Rattle.acct_calls.specs.declared.lists.ReferencedDomain.{ReferencedDomain}
 use Rattle.acct_calls.specs.declared.lists.RidBits.{RidBits}
-use Rattle.ndr_types.specs.Privileges.{privilege, privilege_of, parts_of_privilege, privilege_set}
-use Rattle.ndr_types.specs.Accounts.{any, rid_name, rid_name_of, parts_of_rid_name}
-use Rattle.ndr_types.specs.Domains.{place, place_of, parts_of_place, first, with_entries, places}
-use Rattle.ndr_types.specs.Members.{membership, rid_bits, rid_bits_of, parts_of_rid_bits}
-use Rattle.ndr_types.specs.Texts.{text}
-use Rattle.ndr_types.specs.Sids.{sid_pointer}
-use Rattle.acct_layouts.specs.Bounds.{IfThere}
-use Rattle.acct_layouts.specs.Bounds.{IsPrivilege, IsPrivilegeSet, IsAccount, IsDomain, IsMember}
+use Rattle.ndr_types.specs.Values.{privilege, privilege_of, parts_of_privilege, privilege_set, text, sid_pointer}
+use Rattle.ndr_types.specs.Listed.{any, rid_name, rid_name_of, parts_of_rid_name, membership, rid_bits, rid_bits_of}
+use Rattle.ndr_types.specs.Listed.{parts_of_rid_bits}
+use Rattle.ndr_types.specs.Translations.{place, place_of, parts_of_place, first, with_entries, places}
+use Rattle.acct_layouts.specs.Values.{IfThere, IsPrivilege, IsPrivilegeSet, IsAccount, IsDomain, IsMember}
 use Rattle.ndr_types.specs.Laws.{IsListOf}
 use Rattle.ndr_types.proofs.Parts.{Has, all_as, flat_has, join_has, part_of_has, list_has, times_fit, times_all}
 use Rattle.ndr_types.proofs.Parts.{whole_fits, whole_kind, whole_complete}

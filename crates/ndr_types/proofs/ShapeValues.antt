@@ -2,14 +2,11 @@
 use Rattle.std.proofs.Common.{ℕ}
 use Rattle.ndr_core.specs.Parts.{Part, whole, list, list_of, pointer_to}
 use Rattle.ndr_core.proofs.Complete.{IsComplete}
-use Rattle.dtyp_sid.specs.Value.{IsSid}
-use Rattle.ndr_types.specs.Accounts.{any, rid_name, rid_names}
-use Rattle.acct_layouts.specs.Bounds.{IfThere}
-use Rattle.ndr_types.specs.Domains.{places, referenced}
-use Rattle.ndr_types.specs.Privileges.{privilege_set}
-use Rattle.ndr_types.specs.Sids.{sid}
-use Rattle.ndr_types.specs.Texts.{text}
-use Rattle.acct_layouts.specs.Bounds.{IsText, IsPrivilegeSet, IsAccount, IsDomain}
+use Rattle.dtyp_sid.specs.Sids.{IsSid}
+use Rattle.ndr_types.specs.Listed.{any, rid_name, rid_names}
+use Rattle.acct_layouts.specs.Values.{IfThere, IsText, IsPrivilegeSet, IsAccount, IsDomain}
+use Rattle.ndr_types.specs.Translations.{places, referenced}
+use Rattle.ndr_types.specs.Values.{privilege_set, sid, text}
 use Rattle.ndr_types.specs.Laws.{HasValues, IsListOf}
 use Rattle.ndr_types.proofs.Parts.{Has, list_has, whole_fits, whole_kind, whole_complete}
 use Rattle.ndr_types.proofs.Texts.{text_has}

@@ -7,9 +7,9 @@ use Rattle.ndr_core.specs.Shapes.{u32, u8_such, ignored, made, chain}
 use Rattle.ndr_core.specs.Parts.{flat, times}
 use Rattle.ndr_core.proofs.Complete.{IsComplete, u8_complete, u32_complete, such_complete, chain_complete}
 use Rattle.ndr_core.proofs.Complete.{made_complete, led_by_complete, ignored_same, times_complete, times_length}
-use Rattle.dtyp_sid.specs.Value.{SidValue, IsSid, sid_max_sub_authorities, sid_revision}
-use Rattle.ndr_types.specs.Sids.{authority, sid, sid_of, parts_of_sid, sid_pointer, is_revision}
-use Rattle.acct_layouts.specs.Bounds.{IsLong}
+use Rattle.dtyp_sid.specs.Sids.{SidValue, IsSid, sid_max_sub_authorities, sid_revision}
+use Rattle.ndr_types.specs.Values.{authority, sid, sid_of, parts_of_sid, sid_pointer, is_revision}
+use Rattle.acct_layouts.specs.Values.{IsLong}
 use Rattle.ndr_types.proofs.Digits.{authority_fits, authority_below, authority_complete}
 use Rattle.ndr_types.proofs.Parts.{Has, flat_has, there_has, times_fit, times_all}
 

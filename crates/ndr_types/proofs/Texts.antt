@@ -9,8 +9,8 @@ use Rattle.ndr_core.specs.Parts.{PartFits, times, is_there_list}
 use Rattle.ndr_core.proofs.Complete.{IsComplete, u16_complete, u32_complete, pointer_complete, given_complete}
 use Rattle.ndr_core.proofs.Complete.{such_complete, chain_complete, led_by_complete, ignored_complete, ignored_same}
 use Rattle.ndr_core.proofs.Complete.{times_complete, times_length, varying_complete}
-use Rattle.ndr_types.specs.Texts.{text, text_head, text_tail, units, is_even}
-use Rattle.acct_layouts.specs.Bounds.{IsText}
+use Rattle.ndr_types.specs.Values.{text, text_head, text_tail, units, is_even}
+use Rattle.acct_layouts.specs.Values.{IsText}
 use Rattle.ndr_types.proofs.Parts.{Has, times_fit, times_all}
 
 units_fit : (n : ℕ) (us : List ℕ) → n < 2 ^ 32 → length us ≡ n → All (λ u. u < 2 ^ 16) us → (units n).Fits us

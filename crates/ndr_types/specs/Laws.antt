@@ -2,8 +2,7 @@
 use Rattle.std.specs.Prelude.{◌≡◌, ℕ, ◌+◌, ◌^◌, ◌<◌, ◌≤◌, ◌↔◌, All, List, length, Result, Ok, Err}
 use Rattle.ndr_core.specs.declared.error.NdrError.{NdrError}
 use Rattle.ndr_core.specs.declared.error.NdrError.TheVariants.{Short, Count, Memory}
-use Rattle.ndr_core.specs.Cursor.{Cursor}
-use Rattle.ndr_core.specs.Written.{IsBytes}
+use Rattle.ndr_core.specs.Cursor.{Cursor, IsBytes}
 use Rattle.ndr_core.specs.Codec.{Codec}
 use Rattle.ndr_core.specs.Again.{HasOneReading, IsReadAgain}
 

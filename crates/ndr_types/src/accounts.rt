@@ -1,8 +1,8 @@
 // Lists of accounts.
 ghost use Rattle.std.specs.Prelude.{◌≡◌, OnOk};
 ghost use Rattle.std.specs.Option.{option_copied};
-ghost use Rattle.ndr_types.specs.Accounts.{rid_name, rid_names};
-ghost use Rattle.acct_layouts.specs.Bounds.{IfThere, IsListed};
+ghost use Rattle.ndr_types.specs.Listed.{rid_name, rid_names};
+ghost use Rattle.acct_layouts.specs.Values.{IfThere, IsListed};
 ghost use Rattle.ndr_types.specs.Bounds.{HasShortName};
 ghost use Rattle.ndr_types.specs.Outcomes.{ReadsIfRoom};
 
@@ -19,14 +19,14 @@ impl Embedded for RidName {
 
     ghost Bounded = { HasShortName };
 
-    #[tactic(auto, unfolding(crate::specs::Accounts::rid_name))]
+    #[tactic(auto, unfolding(crate::specs::Listed::rid_name))]
     fn read_head(from: &mut In<'_>) -> Result<(u32, (u16, bool)), NdrError> {
         let rid = from.u32()?;
         let name = Name::read_head(from)?;
         Ok((rid, name))
     }
 
-    #[tactic(auto, unfolding(crate::specs::Accounts::rid_name))]
+    #[tactic(auto, unfolding(crate::specs::Listed::rid_name))]
     fn read_tail(
         alloc: Global,
         from: &mut In<'_>,
@@ -36,20 +36,20 @@ impl Embedded for RidName {
         Ok(RidName { rid: head.0, name })
     }
 
-    #[tactic(auto, unfolding(crate::specs::Accounts::rid_name))]
+    #[tactic(auto, unfolding(crate::specs::Listed::rid_name))]
     fn write_head(&self, to: &mut Out) -> Result<(), NoMemory> {
         to.u32(self.rid)?;
         self.name.write_head(to)
     }
 
-    #[tactic(auto, unfolding(crate::specs::Accounts::rid_name))]
+    #[tactic(auto, unfolding(crate::specs::Listed::rid_name))]
     fn write_tail(&self, to: &mut Out) -> Result<(), NoMemory> {
         self.name.write_tail(to)
     }
 }
 
 /// A list of accounts, or none where the pointer is null.
-#[tactic(auto, unfolding(crate::specs::Accounts::rid_names))]
+#[tactic(auto, unfolding(crate::specs::Listed::rid_names))]
 pub fn read_rid_names(alloc: Global, from: &mut In<'_>) -> Result<Option<RidNames>, NdrError>
     ensures { ReadsIfRoom result from.new (rid_names.read from.old) }
 {
@@ -61,7 +61,7 @@ pub fn read_rid_names(alloc: Global, from: &mut In<'_>) -> Result<Option<RidName
 }
 
 /// A list of accounts, or a null pointer.
-#[tactic(auto, unfolding(crate::specs::Accounts::rid_names))]
+#[tactic(auto, unfolding(crate::specs::Listed::rid_names))]
 pub fn write_rid_names(to: &mut Out, value: Option<&RidNames>) -> Result<(), NoMemory>
     requires { IfThere (IsListed HasShortName) (option_copied value) }
     ensures { OnOk result (to.new ≡ rid_names.write (option_copied value.entry) to.old) }

@@ -2,7 +2,7 @@
 ghost use Rattle.std.specs.Prelude.{◌≡◌, ℕ, All, OnOk, length, map};
 ghost use Rattle.ndr_core.specs.Cursor.{Reads};
 ghost use Rattle.ndr_core.specs.Parts.{array, each, list, list_head, list_of, times, whole};
-ghost use Rattle.acct_layouts.specs.Bounds.{IsListed};
+ghost use Rattle.acct_layouts.specs.Values.{IsListed};
 ghost use Rattle.ndr_types.specs.Outcomes.{ReadsIfRoom};
 
 use crate::{Embedded, NoMemory};

@@ -3,9 +3,9 @@ ghost use Rattle.std.specs.Prelude.{◌≡◌, ◌<◌, ◌^◌, ℕ, OnOk, leng
 ghost use Rattle.std.specs.Option.{option_copied};
 ghost use Rattle.ndr_core.specs.Shapes.{u8};
 ghost use Rattle.ndr_core.specs.Parts.{array, flat, is_there_list, list_tail, whole};
-ghost use Rattle.acct_layouts.specs.Bounds.{IfThere};
+ghost use Rattle.acct_layouts.specs.Values.{IfThere};
 ghost use Rattle.ndr_types.specs.Bounds.{IsCounted};
-ghost use Rattle.ndr_types.specs.Descriptors.{descriptor, descriptor_pointer};
+ghost use Rattle.ndr_types.specs.Listed.{descriptor, descriptor_pointer};
 ghost use Rattle.ndr_types.specs.Outcomes.{ReadsIfRoom};
 
 use crate::NoMemory;
@@ -45,7 +45,7 @@ fn read_tail(alloc: Global, from: &mut In<'_>, count: u32, there: bool) -> Resul
 }
 
 /// A descriptor of at most so many bytes.
-#[tactic(auto, unfolding(crate::specs::Descriptors::descriptor, ndr_core::specs::Parts::list_of, ndr_core::specs::Parts::list))]
+#[tactic(auto, unfolding(crate::specs::Listed::descriptor, ndr_core::specs::Parts::list_of, ndr_core::specs::Parts::list))]
 pub fn read_descriptor(alloc: Global, from: &mut In<'_>, most: u32) -> Result<Bytes, NdrError>
     ensures { ReadsIfRoom result from.new ((descriptor most).read from.old) }
 {
@@ -67,7 +67,7 @@ fn write_tail(to: &mut Out, bytes: &[u8]) -> Result<(), NoMemory>
 }
 
 /// A descriptor. One without bytes has a null pointer.
-#[tactic(auto, unfolding(crate::specs::Descriptors::descriptor, ndr_core::specs::Parts::list_of, ndr_core::specs::Parts::list))]
+#[tactic(auto, unfolding(crate::specs::Listed::descriptor, ndr_core::specs::Parts::list_of, ndr_core::specs::Parts::list))]
 pub fn write_descriptor(to: &mut Out, value: &Bytes) -> Result<(), NoMemory>
     requires { length value.now < 2 ^ 32 }
     ensures { OnOk result ((most : ℕ) → to.new ≡ (descriptor most).write value.now to.old) }
@@ -79,7 +79,7 @@ pub fn write_descriptor(to: &mut Out, value: &Bytes) -> Result<(), NoMemory>
 }
 
 /// A descriptor, or none where the pointer is null.
-#[tactic(auto, unfolding(crate::specs::Descriptors::descriptor_pointer))]
+#[tactic(auto, unfolding(crate::specs::Listed::descriptor_pointer))]
 pub fn read_descriptor_pointer(alloc: Global, from: &mut In<'_>) -> Result<Option<Bytes>, NdrError>
     ensures { ReadsIfRoom result from.new (descriptor_pointer.read from.old) }
 {
@@ -91,7 +91,7 @@ pub fn read_descriptor_pointer(alloc: Global, from: &mut In<'_>) -> Result<Optio
 }
 
 /// A descriptor, or a null pointer.
-#[tactic(auto, unfolding(crate::specs::Descriptors::descriptor_pointer))]
+#[tactic(auto, unfolding(crate::specs::Listed::descriptor_pointer))]
 pub fn write_descriptor_pointer(to: &mut Out, value: Option<&Bytes>) -> Result<(), NoMemory>
     requires { IfThere IsCounted (option_copied value) }
     ensures { OnOk result (to.new ≡ descriptor_pointer.write (option_copied value.entry) to.old) }

@@ -2,10 +2,9 @@
 ghost use Rattle.std.specs.Prelude.{◌≡◌, All, OnOk, length, map};
 ghost use Rattle.ndr_core.specs.Cursor.{Reads};
 ghost use Rattle.ndr_core.specs.Parts.{each, list, times};
-ghost use Rattle.acct_layouts.specs.Bounds.{IsListed};
-ghost use Rattle.ndr_types.specs.Accounts.{any};
+ghost use Rattle.acct_layouts.specs.Values.{IsListed};
+ghost use Rattle.ndr_types.specs.Listed.{any, display_row, display_rows, full_name_of};
 ghost use Rattle.ndr_types.specs.Bounds.{HasShortTexts, IsShort};
-ghost use Rattle.ndr_types.specs.Displays.{display_row, display_rows, full_name_of};
 ghost use Rattle.ndr_types.specs.Outcomes.{ReadsIfRoom};
 
 use crate::array::read_list_head;
@@ -67,7 +66,7 @@ fn write_full_name(to: &mut Out, arm: DisplayArm, name: &Name) -> Result<(), NoM
     }
 }
 
-#[tactic(auto, unfolding(crate::specs::Displays::display_row))]
+#[tactic(auto, unfolding(crate::specs::Listed::display_row))]
 fn read_head(from: &mut In<'_>, arm: DisplayArm) -> Result<RowHead, NdrError>
     ensures { Reads result from.new ((display_row arm).head.read from.old) }
 {
@@ -80,7 +79,7 @@ fn read_head(from: &mut In<'_>, arm: DisplayArm) -> Result<RowHead, NdrError>
     Ok((index, (rid, (bits, (name, (comment, full_name))))))
 }
 
-#[tactic(auto, unfolding(crate::specs::Displays::display_row))]
+#[tactic(auto, unfolding(crate::specs::Listed::display_row))]
 fn read_tail(
     alloc: Global,
     from: &mut In<'_>,
@@ -103,7 +102,7 @@ fn read_tail(
     })
 }
 
-#[tactic(auto, unfolding(crate::specs::Displays::display_row))]
+#[tactic(auto, unfolding(crate::specs::Listed::display_row))]
 fn write_head(to: &mut Out, arm: DisplayArm, row: &DisplayRow) -> Result<(), NoMemory>
     requires { HasShortTexts row.now }
     ensures { OnOk result (to.new ≡ (display_row arm).head.write ((display_row arm).head_of row.now) to.old) }
@@ -116,7 +115,7 @@ fn write_head(to: &mut Out, arm: DisplayArm, row: &DisplayRow) -> Result<(), NoM
     write_full_name_head(to, arm, &row.full_name)
 }
 
-#[tactic(auto, unfolding(crate::specs::Displays::display_row))]
+#[tactic(auto, unfolding(crate::specs::Listed::display_row))]
 fn write_tail(to: &mut Out, arm: DisplayArm, row: &DisplayRow) -> Result<(), NoMemory>
     requires { HasShortTexts row.now }
     ensures { OnOk result (to.new ≡ ((display_row arm).tail ((display_row arm).head_of row.now)).write row.now to.old) }
@@ -204,7 +203,7 @@ fn read_rows_tail(
 }
 
 /// A list of users or of groups as they are displayed. A group has no full name.
-#[tactic(auto, unfolding(crate::specs::Displays::display_rows, ndr_core::specs::Parts::list_of, ndr_core::specs::Parts::list))]
+#[tactic(auto, unfolding(crate::specs::Listed::display_rows, ndr_core::specs::Parts::list_of, ndr_core::specs::Parts::list))]
 pub fn read_display_rows(
     alloc: Global,
     from: &mut In<'_>,
@@ -232,7 +231,7 @@ fn write_rows_tail(to: &mut Out, arm: DisplayArm, values: &[DisplayRow]) -> Resu
 }
 
 /// A list of users or of groups as they are displayed. Of a group no full name is written.
-#[tactic(auto, unfolding(crate::specs::Displays::display_rows, ndr_core::specs::Parts::list_of, ndr_core::specs::Parts::list))]
+#[tactic(auto, unfolding(crate::specs::Listed::display_rows, ndr_core::specs::Parts::list_of, ndr_core::specs::Parts::list))]
 pub fn write_display_rows(
     to: &mut Out,
     arm: DisplayArm,

@@ -3,9 +3,9 @@ ghost use Rattle.std.specs.Prelude.{◌≡◌, OnOk};
 ghost use Rattle.std.specs.Option.{option_copied};
 ghost use Rattle.ndr_core.specs.Cursor.{Reads, making};
 ghost use Rattle.ndr_core.specs.Parts.{whole};
-ghost use Rattle.acct_layouts.specs.Bounds.{IfThere, IsListed};
+ghost use Rattle.acct_layouts.specs.Values.{IfThere, IsListed};
 ghost use Rattle.ndr_types.specs.Bounds.{IsShortPlace};
-ghost use Rattle.ndr_types.specs.Domains.{or_empty, place, places, referenced};
+ghost use Rattle.ndr_types.specs.Translations.{or_empty, place, places, referenced};
 ghost use Rattle.ndr_types.specs.Outcomes.{ReadsIfRoom};
 
 use crate::array::{read_list_head, read_list_tail, write_list_head, write_list_tail};
@@ -23,14 +23,14 @@ impl Embedded for ReferencedDomain {
 
     ghost Bounded = { IsShortPlace };
 
-    #[tactic(auto, unfolding(crate::specs::Domains::place))]
+    #[tactic(auto, unfolding(crate::specs::Translations::place))]
     fn read_head(from: &mut In<'_>) -> Result<((u16, bool), bool), NdrError> {
         let name = Name::read_head(from)?;
         let sid = Sid::read_head(from)?;
         Ok((name, sid))
     }
 
-    #[tactic(auto, unfolding(crate::specs::Domains::place))]
+    #[tactic(auto, unfolding(crate::specs::Translations::place))]
     fn read_tail(
         alloc: Global,
         from: &mut In<'_>,
@@ -41,20 +41,20 @@ impl Embedded for ReferencedDomain {
         Ok(ReferencedDomain { name, sid })
     }
 
-    #[tactic(auto, unfolding(crate::specs::Domains::place))]
+    #[tactic(auto, unfolding(crate::specs::Translations::place))]
     fn write_head(&self, to: &mut Out) -> Result<(), NoMemory> {
         self.name.write_head(to)?;
         self.sid.write_head(to)
     }
 
-    #[tactic(auto, unfolding(crate::specs::Domains::place))]
+    #[tactic(auto, unfolding(crate::specs::Translations::place))]
     fn write_tail(&self, to: &mut Out) -> Result<(), NoMemory> {
         self.name.write_tail(to)?;
         self.sid.write_tail(to)
     }
 }
 
-#[tactic(auto, unfolding(crate::specs::Domains::places))]
+#[tactic(auto, unfolding(crate::specs::Translations::places))]
 fn read_places_head(from: &mut In<'_>) -> Result<(u32, bool), NdrError>
     ensures { Reads result from.new (places.head.read from.old) }
 {
@@ -63,7 +63,7 @@ fn read_places_head(from: &mut In<'_>) -> Result<(u32, bool), NdrError>
     Ok(head)
 }
 
-#[tactic(auto, unfolding(crate::specs::Domains::places))]
+#[tactic(auto, unfolding(crate::specs::Translations::places))]
 fn read_places_tail(
     alloc: Global,
     from: &mut In<'_>,
@@ -82,7 +82,7 @@ fn read_places(alloc: Global, from: &mut In<'_>) -> Result<Places, NdrError>
 }
 
 /// A list of domains, or none where the pointer is null.
-#[tactic(auto, unfolding(crate::specs::Domains::referenced))]
+#[tactic(auto, unfolding(crate::specs::Translations::referenced))]
 pub fn read_referenced_pointer(alloc: Global, from: &mut In<'_>) -> Result<Option<Places>, NdrError>
     ensures { ReadsIfRoom result from.new (referenced.read from.old) }
 {
@@ -94,7 +94,7 @@ pub fn read_referenced_pointer(alloc: Global, from: &mut In<'_>) -> Result<Optio
 }
 
 /// A list of domains. Where the pointer is null it is empty.
-#[tactic(auto, unfolding(crate::specs::Domains::referenced))]
+#[tactic(auto, unfolding(crate::specs::Translations::referenced))]
 pub fn read_referenced(alloc: Global, from: &mut In<'_>) -> Result<Places, NdrError>
     ensures { ReadsIfRoom result from.new (making or_empty referenced.read from.old) }
 {
@@ -104,7 +104,7 @@ pub fn read_referenced(alloc: Global, from: &mut In<'_>) -> Result<Places, NdrEr
     read_places(alloc, from)
 }
 
-#[tactic(auto, unfolding(crate::specs::Domains::places))]
+#[tactic(auto, unfolding(crate::specs::Translations::places))]
 fn write_places_head(to: &mut Out, list: &[ReferencedDomain]) -> Result<(), NoMemory>
     requires { IsListed IsShortPlace list.now }
     ensures { OnOk result (to.new ≡ places.head.write (places.head_of list.now) to.old) }
@@ -113,7 +113,7 @@ fn write_places_head(to: &mut Out, list: &[ReferencedDomain]) -> Result<(), NoMe
     to.u32(list.len() as u32)
 }
 
-#[tactic(auto, unfolding(crate::specs::Domains::places))]
+#[tactic(auto, unfolding(crate::specs::Translations::places))]
 fn write_places_tail(to: &mut Out, list: &[ReferencedDomain]) -> Result<(), NoMemory>
     requires { IsListed IsShortPlace list.now }
     ensures { OnOk result (to.new ≡ (places.tail (places.head_of list.now)).write list.now to.old) }
@@ -122,7 +122,7 @@ fn write_places_tail(to: &mut Out, list: &[ReferencedDomain]) -> Result<(), NoMe
 }
 
 /// A list of domains, or a null pointer.
-#[tactic(auto, unfolding(crate::specs::Domains::referenced))]
+#[tactic(auto, unfolding(crate::specs::Translations::referenced))]
 pub fn write_referenced(to: &mut Out, value: Option<&Places>) -> Result<(), NoMemory>
     requires { IfThere (IsListed IsShortPlace) (option_copied value) }
     ensures { OnOk result (to.new ≡ referenced.write (option_copied value.entry) to.old) }

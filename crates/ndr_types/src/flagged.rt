@@ -2,7 +2,7 @@
 ghost use Rattle.std.specs.Prelude.{◌≡◌, ℕ, All, OnOk, length, map};
 ghost use Rattle.ndr_core.specs.Cursor.{Reads};
 ghost use Rattle.ndr_core.specs.Parts.{list, list_of, times};
-ghost use Rattle.acct_layouts.specs.Bounds.{IsListed};
+ghost use Rattle.acct_layouts.specs.Values.{IsListed};
 ghost use Rattle.ndr_types.specs.Outcomes.{ReadsIfRoom};
 ghost use Rattle.ndr_types.specs.Translations.{flagged};
 

@@ -2,8 +2,7 @@
 ghost use Rattle.std.specs.Prelude.{◌≡◌, OnOk};
 ghost use Rattle.ndr_core.specs.Cursor.{Reads};
 ghost use Rattle.ndr_core.specs.Shapes.{u32};
-ghost use Rattle.ndr_types.specs.Digits.{then_short};
-ghost use Rattle.ndr_types.specs.Handles.{handle, uuid};
+ghost use Rattle.ndr_types.specs.Values.{then_short, handle, uuid};
 
 use crate::NoMemory;
 use crate::smalls::{read_four_smalls, write_four_smalls};
@@ -20,7 +19,7 @@ fn read_time(from: &mut In<'_>) -> Result<u64, NdrError>
     Ok(n)
 }
 
-#[tactic(auto, unfolding(crate::specs::Handles::uuid))]
+#[tactic(auto, unfolding(crate::specs::Values::uuid))]
 fn read_uuid(from: &mut In<'_>) -> Result<u128, NdrError>
     ensures { Reads result from.new (uuid.read from.old) }
 {
@@ -30,7 +29,7 @@ fn read_uuid(from: &mut In<'_>) -> Result<u128, NdrError>
 }
 
 /// A context handle. Its attributes aren't looked at.
-#[tactic(auto, unfolding(crate::specs::Handles::handle))]
+#[tactic(auto, unfolding(crate::specs::Values::handle))]
 pub fn read_handle(from: &mut In<'_>) -> Result<Handle, NdrError>
     ensures { Reads result from.new (handle.read from.old) }
 {
@@ -48,7 +47,7 @@ fn write_time(to: &mut Out, number: u64) -> Result<(), NoMemory>
     to.u16((number % 0x10000) as u16)
 }
 
-#[tactic(auto, unfolding(crate::specs::Handles::uuid))]
+#[tactic(auto, unfolding(crate::specs::Values::uuid))]
 fn write_uuid(to: &mut Out, number: u128) -> Result<(), NoMemory>
     ensures { OnOk result (to.new ≡ uuid.write number to.old) }
 {
@@ -60,7 +59,7 @@ fn write_uuid(to: &mut Out, number: u128) -> Result<(), NoMemory>
 }
 
 /// A context handle, with attributes of 0.
-#[tactic(auto, unfolding(crate::specs::Handles::handle))]
+#[tactic(auto, unfolding(crate::specs::Values::handle))]
 pub fn write_handle(to: &mut Out, value: &Handle) -> Result<(), NoMemory>
     ensures { OnOk result (to.new ≡ handle.write value.now to.old) }
 {

@@ -1,26 +1,17 @@
 // The laws of the shapes, which callers cite by this function.
 ghost use Rattle.std.specs.Prelude.{ℕ};
 ghost use Rattle.ndr_core.specs.Parts.{whole};
-ghost use Rattle.dtyp_sid.specs.Value.{IsSid};
-ghost use Rattle.ndr_types.specs.Accounts.{any, rid_names};
-ghost use Rattle.acct_layouts.specs.Bounds.{IfThere};
-ghost use Rattle.ndr_types.specs.Domains.{referenced};
-ghost use Rattle.ndr_types.specs.Handles.{handle};
-ghost use Rattle.acct_layouts.specs.Bounds.{IsAccount, IsDomain, IsHandle, IsLong, IsPrivilegeSet, IsText};
-ghost use Rattle.acct_layouts.specs.Bounds.{IsDisplayedGroup, IsDisplayedUser, IsSidRef, IsSmall, IsTranslatedName};
-ghost use Rattle.acct_layouts.specs.Bounds.{IsTranslatedSid};
-ghost use Rattle.acct_layouts.specs.declared.classes.DisplayArm.TheVariants as display;
-ghost use Rattle.ndr_types.specs.Descriptors.{descriptor, descriptor_pointer};
-ghost use Rattle.ndr_types.specs.Displays.{display_rows};
-ghost use Rattle.ndr_types.specs.Laws.{IsLawfulShape, IsListOf};
-ghost use Rattle.ndr_types.specs.Lists.{rid_list, sid_list, text_list};
-ghost use Rattle.ndr_types.specs.Pointers.{privilege_set_pointer, text_pointer};
-ghost use Rattle.ndr_types.specs.PrivilegeNames.{privilege_names};
-ghost use Rattle.ndr_types.specs.Privileges.{privilege_set};
-ghost use Rattle.ndr_types.specs.Sids.{sid};
-ghost use Rattle.ndr_types.specs.Texts.{text};
-ghost use Rattle.ndr_types.specs.Translations.{flagged_names, flagged_sids, sid_refs, translated_names};
+ghost use Rattle.dtyp_sid.specs.Sids.{IsSid};
+ghost use Rattle.ndr_types.specs.Listed.{any, rid_names, descriptor, descriptor_pointer, display_rows, privilege_names};
+ghost use Rattle.acct_layouts.specs.Values.{IfThere, IsAccount, IsDomain, IsHandle, IsLong, IsPrivilegeSet, IsText};
+ghost use Rattle.acct_layouts.specs.Values.{IsDisplayedGroup, IsDisplayedUser, IsSidRef, IsSmall, IsTranslatedName};
+ghost use Rattle.acct_layouts.specs.Values.{IsTranslatedSid};
+ghost use Rattle.ndr_types.specs.Translations.{referenced, flagged_names, flagged_sids, sid_refs, translated_names};
 ghost use Rattle.ndr_types.specs.Translations.{translated_sids};
+ghost use Rattle.ndr_types.specs.Values.{handle, rid_list, sid_list, text_list, privilege_set_pointer, text_pointer};
+ghost use Rattle.ndr_types.specs.Values.{privilege_set, sid, text};
+ghost use Rattle.acct_layouts.specs.declared.classes.DisplayArm.TheVariants as display;
+ghost use Rattle.ndr_types.specs.Laws.{IsLawfulShape, IsListOf};
 
 /// Of each shape all laws, with the kind of its values: a value is read exactly where it is spelled, with any padding
 /// and any referents but 0; what is written is read again, whatever stands before and after it; no stub has two

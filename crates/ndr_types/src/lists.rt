@@ -1,8 +1,8 @@
 // Lists of SIDs, numbers and texts.
 ghost use Rattle.std.specs.Prelude.{◌≡◌, ◌<◌, ◌^◌, ℕ, OnOk, length};
-ghost use Rattle.acct_layouts.specs.Bounds.{IsListed};
+ghost use Rattle.acct_layouts.specs.Values.{IsListed};
 ghost use Rattle.ndr_types.specs.Bounds.{IsShort};
-ghost use Rattle.ndr_types.specs.Lists.{rid_list, sid_list, text_list};
+ghost use Rattle.ndr_types.specs.Values.{rid_list, sid_list, text_list};
 ghost use Rattle.ndr_types.specs.Outcomes.{ReadsIfRoom};
 
 use crate::NoMemory;

@@ -1,6 +1,6 @@
 // Members and groups as elements of arrays.
 ghost use Rattle.ndr_types.specs.Bounds.{AnyValue};
-ghost use Rattle.ndr_types.specs.Members.{rid_bits};
+ghost use Rattle.ndr_types.specs.Listed.{rid_bits};
 
 use crate::{Embedded, NoMemory};
 use acct_calls::RidBits;
@@ -14,25 +14,25 @@ impl Embedded for RidBits {
 
     ghost Bounded = { AnyValue };
 
-    #[tactic(auto, unfolding(crate::specs::Members::rid_bits, crate::specs::Members::membership))]
+    #[tactic(auto, unfolding(crate::specs::Listed::rid_bits, crate::specs::Listed::membership))]
     fn read_head(from: &mut In<'_>) -> Result<RidBits, NdrError> {
         let rid = from.u32()?;
         let bits = from.u32()?;
         Ok(RidBits { rid, bits })
     }
 
-    #[tactic(auto, unfolding(crate::specs::Members::rid_bits))]
+    #[tactic(auto, unfolding(crate::specs::Listed::rid_bits))]
     fn read_tail(_alloc: Global, _from: &mut In<'_>, head: &RidBits) -> Result<RidBits, NdrError> {
         Ok(*head)
     }
 
-    #[tactic(auto, unfolding(crate::specs::Members::rid_bits, crate::specs::Members::membership))]
+    #[tactic(auto, unfolding(crate::specs::Listed::rid_bits, crate::specs::Listed::membership))]
     fn write_head(&self, to: &mut Out) -> Result<(), NoMemory> {
         to.u32(self.rid)?;
         to.u32(self.bits)
     }
 
-    #[tactic(auto, unfolding(crate::specs::Members::rid_bits))]
+    #[tactic(auto, unfolding(crate::specs::Listed::rid_bits))]
     fn write_tail(&self, _to: &mut Out) -> Result<(), NoMemory> {
         Ok(())
     }

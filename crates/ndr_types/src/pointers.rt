@@ -1,10 +1,10 @@
 // Pointers to a text and to a set of privileges.
 ghost use Rattle.std.specs.Prelude.{◌≡◌, ◌≤◌, OnOk, length};
 ghost use Rattle.std.specs.Option.{option_copied};
-ghost use Rattle.acct_layouts.specs.Bounds.{IfThere};
+ghost use Rattle.acct_layouts.specs.Values.{IfThere};
 ghost use Rattle.ndr_types.specs.Bounds.{IsShort};
 ghost use Rattle.ndr_types.specs.Outcomes.{ReadsIfRoom};
-ghost use Rattle.ndr_types.specs.Pointers.{IsFew, privilege_set_pointer, text_pointer};
+ghost use Rattle.ndr_types.specs.Values.{IsFew, privilege_set_pointer, text_pointer};
 
 use crate::NoMemory;
 use crate::privileges::{read_privilege_set, write_privilege_set};
@@ -14,7 +14,7 @@ use ndr_core::{In, NdrError, Out};
 use std::alloc::Global;
 
 /// A text, or none where the pointer is null.
-#[tactic(auto, unfolding(crate::specs::Pointers::text_pointer))]
+#[tactic(auto, unfolding(crate::specs::Values::text_pointer))]
 pub fn read_text_pointer(alloc: Global, from: &mut In<'_>) -> Result<Option<Name>, NdrError>
     ensures { ReadsIfRoom result from.new (text_pointer.read from.old) }
 {
@@ -26,7 +26,7 @@ pub fn read_text_pointer(alloc: Global, from: &mut In<'_>) -> Result<Option<Name
 }
 
 /// A text, or a null pointer.
-#[tactic(auto, unfolding(crate::specs::Pointers::text_pointer))]
+#[tactic(auto, unfolding(crate::specs::Values::text_pointer))]
 pub fn write_text_pointer(to: &mut Out, value: Option<&Name>) -> Result<(), NoMemory>
     requires { IfThere IsShort (option_copied value) }
     ensures { OnOk result (to.new ≡ text_pointer.write (option_copied value.entry) to.old) }
@@ -39,7 +39,7 @@ pub fn write_text_pointer(to: &mut Out, value: Option<&Name>) -> Result<(), NoMe
 }
 
 /// A set of privileges, or none where the pointer is null.
-#[tactic(auto, unfolding(crate::specs::Pointers::privilege_set_pointer))]
+#[tactic(auto, unfolding(crate::specs::Values::privilege_set_pointer))]
 pub fn read_privilege_set_pointer(
     alloc: Global,
     from: &mut In<'_>,
@@ -54,7 +54,7 @@ pub fn read_privilege_set_pointer(
 }
 
 /// A set of privileges, or a null pointer.
-#[tactic(auto, unfolding(crate::specs::Pointers::privilege_set_pointer))]
+#[tactic(auto, unfolding(crate::specs::Values::privilege_set_pointer))]
 pub fn write_privilege_set_pointer(
     to: &mut Out,
     value: Option<&PrivilegeSet>,

@@ -2,11 +2,10 @@
 ghost use Rattle.std.specs.Prelude.{◌≡◌, All, OnOk, length, map};
 ghost use Rattle.ndr_core.specs.Cursor.{Reads};
 ghost use Rattle.ndr_core.specs.Parts.{each, list, times};
-ghost use Rattle.ndr_types.specs.Accounts.{any};
-ghost use Rattle.acct_layouts.specs.Bounds.{IsListed};
+ghost use Rattle.ndr_types.specs.Listed.{any, privilege_name, privilege_names};
+ghost use Rattle.acct_layouts.specs.Values.{IsListed};
 ghost use Rattle.ndr_types.specs.Bounds.{HasShortName};
 ghost use Rattle.ndr_types.specs.Outcomes.{ReadsIfRoom};
-ghost use Rattle.ndr_types.specs.PrivilegeNames.{privilege_name, privilege_names};
 
 use crate::array::read_list_head;
 use crate::{Embedded, NoMemory};
@@ -16,7 +15,7 @@ use ndr_core::{In, NdrError, Out};
 use std::alloc::Global;
 
 /// A LUID's high part is 0.
-#[tactic(auto, unfolding(crate::specs::PrivilegeNames::privilege_name, crate::specs::PrivilegeNames::low_part))]
+#[tactic(auto, unfolding(crate::specs::Listed::privilege_name, crate::specs::Listed::low_part))]
 fn read_head(from: &mut In<'_>) -> Result<((u16, bool), u32), NdrError>
     ensures { Reads result from.new (privilege_name.head.read from.old) }
 {
@@ -28,7 +27,7 @@ fn read_head(from: &mut In<'_>) -> Result<((u16, bool), u32), NdrError>
     Ok((name, low))
 }
 
-#[tactic(auto, unfolding(crate::specs::PrivilegeNames::privilege_name))]
+#[tactic(auto, unfolding(crate::specs::Listed::privilege_name))]
 fn read_tail(
     alloc: Global,
     from: &mut In<'_>,
@@ -40,7 +39,7 @@ fn read_tail(
     Ok(RidName { rid: head.1, name })
 }
 
-#[tactic(auto, unfolding(crate::specs::PrivilegeNames::privilege_name, crate::specs::PrivilegeNames::low_part))]
+#[tactic(auto, unfolding(crate::specs::Listed::privilege_name, crate::specs::Listed::low_part))]
 fn write_head(to: &mut Out, entry: &RidName) -> Result<(), NoMemory>
     requires { HasShortName entry.now }
     ensures { OnOk result (to.new ≡ privilege_name.head.write (privilege_name.head_of entry.now) to.old) }
@@ -50,7 +49,7 @@ fn write_head(to: &mut Out, entry: &RidName) -> Result<(), NoMemory>
     to.u32(0)
 }
 
-#[tactic(auto, unfolding(crate::specs::PrivilegeNames::privilege_name))]
+#[tactic(auto, unfolding(crate::specs::Listed::privilege_name))]
 fn write_tail(to: &mut Out, entry: &RidName) -> Result<(), NoMemory>
     requires { HasShortName entry.now }
     ensures { OnOk result (to.new ≡ (privilege_name.tail (privilege_name.head_of entry.now)).write entry.now to.old) }
@@ -140,7 +139,7 @@ fn read_names_tail(
 }
 
 /// A list of privileges by their names, with the low parts of their LUIDs, whose high parts are 0.
-#[tactic(auto, unfolding(crate::specs::PrivilegeNames::privilege_names, ndr_core::specs::Parts::list_of))]
+#[tactic(auto, unfolding(crate::specs::Listed::privilege_names, ndr_core::specs::Parts::list_of))]
 pub fn read_privilege_names(alloc: Global, from: &mut In<'_>) -> Result<RidNames, NdrError>
     ensures { ReadsIfRoom result from.new (privilege_names.read from.old) }
 {
@@ -173,7 +172,7 @@ fn write_names_tail(to: &mut Out, values: &[RidName]) -> Result<(), NoMemory>
 }
 
 /// A list of privileges by their names, with the low parts of their LUIDs.
-#[tactic(auto, unfolding(crate::specs::PrivilegeNames::privilege_names, ndr_core::specs::Parts::list_of))]
+#[tactic(auto, unfolding(crate::specs::Listed::privilege_names, ndr_core::specs::Parts::list_of))]
 pub fn write_privilege_names(to: &mut Out, value: &RidNames) -> Result<(), NoMemory>
     requires { IsListed HasShortName value.now }
     ensures { OnOk result (to.new ≡ privilege_names.write value.now to.old) }

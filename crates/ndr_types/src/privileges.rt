@@ -4,7 +4,7 @@ ghost use Rattle.acct_codes.specs.Limits.{most_privileges};
 ghost use Rattle.ndr_core.specs.Parts.{flat, times};
 ghost use Rattle.ndr_types.specs.Bounds.{AnyValue};
 ghost use Rattle.ndr_types.specs.Outcomes.{ReadsIfRoom};
-ghost use Rattle.ndr_types.specs.Privileges.{privilege, privilege_set};
+ghost use Rattle.ndr_types.specs.Values.{privilege, privilege_set};
 
 use crate::array::{read_heads, write_heads};
 use crate::{Embedded, NoMemory};
@@ -20,7 +20,7 @@ impl Embedded for Privilege {
 
     ghost Bounded = { AnyValue };
 
-    #[tactic(auto, unfolding(crate::specs::Privileges::privilege))]
+    #[tactic(auto, unfolding(crate::specs::Values::privilege))]
     fn read_head(from: &mut In<'_>) -> Result<Privilege, NdrError> {
         let low = from.u32()?;
         let high = from.u32()?;
@@ -40,7 +40,7 @@ impl Embedded for Privilege {
         Ok(*head)
     }
 
-    #[tactic(auto, unfolding(crate::specs::Privileges::privilege))]
+    #[tactic(auto, unfolding(crate::specs::Values::privilege))]
     fn write_head(&self, to: &mut Out) -> Result<(), NoMemory> {
         to.u32(self.low)?;
         to.u32(self.high)?;
@@ -53,7 +53,7 @@ impl Embedded for Privilege {
 }
 
 /// A set of at most 1,000 privileges. Its control word isn't looked at.
-#[tactic(auto, unfolding(crate::specs::Privileges::privilege_set))]
+#[tactic(auto, unfolding(crate::specs::Values::privilege_set))]
 pub fn read_privilege_set(alloc: Global, from: &mut In<'_>) -> Result<PrivilegeSet, NdrError>
     ensures { ReadsIfRoom result from.new (privilege_set.read from.old) }
 {
@@ -67,7 +67,7 @@ pub fn read_privilege_set(alloc: Global, from: &mut In<'_>) -> Result<PrivilegeS
 }
 
 /// A set of privileges, with a control word of 0.
-#[tactic(auto, using(crate::proofs::Arrays::map_same), unfolding(crate::specs::Privileges::privilege_set))]
+#[tactic(auto, using(crate::proofs::Arrays::map_same), unfolding(crate::specs::Values::privilege_set))]
 pub fn write_privilege_set(to: &mut Out, value: &PrivilegeSet) -> Result<(), NoMemory>
     requires { length value.now ≤ most_privileges }
     ensures { OnOk result (to.new ≡ privilege_set.write value.now to.old) }

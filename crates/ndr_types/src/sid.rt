@@ -1,11 +1,11 @@
 // SIDs.
 ghost use Rattle.std.specs.Prelude.{◌≡◌, ◌<◌, ◌≤◌, ◌^◌, IfOk, OnOk};
-ghost use Rattle.dtyp_sid.specs.Value.{sid_max_sub_authorities};
+ghost use Rattle.dtyp_sid.specs.Sids.{sid_max_sub_authorities};
 ghost use Rattle.ndr_core.specs.Cursor.{Reads};
 ghost use Rattle.ndr_core.specs.Parts.{times};
 ghost use Rattle.ndr_core.specs.Shapes.{chain, made, u32};
 ghost use Rattle.ndr_types.specs.Bounds.{AnyValue};
-ghost use Rattle.ndr_types.specs.Sids.{authority, parts_of_sid, sid, sid_of, sid_pointer};
+ghost use Rattle.ndr_types.specs.Values.{authority, parts_of_sid, sid, sid_of, sid_pointer};
 
 use crate::number::{read_numbers, write_numbers};
 use crate::smalls::{read_four_smalls, write_four_smalls};
@@ -14,7 +14,7 @@ use dtyp_sid::{SID_MAX_SUB_AUTHORITIES, SID_REVISION, Sid};
 use ndr_core::{In, NdrError, Out};
 use std::alloc::Global;
 
-#[tactic(auto, unfolding(crate::specs::Sids::authority))]
+#[tactic(auto, unfolding(crate::specs::Values::authority))]
 fn read_authority(from: &mut In<'_>) -> Result<u64, NdrError>
     ensures gives { Reads result from.new (authority.read from.old) }
     ensures below { IfOk result (λ n. n < 2 ^ 48) }
@@ -42,7 +42,7 @@ fn read_counted(from: &mut In<'_>, count: u32) -> Result<Sid, NdrError>
 }
 
 /// A SID.
-#[tactic(auto, unfolding(crate::specs::Sids::sid))]
+#[tactic(auto, unfolding(crate::specs::Values::sid))]
 pub fn read_sid(from: &mut In<'_>) -> Result<Sid, NdrError>
     ensures { Reads result from.new (sid.read from.old) }
 {
@@ -57,7 +57,7 @@ pub fn read_sid(from: &mut In<'_>) -> Result<Sid, NdrError>
     read_counted(from, count)
 }
 
-#[tactic(auto, unfolding(crate::specs::Sids::authority))]
+#[tactic(auto, unfolding(crate::specs::Values::authority))]
 fn write_authority(to: &mut Out, number: u64) -> Result<(), NoMemory>
     requires { number < 2 ^ 48 }
     ensures { OnOk result (to.new ≡ authority.write number to.old) }
@@ -69,7 +69,7 @@ fn write_authority(to: &mut Out, number: u64) -> Result<(), NoMemory>
 }
 
 /// A SID, with its count of sub-authorities before it and in it.
-#[tactic(auto, unfolding(crate::specs::Sids::sid))]
+#[tactic(auto, unfolding(crate::specs::Values::sid))]
 pub fn write_sid(to: &mut Out, value: &Sid) -> Result<(), NoMemory>
     ensures { OnOk result (to.new ≡ sid.write value.now to.old) }
 {
@@ -88,7 +88,7 @@ impl Embedded for Sid {
 
     ghost Bounded = { AnyValue };
 
-    #[tactic(auto, unfolding(crate::specs::Sids::sid_pointer))]
+    #[tactic(auto, unfolding(crate::specs::Values::sid_pointer))]
     fn read_head(from: &mut In<'_>) -> Result<bool, NdrError> {
         let there = from.pointer()?;
         if !there {
@@ -97,17 +97,17 @@ impl Embedded for Sid {
         Ok(there)
     }
 
-    #[tactic(auto, unfolding(crate::specs::Sids::sid_pointer))]
+    #[tactic(auto, unfolding(crate::specs::Values::sid_pointer))]
     fn read_tail(_alloc: Global, from: &mut In<'_>, _head: &bool) -> Result<Sid, NdrError> {
         read_sid(from)
     }
 
-    #[tactic(auto, unfolding(crate::specs::Sids::sid_pointer))]
+    #[tactic(auto, unfolding(crate::specs::Values::sid_pointer))]
     fn write_head(&self, to: &mut Out) -> Result<(), NoMemory> {
         to.pointer(true)
     }
 
-    #[tactic(auto, unfolding(crate::specs::Sids::sid_pointer))]
+    #[tactic(auto, unfolding(crate::specs::Values::sid_pointer))]
     fn write_tail(&self, to: &mut Out) -> Result<(), NoMemory> {
         write_sid(to, self)
     }

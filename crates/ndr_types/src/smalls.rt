@@ -2,7 +2,7 @@
 ghost use Rattle.std.specs.Prelude.{◌≡◌, ◌+◌, ◌*◌, ◌<◌, ◌^◌, IfOk, OnOk};
 ghost use Rattle.ndr_core.specs.Cursor.{Reads};
 ghost use Rattle.ndr_core.specs.Shapes.{given};
-ghost use Rattle.ndr_types.specs.Digits.{then_small};
+ghost use Rattle.ndr_types.specs.Values.{then_small};
 
 use crate::NoMemory;
 use ndr_core::{In, NdrError, Out};

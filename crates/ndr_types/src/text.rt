@@ -3,7 +3,7 @@ ghost use Rattle.std.specs.Prelude.{◌≡◌, OnOk};
 ghost use Rattle.ndr_core.specs.Parts.{whole};
 ghost use Rattle.ndr_types.specs.Bounds.{IsShort};
 ghost use Rattle.ndr_types.specs.Outcomes.{ReadsIfRoom};
-ghost use Rattle.ndr_types.specs.Texts.{text, units};
+ghost use Rattle.ndr_types.specs.Values.{text, units};
 
 use crate::array::read_heads;
 use crate::number::write_units;
@@ -31,7 +31,7 @@ impl Embedded for Name {
 
     ghost Bounded = { IsShort };
 
-    #[tactic(auto, unfolding(crate::specs::Texts::text))]
+    #[tactic(auto, unfolding(crate::specs::Values::text))]
     fn read_head(from: &mut In<'_>) -> Result<(u16, bool), NdrError> {
         let length = from.u16()?;
         if length % 2 != 0 {
@@ -45,7 +45,7 @@ impl Embedded for Name {
         Ok((length, there))
     }
 
-    #[tactic(auto, unfolding(crate::specs::Texts::text))]
+    #[tactic(auto, unfolding(crate::specs::Values::text))]
     fn read_tail(alloc: Global, from: &mut In<'_>, head: &(u16, bool)) -> Result<Name, NdrError> {
         if !head.1 {
             return Ok(Name::from_units(Vec::new(alloc)));
@@ -53,7 +53,7 @@ impl Embedded for Name {
         read_counted(alloc, from, (head.0 / 2) as u32)
     }
 
-    #[tactic(auto, unfolding(crate::specs::Texts::text))]
+    #[tactic(auto, unfolding(crate::specs::Values::text))]
     fn write_head(&self, to: &mut Out) -> Result<(), NoMemory> {
         let length = 2 * self.units().len() as u16;
         to.u16(length)?;
@@ -61,7 +61,7 @@ impl Embedded for Name {
         to.pointer(!self.units().is_empty())
     }
 
-    #[tactic(auto, unfolding(crate::specs::Texts::text))]
+    #[tactic(auto, unfolding(crate::specs::Values::text))]
     fn write_tail(&self, to: &mut Out) -> Result<(), NoMemory> {
         if self.units().is_empty() {
             return Ok(());

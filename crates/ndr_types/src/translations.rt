@@ -2,7 +2,7 @@
 ghost use Rattle.std.specs.Prelude.{◌≡◌, ◌<◌, ◌^◌, ℕ, OnOk, length};
 ghost use Rattle.ndr_core.specs.Cursor.{Reads};
 ghost use Rattle.ndr_core.specs.Parts.{flat};
-ghost use Rattle.acct_layouts.specs.Bounds.{IsListed};
+ghost use Rattle.acct_layouts.specs.Values.{IsListed};
 ghost use Rattle.ndr_types.specs.Bounds.{AnyValue, HasShortText};
 ghost use Rattle.ndr_types.specs.Outcomes.{ReadsIfRoom};
 ghost use Rattle.ndr_types.specs.Translations.{flagged_names, flagged_sids, sid_ref, sid_refs, signed_long};

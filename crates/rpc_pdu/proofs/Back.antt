@@ -9,10 +9,8 @@ use Rattle.uuid.proofs.RoundTrips.{swap_twice}
 use Rattle.rpc_pdu.specs.declared.syntaxes.Syntax.{Syntax}
 use Rattle.rpc_pdu.specs.declared.pdus.Element.{Element}
 use Rattle.rpc_pdu.specs.declared.pdus.Outcome.{Outcome}
-use Rattle.rpc_pdu.specs.Numbers.{u16_bytes}
+use Rattle.rpc_pdu.specs.Headers.{u16_bytes, syntax_of, syntax_bytes, syntax_at, element_at, outcome_at}
 use Rattle.acct_base.specs.Reading.{Reader, front_at, many}
-use Rattle.rpc_pdu.specs.Syntaxes.{syntax_of, syntax_bytes}
-use Rattle.rpc_pdu.specs.Lists.{syntax_at, element_at, outcome_at}
 use Rattle.rpc_pdu.specs.Written.{element_bytes, outcome_bytes, IsWhole, IsWholeElement, IsWholeOutcome}
 use Rattle.acct_base.proofs.Many.{many-none, many-one}
 use Rattle.rpc_pdu.proofs.Sizes.{length-syntax_bytes}

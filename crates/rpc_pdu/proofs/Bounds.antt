@@ -14,9 +14,8 @@ use Rattle.rpc_pdu.specs.declared.pdus.Outcome.{Outcome}
 use Rattle.rpc_pdu.specs.declared.pdus.Pdu.{Pdu}
 use Rattle.rpc_pdu.specs.declared.pdus.Pdu.TheVariants.{Bind, Alter, Request, Cancel, Orphaned, BindAck, AlterResp}
 use Rattle.rpc_pdu.specs.declared.pdus.Pdu.TheVariants.{BindNak, Response, Fault}
-use Rattle.rpc_pdu.specs.Lists.{element_size}
+use Rattle.rpc_pdu.specs.Headers.{element_size, has_object}
 use Rattle.rpc_pdu.specs.Grammar.{SyntaxAt, ElementAt, OutcomeAt, EachAt, IsBinding, IsBindingAnswer, IsRequest, IsPdu}
-use Rattle.rpc_pdu.specs.Headers.{has_object}
 use Rattle.rpc_pdu.specs.Written.{size_of, HasFewTransfers, HasFewParts, IsWhole, IsWholeElement, IsWholeOutcome}
 use Rattle.rpc_pdu.specs.Written.{HasWholeIds}
 use Rattle.rpc_pdu.proofs.Places.{twenties}

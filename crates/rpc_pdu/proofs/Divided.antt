@@ -5,7 +5,7 @@ use Rattle.std.proofs.Math.Seq.{take-append_seam, drop-append_seam}
 use Rattle.std.proofs.lemmas.List.{take-append-drop, length-drop}
 use Rattle.rpc_pdu.specs.declared.pdus.Side.{Side}
 use Rattle.rpc_pdu.specs.declared.pdus.Pdu.{Pdu}
-use Rattle.rpc_pdu.specs.Front.{Front, Whole, Rest, Refused, front}
+use Rattle.rpc_pdu.specs.Bodies.{Front, Whole, Rest, Refused, front}
 use Rattle.rpc_pdu.specs.Grammar.{IsPdu}
 use Rattle.rpc_pdu.specs.Laws.{IsEnd, IsDivided, AllDivideOnce}
 use Rattle.rpc_pdu.proofs.Whole.{front_has}

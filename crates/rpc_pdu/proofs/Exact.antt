@@ -4,9 +4,9 @@ use Rattle.std.proofs.Common.{get_or, Option, Some, None, refl, sym, ap, subst, 
 use Rattle.std.specs.List.{sum_by}
 use Rattle.std.proofs.lemmas.Bool.{ltb-false, le-ltb, eqb-true, false≢true}
 use Rattle.std.proofs.lemmas.List.{length-take-le}
-use Rattle.acct_codes.specs.PduTypes.{ptype_request, ptype_response, ptype_fault, ptype_bind, ptype_bind_ack}
-use Rattle.acct_codes.specs.PduTypes.{ptype_bind_nak, ptype_alter_context, ptype_alter_context_resp, ptype_co_cancel}
-use Rattle.acct_codes.specs.PduTypes.{ptype_orphaned}
+use Rattle.acct_codes.specs.Pdus.{ptype_request, ptype_response, ptype_fault, ptype_bind, ptype_bind_ack}
+use Rattle.acct_codes.specs.Pdus.{ptype_bind_nak, ptype_alter_context, ptype_alter_context_resp, ptype_co_cancel}
+use Rattle.acct_codes.specs.Pdus.{ptype_orphaned}
 use Rattle.rpc_pdu.specs.declared.pdus.Side.{Side}
 use Rattle.rpc_pdu.specs.declared.pdus.Side.TheVariants.{Server, Client}
 use Rattle.rpc_pdu.specs.declared.pdus.Element.{Element}
@@ -16,12 +16,11 @@ use Rattle.rpc_pdu.specs.declared.pdus.Pdu.TheVariants.{Bind, Alter, Request, Ca
 use Rattle.rpc_pdu.specs.declared.pdus.Pdu.TheVariants.{BindNak, Response, Fault}
 use Rattle.rpc_pdu.specs.declared.headers.Kind.{Kind}
 use Rattle.rpc_pdu.specs.declared.headers.Kind.TheVariants as kind
-use Rattle.rpc_pdu.specs.Numbers.{u16_at, u32_at}
-use Rattle.rpc_pdu.specs.Headers.{kind_of, has_object, least_length}
+use Rattle.rpc_pdu.specs.Headers.{u16_at, u32_at, kind_of, has_object, least_length, element_at, outcome_at}
+use Rattle.rpc_pdu.specs.Headers.{element_size}
 use Rattle.acct_base.specs.Reading.{many}
-use Rattle.rpc_pdu.specs.Lists.{element_at, outcome_at, element_size}
 use Rattle.rpc_pdu.specs.Bodies.{bind_of, alter_of, outcomes_place, outcomes_in, bind_ack_of, alter_resp_of, body_of}
-use Rattle.rpc_pdu.specs.Front.{Whole, front}
+use Rattle.rpc_pdu.specs.Bodies.{Whole, front}
 use Rattle.rpc_pdu.specs.Grammar.{IsHeader, ElementAt, OutcomeAt, HasSizes, IsBinding, IsBindingAnswer, IsRequest}
 use Rattle.rpc_pdu.specs.Grammar.{IsPdu}
 use Rattle.rpc_pdu.specs.Written.{type_of, reader_of, call_id}

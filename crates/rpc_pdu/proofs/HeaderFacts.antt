@@ -8,8 +8,7 @@ use Rattle.rpc_pdu.specs.declared.headers.Kind.TheVariants.{Request, Response, F
 use Rattle.rpc_pdu.specs.declared.headers.Kind.TheVariants.{AlterResp, Cancel, Orphaned}
 use Rattle.rpc_pdu.specs.declared.headers.Header.{Header}
 use Rattle.rpc_pdu.specs.declared.headers.Header.TheVariants.{Bad, Long}
-use Rattle.rpc_pdu.specs.Numbers.{u16_at}
-use Rattle.rpc_pdu.specs.Headers.{kind_of, has_object, least_length, sized, header_of}
+use Rattle.rpc_pdu.specs.Headers.{u16_at, kind_of, has_object, least_length, sized, header_of}
 
 pub chosen : {A : Type 0} (b : Bool) (x y z : A) → cond b x y ≡ z → ((b ≡ true) × (x ≡ z)) ⊎ ((b ≡ false) × (y ≡ z))
 chosen true x y z e = inl (refl, e)

@@ -9,10 +9,8 @@ use Rattle.uuid.specs.Parts.{swap_fields}
 use Rattle.rpc_pdu.specs.declared.syntaxes.Syntax.{Syntax}
 use Rattle.rpc_pdu.specs.declared.pdus.Element.{Element}
 use Rattle.rpc_pdu.specs.declared.pdus.Outcome.{Outcome}
-use Rattle.rpc_pdu.specs.Numbers.{u16_at, u32_at}
+use Rattle.rpc_pdu.specs.Headers.{u16_at, u32_at, syntax_of, syntax_at, element_at, outcome_at, element_size}
 use Rattle.acct_base.specs.Reading.{Reader, ◌>>=◌, front_at, many}
-use Rattle.rpc_pdu.specs.Syntaxes.{syntax_of}
-use Rattle.rpc_pdu.specs.Lists.{syntax_at, element_at, outcome_at, element_size}
 use Rattle.rpc_pdu.specs.Grammar.{SyntaxAt, ElementAt, OutcomeAt, EachAt}
 use Rattle.rpc_pdu.proofs.HeaderFacts.{chosen}
 use Rattle.acct_base.proofs.Many.{many-none, many-one}

@@ -12,11 +12,9 @@ use Rattle.rpc_pdu.specs.declared.pdus.Pdu.TheVariants.{Bind, Alter, Request, Ca
 use Rattle.rpc_pdu.specs.declared.pdus.Pdu.TheVariants.{BindNak, Response, Fault}
 use Rattle.rpc_pdu.specs.declared.headers.Kind.{Kind}
 use Rattle.rpc_pdu.specs.declared.headers.Kind.TheVariants as kind
-use Rattle.rpc_pdu.specs.Headers.{least_length, kind_of}
+use Rattle.rpc_pdu.specs.Headers.{least_length, kind_of, element_at, outcome_at}
 use Rattle.acct_base.specs.Reading.{Reader, many}
-use Rattle.rpc_pdu.specs.Lists.{element_at, outcome_at}
-use Rattle.rpc_pdu.specs.Bodies.{bind_of, alter_of, outcomes_in, bind_ack_of, alter_resp_of, body_of}
-use Rattle.rpc_pdu.specs.Front.{Whole, front}
+use Rattle.rpc_pdu.specs.Bodies.{bind_of, alter_of, outcomes_in, bind_ack_of, alter_resp_of, body_of, Whole, front}
 use Rattle.rpc_pdu.specs.Written.{type_of, reader_of, flags_of, element_bytes, outcome_bytes, body_bytes, size_of}
 use Rattle.rpc_pdu.specs.Written.{written, HasWholeIds, LacksObject, IsWholeElement, IsWholeOutcome}
 use Rattle.rpc_pdu.proofs.HeaderFacts.{least_16, IsLong, long_header}

@@ -8,8 +8,7 @@ use Rattle.rpc_pdu.specs.declared.pdus.Outcome.{Outcome}
 use Rattle.rpc_pdu.specs.declared.pdus.Pdu.{Pdu}
 use Rattle.rpc_pdu.specs.declared.pdus.Pdu.TheVariants.{Bind, Alter, Request, Cancel, Orphaned, BindAck, AlterResp}
 use Rattle.rpc_pdu.specs.declared.pdus.Pdu.TheVariants.{BindNak, Response, Fault}
-use Rattle.rpc_pdu.specs.Syntaxes.{syntax_bytes}
-use Rattle.rpc_pdu.specs.Lists.{element_size}
+use Rattle.rpc_pdu.specs.Headers.{syntax_bytes, element_size}
 use Rattle.rpc_pdu.specs.Written.{element_bytes, outcome_bytes, body_bytes, size_of, written}
 
 pub length-syntax_bytes : (syntax : Syntax) → length (syntax_bytes syntax) ≡ 20

@@ -6,9 +6,8 @@ use Rattle.rpc_pdu.specs.declared.headers.Kind.{Kind}
 use Rattle.rpc_pdu.specs.declared.headers.Kind.TheVariants as kind
 use Rattle.rpc_pdu.specs.declared.pdus.Pdu.{Pdu}
 use Rattle.rpc_pdu.specs.declared.pdus.Pdu.TheVariants.{Bind, Alter, BindAck, AlterResp}
-use Rattle.rpc_pdu.specs.Headers.{has_object}
+use Rattle.rpc_pdu.specs.Headers.{has_object, element_at}
 use Rattle.acct_base.specs.Reading.{◌>>=◌, many}
-use Rattle.rpc_pdu.specs.Lists.{element_at}
 use Rattle.rpc_pdu.specs.Bodies.{bind_of, alter_of, outcomes_in, bind_ack_of, alter_resp_of, body_of}
 use Rattle.rpc_pdu.specs.ReadPdu.{stub_length}
 

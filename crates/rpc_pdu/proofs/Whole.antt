@@ -8,11 +8,9 @@ use Rattle.rpc_pdu.specs.declared.pdus.Pdu.{Pdu}
 use Rattle.rpc_pdu.specs.declared.headers.Kind.{Kind}
 use Rattle.rpc_pdu.specs.declared.headers.Header.{Header}
 use Rattle.rpc_pdu.specs.declared.headers.Header.TheVariants.{Bad, Long}
-use Rattle.rpc_pdu.specs.Headers.{header_of}
-use Rattle.rpc_pdu.specs.Bodies.{body_of}
-use Rattle.rpc_pdu.specs.Front.{Whole, Rest, front_of_body, front_of_header, front}
+use Rattle.rpc_pdu.specs.Headers.{header_of, u32_at}
+use Rattle.rpc_pdu.specs.Bodies.{body_of, Whole, Rest, front_of_body, front_of_header, front}
 use Rattle.rpc_pdu.specs.Laws.{Stays, IsStable}
-use Rattle.rpc_pdu.specs.Numbers.{u32_at}
 use Rattle.rpc_pdu.proofs.HeaderFacts.{chosen, long_16, bad_early}
 
 -- the parts of a whole PDU at the beginning

@@ -3,7 +3,7 @@ use Rattle.std.proofs.Common.{◌≡◌, ℕ, ◌+◌, List, [], ◌++◌, lengt
 use Rattle.std.proofs.lemmas.List.{append-nil}
 use Rattle.std.proofs.Math.Seq.{take-length}
 use Rattle.rpc_pdu.specs.declared.pdus.Pdu.{Pdu}
-use Rattle.rpc_pdu.specs.Front.{Whole, front}
+use Rattle.rpc_pdu.specs.Bodies.{Whole, front}
 use Rattle.rpc_pdu.specs.Grammar.{IsPdu}
 use Rattle.rpc_pdu.specs.Written.{type_of, flags_of, call_id, header_bytes, body_bytes, reader_of, size_of, written}
 use Rattle.rpc_pdu.specs.Written.{HasWholeIds, LacksObject}

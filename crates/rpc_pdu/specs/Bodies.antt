@@ -1,18 +1,22 @@
--- What a whole PDU says, by its type (C706, section 12.6.4).
+-- What a whole PDU says, and what stands at the beginning of a stream.
 use Rattle.std.specs.Prelude.{◌≡◌, ℕ, ◌+◌, ◌*◌, ◌/◌, Bool, true, false, List, length, drop, Option, Some, None, Result}
-use Rattle.std.specs.Prelude.{Ok, Err, if◌then◌else◌, nat_lt, slice_index}
+use Rattle.std.specs.Prelude.{Ok, Err, if◌then◌else◌, nat_lt, slice_index, take}
+use Rattle.acct_base.specs.Reading.{◌>>=◌, many}
 use Rattle.acct_base.specs.declared.fields.Unread.{Unread}
 use Rattle.acct_base.specs.declared.fields.Unread.TheVariants.{Memory, Misspelled}
+use Rattle.acct_codes.specs.Pdus.{cause_body}
+use Rattle.rpc_pdu.specs.Headers.{has_object, header_of, element_at, outcome_at, u16_at, u32_at}
+use Rattle.rpc_pdu.specs.declared.headers.Header.{Header}
+use Rattle.rpc_pdu.specs.declared.headers.Header.TheVariants.{Bad, Long}
 use Rattle.rpc_pdu.specs.declared.headers.Kind.{Kind}
 use Rattle.rpc_pdu.specs.declared.headers.Kind.TheVariants as kind
 use Rattle.rpc_pdu.specs.declared.pdus.Outcome.{Outcome}
 use Rattle.rpc_pdu.specs.declared.pdus.Pdu.{Pdu}
 use Rattle.rpc_pdu.specs.declared.pdus.Pdu.TheVariants.{Bind, Alter, Request, Cancel, Orphaned, BindAck, AlterResp}
 use Rattle.rpc_pdu.specs.declared.pdus.Pdu.TheVariants.{BindNak, Response, Fault}
-use Rattle.rpc_pdu.specs.Numbers.{u16_at, u32_at}
-use Rattle.rpc_pdu.specs.Headers.{has_object}
-use Rattle.acct_base.specs.Reading.{◌>>=◌, many}
-use Rattle.rpc_pdu.specs.Lists.{element_at, outcome_at}
+use Rattle.rpc_pdu.specs.declared.pdus.Side.{Side}
+
+-- ======== what a whole PDU says, by its type (C706, section 12.6.4)
 
 unfoldable pub bind_of : List ℕ → Option Pdu
 bind_of bytes = do
@@ -98,3 +102,29 @@ abbrev pub WantsOnlyIf : {A : Type 0} → Bool → Result A Unread → Type 0
 WantsOnlyIf _ (Ok x) = Unit {0}
 WantsOnlyIf _ (Err Misspelled) = Unit {0}
 WantsOnlyIf takes (Err Memory) = takes ≡ true
+
+-- ======== what stands at the beginning of a stream: a whole PDU with its length, a refusal by the first cause that
+-- holds of it, or less than that
+
+-- Refused has the place, the cause, the type byte and the call id
+pub data Front : Type 0 where
+  Whole : Pdu → ℕ → Front
+  Rest : Front
+  Refused : ℕ → ℕ → ℕ → ℕ → Front
+
+abbrev pub refusal : List ℕ → ℕ → ℕ → Front
+refusal head place cause = Refused place cause (slice_index head 2) (u32_at head 12)
+
+-- a body without a reading is refused after the header
+abbrev pub front_of_body : List ℕ → ℕ → Option Pdu → Front
+front_of_body head size None = refusal head 16 cause_body
+front_of_body head size (Some pdu) = Whole pdu size
+
+abbrev pub front_of_header : List ℕ → List ℕ → Header → Front
+front_of_header head bytes (Bad place cause) = refusal head place cause
+front_of_header head bytes (Long kind size) = if nat_lt (length bytes) size then Rest
+    else front_of_body head size (body_of kind (take size bytes))
+
+unfoldable pub front : Side → List ℕ → Front
+front side bytes = if nat_lt (length bytes) 16 then Rest
+    else front_of_header (take 16 bytes) bytes (header_of side (take 16 bytes))

@@ -2,10 +2,9 @@
 -- MS-RPCE, section 2.2.2).
 use Rattle.std.specs.Prelude.{◌≡◌, ℕ, ◌+◌, ◌*◌, ◌/◌, ◌≤◌, true, false, List, [], ◌∷◌, length, take, drop, slice_index}
 use Rattle.uuid.specs.Parts.{swap_fields}
-use Rattle.acct_codes.specs.PduHeaders.{rpc_vers, most_rpc_vers_minor, drep_little_endian_ascii, drep_ieee}
-use Rattle.acct_codes.specs.PduTypes.{ptype_request, ptype_response, ptype_fault, ptype_bind, ptype_bind_ack}
-use Rattle.acct_codes.specs.PduTypes.{ptype_bind_nak, ptype_alter_context, ptype_alter_context_resp, ptype_co_cancel}
-use Rattle.acct_codes.specs.PduTypes.{ptype_orphaned}
+use Rattle.acct_codes.specs.Pdus.{rpc_vers, most_rpc_vers_minor, drep_little_endian_ascii, drep_ieee, ptype_request}
+use Rattle.acct_codes.specs.Pdus.{ptype_response, ptype_fault, ptype_bind, ptype_bind_ack, ptype_bind_nak}
+use Rattle.acct_codes.specs.Pdus.{ptype_alter_context, ptype_alter_context_resp, ptype_co_cancel, ptype_orphaned}
 use Rattle.rpc_pdu.specs.declared.syntaxes.Syntax.{Syntax}
 use Rattle.rpc_pdu.specs.declared.pdus.Side.{Side}
 use Rattle.rpc_pdu.specs.declared.pdus.Side.TheVariants.{Server, Client}
@@ -14,9 +13,7 @@ use Rattle.rpc_pdu.specs.declared.pdus.Outcome.{Outcome}
 use Rattle.rpc_pdu.specs.declared.pdus.Pdu.{Pdu}
 use Rattle.rpc_pdu.specs.declared.pdus.Pdu.TheVariants.{Bind, Alter, Request, Cancel, Orphaned, BindAck, AlterResp}
 use Rattle.rpc_pdu.specs.declared.pdus.Pdu.TheVariants.{BindNak, Response, Fault}
-use Rattle.rpc_pdu.specs.Numbers.{u16_at, u32_at}
-use Rattle.rpc_pdu.specs.Headers.{has_object}
-use Rattle.rpc_pdu.specs.Lists.{element_size}
+use Rattle.rpc_pdu.specs.Headers.{u16_at, u32_at, has_object, element_size}
 
 -- a header: version 5.0 or 5.1, the type, integers low byte first with ASCII and IEEE floats, the PDU's own length, no
 -- verifier, the call id. Its flags stand at 3, and bytes 6 and 7 aren't looked at

@@ -1,10 +1,6 @@
-pub mod Numbers
-pub mod Syntaxes
-pub mod Lists
-pub mod Headers
 pub mod Bodies
-pub mod Front
 pub mod Grammar
-pub mod Written
-pub mod ReadPdu
+pub mod Headers
 pub mod Laws
+pub mod ReadPdu
+pub mod Written

@@ -9,8 +9,7 @@ use Rattle.rpc_pdu.specs.declared.fronts.ReadPdu.TheVariants as read
 use Rattle.rpc_pdu.specs.declared.headers.Kind.{Kind}
 use Rattle.rpc_pdu.specs.declared.headers.Header.TheVariants.{Long}
 use Rattle.rpc_pdu.specs.Headers.{header_of}
-use Rattle.rpc_pdu.specs.Bodies.{takes_memory}
-use Rattle.rpc_pdu.specs.Front.{Whole, Rest, Refused, front}
+use Rattle.rpc_pdu.specs.Bodies.{takes_memory, Whole, Rest, Refused, front}
 use Rattle.rpc_pdu.specs.Written.{type_of, call_id, size_of, HasFewParts, HasWholeIds}
 
 -- Where reading may run out of memory: the header is good, the PDU is whole, and it has a stub, an element or an

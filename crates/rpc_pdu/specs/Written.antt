@@ -2,11 +2,10 @@
 -- otherwise.
 use Rattle.std.specs.Prelude.{◌≡◌, ℕ, ◌+◌, ◌*◌, ◌≤◌, ◌++◌, false, List, [], ◌∷◌, length, All, sum_by}
 use Rattle.std.specs.List.{flat_map}
-use Rattle.acct_codes.specs.PduHeaders.{rpc_vers, rpc_vers_minor, pfc_first_frag, pfc_last_frag, pfc_did_not_execute}
-use Rattle.acct_codes.specs.PduHeaders.{drep_little_endian_ascii, drep_ieee}
-use Rattle.acct_codes.specs.PduTypes.{ptype_request, ptype_response, ptype_fault, ptype_bind, ptype_bind_ack}
-use Rattle.acct_codes.specs.PduTypes.{ptype_bind_nak, ptype_alter_context, ptype_alter_context_resp, ptype_co_cancel}
-use Rattle.acct_codes.specs.PduTypes.{ptype_orphaned}
+use Rattle.acct_codes.specs.Pdus.{rpc_vers, rpc_vers_minor, pfc_first_frag, pfc_last_frag, pfc_did_not_execute}
+use Rattle.acct_codes.specs.Pdus.{drep_little_endian_ascii, drep_ieee, ptype_request, ptype_response, ptype_fault}
+use Rattle.acct_codes.specs.Pdus.{ptype_bind, ptype_bind_ack, ptype_bind_nak, ptype_alter_context}
+use Rattle.acct_codes.specs.Pdus.{ptype_alter_context_resp, ptype_co_cancel, ptype_orphaned}
 use Rattle.rpc_pdu.specs.declared.syntaxes.Syntax.{Syntax}
 use Rattle.rpc_pdu.specs.declared.pdus.Side.{Side}
 use Rattle.rpc_pdu.specs.declared.pdus.Side.TheVariants.{Server, Client}
@@ -15,10 +14,7 @@ use Rattle.rpc_pdu.specs.declared.pdus.Outcome.{Outcome}
 use Rattle.rpc_pdu.specs.declared.pdus.Pdu.{Pdu}
 use Rattle.rpc_pdu.specs.declared.pdus.Pdu.TheVariants.{Bind, Alter, Request, Cancel, Orphaned, BindAck, AlterResp}
 use Rattle.rpc_pdu.specs.declared.pdus.Pdu.TheVariants.{BindNak, Response, Fault}
-use Rattle.rpc_pdu.specs.Numbers.{u16_bytes, u32_bytes}
-use Rattle.rpc_pdu.specs.Headers.{has_object}
-use Rattle.rpc_pdu.specs.Lists.{element_size}
-use Rattle.rpc_pdu.specs.Syntaxes.{syntax_bytes}
+use Rattle.rpc_pdu.specs.Headers.{u16_bytes, u32_bytes, has_object, element_size, syntax_bytes}
 
 -- the number of the type
 abbrev pub type_of : Pdu → ℕ

@@ -3,8 +3,8 @@ ghost use Rattle.std.specs.Prelude.{◌≡◌, ◌≤◌, length, slice_index, n
 ghost use Rattle.rpc_pdu.specs.Headers.{least_length};
 ghost use Rattle.acct_base.specs.Reading.{ReadsWhole};
 ghost use Rattle.rpc_pdu.specs.Bodies.{stub_place, bind_of, alter_of, request_of, response_of, outcomes_place};
-ghost use Rattle.rpc_pdu.specs.Bodies.{outcomes_in, outcome_count, bind_ack_of, alter_resp_of};
-ghost use Rattle.rpc_pdu.specs.Bodies.{fault_of, body_of, takes_memory, WantsOnlyIf};
+ghost use Rattle.rpc_pdu.specs.Bodies.{outcomes_in, outcome_count, bind_ack_of, alter_resp_of, fault_of, body_of};
+ghost use Rattle.rpc_pdu.specs.Bodies.{takes_memory, WantsOnlyIf};
 
 use crate::headers::{Kind, has_object};
 use crate::lists::{read_elements, read_outcomes};

@@ -46,7 +46,7 @@ pub enum ReadPdu {
 /// Reads the PDU at the beginning of bytes (C706, section 12.6). Version, representation, type, length and verifier are
 /// looked at as soon as there are 16 bytes, the body only once the whole PDU is there. Bytes after a body's last field
 /// are taken.
-#[tactic(auto, unfolding(crate::specs::Front::front))]
+#[tactic(auto, unfolding(crate::specs::Bodies::front))]
 pub fn read_pdu(alloc: Global, side: Side, bytes: &[u8]) -> ReadPdu
     ensures front { IsRead result side bytes.now }
     ensures bounds { IsWithin result }

@@ -1,8 +1,7 @@
 // The lists in a binding PDU and its answer: context elements, transfer syntaxes, outcomes.
 ghost use Rattle.std.specs.Prelude.{◌≡◌, length, nat_lt};
 ghost use Rattle.acct_base.specs.Reading.{many, Reads, NeverMemory};
-ghost use Rattle.rpc_pdu.specs.Lists.{syntax_at, element_at, outcome_at};
-ghost use Rattle.rpc_pdu.specs.Syntaxes.{syntax_of};
+ghost use Rattle.rpc_pdu.specs.Headers.{syntax_at, element_at, outcome_at, syntax_of};
 ghost use Rattle.rpc_pdu.specs.Bodies.{WantsOnlyIf};
 
 use crate::numbers::{u16_at, u32_at};
@@ -12,7 +11,7 @@ use acct_base::{Fields, Seq, Unread};
 use std::alloc::Global;
 use uuid::Uuid;
 
-#[tactic(auto, unfolding(crate::specs::Lists::syntax_at))]
+#[tactic(auto, unfolding(crate::specs::Headers::syntax_at))]
 fn read_syntax(fields: &mut Fields<'_>) -> Result<Syntax, Unread>
     ensures value { Reads result fields.new (syntax_at fields.old) }
     ensures frugal { NeverMemory result }
@@ -32,7 +31,7 @@ fn read_syntaxes(alloc: Global, fields: &mut Fields<'_>, count: u8) -> Result<Se
     Ok(syntaxes)
 }
 
-#[tactic(auto, unfolding(crate::specs::Lists::element_at))]
+#[tactic(auto, unfolding(crate::specs::Headers::element_at))]
 fn read_element(alloc: Global, fields: &mut Fields<'_>) -> Result<Element, Unread>
     ensures { Reads result fields.new (element_at fields.old) }
 {
@@ -63,7 +62,7 @@ pub fn read_elements(
     Ok(elements)
 }
 
-#[tactic(auto, unfolding(crate::specs::Lists::outcome_at))]
+#[tactic(auto, unfolding(crate::specs::Headers::outcome_at))]
 fn read_outcome(fields: &mut Fields<'_>) -> Result<Outcome, Unread>
     ensures value { Reads result fields.new (outcome_at fields.old) }
     ensures frugal { NeverMemory result }
@@ -95,7 +94,7 @@ pub fn read_outcomes(
 }
 
 /// The syntax in 20 bytes.
-#[tactic(auto, unfolding(crate::specs::Syntaxes::syntax_of))]
+#[tactic(auto, unfolding(crate::specs::Headers::syntax_of))]
 fn syntax_of(bytes: &[u8]) -> Syntax
     requires { length bytes.now ≡ 20 }
     ensures { result ≡ syntax_of bytes.now }

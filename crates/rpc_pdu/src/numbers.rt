@@ -1,6 +1,6 @@
 // Numbers in bytes, the low byte first.
 ghost use Rattle.std.specs.Prelude.{◌≡◌, ◌+◌, ◌<◌, ◌++◌, length, OnOk};
-ghost use Rattle.rpc_pdu.specs.Numbers.{u16_at, u32_at, u16_bytes, u32_bytes};
+ghost use Rattle.rpc_pdu.specs.Headers.{u16_at, u32_at, u16_bytes, u32_bytes};
 
 use std::alloc::AllocError;
 

@@ -1,6 +1,6 @@
 // Abstract and transfer syntaxes, by a UUID and a version.
 ghost use Rattle.std.specs.Prelude.{◌≡◌, ◌↔◌, IsTrue};
-ghost use Rattle.rpc_pdu.specs.Syntaxes.{samr, lsarpc, ndr, same_syntax};
+ghost use Rattle.rpc_pdu.specs.Headers.{samr, lsarpc, ndr, same_syntax};
 
 use acct_base::is_same;
 use uuid::Uuid;

@@ -5,10 +5,9 @@ ghost use Rattle.rpc_pdu.specs.Written.{type_of, flags_of, call_id, size_of, hea
 ghost use Rattle.rpc_pdu.specs.Written.{outcome_bytes, sizes_bytes, elements_bytes, outcomes_bytes, body_bytes};
 ghost use Rattle.rpc_pdu.specs.Written.{written, HasFewTransfers, HasFewParts, IsWhole, IsWholeElement, IsWholeOutcome};
 ghost use Rattle.rpc_pdu.specs.Written.{HasWholeIds};
-ghost use Rattle.rpc_pdu.specs.Numbers.{u16_bytes, u32_bytes};
-ghost use Rattle.rpc_pdu.specs.Syntaxes.{syntax_bytes};
+ghost use Rattle.rpc_pdu.specs.Headers.{u16_bytes, u32_bytes, syntax_bytes};
 ghost use Rattle.uuid.specs.Parts.{swap_fields};
-ghost use Rattle.acct_codes.specs.PduHeaders.{rpc_vers, rpc_vers_minor};
+ghost use Rattle.acct_codes.specs.Pdus.{rpc_vers, rpc_vers_minor};
 ghost use Rattle.rpc_pdu.specs.Laws.{IsReadBack};
 
 use crate::numbers::{push_bytes, push_u16, push_u32};
@@ -111,7 +110,7 @@ fn push_uuid(out: &mut Vec<u8>, id: &[u8; 16]) -> Result<(), AllocError>
     push_bytes(out, &Uuid::from_bytes_le(*id).into_bytes())
 }
 
-#[tactic(auto, unfolding(crate::specs::Syntaxes::syntax_bytes))]
+#[tactic(auto, unfolding(crate::specs::Headers::syntax_bytes))]
 fn push_syntax(out: &mut Vec<u8>, syntax: &Syntax) -> Result<(), AllocError>
     ensures bytes { OnOk result (out.new.items ≡ out.old.items ++ syntax_bytes syntax.now) }
     ensures whole { IsWhole syntax.now }

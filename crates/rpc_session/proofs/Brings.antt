@@ -4,8 +4,7 @@ use Rattle.std.proofs.Common.{drop, refl, sym, ap, ◌∙◌, arith, length-drop
 use Rattle.std.specs.List.{concat}
 use Rattle.std.proofs.lemmas.Bool.{leb-true, leb-false}
 use Rattle.std.proofs.lemmas.List.{append-nil, length-take-le, take-append-drop}
-use Rattle.rpc_session.specs.Fragments.{cut_stub, first_flag, most_of}
-use Rattle.rpc_session.specs.Replies.{response, BringsStub, RepliesBringStubs}
+use Rattle.rpc_session.specs.Answers.{cut_stub, first_flag, most_of, response, BringsStub, RepliesBringStubs}
 use Rattle.rpc_session.proofs.Parts.{one_last, one_more}
 
 abbrev Brings : ℕ → ℕ → ℕ → Bool → List ℕ → Type 0

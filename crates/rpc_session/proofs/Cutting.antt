@@ -4,7 +4,7 @@ use Rattle.std.proofs.Common.{subst, ◌∙◌, arith, append_assoc, length-drop
 use Rattle.std.proofs.lemmas.List.{drop-append-le}
 use Rattle.rpc_pdu.specs.declared.pdus.Pdu.{Pdu}
 use Rattle.rpc_pdu.specs.declared.pdus.Side.TheVariants.{Server}
-use Rattle.rpc_pdu.specs.Front.{Front, Whole, Rest, Refused, front}
+use Rattle.rpc_pdu.specs.Bodies.{Front, Whole, Rest, Refused, front}
 use Rattle.rpc_pdu.specs.Laws.{Stays, IsStable}
 use Rattle.rpc_session.specs.declared.sessions.Act.{Act}
 use Rattle.rpc_session.specs.declared.sessions.Session.{Session}
@@ -13,8 +13,8 @@ use Rattle.rpc_session.specs.declared.sessions.Step.TheVariants.{Refuses, Goes}
 use Rattle.rpc_session.specs.declared.hearing.Next.{Next}
 use Rattle.rpc_session.specs.declared.hearing.Next.TheVariants as next
 use Rattle.rpc_session.specs.declared.hearing.Hearing.TheVariants.{Going, Ended, Lost}
-use Rattle.rpc_session.specs.Sessions.{taken}
-use Rattle.rpc_session.specs.Hearings.{Heard, stepped, next_of, heard_next, listed, joined, on_next, hear_in, hear, on}
+use Rattle.rpc_session.specs.Sessions.{taken, Heard, stepped, next_of, heard_next, listed, joined, on_next, hear_in}
+use Rattle.rpc_session.specs.Sessions.{hear, on}
 use Rattle.rpc_session.specs.Acts.{IsCutAnywhere}
 
 abbrev Later : Type 0

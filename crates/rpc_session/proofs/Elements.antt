@@ -2,7 +2,7 @@
 use Rattle.std.proofs.Common.{◌≡◌, ℕ, suc, ◌+◌, ◌<◌, List, ◌∷◌, length, get_or, drop, sym, ap, ◌∙◌, add-one, drop-cons}
 use Rattle.rpc_pdu.specs.declared.pdus.Element.{Element}
 use Rattle.rpc_session.specs.declared.contexts.Context.{Context}
-use Rattle.rpc_session.specs.Contexts.{with_element, with_elements}
+use Rattle.rpc_session.specs.Answers.{with_element, with_elements}
 
 abbrev pub IsAdding : List Context → List Context → List Element → ℕ → Type 0
 IsAdding before now elements i = with_elements now (drop i elements) ≡ with_elements before elements

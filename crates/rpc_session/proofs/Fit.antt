@@ -9,7 +9,7 @@ use Rattle.rpc_pdu.specs.declared.pdus.Side.TheVariants.{Server}
 use Rattle.rpc_pdu.specs.declared.pdus.Pdu.{Pdu}
 use Rattle.rpc_pdu.specs.declared.pdus.Pdu.TheVariants.{Bind, Alter, Request, Cancel, Orphaned, BindAck, AlterResp}
 use Rattle.rpc_pdu.specs.declared.pdus.Pdu.TheVariants.{BindNak, Response, Fault}
-use Rattle.rpc_pdu.specs.Front.{Front, Whole, Rest, Refused, front}
+use Rattle.rpc_pdu.specs.Bodies.{Front, Whole, Rest, Refused, front}
 use Rattle.rpc_session.specs.declared.contexts.Context.{Context}
 use Rattle.rpc_session.specs.declared.sessions.Act.{Act}
 use Rattle.rpc_session.specs.declared.sessions.PartialRequest.{PartialRequest}
@@ -21,10 +21,9 @@ use Rattle.rpc_session.specs.declared.sessions.Step.TheVariants.{Refuses, Goes}
 use Rattle.rpc_session.specs.declared.hearing.Hearing.TheVariants.{Ended}
 use Rattle.rpc_session.specs.declared.hearing.Next.{Next}
 use Rattle.rpc_session.specs.declared.hearing.Next.TheVariants as next
-use Rattle.rpc_session.specs.Answers.{size_for}
-use Rattle.rpc_session.specs.Contexts.{face_at}
-use Rattle.rpc_session.specs.Sessions.{binds, asked, gathers, begins, goes_on, taken_first, taken_later, taken}
-use Rattle.rpc_session.specs.Hearings.{Heard, stepped, next_of, heard_next, listed, joined, on_next, hear_in, hear}
+use Rattle.rpc_session.specs.Answers.{size_for, face_at}
+use Rattle.rpc_session.specs.Sessions.{binds, asked, gathers, begins, goes_on, taken_first, taken_later, taken, Heard}
+use Rattle.rpc_session.specs.Sessions.{stepped, next_of, heard_next, listed, joined, on_next, hear_in, hear}
 use Rattle.rpc_session.specs.Acts.{IsFit, AllFit, is_refusal, IsLastOf, AreRefusalsLast}
 
 abbrev FitSize : ℕ → Type 0

@@ -3,7 +3,7 @@ use Rattle.std.proofs.Common.{◌≡◌, ℕ, ◌+◌, List, [], ◌∷◌, ◌+
 use Rattle.std.proofs.Math.Seq.{take-append_seam, drop-append_seam}
 use Rattle.rpc_pdu.specs.declared.pdus.Pdu.{Pdu}
 use Rattle.rpc_pdu.specs.declared.pdus.Side.TheVariants.{Server}
-use Rattle.rpc_pdu.specs.Front.{Front, Whole, Rest, Refused, front}
+use Rattle.rpc_pdu.specs.Bodies.{Front, Whole, Rest, Refused, front}
 use Rattle.rpc_pdu.specs.Grammar.{IsPdu}
 use Rattle.rpc_pdu.specs.Laws.{IsStable, IsExact, IsEnd, IsDivided, AllDivideOnce}
 use Rattle.rpc_session.specs.declared.sessions.Act.{Act}
@@ -11,8 +11,7 @@ use Rattle.rpc_session.specs.declared.sessions.Session.{Session}
 use Rattle.rpc_session.specs.declared.sessions.Session.TheVariants.{Unbound}
 use Rattle.rpc_session.specs.declared.sessions.Step.{Step}
 use Rattle.rpc_session.specs.declared.sessions.Step.TheVariants.{Refuses, Goes}
-use Rattle.rpc_session.specs.Sessions.{taken}
-use Rattle.rpc_session.specs.Hearings.{Heard, stepped, next_of, heard_next, listed, on_next, hear}
+use Rattle.rpc_session.specs.Sessions.{taken, Heard, stepped, next_of, heard_next, listed, on_next, hear}
 use Rattle.rpc_session.specs.Acts.{acts_of_step, acts_of_end, acts_of, AreOfPdus, AreActs}
 use Rattle.rpc_session.proofs.Cutting.{hear_next}
 

@@ -9,7 +9,7 @@ use Rattle.rpc_session.specs.declared.hearing.Next.{Next}
 use Rattle.rpc_session.specs.declared.hearing.Next.TheVariants as next
 use Rattle.rpc_session.specs.declared.hearing.Hearing.{Hearing}
 use Rattle.rpc_session.specs.declared.hearing.Hearing.TheVariants.{Going, Ended, Lost}
-use Rattle.rpc_session.specs.Hearings.{Heard, heard_next, on_next, hear_in, hear, HasRoom}
+use Rattle.rpc_session.specs.Sessions.{Heard, heard_next, on_next, hear_in, hear, HasRoom}
 use Rattle.rpc_session.specs.Acts.{IsRoomByLength}
 use Rattle.rpc_session.proofs.Cutting.{whole_next}
 

@@ -12,7 +12,7 @@ use Rattle.rpc_session.specs.declared.hearing.Next.{Next}
 use Rattle.rpc_session.specs.declared.hearing.Next.TheVariants as next
 use Rattle.rpc_session.specs.declared.hearing.Hearing.{Hearing}
 use Rattle.rpc_session.specs.declared.hearing.Hearing.TheVariants.{Going, Ended}
-use Rattle.rpc_session.specs.Hearings.{Heard, heard_next, listed, joined, on_next, hear_in, hear, on, Begins}
+use Rattle.rpc_session.specs.Sessions.{Heard, heard_next, listed, joined, on_next, hear_in, hear, on, Begins}
 use Rattle.rpc_session.specs.Acts.{IsSoFar, IsCutAnywhere}
 use Rattle.rpc_session.proofs.Cutting.{hear_next}
 

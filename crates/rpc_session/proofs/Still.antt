@@ -5,8 +5,7 @@ use Rattle.std.proofs.lemmas.Bool.{le-ltb}
 use Rattle.rpc_pdu.specs.declared.pdus.Pdu.{Pdu}
 use Rattle.rpc_pdu.specs.declared.pdus.Side.{Side}
 use Rattle.rpc_pdu.specs.declared.pdus.Side.TheVariants.{Server}
-use Rattle.rpc_pdu.specs.Front.{Front, Whole, Rest, Refused, front, front_of_body}
-use Rattle.rpc_pdu.specs.Bodies.{body_of}
+use Rattle.rpc_pdu.specs.Bodies.{Front, Whole, Rest, Refused, front, front_of_body, body_of}
 use Rattle.rpc_pdu.specs.Laws.{IsStable}
 use Rattle.rpc_pdu.specs.ReadPdu.{MayWant}
 use Rattle.rpc_pdu.proofs.HeaderFacts.{long_16}
@@ -18,8 +17,7 @@ use Rattle.rpc_session.specs.declared.sessions.Step.TheVariants.{Refuses, Goes}
 use Rattle.rpc_session.specs.declared.hearing.Next.{Next}
 use Rattle.rpc_session.specs.declared.hearing.Next.TheVariants as next
 use Rattle.rpc_session.specs.declared.hearing.Hearing.{Hearing}
-use Rattle.rpc_session.specs.Sessions.{taken}
-use Rattle.rpc_session.specs.Hearings.{Heard, stepped, next_of, heard_next, on_next, hear_in, hear, IsStill}
+use Rattle.rpc_session.specs.Sessions.{taken, Heard, stepped, next_of, heard_next, on_next, hear_in, hear, IsStill}
 use Rattle.rpc_session.specs.Acts.{IsSoFar}
 use Rattle.rpc_session.proofs.Cutting.{whole_next}
 

@@ -4,7 +4,7 @@ use Rattle.std.specs.Prelude.{Option, Some, None, slice_get}
 use Rattle.acct_codes.specs.Limits.{least_fragment, most_fragment, most_stub}
 use Rattle.rpc_pdu.specs.declared.pdus.Pdu.{Pdu}
 use Rattle.rpc_pdu.specs.declared.pdus.Side.TheVariants.{Server}
-use Rattle.rpc_pdu.specs.Front.{Front, Whole, Rest, Refused, front}
+use Rattle.rpc_pdu.specs.Bodies.{Front, Whole, Rest, Refused, front}
 use Rattle.rpc_pdu.specs.Laws.{IsDivided}
 use Rattle.rpc_pdu.specs.Written.{type_of, call_id}
 use Rattle.rpc_session.specs.declared.sessions.Act.{Act}
@@ -17,8 +17,7 @@ use Rattle.rpc_session.specs.declared.sessions.Step.TheVariants.{Refuses, Goes}
 use Rattle.rpc_session.specs.declared.hearing.Hearing.{Hearing}
 use Rattle.rpc_session.specs.declared.hearing.Hearing.TheVariants.{Ended}
 use Rattle.rpc_session.specs.Answers.{closing}
-use Rattle.rpc_session.specs.Sessions.{taken}
-use Rattle.rpc_session.specs.Hearings.{Heard, listed, hear, joined, on, HasRoom}
+use Rattle.rpc_session.specs.Sessions.{taken, acts, Heard, listed, hear, joined, on, HasRoom}
 
 -- The acts of whole PDUs one after the other, each with its own bytes, the first of which begins at a place, and of the
 -- end after them. Nothing after a refusal is an act.
@@ -43,11 +42,6 @@ pub record HasActs (conn : ℕ) (stream : List ℕ) (told : List Act) : Type 0 w
   pub end : List ℕ
   pub divided : IsDivided Server pdus end stream
   pub acts_are : told ≡ acts_of conn 0 Unbound pdus end
-
--- The same as a function, which tells what is left to hear as well: the acts of the whole stream of the connection with
--- this number. That it has these acts and no others is the law `AreActs`.
-abbrev pub acts : ℕ → List ℕ → List Act
-acts conn stream = (hear conn 0 Unbound stream).acts
 
 -- the acts of a stream are those of its PDUs, however it is divided into some
 abbrev pub AreOfPdus : Type 0

@@ -1,7 +1,3 @@
-pub mod Contexts
-pub mod Fragments
-pub mod Replies
+pub mod Acts
 pub mod Answers
 pub mod Sessions
-pub mod Hearings
-pub mod Acts

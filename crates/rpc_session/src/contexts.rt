@@ -1,8 +1,8 @@
 // Which presentation contexts are accepted.
 ghost use Rattle.std.specs.Prelude.{◌≡◌, ◌==◌, not, map, Some, None, IfOk, OnOk};
 ghost use Rattle.std.specs.List.{filter};
-ghost use Rattle.rpc_session.specs.Contexts.{face_of, offers_ndr, judged, accepted, answered, outcome, rejected};
-ghost use Rattle.rpc_session.specs.Contexts.{replaced, with_element, with_elements, face_at};
+ghost use Rattle.rpc_session.specs.Answers.{face_of, offers_ndr, judged, accepted, answered, outcome, rejected};
+ghost use Rattle.rpc_session.specs.Answers.{replaced, with_element, with_elements, face_at};
 
 use acct_base::Seq;
 use acct_calls::Face;
@@ -21,7 +21,7 @@ pub struct Context {
     pub face: Face,
 }
 
-#[tactic(auto, unfolding(crate::specs::Contexts::face_of))]
+#[tactic(auto, unfolding(crate::specs::Answers::face_of))]
 fn face_of(subject: &Syntax) -> Option<Face>
     ensures { result ≡ face_of subject.now }
 {
@@ -34,7 +34,7 @@ fn face_of(subject: &Syntax) -> Option<Face>
     None
 }
 
-#[tactic(auto, unfolding(crate::specs::Contexts::offers_ndr))]
+#[tactic(auto, unfolding(crate::specs::Answers::offers_ndr))]
 fn offers_ndr(transfers: &[Syntax]) -> bool
     ensures { result ≡ offers_ndr transfers.now }
 {
@@ -43,7 +43,7 @@ fn offers_ndr(transfers: &[Syntax]) -> bool
         .any(|transfer| is_same_syntax(transfer, &ndr()))
 }
 
-#[tactic(auto, unfolding(crate::specs::Contexts::accepted))]
+#[tactic(auto, unfolding(crate::specs::Answers::accepted))]
 fn accepted(element: &Element) -> Option<Face>
     ensures { result ≡ accepted element.now }
 {
@@ -65,7 +65,7 @@ fn rejected(reason: u16) -> Outcome
     }
 }
 
-#[tactic(auto, unfolding(crate::specs::Contexts::outcome))]
+#[tactic(auto, unfolding(crate::specs::Answers::outcome))]
 fn outcome(element: &Element) -> Outcome
     ensures { result ≡ outcome element.now }
 {

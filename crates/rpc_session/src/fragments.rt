@@ -1,7 +1,7 @@
 // A stub cut into fragments: the responses of a reply, and the requests of a client's call.
 ghost use Rattle.std.specs.Prelude.{◌≡◌, ◌++◌, ◌≤◌, ◌<◌, true, length, min, IfOk, OnOk};
 ghost use Rattle.acct_codes.specs.Limits.{least_fragment, most_fragment};
-ghost use Rattle.rpc_session.specs.Fragments.{cut_stub, first_flag, fragment, most_of};
+ghost use Rattle.rpc_session.specs.Answers.{cut_stub, first_flag, fragment, most_of};
 
 use acct_base::{front_of, rest_of};
 use acct_codes::pdu_header::{
@@ -22,7 +22,7 @@ pub struct FragmentHead {
 
 /// A fragment with a part of the stub, written after what is there. `left` is the number of stub bytes that are left
 /// with this part.
-#[tactic(auto, unfolding(crate::specs::Fragments::fragment))]
+#[tactic(auto, unfolding(crate::specs::Answers::fragment))]
 fn push_fragment(
     out: &mut Vec<u8>,
     head: FragmentHead,

@@ -4,11 +4,11 @@ ghost use Rattle.std.specs.Prelude.{IsOk};
 ghost use Rattle.rpc_session.specs.declared.hearing.Hearing.TheVariants.{Going, Ended, Lost};
 ghost use Rattle.rpc_session.specs.declared.hearing.Next.TheVariants.{Ends};
 ghost use Rattle.rpc_session.specs.Answers.{closing};
-ghost use Rattle.rpc_session.specs.Hearings.{Heard, heard_next, joined, listed, hear, is_going, on, Begins};
-ghost use Rattle.rpc_session.specs.Hearings.{HasRoom, IsStill};
+ghost use Rattle.rpc_session.specs.Sessions.{Heard, heard_next, joined, listed, hear, is_going, on, Begins, HasRoom};
+ghost use Rattle.rpc_session.specs.Sessions.{IsStill, acts};
 ghost use Rattle.rpc_pdu.specs.declared.pdus.Side.TheVariants.{Server};
-ghost use Rattle.rpc_pdu.specs.Front.{Rest, front};
-ghost use Rattle.rpc_session.specs.Acts.{acts, IsSoFar};
+ghost use Rattle.rpc_pdu.specs.Bodies.{Rest, front};
+ghost use Rattle.rpc_session.specs.Acts.{IsSoFar};
 
 use crate::answers::closing;
 use crate::laws::streams_are_cut_anywhere;
@@ -59,7 +59,7 @@ fn refused(alloc: Global, place: u64, cause: u8, ptype: u8, id: u32) -> Result<N
 }
 
 /// What stands at the beginning of the bytes that are left, the first of which has this place in the stream.
-#[tactic(auto, unfolding(crate::specs::Hearings::heard_next))]
+#[tactic(auto, unfolding(crate::specs::Sessions::heard_next))]
 fn heard_next(
     alloc: Global,
     conn: u32,

@@ -1,6 +1,6 @@
 // The laws of a connection's acts, for the crates above to cite. Each is brought in by a call, which does nothing.
 ghost use Rattle.rpc_session.specs.Acts.{IsCutAnywhere, IsRoomByLength, AllFit, AreRefusalsLast, AreOfPdus, AreActs};
-ghost use Rattle.rpc_session.specs.Replies.{RepliesBringStubs};
+ghost use Rattle.rpc_session.specs.Answers.{RepliesBringStubs};
 
 use rpc_pdu::{bytes_divide_once, front_is_stable, whole_is_exactly_a_pdu};
 

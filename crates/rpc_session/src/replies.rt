@@ -1,7 +1,7 @@
 // The bytes that answer a call.
 ghost use Rattle.std.specs.Prelude.{◌≡◌, ◌≤◌, IfOk};
 ghost use Rattle.acct_codes.specs.Limits.{least_fragment, most_fragment};
-ghost use Rattle.rpc_session.specs.Replies.{fault_bytes, reply_bytes};
+ghost use Rattle.rpc_session.specs.Answers.{fault_bytes, reply_bytes};
 
 use crate::fragments::{FragmentHead, cut_stub};
 use acct_codes::pdu_header::{DREP_IEEE, DREP_LITTLE_ENDIAN_ASCII, RPC_VERS, RPC_VERS_MINOR};

@@ -1,10 +1,9 @@
 // What one whole PDU does in a session.
 ghost use Rattle.std.specs.Prelude.{◌≡◌, ◌==◌, ◌++◌, ◌≤◌, [], not, bit_and, IfOk, length, Some, None};
 ghost use Rattle.acct_codes.specs.Limits.{most_stub};
-ghost use Rattle.acct_codes.specs.PduHeaders.{pfc_first_frag, pfc_last_frag};
+ghost use Rattle.acct_codes.specs.Pdus.{pfc_first_frag, pfc_last_frag};
 ghost use Rattle.rpc_pdu.specs.Written.{HasFewParts};
-ghost use Rattle.rpc_session.specs.Answers.{bind_answer, alter_answer};
-ghost use Rattle.rpc_session.specs.Contexts.{with_elements};
+ghost use Rattle.rpc_session.specs.Answers.{bind_answer, alter_answer, with_elements};
 ghost use Rattle.rpc_session.specs.Sessions.{binds, asked, gathers, begins, goes_on, requests, without, taken_first};
 ghost use Rattle.rpc_session.specs.Sessions.{taken_later, taken};
 

@@ -7,7 +7,7 @@ use Rattle.acct_calls.specs.declared.calls.Args.{Args}
 use Rattle.acct_calls.specs.declared.calls.Args.TheVariants as args
 use Rattle.acct_calls.specs.declared.calls.Face.TheVariants.{Samr}
 use Rattle.acct_calls.specs.declared.replies.Reply.{Reply}
-use Rattle.acct_codes.specs.UserControl.{user_normal_account}
+use Rattle.acct_codes.specs.Accounts.{user_normal_account}
 use Rattle.acct_layouts.specs.CallShapes.{AreArguments, AreConnectArgs, AreCreationArgs}
 use Rattle.acct_layouts.specs.declared.fields.Connect.{Connect}
 use Rattle.acct_layouts.specs.declared.fields.Connect.TheVariants as connect
@@ -22,14 +22,13 @@ use Rattle.ndr_types.proofs.Onward.{takes_made, text_onward}
 use Rattle.ndr_types.proofs.Parts.{whole_fits, whole_kind}
 use Rattle.ndr_types.proofs.ShapeValues.{text_complete}
 use Rattle.ndr_types.proofs.Texts.{text_has}
-use Rattle.ndr_types.specs.Texts.{text}
+use Rattle.ndr_types.specs.Values.{text}
 use Rattle.acct_stubs.proofs.Complete.{server_name_complete, server_name_fits, unspelled_complete}
 use Rattle.acct_stubs.proofs.Onward.{server_name_onward, takes_unspelled}
 use Rattle.acct_stubs.specs.Lawful.{IsLawful}
 use Rattle.acct_stubs.specs.Outputs.{is_one}
 use Rattle.acct_stubs.specs.Shared.{are_own, opens_server, own_outputs}
-use Rattle.samr_wire.specs.Creations.{created, made_in, typed_in}
-use Rattle.samr_wire.specs.Openings.{connect_args, desired_access, revision_asked}
+use Rattle.samr_wire.specs.Interface.{created, made_in, typed_in, connect_args, desired_access, revision_asked}
 use Rattle.samr_wire.specs.Interface.{own_fields, samr}
 
 -- ======== what some stub spells can be written

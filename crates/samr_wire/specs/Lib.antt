@@ -1,4 +1,2 @@
-pub mod Openings
-pub mod Creations
 pub mod Interface
 pub mod Lawful

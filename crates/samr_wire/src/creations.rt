@@ -1,7 +1,7 @@
 // The fields of new accounts.
 ghost use Rattle.std.specs.Prelude.{◌≡◌, OnOk};
 ghost use Rattle.ndr_types.specs.Outcomes.{ReadsIfRoom};
-ghost use Rattle.samr_wire.specs.Creations.{created};
+ghost use Rattle.samr_wire.specs.Interface.{created};
 
 use crate::NoMemory;
 use acct_calls::Args;
@@ -11,7 +11,7 @@ use ndr_core::{In, NdrError, Out};
 use ndr_types::{read_text, write_text};
 use std::alloc::Global;
 
-#[tactic(auto, unfolding(crate::specs::Creations::created))]
+#[tactic(auto, unfolding(crate::specs::Interface::created))]
 pub fn read_created(alloc: Global, from: &mut In<'_>, creation: Creation) -> Result<Args, NdrError>
     ensures { ReadsIfRoom result from.new ((created creation).read from.old) }
 {
@@ -41,7 +41,7 @@ pub fn read_created(alloc: Global, from: &mut In<'_>, creation: Creation) -> Res
     }
 }
 
-#[tactic(auto, using(acct_stubs::proofs::Asked::short_text), unfolding(crate::specs::Creations::created))]
+#[tactic(auto, using(acct_stubs::proofs::Asked::short_text), unfolding(crate::specs::Interface::created))]
 pub fn write_created(to: &mut Out, creation: Creation, args: &Args) -> Result<(), NoMemory>
     requires { (created creation).Fits args.now }
     ensures { OnOk result (to.new ≡ (created creation).write args.now to.old) }

@@ -1,7 +1,7 @@
 // The fields of openings of the server.
 ghost use Rattle.std.specs.Prelude.{◌≡◌, OnOk};
 ghost use Rattle.ndr_core.specs.Cursor.{Reads};
-ghost use Rattle.samr_wire.specs.Openings.{connect_args, revision_asked};
+ghost use Rattle.samr_wire.specs.Interface.{connect_args, revision_asked};
 
 use crate::NoMemory;
 use acct_calls::Args;
@@ -9,7 +9,7 @@ use acct_layouts::Connect;
 use acct_stubs::{read_server_name, write_server_name};
 use ndr_core::{In, NdrError, Out};
 
-#[tactic(auto, unfolding(crate::specs::Openings::revision_asked))]
+#[tactic(auto, unfolding(crate::specs::Interface::revision_asked))]
 fn read_revision(from: &mut In<'_>) -> Result<(), NdrError>
     ensures { Reads result from.new (revision_asked.read from.old) }
 {
@@ -24,7 +24,7 @@ fn read_revision(from: &mut In<'_>) -> Result<(), NdrError>
     Ok(())
 }
 
-#[tactic(auto, unfolding(crate::specs::Openings::revision_asked))]
+#[tactic(auto, unfolding(crate::specs::Interface::revision_asked))]
 fn write_revision(to: &mut Out) -> Result<(), NoMemory>
     ensures { OnOk result (to.new ≡ revision_asked.write tt to.old) }
 {
@@ -34,7 +34,7 @@ fn write_revision(to: &mut Out) -> Result<(), NoMemory>
     to.u32(0)
 }
 
-#[tactic(auto, unfolding(crate::specs::Openings::connect_args))]
+#[tactic(auto, unfolding(crate::specs::Interface::connect_args))]
 pub fn read_connect(from: &mut In<'_>, connect: Connect) -> Result<Args, NdrError>
     ensures { Reads result from.new ((connect_args connect).read from.old) }
 {
@@ -60,7 +60,7 @@ pub fn read_connect(from: &mut In<'_>, connect: Connect) -> Result<Args, NdrErro
     }
 }
 
-#[tactic(auto, unfolding(crate::specs::Openings::connect_args))]
+#[tactic(auto, unfolding(crate::specs::Interface::connect_args))]
 pub fn write_connect(to: &mut Out, connect: Connect, args: &Args) -> Result<(), NoMemory>
     requires { (connect_args connect).Fits args.now }
     ensures { OnOk result (to.new ≡ (connect_args connect).write args.now to.old) }

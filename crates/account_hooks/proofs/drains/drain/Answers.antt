@@ -1,7 +1,6 @@
 -- The runs of each part are told after those of the parts before it.
 use Rattle.std.proofs.Common.{[], ◌++◌, subst, append_assoc, arith, List}
-use Rattle.account_hooks.specs.Runs.{Run}
-use Rattle.account_hooks.specs.Drains.{Drains, IsDraining}
+use Rattle.account_hooks.specs.Drains.{Run, Drains, IsDraining}
 use Rattle.account_hooks.proofs.Tries.{adds-none, adds-then}
 use Rattle.account_hooks.proofs.Draining.{begins-same, begins-then, draining-none, draining-same}
 use Rattle.account_hooks.proofs.drains.drain.Goals as goal

@@ -1,8 +1,6 @@
 -- The drain has gone on from where it began, and the gate has less room each time.
 use Rattle.std.proofs.Common.{◌≤◌, ℕ, List, ◌++◌}
-use Rattle.account_hooks.specs.Runs.{Run, Adds}
-use Rattle.account_hooks.specs.Gates.{Begins}
-use Rattle.account_hooks.specs.Drains.{IsDraining}
+use Rattle.account_hooks.specs.Drains.{Run, Adds, Begins, IsDraining}
 use Rattle.account_hooks.proofs.drains.drain.Given as goal
 
 abbrev pub invariant-loop-answer : goal.invariant-loop-answer

@@ -1,9 +1,7 @@
 -- A look at the first job runs nothing, and what was known of the runs so far stands. Then the job's runs are told after
 -- the earlier ones, and its number leaves where the gate says so.
 use Rattle.std.proofs.Common.{[], ◌++◌, inl, inr, refl, subst}
-use Rattle.account_hooks.specs.Runs.{job_of}
-use Rattle.account_hooks.specs.Gates.{IsFirstLeft}
-use Rattle.account_hooks.specs.Drains.{runs_of}
+use Rattle.account_hooks.specs.Drains.{job_of, IsFirstLeft, runs_of}
 use Rattle.account_hooks.proofs.Tries.{adds-none}
 use Rattle.account_hooks.proofs.Draining.{draining-first, draining-same, fails-in-order, draining-holds, draining-on}
 use Rattle.account_hooks.proofs.Draining.{draining-begins, stays-on}

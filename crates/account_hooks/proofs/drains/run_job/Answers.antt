@@ -1,6 +1,6 @@
 -- One run more is told after those so far, which all failed.
 use Rattle.std.proofs.Common.{rules, sym, subst, ◌∷◌, ◌++◌, [], refl, ap, ◌∙◌, arith, map, string_bytes, ℕ, ◌+◌, ◌<◌}
-use Rattle.account_hooks.specs.Runs.{job_of, ended_well}
+use Rattle.account_hooks.specs.Drains.{job_of, ended_well}
 use Rattle.account_hooks.proofs.Tries.{failed-rose, tell-one, none-snoc, length-snoc, rose-since}
 use Rattle.account_hooks.proofs.drains.run_job.Goals as goal
 

@@ -1,9 +1,8 @@
 -- Each run so far didn't end with 0, and the count of failed runs rose.
 use Rattle.std.proofs.Common.{◌≡◌, ◌≤◌, ◌<◌, List, length}
-use Rattle.acct_keeper.specs.Causes.{Rose}
-use Rattle.account_hooks.specs.Runs.{job_of, Adds}
+use Rattle.acct_keeper.specs.Faults.{Rose}
+use Rattle.account_hooks.specs.Drains.{job_of, Adds, NoneWell, runs_of}
 use Rattle.account_hooks.specs.declared.runs.Ran.{Ran}
-use Rattle.account_hooks.specs.Drains.{NoneWell, runs_of}
 use Rattle.account_hooks.proofs.drains.run_job.Given as goal
 
 abbrev pub invariant-loop : goal.invariant-loop

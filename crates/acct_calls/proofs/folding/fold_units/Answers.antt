@@ -2,7 +2,7 @@
 use Rattle.std.proofs.Common.{◌++◌, sym, ap, ◌∙◌, append_assoc}
 use Rattle.std.specs.Char.Escape.{encode_utf16}
 use Rattle.std.proofs.lemmas.List.{append-nil}
-use Rattle.acct_calls.specs.Folding.{folded_point, folded}
+use Rattle.acct_calls.specs.Names.{folded_point, folded}
 use Rattle.acct_calls.proofs.Folds.{folded-nil, folded-first}
 use Rattle.acct_calls.proofs.folding.fold_units.Goals as goal
 

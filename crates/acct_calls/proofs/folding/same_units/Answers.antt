@@ -1,7 +1,7 @@
 -- `same_units` may pass over folded code points that are equal; one that differs, or a text that is longer, decides.
 use Rattle.std.proofs.Common.{◌≡◌, ◌==◌, ◌&&◌, true, false, sym, ap, ◌∙◌}
 use Rattle.std.proofs.lemmas.Bool.{and_left, ne_eqb, eq-eqb}
-use Rattle.acct_calls.specs.Folding.{folded_point, is_same}
+use Rattle.acct_calls.specs.Names.{folded_point, is_same}
 use Rattle.acct_calls.proofs.Folds.{is_same-first, is_same-longer, is_same_over_nothing}
 use Rattle.acct_calls.proofs.folding.same_units.Goals as goal
 

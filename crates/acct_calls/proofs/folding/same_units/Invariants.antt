@@ -1,6 +1,6 @@
 -- The code points passed fold to the same: the two are the same exactly if what is left of them is the same.
 use Rattle.std.proofs.Common.{◌≡◌, length}
-use Rattle.acct_calls.specs.Folding.{is_same}
+use Rattle.acct_calls.specs.Names.{is_same}
 use Rattle.acct_calls.proofs.folding.same_units.Given as goal
 
 abbrev pub invariant-loop-our_first : goal.invariant-loop-our_first

@@ -1,6 +1,6 @@
 -- Each code point that was passed may stand in a name: the units left decide.
 use Rattle.std.proofs.Common.{◌≡◌, length}
-use Rattle.acct_calls.specs.Validity.{all_may_stand}
+use Rattle.acct_calls.specs.Names.{all_may_stand}
 use Rattle.acct_calls.proofs.validity.all_may_stand.Given as goal
 
 abbrev pub invariant-loop-point : goal.invariant-loop-point

@@ -1,6 +1,6 @@
 -- Each code point that was passed is a dot or a space: the units left decide.
 use Rattle.std.proofs.Common.{◌≡◌, length}
-use Rattle.acct_calls.specs.Validity.{is_dots_and_spaces}
+use Rattle.acct_calls.specs.Names.{is_dots_and_spaces}
 use Rattle.acct_calls.proofs.validity.is_dots_and_spaces.Given as goal
 
 abbrev pub invariant-loop-point : goal.invariant-loop-point

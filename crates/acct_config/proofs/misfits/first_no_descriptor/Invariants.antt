@@ -3,7 +3,7 @@ use Rattle.std.proofs.Common.{◌≡◌, not, drop}
 use Rattle.std.specs.List.{find}
 use Rattle.toml.specs.View.{view}
 use Rattle.acct_config.specs.Kinds.{kind_name}
-use Rattle.acct_config.specs.Shape.{optional, is_descriptor}
+use Rattle.acct_config.specs.Document.{optional, is_descriptor}
 use Rattle.acct_config.proofs.misfits.first_no_descriptor.Given as goal
 
 abbrev pub invariant-loop-kind : goal.invariant-loop-kind

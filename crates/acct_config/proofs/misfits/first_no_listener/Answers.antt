@@ -3,7 +3,7 @@ use Rattle.std.proofs.Common.{not, sym, ◌∙◌, rules, tests}
 use Rattle.std.proofs.lemmas.Iterator.{YieldsList-from_slice}
 use Rattle.std.proofs.lemmas.Iterator.Search.{position_from_yields_List}
 use Rattle.toml.specs.View.{view}
-use Rattle.acct_config.specs.Shape.{is_listener}
+use Rattle.acct_config.specs.Document.{is_listener}
 use Rattle.acct_config.proofs.Sought.{position-map}
 use Rattle.acct_config.proofs.misfits.first_no_listener.Goals as goal
 

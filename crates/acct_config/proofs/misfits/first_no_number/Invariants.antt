@@ -2,8 +2,7 @@
 use Rattle.std.proofs.Common.{◌≡◌, not, drop}
 use Rattle.std.specs.List.{find}
 use Rattle.toml.specs.View.{view}
-use Rattle.acct_config.specs.Ranges.{limit_key}
-use Rattle.acct_config.specs.Shape.{optional, is_number}
+use Rattle.acct_config.specs.Document.{limit_key, optional, is_number}
 use Rattle.acct_config.proofs.misfits.first_no_number.Given as goal
 
 abbrev pub invariant-loop-limit : goal.invariant-loop-limit

@@ -3,7 +3,7 @@ use Rattle.std.proofs.Common.{◌≡◌, not, drop}
 use Rattle.std.specs.List.{find}
 use Rattle.toml.specs.View.{view}
 use Rattle.acct_config.specs.Kinds.{kind_name}
-use Rattle.acct_config.specs.Shape.{optional}
+use Rattle.acct_config.specs.Document.{optional}
 use Rattle.acct_config.specs.Faults.{is_table}
 use Rattle.acct_config.proofs.misfits.first_no_table.Given as goal
 

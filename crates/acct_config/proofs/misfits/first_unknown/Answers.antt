@@ -3,7 +3,7 @@ use Rattle.std.proofs.Common.{List, ℕ, map, not, ap, ◌∙◌, rules, tests}
 use Rattle.std.specs.Prelude.{string_bytes, option_map}
 use Rattle.std.proofs.lemmas.Iterator.Consumers.{YieldsList-from_rest}
 use Rattle.std.proofs.lemmas.Iterator.Search.{find_from_yields_List}
-use Rattle.acct_config.specs.Shape.{is_among}
+use Rattle.acct_config.specs.Document.{is_among}
 use Rattle.acct_config.proofs.Sought.{option_map-twice, find-keys}
 use Rattle.acct_config.proofs.misfits.first_unknown.Goals as goal
 

@@ -3,7 +3,7 @@ use Rattle.std.proofs.Common.{◌≤◌, All, length, List, subst, arith}
 use Rattle.std.proofs.lemmas.List.{take_all}
 use Rattle.std.proofs.lemmas.List.Elements.{All-more}
 use Rattle.dtyp_access.specs.declared.descriptor.Descriptor.{Descriptor}
-use Rattle.dtyp_access.specs.Limits.{IsDescriptor}
+use Rattle.dtyp_access.specs.Parts.{IsDescriptor}
 use Rattle.acct_config.proofs.read.keep_limits.Goals as goal
 
 pub loop-descriptor-preserved : goal.loop-descriptor-preserved

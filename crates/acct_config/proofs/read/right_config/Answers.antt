@@ -2,9 +2,9 @@
 use Rattle.std.proofs.Common.{List, All, sym, subst, ◌∙◌, ap}
 use Rattle.toml.specs.View.{view}
 use Rattle.dtyp_access.specs.declared.descriptor.Descriptor.{Descriptor}
-use Rattle.dtyp_access.specs.Limits.{HasFewAces, IsDescriptor}
+use Rattle.dtyp_access.specs.Parts.{HasFewAces, IsDescriptor}
 use Rattle.acct_config.specs.declared.config.Config.{Config}
-use Rattle.acct_config.specs.Right.{IsRight}
+use Rattle.acct_config.specs.Spelled.{IsRightConfig}
 use Rattle.acct_config.proofs.Kept.{few-read, right-read}
 use Rattle.acct_config.proofs.read.right_config.Goals as goal
 
@@ -17,6 +17,6 @@ keep_limits-requires c =
 pub returns-clause-right : goal.returns-clause-right
 returns-clause-right c =
     let same = c.in_ok-config.ensures in
-    subst IsRight (sym same) (right-read (view c.args.document.now) c.requires
+    subst IsRightConfig (sym same) (right-read (view c.args.document.now) c.requires
     (subst (λ (ds : List Descriptor). All IsDescriptor ds)
     (c.as_slice.ensures ∙ ap (λ (x : Config). x.descriptors) same) c.keep_limits.ensures))

@@ -4,7 +4,7 @@ use Rattle.std.proofs.lemmas.Iterator.{YieldsList-from_slice}
 use Rattle.std.proofs.lemmas.Iterator.Search.{all_from_yields_List}
 use Rattle.std.proofs.lemmas.List.Folds.{list_all-map}
 use Rattle.toml.specs.View.{view}
-use Rattle.acct_config.specs.Shape.{is_listener}
+use Rattle.acct_config.specs.Document.{is_listener}
 use Rattle.acct_config.proofs.shape.are_listeners.Goals as goal
 
 pub returns : goal.returns

@@ -4,7 +4,7 @@ use Rattle.std.proofs.lemmas.Iterator.{YieldsList-from_slice}
 use Rattle.std.proofs.lemmas.Iterator.Search.{all_from_yields_List}
 use Rattle.toml.specs.View.{view}
 use Rattle.acct_config.specs.Kinds.{kind_name}
-use Rattle.acct_config.specs.Shape.{optional, is_descriptor}
+use Rattle.acct_config.specs.Document.{optional, is_descriptor}
 use Rattle.acct_config.proofs.shape.each_allows_descriptor.Goals as goal
 
 pub returns : goal.returns

@@ -3,8 +3,7 @@ use Rattle.std.proofs.Common.{rules, tests}
 use Rattle.std.proofs.lemmas.Iterator.{YieldsList-from_slice}
 use Rattle.std.proofs.lemmas.Iterator.Search.{all_from_yields_List}
 use Rattle.toml.specs.View.{view}
-use Rattle.acct_config.specs.Ranges.{limit_key}
-use Rattle.acct_config.specs.Shape.{optional, is_number}
+use Rattle.acct_config.specs.Document.{limit_key, optional, is_number}
 use Rattle.acct_config.proofs.shape.each_allows_number.Goals as goal
 
 pub returns : goal.returns

@@ -3,7 +3,7 @@ use Rattle.std.proofs.Common.{List, ℕ, map, sym, ◌∙◌, rules, tests}
 use Rattle.std.specs.Prelude.{string_bytes}
 use Rattle.std.proofs.lemmas.Iterator.Consumers.{YieldsList-from_rest}
 use Rattle.std.proofs.lemmas.Iterator.Search.{all_from_yields_List}
-use Rattle.acct_config.specs.Shape.{is_among}
+use Rattle.acct_config.specs.Document.{is_among}
 use Rattle.acct_config.proofs.Sought.{list_all-keys}
 use Rattle.acct_config.proofs.shape.keys_are_among.Goals as goal
 

@@ -2,7 +2,7 @@
 use Rattle.std.proofs.Common.{◌≡◌, ◌+◌, ◌++◌, ◌∙◌, sym, ap, map, drop}
 use Rattle.std.specs.List.{filter_map}
 use Rattle.toml.specs.View.{view}
-use Rattle.acct_config.specs.Entries.{ace_of_text}
+use Rattle.acct_config.specs.Values.{ace_of_text}
 use Rattle.acct_config.specs.Spelled.{ace_at}
 use Rattle.acct_config.proofs.Found.{found_more, none_more, none_of}
 use Rattle.acct_config.proofs.spelled.aces_of.Goals.{in-Some+in_ok-push, in_default}

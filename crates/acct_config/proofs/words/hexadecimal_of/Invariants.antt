@@ -1,6 +1,6 @@
 -- The number so far, taken on by the digits left, is that of all the digits; the count passed bounds it.
 use Rattle.std.proofs.Common.{◌≡◌, ◌<◌, ◌^◌, ◌≤◌, length, drop}
-use Rattle.acct_config.specs.Words.{hexadecimal_from}
+use Rattle.acct_config.specs.Values.{hexadecimal_from}
 use Rattle.acct_config.proofs.words.hexadecimal_of.Given as goal
 
 abbrev pub invariant-loop-byte : goal.invariant-loop-byte

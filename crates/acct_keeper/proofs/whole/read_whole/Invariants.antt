@@ -1,7 +1,7 @@
 -- The bytes so far are those that the source gave, in order, and no more than may be read; and no read failed.
 use Rattle.std.proofs.Common.{◌≡◌, ◌≤◌, ◌-◌, vec_len}
 use Rattle.std.specs.Io.KnownBytes.{Consumes}
-use Rattle.acct_keeper.specs.Whole.{most_bytes}
+use Rattle.acct_keeper.specs.Faults.{most_bytes}
 use Rattle.acct_keeper.proofs.whole.read_whole.Given as goal
 
 abbrev pub invariant-loop-whole : goal.invariant-loop-whole

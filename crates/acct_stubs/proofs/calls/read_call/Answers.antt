@@ -3,7 +3,7 @@ use Rattle.std.proofs.Common.{w8, subst, Result}
 use Rattle.std.proofs.lemmas.List.Elements.{All-from_get_or}
 use Rattle.std.proofs.Math.Facts.{Fits-lt-pow}
 use Rattle.acct_calls.specs.declared.calls.Call.{Call}
-use Rattle.ndr_core.specs.Written.{IsByte, IsBytes}
+use Rattle.ndr_core.specs.Cursor.{IsByte, IsBytes}
 use Rattle.acct_stubs.specs.declared.errors.WireError.{WireError}
 use Rattle.acct_stubs.specs.Calls.{ReadsAllIfRoom}
 use Rattle.acct_stubs.proofs.CallLaws.{is_found, call_only, can_be_written}

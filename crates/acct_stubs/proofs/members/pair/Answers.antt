@@ -3,7 +3,7 @@ use Rattle.std.proofs.Common.{◌≡◌, ◌+◌, List, [], ◌∷◌, ◌++◌,
 use Rattle.std.proofs.lemmas.List.{length-append}
 use Rattle.std.proofs.lemmas.Slice.Zip.{zip_turn, zip_end}
 use Rattle.acct_calls.specs.declared.lists.RidBits.{RidBits}
-use Rattle.ndr_types.specs.Members.{rid_bits_of}
+use Rattle.ndr_types.specs.Listed.{rid_bits_of}
 use Rattle.acct_stubs.proofs.MemberLists.{pair_more, pair_all}
 use Rattle.acct_stubs.proofs.members.pair.Goals as goal
 

@@ -1,6 +1,6 @@
 -- One more number of attributes is written, and at the end all are.
 use Rattle.std.proofs.Common.{get_or, refl}
-use Rattle.ndr_types.specs.Members.{rid_bits_of}
+use Rattle.ndr_types.specs.Listed.{rid_bits_of}
 use Rattle.ndr_types.proofs.Arrays.{heads_begin, heads_go_on, heads_written}
 use Rattle.acct_stubs.proofs.MemberLists.{bits_part}
 use Rattle.acct_stubs.proofs.members.write_attributes.Goals as goal

@@ -1,7 +1,7 @@
 -- The SIDs read so far are those of the words that were passed.
 use Rattle.std.proofs.Common.{◌++◌, ◌∷◌, [], ◌∙◌, sym, ap, map, take}
 use Rattle.std.proofs.lemmas.List.{map_more}
-use Rattle.client_commands.specs.Steps.{sid_of_word}
+use Rattle.client_commands.specs.Words.{sid_of_word}
 use Rattle.client_commands.proofs.steps.sids_of_words.Goals as goal
 
 pub loop-word-preserved : goal.loop-word-preserved

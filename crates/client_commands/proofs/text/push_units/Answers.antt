@@ -1,7 +1,7 @@
 -- The text so far and the text of the units left are that of all units; where no point is left it is whole.
 use Rattle.std.proofs.Common.{◌++◌, sym, ap, ◌∙◌, append_assoc, string_bytes, encode_utf8}
 use Rattle.std.proofs.lemmas.List.{append-nil}
-use Rattle.client_commands.specs.Texts.{glyph, name_text}
+use Rattle.client_commands.specs.Outcomes.{glyph, name_text}
 use Rattle.client_commands.proofs.Names.{name_text-nil, name_text-first}
 use Rattle.client_commands.proofs.text.push_units.Goals as goal
 

@@ -2,7 +2,7 @@
 use Rattle.std.proofs.Common.{◌≡◌, ◌+◌, ◌++◌, ◌∷◌, [], ◌∙◌, sym, ap, subst, map, take, string_bytes, length, All}
 use Rattle.std.proofs.lemmas.List.{map_more, map-append, length-append}
 use Rattle.std.proofs.lemmas.List.Elements.{All-push}
-use Rattle.acct_calls.specs.CodePoints.{AreUnits}
+use Rattle.acct_calls.specs.Names.{AreUnits}
 use Rattle.client_commands.specs.Words.{name_in}
 use Rattle.client_commands.proofs.words.all_names.Goals as goal
 

@@ -1,6 +1,6 @@
 -- The names so far are those that the first so many words spell, in units of 16 bits.
 use Rattle.std.proofs.Common.{◌≡◌, map, take, string_bytes, length, All}
-use Rattle.acct_calls.specs.CodePoints.{AreUnits}
+use Rattle.acct_calls.specs.Names.{AreUnits}
 use Rattle.client_commands.specs.Words.{name_in}
 use Rattle.client_commands.proofs.words.all_names.Given as goal
 

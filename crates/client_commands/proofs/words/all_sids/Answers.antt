@@ -2,9 +2,8 @@
 use Rattle.std.proofs.Common.{◌≡◌, ◌+◌, ◌++◌, ◌∷◌, [], Some, ◌∙◌, sym, ap, subst, map, drop, string_bytes, length, All}
 use Rattle.std.proofs.lemmas.List.{at_drop_more, map-append, length-append}
 use Rattle.std.proofs.lemmas.List.Elements.{All-push}
-use Rattle.dtyp_sid.specs.Value.{IsSid}
-use Rattle.client_commands.specs.Steps.{sid_of_word}
-use Rattle.client_commands.specs.Words.{sid_word, all_sids}
+use Rattle.dtyp_sid.specs.Sids.{IsSid}
+use Rattle.client_commands.specs.Words.{sid_of_word, sid_word, all_sids}
 use Rattle.client_commands.proofs.Reading.{onto, one_more}
 use Rattle.client_commands.proofs.words.all_sids.Goals as goal
 

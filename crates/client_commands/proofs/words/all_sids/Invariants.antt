@@ -1,8 +1,7 @@
 -- Each word that was passed spells a SID, and these are the SIDs so far: the words left decide whether all do.
 use Rattle.std.proofs.Common.{◌≡◌, map, drop, string_bytes, length, All}
-use Rattle.dtyp_sid.specs.Value.{IsSid}
-use Rattle.client_commands.specs.Steps.{sid_of_word}
-use Rattle.client_commands.specs.Words.{all_sids}
+use Rattle.dtyp_sid.specs.Sids.{IsSid}
+use Rattle.client_commands.specs.Words.{sid_of_word, all_sids}
 use Rattle.client_commands.proofs.Reading.{onto}
 use Rattle.client_commands.proofs.words.all_sids.Given as goal
 

@@ -1,6 +1,6 @@
 -- Bit for bit, the mask has the desired rights that are named and those that a desired generic bit stands for.
 use Rattle.std.proofs.Common.{refl}
-use Rattle.dtyp_access.specs.Opening.{asks}
+use Rattle.dtyp_access.specs.Granted.{asks}
 use Rattle.dtyp_access.proofs.Masks.{shares-and, shares-or, shares-if}
 use Rattle.dtyp_access.proofs.Nameless.{shares-named}
 use Rattle.dtyp_access.proofs.check.asked_rights.Goals as goal

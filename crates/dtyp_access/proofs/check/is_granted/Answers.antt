@@ -1,6 +1,6 @@
 -- A right is one bit, and it is granted where the mask of the granted rights shares this bit.
 use Rattle.std.proofs.Common.{◌≡◌, ℕ, ◌^◌, ◌∙◌, ap, sym, subst, bit_and, List}
-use Rattle.dtyp_sid.specs.Value.{SidValue}
+use Rattle.dtyp_sid.specs.Sids.{SidValue}
 use Rattle.std.specs.Prelude.{not, ◌==◌}
 use Rattle.dtyp_access.specs.Granted.{shares, granted}
 use Rattle.dtyp_access.proofs.check.is_granted.Goals as goal

@@ -1,6 +1,5 @@
 -- A descriptor that is written is read as the same one, whatever bytes follow: what is written spells it.
-use Rattle.dtyp_access.specs.Parts.{parts_of}
-use Rattle.dtyp_access.specs.Written.{descriptor_bytes}
+use Rattle.dtyp_access.specs.Parts.{parts_of, descriptor_bytes}
 use Rattle.std.proofs.Common.{◌++◌}
 use Rattle.dtyp_access.proofs.SpelledIsRead.{spelled_is_read}
 use Rattle.dtyp_access.proofs.laws.written_bytes_are_read.Goals as goal

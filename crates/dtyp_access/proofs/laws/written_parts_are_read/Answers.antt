@@ -1,6 +1,6 @@
 -- Parts that are written are read as the same ones, whatever bytes follow: what is written spells them.
 use Rattle.std.proofs.Common.{◌++◌, false}
-use Rattle.dtyp_access.specs.Written.{parts_bytes}
+use Rattle.dtyp_access.specs.Parts.{parts_bytes}
 use Rattle.dtyp_access.proofs.SpelledIsRead.{parts_are_read}
 use Rattle.dtyp_access.proofs.laws.written_parts_are_read.Goals as goal
 

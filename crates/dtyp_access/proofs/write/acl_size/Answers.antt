@@ -2,7 +2,7 @@
 use Rattle.std.proofs.Common.{◌≡◌, ◌+◌, ◌++◌, ◌∷◌, [], take, length, arith, ap, ◌∙◌, sym}
 use Rattle.std.proofs.lemmas.List.{take_more, length-append}
 use Rattle.dtyp_access.specs.declared.ace.Ace.{Ace}
-use Rattle.dtyp_access.specs.Written.{aces_bytes, ace_bytes}
+use Rattle.dtyp_access.specs.Parts.{aces_bytes, ace_bytes}
 use Rattle.dtyp_access.proofs.Writing.{aces_bytes-none, aces_bytes-take_more, length-ace_bytes}
 use Rattle.dtyp_access.proofs.write.acl_size.Goals as goal
 

@@ -2,7 +2,7 @@
 use Rattle.std.proofs.Common.{◌≡◌, ◌+◌, ◌++◌, ◌∷◌, [], take, ap, ◌∙◌, sym}
 use Rattle.std.proofs.lemmas.List.{take_more, append-nil}
 use Rattle.dtyp_access.specs.declared.ace.Ace.{Ace}
-use Rattle.dtyp_access.specs.Written.{aces_bytes, ace_bytes}
+use Rattle.dtyp_access.specs.Parts.{aces_bytes, ace_bytes}
 use Rattle.dtyp_access.proofs.Writing.{aces_bytes-none, aces_bytes-take_more, pushed_more}
 use Rattle.dtyp_access.proofs.write.push_aces.Goals as goal
 

@@ -1,6 +1,6 @@
 -- The bytes of the first so many entries were added after what was there.
 use Rattle.std.proofs.Common.{◌≡◌, ◌++◌, take}
-use Rattle.dtyp_access.specs.Written.{aces_bytes}
+use Rattle.dtyp_access.specs.Parts.{aces_bytes}
 use Rattle.dtyp_access.proofs.write.push_aces.Given as goal
 
 abbrev pub invariant-loop-ace : goal.invariant-loop-ace

@@ -3,7 +3,7 @@ use Rattle.std.proofs.Common.{◌≡◌, ℕ, List, ◌++◌, ◌+◌, ◌∷◌
 use Rattle.std.specs.Prelude.{is_some}
 use Rattle.std.specs.Int.{w16, w32, to_le_bytes}
 use Rattle.dtyp_access.specs.declared.parts.Parts.{Parts}
-use Rattle.dtyp_access.specs.Written.{header_bytes, sid_bytes, control_of, offset_if}
+use Rattle.dtyp_access.specs.Parts.{header_bytes, sid_bytes, control_of, offset_if}
 use Rattle.dtyp_access.proofs.Writing.{six_pushed}
 use Rattle.dtyp_access.proofs.write.push_header.Goals as goal
 

@@ -3,7 +3,7 @@ use Rattle.std.proofs.Common.{◌≡◌, ◌∙◌, [], ap, sym, Ok}
 use Rattle.std.proofs.lemmas.List.{append-nil}
 use Rattle.std.proofs.lemmas.Result.{IfOk-weaker}
 use Rattle.dtyp_access.specs.Reading.{parts_of_bytes}
-use Rattle.dtyp_access.specs.Written.{parts_bytes}
+use Rattle.dtyp_access.specs.Parts.{parts_bytes}
 use Rattle.dtyp_access.proofs.write.write_parts.Goals as goal
 
 pub returns-clause-read_back : goal.returns-clause-read_back

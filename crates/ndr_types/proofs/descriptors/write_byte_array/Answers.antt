@@ -2,7 +2,7 @@
 use Rattle.std.proofs.Common.{w8}
 use Rattle.std.proofs.lemmas.List.Elements.{All-from_get_or}
 use Rattle.std.proofs.Math.Facts.{Fits-lt-pow}
-use Rattle.ndr_core.specs.Written.{IsByte, IsBytes}
+use Rattle.ndr_core.specs.Cursor.{IsByte, IsBytes}
 use Rattle.ndr_types.proofs.ByteArrays.{array_write}
 use Rattle.ndr_types.proofs.descriptors.write_byte_array.Goals as goal
 

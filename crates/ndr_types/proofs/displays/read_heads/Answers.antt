@@ -2,7 +2,7 @@
 use Rattle.std.proofs.lemmas.Result.{err_from_is_err_and}
 use Rattle.ndr_core.specs.Parts.{times}
 use Rattle.ndr_core.proofs.Loop.{times_begins, times_goes_on, times_ends, times_done}
-use Rattle.ndr_types.specs.Displays.{display_row}
+use Rattle.ndr_types.specs.Listed.{display_row}
 use Rattle.ndr_types.proofs.Arrays.{yields_error}
 use Rattle.ndr_types.proofs.displays.read_heads.Goals as goal
 

@@ -1,6 +1,6 @@
 -- The heads so far are those before the cursor, and the rest is left to read.
 use Rattle.ndr_core.proofs.Loop.{TimesSoFar}
-use Rattle.ndr_types.specs.Displays.{display_row}
+use Rattle.ndr_types.specs.Listed.{display_row}
 use Rattle.ndr_types.proofs.displays.read_heads.Given as goal
 
 abbrev pub invariant-loop : goal.invariant-loop

@@ -1,7 +1,7 @@
 -- One more tail is read, or the reading of all ends where that of one does.
 use Rattle.std.proofs.Common.{ℕ, false, get_or, refl}
 use Rattle.std.proofs.lemmas.Result.{err_from_is_err_and}
-use Rattle.ndr_types.specs.Displays.{TextHeads, display_row}
+use Rattle.ndr_types.specs.Listed.{TextHeads, display_row}
 use Rattle.ndr_types.proofs.Arrays.{each_begins, each_goes_on, each_ends, each_done}
 use Rattle.ndr_types.proofs.displays.read_tails.Goals as goal
 

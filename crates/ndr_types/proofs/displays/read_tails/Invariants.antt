@@ -1,5 +1,5 @@
 -- The values so far are those before the cursor, and the tails of the other heads are left to read.
-use Rattle.ndr_types.specs.Displays.{display_row}
+use Rattle.ndr_types.specs.Listed.{display_row}
 use Rattle.ndr_types.proofs.Arrays.{EachSoFar}
 use Rattle.ndr_types.proofs.displays.read_tails.Given as goal
 

@@ -1,5 +1,5 @@
 -- One more head is written, and at the end all are.
-use Rattle.ndr_types.specs.Displays.{display_row}
+use Rattle.ndr_types.specs.Listed.{display_row}
 use Rattle.ndr_types.proofs.Arrays.{heads_begin, heads_go_on, heads_written}
 use Rattle.ndr_types.proofs.displays.write_heads.Goals as goal
 

@@ -1,5 +1,5 @@
 -- The heads before the place are written.
-use Rattle.ndr_types.specs.Displays.{display_row}
+use Rattle.ndr_types.specs.Listed.{display_row}
 use Rattle.ndr_types.proofs.Arrays.{HeadsSoFar}
 use Rattle.ndr_types.proofs.displays.write_heads.Given as goal
 

@@ -1,5 +1,5 @@
 -- One more tail is written, and at the end all are.
-use Rattle.ndr_types.specs.Displays.{display_row}
+use Rattle.ndr_types.specs.Listed.{display_row}
 use Rattle.ndr_types.proofs.Arrays.{tails_go_on, tails_written}
 use Rattle.ndr_types.proofs.displays.write_tails.Goals as goal
 

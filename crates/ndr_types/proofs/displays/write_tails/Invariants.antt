@@ -1,5 +1,5 @@
 -- The tails before the place are written.
-use Rattle.ndr_types.specs.Displays.{display_row}
+use Rattle.ndr_types.specs.Listed.{display_row}
 use Rattle.ndr_types.proofs.Arrays.{TailsSoFar}
 use Rattle.ndr_types.proofs.displays.write_tails.Given as goal
 

@@ -2,19 +2,11 @@
 -- that reading goes onward.
 use Rattle.ndr_core.specs.Parts.{flat, whole}
 use Rattle.ndr_core.specs.Shapes.{u32}
-use Rattle.ndr_types.specs.Accounts.{rid_names}
-use Rattle.ndr_types.specs.Descriptors.{descriptor, descriptor_pointer}
-use Rattle.ndr_types.specs.Displays.{display_rows}
-use Rattle.ndr_types.specs.Domains.{referenced}
-use Rattle.ndr_types.specs.Handles.{handle}
-use Rattle.ndr_types.specs.Lists.{rid_list, sid_list, text_list}
-use Rattle.ndr_types.specs.Pointers.{privilege_set_pointer, text_pointer}
-use Rattle.ndr_types.specs.PrivilegeNames.{privilege_names}
-use Rattle.ndr_types.specs.Privileges.{privilege_set}
-use Rattle.ndr_types.specs.Sids.{sid, sid_pointer}
-use Rattle.ndr_types.specs.Texts.{text}
-use Rattle.ndr_types.specs.Translations.{flagged, flagged_names, flagged_sids, sid_ref, sid_refs, translated_name}
-use Rattle.ndr_types.specs.Translations.{translated_names, translated_sid, translated_sids}
+use Rattle.ndr_types.specs.Listed.{rid_names, descriptor, descriptor_pointer, display_rows, privilege_names}
+use Rattle.ndr_types.specs.Translations.{referenced, flagged, flagged_names, flagged_sids, sid_ref, sid_refs}
+use Rattle.ndr_types.specs.Translations.{translated_name, translated_names, translated_sid, translated_sids}
+use Rattle.ndr_types.specs.Values.{handle, rid_list, sid_list, text_list, privilege_set_pointer, text_pointer}
+use Rattle.ndr_types.specs.Values.{privilege_set, sid, sid_pointer, text}
 use Rattle.acct_layouts.specs.declared.classes.DisplayArm.TheVariants as display
 use Rattle.ndr_types.proofs.DisplayRows.{display_rows_onward, groups_complete, groups_values}
 use Rattle.ndr_types.proofs.DisplayRows.{users_complete, users_values}

@@ -1,7 +1,7 @@
 -- One more tail is read, or the reading of all ends where that of one does.
 use Rattle.std.proofs.Common.{ℕ, Bool, false, get_or, refl}
 use Rattle.std.proofs.lemmas.Result.{err_from_is_err_and}
-use Rattle.ndr_types.specs.PrivilegeNames.{privilege_name}
+use Rattle.ndr_types.specs.Listed.{privilege_name}
 use Rattle.ndr_types.proofs.Arrays.{each_begins, each_goes_on, each_ends, each_done}
 use Rattle.ndr_types.proofs.privilege_names.read_tails.Goals as goal
 

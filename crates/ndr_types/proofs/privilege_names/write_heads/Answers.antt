@@ -1,5 +1,5 @@
 -- One more head is written, and at the end all are.
-use Rattle.ndr_types.specs.PrivilegeNames.{privilege_name}
+use Rattle.ndr_types.specs.Listed.{privilege_name}
 use Rattle.ndr_types.proofs.Arrays.{heads_begin, heads_go_on, heads_written}
 use Rattle.ndr_types.proofs.privilege_names.write_heads.Goals as goal
 

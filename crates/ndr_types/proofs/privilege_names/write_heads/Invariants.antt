@@ -1,5 +1,5 @@
 -- The heads before the place are written.
-use Rattle.ndr_types.specs.PrivilegeNames.{privilege_name}
+use Rattle.ndr_types.specs.Listed.{privilege_name}
 use Rattle.ndr_types.proofs.Arrays.{HeadsSoFar}
 use Rattle.ndr_types.proofs.privilege_names.write_heads.Given as goal
 

@@ -1,5 +1,5 @@
 -- One more tail is written, and at the end all are.
-use Rattle.ndr_types.specs.PrivilegeNames.{privilege_name}
+use Rattle.ndr_types.specs.Listed.{privilege_name}
 use Rattle.ndr_types.proofs.Arrays.{tails_go_on, tails_written}
 use Rattle.ndr_types.proofs.privilege_names.write_tails.Goals as goal
 

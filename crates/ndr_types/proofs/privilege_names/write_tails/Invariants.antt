@@ -1,5 +1,5 @@
 -- The tails before the place are written.
-use Rattle.ndr_types.specs.PrivilegeNames.{privilege_name}
+use Rattle.ndr_types.specs.Listed.{privilege_name}
 use Rattle.ndr_types.proofs.Arrays.{TailsSoFar}
 use Rattle.ndr_types.proofs.privilege_names.write_tails.Given as goal
 

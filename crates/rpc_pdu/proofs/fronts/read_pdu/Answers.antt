@@ -3,13 +3,11 @@ use Rattle.std.proofs.Common.{◌≡◌, ◌≤◌, true, List, ℕ, length, get
 use Rattle.std.proofs.Math.Facts.{Fits-lt-pow}
 use Rattle.std.proofs.lemmas.List.{get_or-take, length-take-le}
 use Rattle.rpc_pdu.specs.declared.headers.Header.TheVariants.{Long}
-use Rattle.rpc_pdu.specs.Headers.{least_length, header_of}
+use Rattle.rpc_pdu.specs.Headers.{least_length, header_of, u32_at}
 use Rattle.acct_base.specs.declared.fields.Unread.{Unread}
 use Rattle.rpc_pdu.specs.declared.pdus.Pdu.{Pdu}
-use Rattle.rpc_pdu.specs.Bodies.{body_of, takes_memory, WantsOnlyIf}
-use Rattle.rpc_pdu.specs.Numbers.{u32_at}
+use Rattle.rpc_pdu.specs.Bodies.{body_of, takes_memory, WantsOnlyIf, Whole, front}
 use Rattle.rpc_pdu.specs.Written.{type_of, call_id}
-use Rattle.rpc_pdu.specs.Front.{Whole, front}
 use Rattle.rpc_pdu.proofs.HeaderFacts.{header_long, long_16, bad_early}
 use Rattle.rpc_pdu.proofs.Whole.{has_front, head_at, call_at}
 use Rattle.rpc_pdu.proofs.Stubs.{stub_within}

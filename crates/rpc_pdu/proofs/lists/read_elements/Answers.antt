@@ -1,6 +1,6 @@
 -- The elements read so far and those still to read are `count` in all, and the first lack of one is the answer.
 use Rattle.std.proofs.lemmas.Result.{err_from_is_err_and}
-use Rattle.rpc_pdu.specs.Lists.{element_at}
+use Rattle.rpc_pdu.specs.Headers.{element_at}
 use Rattle.acct_base.proofs.Many.{starts, goes_on, ends, is_done}
 use Rattle.rpc_pdu.proofs.Wants.{counted}
 use Rattle.rpc_pdu.proofs.lists.read_elements.Goals as goal

@@ -1,5 +1,5 @@
 -- The elements read so far, with those that the bytes left give, are what reading all of them gives.
-use Rattle.rpc_pdu.specs.Lists.{element_at}
+use Rattle.rpc_pdu.specs.Headers.{element_at}
 use Rattle.acct_base.proofs.Many.{SoFar}
 use Rattle.rpc_pdu.proofs.lists.read_elements.Given as goal
 

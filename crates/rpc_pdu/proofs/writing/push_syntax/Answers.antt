@@ -2,8 +2,7 @@
 use Rattle.std.proofs.Common.{◌∙◌, ◌++◌, List, ℕ, ap, append_assoc}
 use Rattle.std.proofs.lemmas.Result.{on_ok_weaker}
 use Rattle.uuid.specs.Parts.{swap_fields}
-use Rattle.rpc_pdu.specs.Numbers.{u32_bytes}
-use Rattle.rpc_pdu.specs.Syntaxes.{syntax_bytes}
+use Rattle.rpc_pdu.specs.Headers.{u32_bytes, syntax_bytes}
 use Rattle.rpc_pdu.proofs.writing.push_syntax.Goals as goal
 
 pub returns-clause-bytes : goal.returns-clause-bytes

@@ -1,5 +1,5 @@
 -- After each syntax `out` has the bytes of the syntaxes so far after what it had, and each of these is whole.
-use Rattle.rpc_pdu.specs.Syntaxes.{syntax_bytes}
+use Rattle.rpc_pdu.specs.Headers.{syntax_bytes}
 use Rattle.rpc_pdu.specs.Written.{IsWhole}
 use Rattle.rpc_pdu.proofs.Pushes.{pushed_none, pushed_more, pushed_all}
 use Rattle.rpc_pdu.proofs.writing.push_syntaxes.Goals as goal

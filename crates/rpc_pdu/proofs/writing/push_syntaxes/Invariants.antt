@@ -1,5 +1,5 @@
 -- The bytes of the first so many syntaxes were added, and the UUID of each of these has its 16 bytes.
-use Rattle.rpc_pdu.specs.Syntaxes.{syntax_bytes}
+use Rattle.rpc_pdu.specs.Headers.{syntax_bytes}
 use Rattle.rpc_pdu.specs.Written.{IsWhole}
 use Rattle.rpc_pdu.proofs.Pushes.{Pushed}
 use Rattle.rpc_pdu.proofs.writing.push_syntaxes.Given as goal

@@ -1,7 +1,7 @@
 -- After each element the outcomes are those of the elements so far, in their order.
 use Rattle.std.proofs.Common.{◌∙◌, ◌++◌, [], ◌∷◌, ap, sym}
 use Rattle.std.proofs.lemmas.List.{map_more}
-use Rattle.rpc_session.specs.Contexts.{outcome}
+use Rattle.rpc_session.specs.Answers.{outcome}
 use Rattle.rpc_session.proofs.contexts.outcomes.Goals as goal
 
 pub loop-element-preserved : goal.loop-element-preserved

@@ -1,6 +1,6 @@
 -- The fragments so far, and those that the rest of the stub takes, are all of them.
 use Rattle.std.proofs.Common.{◌≡◌, ◌∙◌, ap, arith, ℕ, ◌++◌, ◌*◌, ◌/◌, ◌-◌, ◌+◌, true, length, take}
-use Rattle.rpc_session.specs.Fragments.{first_flag, fragment, cut_stub}
+use Rattle.rpc_session.specs.Answers.{first_flag, fragment, cut_stub}
 use Rattle.rpc_session.proofs.Parts.{parts_go_on, parts_end}
 use Rattle.rpc_session.proofs.fragments.cut_stub.Goals as goal
 

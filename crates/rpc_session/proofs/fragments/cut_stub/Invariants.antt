@@ -1,6 +1,6 @@
 -- The fragments written so far, followed by those of the rest of the stub, are those of the whole stub.
 use Rattle.std.proofs.Common.{◌≡◌, ◌++◌, true, length}
-use Rattle.rpc_session.specs.Fragments.{cut_stub, fragment}
+use Rattle.rpc_session.specs.Answers.{cut_stub, fragment}
 use Rattle.rpc_session.proofs.fragments.cut_stub.Given as goal
 
 abbrev pub invariant-loop-rest : goal.invariant-loop-rest

@@ -3,7 +3,7 @@ use Rattle.std.proofs.Common.{◌≡◌, ◌∙◌, sym, ap, arith, drop, length
 use Rattle.rpc_session.specs.declared.sessions.Act.{Act}
 use Rattle.rpc_session.specs.declared.hearing.Next.TheVariants as next
 use Rattle.rpc_session.specs.declared.hearing.Hearing.TheVariants.{Going, Ended}
-use Rattle.rpc_session.specs.Hearings.{Begins, heard_next, hear}
+use Rattle.rpc_session.specs.Sessions.{Begins, heard_next, hear}
 use Rattle.rpc_session.proofs.Cutting.{whole_next}
 use Rattle.rpc_session.proofs.Steps.{IsHearing, waiting, ended, goes, stopped, on_err, moved}
 use Rattle.rpc_session.proofs.Still.{first_isnt_end, first_isnt_whole}

@@ -1,8 +1,8 @@
 -- The acts added so far, with what is heard in the bytes left, are all that is heard in the bytes.
 use Rattle.std.proofs.Common.{◌≡◌, ◌+◌, ◌-◌, ◌≤◌, length, drop}
 use Rattle.rpc_pdu.specs.declared.pdus.Side.TheVariants.{Server}
-use Rattle.rpc_pdu.specs.Front.{Rest, front}
-use Rattle.rpc_session.specs.Hearings.{hear}
+use Rattle.rpc_pdu.specs.Bodies.{Rest, front}
+use Rattle.rpc_session.specs.Sessions.{hear}
 use Rattle.rpc_session.proofs.Steps.{IsHearing}
 use Rattle.rpc_session.proofs.hearing.hear.Given as goal
 

@@ -1,9 +1,8 @@
 -- A response is the fragment with its type, and with 0 in the place of the opnum.
 use Rattle.std.proofs.Common.{◌≡◌, ℕ, true, List, refl, subst, IfOk}
-use Rattle.acct_codes.specs.PduTypes.{ptype_response}
+use Rattle.acct_codes.specs.Pdus.{ptype_response}
 use Rattle.rpc_pdu.specs.Written.{written, body_bytes}
-use Rattle.rpc_session.specs.Fragments.{cut_stub, fragment, most_of}
-use Rattle.rpc_session.specs.Replies.{response}
+use Rattle.rpc_session.specs.Answers.{cut_stub, fragment, most_of, response}
 use Rattle.rpc_session.proofs.replies.reply_bytes.Goals as goal
 
 same_response : (id context : ℕ)

@@ -4,7 +4,7 @@ use Rattle.std.specs.Char.Escape.{encode_utf16}
 use Rattle.std.proofs.lemmas.List.{map-id}
 use Rattle.std.proofs.lemmas.Iterator.{YieldsList-from_chars}
 use Rattle.std.proofs.lemmas.Iterator.Consumers.{YieldsList-end}
-use Rattle.acct_calls.specs.CodePoints.{units_of}
+use Rattle.acct_calls.specs.Names.{units_of}
 use Rattle.acct_calls.proofs.Points.{units_of-nil, units_of-more}
 use Rattle.acct_calls.proofs.name.Name.from_text.Goals as goal
 

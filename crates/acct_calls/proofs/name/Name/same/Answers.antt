@@ -1,7 +1,7 @@
 -- `same` is true just where the code points of the two names are equal after folding.
 use Rattle.std.proofs.Common.{◌≡◌, IsTrue, sym, subst}
 use Rattle.std.specs.Prelude.{◌↔◌, Bool}
-use Rattle.acct_calls.specs.Folding.{is_same, AreSame}
+use Rattle.acct_calls.specs.Names.{is_same, AreSame}
 use Rattle.acct_calls.proofs.Folds.{tells_same}
 use Rattle.acct_calls.proofs.name.Name.same.Goals as goal
 

@@ -2,8 +2,7 @@
 use Rattle.std.proofs.Common.{◌≡◌, ap, ◌∙◌, arith, drop, subst, w8}
 use Rattle.std.specs.Prelude.{slice_index}
 use Rattle.std.proofs.Math.Facts.{Fits-lt-pow}
-use Rattle.dtyp_sid.specs.Value.{SidValue}
-use Rattle.dtyp_sid.specs.Bytes.{authority_at_front, subs_at_front, BeginWithSid}
+use Rattle.dtyp_sid.specs.Sids.{SidValue, authority_at_front, subs_at_front, BeginWithSid}
 use Rattle.dtyp_sid.proofs.SidBytes.{spelled}
 use Rattle.dtyp_sid.proofs.sid.Sid.from_bytes.Goals as goal
 

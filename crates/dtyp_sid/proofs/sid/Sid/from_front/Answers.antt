@@ -2,8 +2,8 @@
 use Rattle.std.proofs.Common.{◌≡◌, ◌<◌, ◌∷◌, ◌++◌, [], refl, arith, ap, ◌∙◌, sym, length, add-one, take, drop, ◌*◌, ◌+◌}
 use Rattle.std.specs.Int.{w32, from_le_bytes}
 use Rattle.std.proofs.lemmas.List.{take_more_set}
-use Rattle.dtyp_sid.specs.Slots.{pushed}
-use Rattle.dtyp_sid.specs.Bytes.{subs_at_front}
+use Rattle.dtyp_sid.specs.steps.Slots.{pushed}
+use Rattle.dtyp_sid.specs.Sids.{subs_at_front}
 use Rattle.dtyp_sid.proofs.SidBytes.{subs_at_front-more}
 use Rattle.dtyp_sid.proofs.sid.Sid.from_front.Goals as goal
 

@@ -1,7 +1,7 @@
 -- The first so many slots have the sub-authorities at the beginning of the bytes, and those after them are zero.
 use Rattle.std.proofs.Common.{◌≡◌, take}
-use Rattle.dtyp_sid.specs.Slots.{AreSlots}
-use Rattle.dtyp_sid.specs.Bytes.{subs_at_front}
+use Rattle.dtyp_sid.specs.steps.Slots.{AreSlots}
+use Rattle.dtyp_sid.specs.Sids.{subs_at_front}
 use Rattle.dtyp_sid.proofs.sid.Sid.from_front.Given as goal
 
 abbrev pub invariant-loop-place : goal.invariant-loop-place

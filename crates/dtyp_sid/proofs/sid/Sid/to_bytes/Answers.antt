@@ -2,7 +2,7 @@
 use Rattle.std.proofs.Common.{◌≡◌, ℕ, List, ◌+◌, ◌++◌, ◌<◌, ◌≤◌, get_or, arith, ap, sym, ◌∙◌, length, take, drop}
 use Rattle.std.proofs.Common.{append_assoc, refl, subst}
 use Rattle.std.specs.Int.{w32, to_le_bytes}
-use Rattle.dtyp_sid.specs.Bytes.{header_of, sub_bytes}
+use Rattle.dtyp_sid.specs.Sids.{header_of, sub_bytes}
 use Rattle.dtyp_sid.proofs.SidBytes.{put_behind, sub_bytes-take_more, length-written}
 use Rattle.dtyp_sid.proofs.sid.Sid.to_bytes.Goals as goal
 

@@ -1,6 +1,6 @@
 -- A SID of fewer than 15 sub-authorities is still one with one more: there are few enough, and zeros after.
 use Rattle.std.proofs.Common.{arith}
-use Rattle.dtyp_sid.specs.Slots.{pushed}
+use Rattle.dtyp_sid.specs.steps.Slots.{pushed}
 use Rattle.dtyp_sid.proofs.sid.Sid.with_rid.Goals as goal
 
 pub invariant_of-result : goal.invariant_of-result

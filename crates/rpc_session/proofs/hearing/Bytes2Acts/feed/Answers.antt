@@ -3,7 +3,7 @@
 use Rattle.std.proofs.Common.{◌∙◌, ap, sym, subst}
 use Rattle.std.proofs.lemmas.Result.{on_ok_weaker}
 use Rattle.rpc_session.specs.declared.hearing.Hearing.{Hearing}
-use Rattle.rpc_session.specs.Hearings.{joined, on, IsStill}
+use Rattle.rpc_session.specs.Sessions.{joined, on, IsStill}
 use Rattle.rpc_session.proofs.Steps.{heard_more}
 use Rattle.rpc_session.proofs.Still.{still}
 use Rattle.rpc_session.proofs.hearing.Bytes2Acts.feed.Goals as goal
