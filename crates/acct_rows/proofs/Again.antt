@@ -1,16 +1,16 @@
 -- Sound rows with the same pairs are the same rows.
 use Rattle.std.proofs.Common.{◌≡◌, List, refl, sym, ap, subst, ◌∙◌, inl, inr}
-use Rattle.dtyp_sid.specs.Bytes.{WrittenBytesAreRead, WrittenBytesHaveLengths, ReadBytesAreWritten}
+use Rattle.dtyp_sid.specs.Sids.{WrittenBytesAreRead, WrittenBytesHaveLengths, ReadBytesAreWritten}
 use Rattle.acct_keeper.specs.declared.pairs.Pair.{Pair}
 use Rattle.acct_rows.specs.PairRules.{pair_key}
 use Rattle.acct_rows.specs.PairsOf.{IsRowOf, HoldPairs, PairsAreOfOne}
 use Rattle.acct_rows.specs.Rows.{Lists}
-use Rattle.acct_rows.specs.Spelled.{key_of, pair_of, Fits}
-use Rattle.acct_rows.specs.Stored.{row_of}
-use Rattle.acct_rows.specs.declared.row.Row.{Row}
+use Rattle.acct_tables.specs.Spelled.{key_of, pair_of, Fits}
+use Rattle.acct_tables.specs.Stored.{row_of}
+use Rattle.acct_tables.specs.declared.row.Row.{Row}
 use Rattle.acct_rows.proofs.Fitting.{all_fit}
 use Rattle.acct_tables.proofs.Lookups.{same_Some}
-use Rattle.acct_rows.proofs.SpelledRows.{fits_key, spelled_rows_are_read}
+use Rattle.acct_tables.proofs.SpelledRows.{fits_key, spelled_rows_are_read}
 use Rattle.acct_rows.proofs.Translated.{not_format, not_next_out, next_known}
 use Rattle.acct_rows.proofs.RowsAt.{row_fits, same_lists, sound_tables}
 

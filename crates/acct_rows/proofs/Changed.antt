@@ -6,35 +6,34 @@ use Rattle.std.specs.Str.{bytes_eq}
 use Rattle.std.proofs.lemmas.Slice.Eq.{bytes_eq-Decides}
 use Rattle.std.specs.declared.cmp.Ordering.{Ordering}
 use Rattle.std.specs.declared.cmp.Ordering.TheVariants.{Less, Equal, Greater}
-use Rattle.dtyp_sid.specs.Bytes.{WrittenBytesAreRead, WrittenBytesHaveLengths, ReadBytesAreWritten}
-use Rattle.dtyp_sid.specs.Order.{EqualSidsAreOne}
+use Rattle.dtyp_sid.specs.Sids.{WrittenBytesAreRead, WrittenBytesHaveLengths, ReadBytesAreWritten, EqualSidsAreOne}
 use Rattle.acct_keeper.specs.declared.pairs.Pair.{Pair}
 use Rattle.acct_keeper.specs.declared.pairs.Change.{Change}
 use Rattle.acct_keeper.specs.Pairs as kept
 use Rattle.acct_rows.specs.Changes.{Follow, row_at, stored_at, same_row_key, is_put}
 use Rattle.acct_rows.specs.Changes.{has_value, where_so, removal, removals}
 use Rattle.acct_rows.specs.Changes.{row_written, last_written, rows_written, next_out_written, changes_of, LastFit}
-use Rattle.acct_rows.specs.Keyed.{compare, same_key, by_order, put, is_ascending}
+use Rattle.acct_tables.specs.KeyedRows.{compare, same_key, by_order, put, is_ascending}
 use Rattle.acct_rows.specs.PairRules.{pair_key, pair_at, is_old}
 use Rattle.acct_rows.specs.PairsOf.{IsRowOf, IsNextOut, IsPairOf, HoldPairs, migration, MigratedPairsAscend}
 use Rattle.acct_rows.specs.Rows.{Lists, put_row, remove_row, removed, with_puts, next_past, after}
 use Rattle.acct_rows.specs.Sound.{IsSoundRows}
-use Rattle.acct_rows.specs.Spelled.{stored_key, stored_value, key_of, pair_of, format_key, format_pair, next_out_key}
-use Rattle.acct_rows.specs.Spelled.{next_out_value, next_out_pair, Fits}
-use Rattle.acct_rows.specs.Stored.{row_of}
+use Rattle.acct_tables.specs.Spelled.{stored_key, stored_value, key_of, pair_of, format_key, format_pair, next_out_key}
+use Rattle.acct_tables.specs.Spelled.{next_out_value, next_out_pair, Fits}
+use Rattle.acct_tables.specs.Stored.{row_of}
 use Rattle.acct_rows.specs.declared.plan.Plan.{Plan}
-use Rattle.acct_rows.specs.declared.row.Row.{Row}
-use Rattle.acct_rows.specs.declared.row.Row.TheVariants as rows
-use Rattle.acct_rows.specs.declared.row.RowKey.{RowKey}
-use Rattle.acct_rows.specs.declared.row.RowKey.TheVariants as keys
+use Rattle.acct_tables.specs.declared.row.Row.{Row}
+use Rattle.acct_tables.specs.declared.row.Row.TheVariants as rows
+use Rattle.acct_tables.specs.declared.row.RowKey.{RowKey}
+use Rattle.acct_tables.specs.declared.row.RowKey.TheVariants as keys
 use Rattle.acct_tables.proofs.Ascending.{is_ascending-put, is_ascending-filter}
 use Rattle.acct_tables.proofs.Lookups.{at-put, at-without, same_Some, there_or_not}
 use Rattle.acct_tables.proofs.Orders.{same_key-is, same_key-itself, tested}
 use Rattle.acct_rows.proofs.Fitting.{all_fit}
 use Rattle.acct_rows.proofs.Members.{ascending-kept}
-use Rattle.acct_rows.proofs.ReadRows.{FitsKey}
-use Rattle.acct_rows.proofs.SpelledRows.{fits_key, spelled_rows_are_read}
-use Rattle.acct_rows.proofs.Moves.{equals, equal_is, nat_cases}
+use Rattle.acct_tables.proofs.ReadRows.{FitsKey}
+use Rattle.acct_tables.proofs.SpelledRows.{fits_key, spelled_rows_are_read}
+use Rattle.acct_tables.proofs.Equals.{equals, equal_is, nat_cases}
 use Rattle.acct_rows.proofs.Translated.{is_row_at, at_is_row, one_key, not_format, not_next_out, pair_is, keys_apart}
 use Rattle.acct_rows.proofs.RowsAt.{among, row_fits, same_itself, same_or_not, removed_at, puts_elsewhere, last_found}
 use Rattle.acct_rows.proofs.RowsAt.{same_lists, sound_tables}

@@ -9,34 +9,36 @@ use Rattle.std.proofs.lemmas.Nat.{and_le_r}
 use Rattle.std.proofs.lemmas.List.Elements.{recursion_from_All}
 use Rattle.acct_codes.specs.declared.kind.Kind.{Kind}
 use Rattle.acct_codes.specs.declared.kind.Kind.TheVariants.{Server, Domain, Group, Alias, User, Policy, Account}
-use Rattle.acct_calls.specs.CodePoints.{units_of}
+use Rattle.acct_calls.specs.Names.{units_of, builtin_name, authority_name, is_domain_name, is_same, is_valid_name}
+use Rattle.acct_calls.specs.Names.{all_may_stand, is_dots_and_spaces, most_units}
 use Rattle.std.specs.Str.{chars}
-use Rattle.acct_calls.specs.Domains.{builtin_name, authority_name, is_domain_name}
-use Rattle.acct_calls.specs.Folding.{is_same}
 use Rattle.acct_codes.specs.Limits.{most_domain_name}
-use Rattle.acct_calls.specs.Validity.{is_valid_name, all_may_stand, is_dots_and_spaces, most_units}
-use Rattle.acct_codes.specs.SystemAccess.{known_system_access}
-use Rattle.acct_rows.specs.Objects.{exists}
-use Rattle.acct_rows.specs.Rows.{Lists, domain_key, account_key, lsa_key, sid_key, domain_at, account_at, member_at}
-use Rattle.acct_rows.specs.Rows.{alias_row_at, lsa_at, same_kind, is_of}
-use Rattle.acct_rows.specs.Sound.{IsGoodDomain, IsGoodAccount, IsGoodLsa, IsGoodOut, IsSoundRows, good_place}
-use Rattle.acct_rows.specs.Sound.{good_primary, next_rid_of, are_above}
-use Rattle.acct_rows.specs.Spelled.{FitsDomain, FitsAccount, FitsMember, FitsAlias, FitsLsa, FitsObject, FitsOut, ascend}
-use Rattle.dtyp_sid.specs.Value.{IsSid}
-use Rattle.acct_rows.specs.declared.object.Object.{Object}
-use Rattle.acct_rows.specs.declared.object.Object.TheVariants as objects
+use Rattle.acct_codes.specs.Privileges.{known_system_access}
+use Rattle.acct_rows.specs.Rows.{exists, Lists, domain_at, account_at, member_at}
+use Rattle.acct_tables.specs.Keys.{domain_key, account_key, lsa_key, sid_key}
+use Rattle.acct_rows.specs.Rows.{alias_row_at, lsa_at, is_of}
+use Rattle.acct_tables.specs.Selected.{same_kind}
+use Rattle.acct_rows.specs.Sound.{IsGoodAccount, IsSoundRows}
+use Rattle.acct_tables.specs.Good.{IsGoodDomain, IsGoodLsa, IsGoodOut, good_place}
+use Rattle.acct_rows.specs.Sound.{next_rid_of}
+use Rattle.acct_tables.specs.Good.{good_primary, are_above}
+use Rattle.acct_tables.specs.Spelled.{FitsDomain, FitsAccount, FitsMember, FitsAlias, FitsLsa, FitsObject, FitsOut}
+use Rattle.acct_tables.specs.Spelled.{ascend}
+use Rattle.dtyp_sid.specs.Sids.{IsSid}
+use Rattle.acct_tables.specs.declared.object.Object.{Object}
+use Rattle.acct_tables.specs.declared.object.Object.TheVariants as objects
 use Rattle.acct_rows.specs.PairsOf.{AllFit}
-use Rattle.acct_rows.specs.declared.row.DomainRow.{DomainRow}
-use Rattle.acct_rows.specs.declared.row.AccountRow.{AccountRow}
-use Rattle.acct_rows.specs.declared.row.MemberRow.{MemberRow}
-use Rattle.acct_rows.specs.declared.row.AliasRow.{AliasRow}
-use Rattle.acct_rows.specs.declared.row.LsaRow.{LsaRow}
-use Rattle.acct_rows.specs.declared.row.OutRow.{OutRow}
-use Rattle.acct_rows.specs.declared.row.Held.{Held}
+use Rattle.acct_tables.specs.declared.row.DomainRow.{DomainRow}
+use Rattle.acct_tables.specs.declared.row.AccountRow.{AccountRow}
+use Rattle.acct_tables.specs.declared.row.MemberRow.{MemberRow}
+use Rattle.acct_tables.specs.declared.row.AliasRow.{AliasRow}
+use Rattle.acct_tables.specs.declared.row.LsaRow.{LsaRow}
+use Rattle.acct_tables.specs.declared.row.OutRow.{OutRow}
+use Rattle.acct_tables.specs.declared.row.Held.{Held}
 use Rattle.acct_tables.proofs.Lookups.{key_found, there_or_not}
 use Rattle.acct_tables.proofs.Orders.{tested}
 use Rattle.acct_rows.proofs.Keeping.{each_good, each_member_found, each_lsa_good, each_desc_good, each_out_good}
-use Rattle.acct_rows.proofs.Moves.{one_sid}
+use Rattle.acct_tables.proofs.Equals.{one_sid}
 
 -- a name that a domain may have is short
 domain_name_short : (name : List ℕ) → is_domain_name name ≡ true → length name < 2 ^ 16

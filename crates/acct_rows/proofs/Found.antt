@@ -9,35 +9,36 @@ use Rattle.std.specs.Ordering.{ordering_then}
 use Rattle.std.specs.declared.cmp.Ordering.TheVariants.{Less, Equal}
 use Rattle.std.proofs.lemmas.Bool.Decides.{nat_tests}
 use Rattle.acct_codes.specs.declared.kind.Kind.{Kind}
-use Rattle.dtyp_sid.specs.Bytes.{WrittenBytesAreRead, WrittenBytesHaveLengths, ReadBytesAreWritten}
-use Rattle.dtyp_sid.specs.Order.{EqualSidsAreOne}
-use Rattle.acct_calls.specs.Folding.{is_same}
+use Rattle.dtyp_sid.specs.Sids.{WrittenBytesAreRead, WrittenBytesHaveLengths, ReadBytesAreWritten, EqualSidsAreOne}
+use Rattle.acct_calls.specs.Names.{is_same}
 use Rattle.acct_keeper.specs.declared.pairs.Pair.{Pair}
 use Rattle.acct_rows.specs.Changes.{row_at}
-use Rattle.acct_rows.specs.Keyed.{compare, is_ascending}
+use Rattle.acct_tables.specs.KeyedRows.{compare, is_ascending}
 use Rattle.acct_rows.specs.Loading.{IsReadWell, LoadedRowsAreFound, loaded, somes, is_smaller}
 use Rattle.acct_rows.specs.PairRules.{pair_key, pair_at, is_there, row_in, as_domain, as_account, domain_in, account_in}
 use Rattle.acct_rows.specs.PairRules.{is_earlier, is_other, is_missing, next_out_in}
 use Rattle.std.specs.Option.{unwrap_or}
 use Rattle.acct_rows.specs.PairsOf.{IsRowOf}
-use Rattle.acct_rows.specs.Rows.{Lists, account_key, same_kind, domain_at, account_at, has_name, find_name}
-use Rattle.acct_rows.specs.Spelled.{stored_key, key_of, Fits}
+use Rattle.acct_rows.specs.Rows.{Lists, domain_at, account_at, find_name}
+use Rattle.acct_tables.specs.Keys.{account_key}
+use Rattle.acct_tables.specs.Selected.{same_kind, has_name}
+use Rattle.acct_tables.specs.Spelled.{stored_key, key_of, Fits}
 use Rattle.acct_base.specs.Reading.{◌>>=◌}
-use Rattle.acct_rows.specs.Stored.{row_of}
-use Rattle.acct_rows.specs.declared.row.DomainRow.{DomainRow}
-use Rattle.acct_rows.specs.declared.row.AccountRow.{AccountRow}
-use Rattle.acct_rows.specs.declared.row.Row.{Row}
-use Rattle.acct_rows.specs.declared.row.Row.TheVariants as rows
-use Rattle.acct_rows.specs.declared.row.RowKey.{RowKey}
-use Rattle.acct_rows.specs.declared.row.RowKey.TheVariants as keys
+use Rattle.acct_tables.specs.Stored.{row_of}
+use Rattle.acct_tables.specs.declared.row.DomainRow.{DomainRow}
+use Rattle.acct_tables.specs.declared.row.AccountRow.{AccountRow}
+use Rattle.acct_tables.specs.declared.row.Row.{Row}
+use Rattle.acct_tables.specs.declared.row.Row.TheVariants as rows
+use Rattle.acct_tables.specs.declared.row.RowKey.{RowKey}
+use Rattle.acct_tables.specs.declared.row.RowKey.TheVariants as keys
 use Rattle.acct_tables.proofs.Ascending.{In}
 use Rattle.acct_tables.proofs.Lookups.{there_or_not, key_found}
-use Rattle.acct_tables.proofs.Members.{at_in, in_at, any_in, in_any}
+use Rattle.acct_tables.proofs.Standing.{at_in, in_at, any_in, in_any}
 use Rattle.acct_tables.proofs.Orders.{tested}
-use Rattle.acct_rows.proofs.FoldOrder.{alone}
+use Rattle.acct_tables.proofs.FoldOrder.{alone}
 use Rattle.acct_rows.proofs.Loaded.{find_so, find_none, find_least, loaded_tables, spelled, source, read_is_row}
-use Rattle.acct_rows.proofs.Moves.{equal_is}
-use Rattle.acct_rows.proofs.Taken.{bind_some}
+use Rattle.acct_tables.proofs.Equals.{equal_is}
+use Rattle.acct_tables.proofs.Taken.{bind_some}
 use Rattle.acct_rows.proofs.Translated.{is_row_at, at_is_row, one_key, first_byte}
 
 -- ---- keys

@@ -3,14 +3,15 @@ use Rattle.std.proofs.Common.{◌≡◌, ◌<◌, ℕ, true, cond, All, List, []
 use Rattle.std.proofs.Common.{inl, inr}
 use Rattle.std.proofs.lemmas.List.Elements.{All-nil, All-cons}
 use Rattle.std.specs.Cmp.{first_so, second_so}
-use Rattle.acct_rows.specs.Keyed.{same_key, at, is_ascending}
+use Rattle.acct_tables.specs.KeyedRows.{same_key, at, is_ascending}
 use Rattle.acct_rows.specs.Laws.{EachIsGood, EachMemberIsFound, EachLsaIsGood, EachDescriptorIsGood, EachOutIsGood}
-use Rattle.acct_rows.specs.Objects.{exists}
-use Rattle.acct_rows.specs.Rows.{domain_key, account_key, member_key, alias_key, lsa_key, desc_key, out_key, domain_at}
+use Rattle.acct_rows.specs.Rows.{exists, domain_at}
+use Rattle.acct_tables.specs.Keys.{domain_key, account_key, member_key, alias_key, lsa_key, desc_key, out_key}
 use Rattle.acct_rows.specs.Rows.{account_at, member_at, alias_row_at, lsa_at, desc_at, out_at}
-use Rattle.acct_rows.specs.Sound.{IsGoodDomain, IsGoodAccount, IsGoodLsa, IsGoodDescriptor, IsGoodOut}
-use Rattle.acct_rows.proofs.Moves.{one_sid}
-use Rattle.acct_rows.proofs.ObjectKeys.{one_object}
+use Rattle.acct_rows.specs.Sound.{IsGoodAccount}
+use Rattle.acct_tables.specs.Good.{IsGoodDomain, IsGoodLsa, IsGoodDescriptor, IsGoodOut}
+use Rattle.acct_tables.proofs.Equals.{one_sid}
+use Rattle.acct_tables.proofs.ObjectKeys.{one_object}
 use Rattle.acct_tables.proofs.Lookups.{key_found, below_apart}
 use Rattle.acct_tables.proofs.Orders.{tested, same_key-is, same_key-itself}
 

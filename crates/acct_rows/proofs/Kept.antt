@@ -3,24 +3,26 @@ use Rattle.std.proofs.Common.{◌≡◌, ℕ, ◌+◌, ◌^◌, ◌<◌, ◌≤�
 use Rattle.std.proofs.Common.{inl, inr, ◌⊎◌, is_some, arith}
 use Rattle.acct_codes.specs.declared.kind.Kind.{Kind}
 use Rattle.acct_codes.specs.declared.kind.Kind.TheVariants.{Group, Alias, User}
-use Rattle.dtyp_sid.specs.Value.{SidValue, IsSid}
-use Rattle.acct_calls.specs.Folding.{is_same}
-use Rattle.acct_rows.specs.Keyed.{at, is_ascending}
-use Rattle.acct_rows.specs.Rows.{Lists, domain_key, account_key, member_key, alias_key, lsa_key, desc_key, out_key, is_of}
-use Rattle.acct_rows.specs.Rows.{domain_at, account_at, member_at, alias_row_at, lsa_at, desc_at}
-use Rattle.acct_rows.specs.Objects.{exists}
-use Rattle.acct_rows.specs.Sound.{next_rid_of, IsGoodDomain, IsGoodAccount, IsGoodMember, IsGoodLsa}
-use Rattle.acct_rows.specs.Sound.{IsGoodDescriptor, IsGoodOut, IsSoundRows}
+use Rattle.dtyp_sid.specs.Sids.{SidValue, IsSid}
+use Rattle.acct_calls.specs.Names.{is_same}
+use Rattle.acct_tables.specs.KeyedRows.{at, is_ascending}
+use Rattle.acct_rows.specs.Rows.{Lists}
+use Rattle.acct_tables.specs.Keys.{domain_key, account_key, member_key, alias_key, lsa_key, desc_key, out_key}
+use Rattle.acct_rows.specs.Rows.{is_of, domain_at, account_at, member_at, alias_row_at, lsa_at, desc_at, exists}
+use Rattle.acct_rows.specs.Sound.{next_rid_of, IsGoodAccount}
+use Rattle.acct_tables.specs.Good.{IsGoodDomain, IsGoodMember, IsGoodLsa}
+use Rattle.acct_rows.specs.Sound.{IsSoundRows}
+use Rattle.acct_tables.specs.Good.{IsGoodDescriptor, IsGoodOut}
 use Rattle.acct_rows.specs.Laws.{Keeps}
-use Rattle.acct_rows.specs.declared.object.Object.{Object}
-use Rattle.acct_rows.specs.declared.object.Object.TheVariants as objects
-use Rattle.acct_rows.specs.declared.row.DomainRow.{DomainRow}
-use Rattle.acct_rows.specs.declared.row.AccountRow.{AccountRow}
-use Rattle.acct_rows.specs.declared.row.MemberRow.{MemberRow}
-use Rattle.acct_rows.specs.declared.row.AliasRow.{AliasRow}
-use Rattle.acct_rows.specs.declared.row.LsaRow.{LsaRow}
-use Rattle.acct_rows.specs.declared.row.DescRow.{DescRow}
-use Rattle.acct_rows.specs.declared.row.OutRow.{OutRow}
+use Rattle.acct_tables.specs.declared.object.Object.{Object}
+use Rattle.acct_tables.specs.declared.object.Object.TheVariants as objects
+use Rattle.acct_tables.specs.declared.row.DomainRow.{DomainRow}
+use Rattle.acct_tables.specs.declared.row.AccountRow.{AccountRow}
+use Rattle.acct_tables.specs.declared.row.MemberRow.{MemberRow}
+use Rattle.acct_tables.specs.declared.row.AliasRow.{AliasRow}
+use Rattle.acct_tables.specs.declared.row.LsaRow.{LsaRow}
+use Rattle.acct_tables.specs.declared.row.DescRow.{DescRow}
+use Rattle.acct_tables.specs.declared.row.OutRow.{OutRow}
 
 -- what is there stays, with its kind, and no next RID is lower
 pub record Kept (r s : Lists) : Type 0 where
@@ -122,8 +124,8 @@ moved_sound gone r s sound by lsa = record {
   descriptors_ascend = by.order.descriptors;
   outs_ascend = by.order.outs;
   domain_rules = λ n d e. elim (by.domains n d e) [ inl old ↦ sound.domain_rules n d old | inr good ↦ good ];
-  account_domain = by.kept.domains 0 sound.account_domain;
-  builtin_domain = by.kept.domains 1 sound.builtin_domain;
+  has_account_domain = by.kept.domains 0 sound.has_account_domain;
+  has_builtin_domain = by.kept.domains 1 sound.has_builtin_domain;
   account_rules = by.accounts;
   names_differ = by.names;
   users_group = by.kept.kinds Group 0 513 sound.users_group;

@@ -8,39 +8,39 @@ use Rattle.std.specs.Cmp.Lexicographic.{nat_list_cmp_total}
 use Rattle.std.specs.declared.cmp.Ordering.TheVariants.{Less, Equal}
 use Rattle.std.proofs.lemmas.List.Elements.{recursion_from_All}
 use Rattle.std.proofs.lemmas.List.Sorted.{IsPermutation-sym}
-use Rattle.dtyp_sid.specs.Bytes.{WrittenBytesAreRead, WrittenBytesHaveLengths, ReadBytesAreWritten}
+use Rattle.dtyp_sid.specs.Sids.{WrittenBytesAreRead, WrittenBytesHaveLengths, ReadBytesAreWritten}
 use Rattle.acct_keeper.specs.declared.pairs.Pair.{Pair}
-use Rattle.acct_rows.specs.Keyed.{compare, same_key, below_all, is_ascending}
-use Rattle.acct_rows.specs.ObjectKeys.{object_key}
-use Rattle.acct_rows.specs.Rows.{Lists, domain_key, account_key, member_key, alias_key, lsa_key, desc_key, out_key}
-use Rattle.acct_rows.specs.Rows.{sid_key}
+use Rattle.acct_tables.specs.KeyedRows.{compare, same_key, below_all, is_ascending}
+use Rattle.acct_tables.specs.Keys.{object_key}
+use Rattle.acct_rows.specs.Rows.{Lists}
+use Rattle.acct_tables.specs.Keys.{domain_key, account_key, member_key, alias_key, lsa_key, desc_key, out_key, sid_key}
 use Rattle.acct_rows.specs.Sound.{IsSoundRows}
-use Rattle.acct_rows.specs.Spelled.{stored_key, key_of, pair_of, format_key, next_out_key, next_out_pair, Fits}
-use Rattle.acct_rows.specs.Spelled.{FitsDomain, FitsAccount, FitsMember, FitsAlias, FitsLsa, FitsDesc, FitsOut}
-use Rattle.acct_rows.specs.Stored.{row_key, lettered, byte_at}
+use Rattle.acct_tables.specs.Spelled.{stored_key, key_of, pair_of, format_key, next_out_key, next_out_pair, Fits}
+use Rattle.acct_tables.specs.Spelled.{FitsDomain, FitsAccount, FitsMember, FitsAlias, FitsLsa, FitsDesc, FitsOut}
+use Rattle.acct_tables.specs.Stored.{row_key, lettered, byte_at}
 use Rattle.acct_rows.specs.PairRules.{pair_key}
 use Rattle.acct_rows.specs.PairsOf.{IsRowOf, IsNextOut, IsPairOf, ArePairsOf, domain_pairs, account_pairs}
 use Rattle.acct_rows.specs.PairsOf.{member_pairs, alias_pairs, lsa_pairs, desc_pairs, out_pairs, next_out_pairs}
 use Rattle.acct_rows.specs.PairsOf.{all_pairs}
-use Rattle.acct_rows.specs.declared.row.DomainRow.{DomainRow}
-use Rattle.acct_rows.specs.declared.row.AccountRow.{AccountRow}
-use Rattle.acct_rows.specs.declared.row.MemberRow.{MemberRow}
-use Rattle.acct_rows.specs.declared.row.AliasRow.{AliasRow}
-use Rattle.acct_rows.specs.declared.row.LsaRow.{LsaRow}
-use Rattle.acct_rows.specs.declared.row.DescRow.{DescRow}
-use Rattle.acct_rows.specs.declared.row.OutRow.{OutRow}
-use Rattle.acct_rows.specs.declared.row.Row.{Row}
-use Rattle.acct_rows.specs.declared.row.Row.TheVariants as rows
-use Rattle.acct_rows.specs.declared.row.RowKey.{RowKey}
-use Rattle.acct_rows.specs.declared.row.RowKey.TheVariants as keys
+use Rattle.acct_tables.specs.declared.row.DomainRow.{DomainRow}
+use Rattle.acct_tables.specs.declared.row.AccountRow.{AccountRow}
+use Rattle.acct_tables.specs.declared.row.MemberRow.{MemberRow}
+use Rattle.acct_tables.specs.declared.row.AliasRow.{AliasRow}
+use Rattle.acct_tables.specs.declared.row.LsaRow.{LsaRow}
+use Rattle.acct_tables.specs.declared.row.DescRow.{DescRow}
+use Rattle.acct_tables.specs.declared.row.OutRow.{OutRow}
+use Rattle.acct_tables.specs.declared.row.Row.{Row}
+use Rattle.acct_tables.specs.declared.row.Row.TheVariants as rows
+use Rattle.acct_tables.specs.declared.row.RowKey.{RowKey}
+use Rattle.acct_tables.specs.declared.row.RowKey.TheVariants as keys
 use Rattle.acct_tables.proofs.Ascending.{In}
 use Rattle.acct_tables.proofs.Lookups.{same_Some}
-use Rattle.acct_tables.proofs.Members.{in_map, map_in, in_permutation, at_in, in_at, one_if}
+use Rattle.acct_tables.proofs.Standing.{in_map, map_in, in_permutation, at_in, in_at, one_if}
 use Rattle.acct_tables.proofs.Orders.{same_key-is, less, tested}
 use Rattle.acct_tables.proofs.Sorted.{in_left, in_right, in_either}
 use Rattle.acct_rows.proofs.Fitting.{all_fit}
-use Rattle.acct_rows.proofs.Moves.{equals, equal_is}
-use Rattle.acct_rows.proofs.SpelledRows.{key_again, fits_key}
+use Rattle.acct_tables.proofs.Equals.{equals, equal_is}
+use Rattle.acct_tables.proofs.SpelledRows.{key_again, fits_key}
 use Rattle.acct_rows.proofs.Members.{count, count-append, count-permutation, precedes, sorted_ascends, ascending-kept}
 
 -- which list the row of a key is in

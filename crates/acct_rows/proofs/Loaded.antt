@@ -15,46 +15,50 @@ use Rattle.std.proofs.lemmas.Bool.Decides.{nat_tests}
 use Rattle.std.proofs.lemmas.List.{get_or_default, drop_more}
 use Rattle.std.proofs.lemmas.Slice.Eq.{bytes_eq-Decides}
 use Rattle.std.proofs.lemmas.List.Elements.{recursion_from_All}
-use Rattle.dtyp_sid.specs.Bytes.{WrittenBytesAreRead, WrittenBytesHaveLengths, ReadBytesAreWritten}
-use Rattle.dtyp_sid.specs.Order.{EqualSidsAreOne}
+use Rattle.dtyp_sid.specs.Sids.{WrittenBytesAreRead, WrittenBytesHaveLengths, ReadBytesAreWritten, EqualSidsAreOne}
 use Rattle.acct_keeper.specs.declared.pairs.Pair.{Pair}
 use Rattle.acct_rows.specs.Changes.{row_at, is_put, same_row_key}
-use Rattle.acct_rows.specs.Keyed.{compare, same_key, place, below_all, is_ascending}
+use Rattle.acct_tables.specs.KeyedRows.{compare, same_key, place, below_all, is_ascending}
 use Rattle.acct_rows.specs.Loading.{IsReadWell, no_lists, placed, somes, loaded, smaller, first_missing}
 use Rattle.acct_rows.specs.Loading.{smallest_broken}
 use Rattle.acct_rows.specs.PairRules.{pair_key, pair_at, is_there, is_missing, is_other, as_domain, as_account, is_past}
 use Rattle.acct_rows.specs.PairRules.{is_past_next, is_earlier, has_taken_name, lacks_primary, lacks_object}
 use Rattle.acct_rows.specs.PairRules.{is_misnumbered, has_value, is_old, next_in, next_out_in, is_format, is_next_out}
-use Rattle.acct_rows.specs.PairRules.{breaks_alone, breaks_among, breaks_rule, is_broken_pair, needed, is_broken_at}
-use Rattle.acct_rows.specs.PairRules.{is_broken, AreUnbroken, IsSmallestBroken}
+use Rattle.acct_rows.specs.PairRules.{breaks_among, breaks_rule, is_broken_pair, needed_keys}
+use Rattle.acct_tables.specs.RowRules.{breaks_alone}
+use Rattle.acct_rows.specs.PairRules.{is_broken_at, is_broken, AreUnbroken, IsSmallestBroken}
 use Rattle.acct_rows.specs.PairsOf.{AreTables, IsRowOf, IsNextOut, HoldPairs, migration, migrated}
-use Rattle.acct_rows.specs.Rows.{Lists, domain_key, account_key, member_key, alias_key, lsa_key, desc_key, out_key}
+use Rattle.acct_rows.specs.Rows.{Lists}
+use Rattle.acct_tables.specs.Keys.{domain_key, account_key, member_key, alias_key, lsa_key, desc_key, out_key}
 use Rattle.acct_rows.specs.Rows.{place_row}
-use Rattle.acct_rows.specs.Spelled.{rid_bytes, stored_key, key_of, pair_of, format_key, format_value, old_format_value}
-use Rattle.acct_rows.specs.Spelled.{format_pair, next_out_key, next_out_value, next_out_pair, Fits, IsSpelled}
-use Rattle.acct_rows.specs.Stored.{row_key, row_of, next_out_of}
+use Rattle.acct_tables.specs.Selected.{same_kind}
+use Rattle.acct_tables.specs.Spelled.{rid_bytes, stored_key, key_of, pair_of, format_key, format_value}
+use Rattle.acct_tables.specs.Spelled.{old_format_value}
+use Rattle.acct_tables.specs.Spelled.{format_pair, next_out_key, next_out_value, next_out_pair, Fits, IsSpelled}
+use Rattle.acct_tables.specs.Stored.{row_key, row_of, next_out_of}
 use Rattle.acct_base.specs.Reading.{◌>>=◌, front_at}
 use Rattle.acct_codes.specs.declared.kind.Kind.{Kind}
 use Rattle.acct_codes.specs.declared.kind.Kind.TheVariants.{Group, Alias, User}
 use Rattle.acct_keeper.specs.Pairs as kept
-use Rattle.acct_rows.specs.Rows.{same_kind}
-use Rattle.acct_rows.specs.declared.row.AccountRow.{AccountRow}
+use Rattle.acct_tables.specs.declared.row.AccountRow.{AccountRow}
 use Rattle.std.specs.Int.{w64, from_le_bytes}
 use Rattle.std.specs.Option.{unwrap_or}
-use Rattle.acct_rows.specs.declared.row.Row.{Row}
-use Rattle.acct_rows.specs.declared.row.Row.TheVariants as rows
-use Rattle.acct_rows.specs.declared.row.RowKey.{RowKey}
-use Rattle.acct_rows.specs.declared.row.RowKey.TheVariants as keys
+use Rattle.acct_tables.specs.declared.row.Row.{Row}
+use Rattle.acct_tables.specs.declared.row.Row.TheVariants as rows
+use Rattle.acct_tables.specs.declared.row.RowKey.{RowKey}
+use Rattle.acct_tables.specs.declared.row.RowKey.TheVariants as keys
 use Rattle.acct_tables.proofs.Ascending.{is_ascending-put, In, below_in}
 use Rattle.acct_tables.proofs.Lookups.{same_Some, there_or_not, key_found, at-placed}
-use Rattle.acct_tables.proofs.Members.{at_in, in_at, map_in}
+use Rattle.acct_tables.proofs.Standing.{at_in, in_at, map_in}
 use Rattle.acct_tables.proofs.Orders.{same_key-is, same_key-itself, tested}
-use Rattle.acct_rows.proofs.SpelledRows.{fits_key}
+use Rattle.acct_tables.proofs.SpelledRows.{fits_key}
 use Rattle.acct_rows.proofs.Changed.{set_here, set_apart}
-use Rattle.acct_rows.proofs.Judged.{either_false, both_false}
-use Rattle.acct_rows.proofs.Taken.{bind_some, passed}
-use Rattle.acct_rows.proofs.Translated.{is_row_at, at_is_row, not_format, not_next_out, format_key_none, first_byte, lower_apart, keys_apart}
-use Rattle.acct_rows.proofs.RowsAt.{same_itself, same_or_not, last_placed, row_place_here, row_place_apart, placed_keeps}
+use Rattle.acct_tables.proofs.Judged.{either_false, both_false}
+use Rattle.acct_tables.proofs.Taken.{bind_some, passed}
+use Rattle.acct_rows.proofs.Translated.{is_row_at, at_is_row, not_format, not_next_out, format_key_none, first_byte}
+use Rattle.acct_rows.proofs.Translated.{lower_apart, keys_apart}
+use Rattle.acct_rows.proofs.RowsAt.{same_itself, same_or_not, last_placed, row_place_here, row_place_apart}
+use Rattle.acct_rows.proofs.RowsAt.{placed_keeps}
 
 -- ---- what is found at a place
 
@@ -170,7 +174,7 @@ in_any k (j ∷ js) (inl e) =
     ap (λ b. b || list_any (same_key k) js) (ap (same_key k) (sym e) ∙ same_key-itself k)
 in_any k (j ∷ js) (inr i) = or_so (same_key k j) (list_any (same_key k) js) (in_any k js i)
 
-needed_ascend : is_ascending (λ (k : List ℕ). k) needed ≡ true
+needed_ascend : is_ascending (λ (k : List ℕ). k) needed_keys ≡ true
 unfolding rid_bytes
 needed_ascend = refl
 
@@ -185,7 +189,7 @@ module _ (pairs : List Pair) (up : is_ascending pair_key pairs ≡ true) where
   -- a broken key is that of a pair that breaks a rule, or a missing one
   abbrev IsCause : List ℕ → Type 0
   IsCause k = ((p : Pair) × In p pairs × (p.key ≡ k) × (is_broken_pair pairs p ≡ true))
-      ⊎ (In k needed × (not (is_some (pair_at k pairs)) ≡ true))
+      ⊎ (In k needed_keys × (not (is_some (pair_at k pairs)) ≡ true))
 
   cause : (k : List ℕ) → is_broken pairs k ≡ true → IsCause k
   cause k e =
@@ -196,15 +200,19 @@ module _ (pairs : List Pair) (up : is_ascending pair_key pairs ≡ true) where
           key_found pair_key k pairs found.0 found.1,
           sym (ap (is_broken_at pairs k) found.1) ∙ e,
         )
-        | inr none ↦ inr (any_in k needed (sym (ap (is_broken_at pairs k) none) ∙ e), ap (λ o. not (is_some o)) none)
+        | inr none ↦ inr (
+          any_in k needed_keys (sym (ap (is_broken_at pairs k) none) ∙ e),
+          ap (λ o. not (is_some o))
+              none,
+        )
       ]
 
   pair_broken : (p : Pair) → In p pairs → is_broken_pair pairs p ≡ true → is_broken pairs p.key ≡ true
   pair_broken p i e = ap (is_broken_at pairs p.key) (in_at pair_key p pairs up i) ∙ e
 
-  missing_broken : (k : List ℕ) → In k needed → not (is_some (pair_at k pairs)) ≡ true → is_broken pairs k ≡ true
+  missing_broken : (k : List ℕ) → In k needed_keys → not (is_some (pair_at k pairs)) ≡ true → is_broken pairs k ≡ true
   missing_broken k i e =
-      ap (is_broken_at pairs k) (none_there (pair_at k pairs) e) ∙ in_any k needed i
+      ap (is_broken_at pairs k) (none_there (pair_at k pairs) e) ∙ in_any k needed_keys i
 
   abbrev found_pair : Option Pair
   found_pair = find (is_broken_pair pairs) pairs
@@ -221,16 +229,16 @@ module _ (pairs : List Pair) (up : is_ascending pair_key pairs ≡ true) where
       subst (λ j. compare j p.key ≢ Less) q.2
       (find_least (is_broken_pair pairs) pair_key pairs p q.0 up e q.1 q.3)
 
-  not_below_key : (j : List ℕ) → found_key ≡ Some j → (k : List ℕ) → In k needed → is_lacking k ≡ true
+  not_below_key : (j : List ℕ) → found_key ≡ Some j → (k : List ℕ) → In k needed_keys → is_lacking k ≡ true
       → compare k j ≢ Less
-  not_below_key j e k i so = find_least is_lacking (λ (x : List ℕ). x) needed j k needed_ascend e i so
+  not_below_key j e k i so = find_least is_lacking (λ (x : List ℕ). x) needed_keys j k needed_ascend e i so
 
   by_found : (f : Option Pair) (m : Option (List ℕ)) → found_pair ≡ f → found_key ≡ m → (k : List ℕ)
       → smaller (option_map (λ p. p.key) f) m ≡ Some k → IsSmallestBroken pairs k
   by_found None None ef em k e = absurd cc
   by_found None (Some j) ef em k e =
       let is : j ≡ k = same_Some e in
-      let so = find_so is_lacking needed j em in
+      let so = find_so is_lacking needed_keys j em in
       subst (IsSmallestBroken pairs) is (record {
         broken = missing_broken j so.1 so.0;
         smallest = λ other b. elim (cause other b) [
@@ -249,14 +257,14 @@ module _ (pairs : List Pair) (up : is_ascending pair_key pairs ≡ true) where
         smallest = λ other b. elim (cause other b) [
           | inl q ↦ not_below_pair p ef other q
           | inr n ↦ absurd (
-              let none = find_none is_lacking needed em other n.0 in
+              let none = find_none is_lacking needed_keys em other n.0 in
               let some = n.1 in
               cc (none, some))
         ];
       })
   by_found (Some p) (Some j) ef em k e =
       let one = find_so (is_broken_pair pairs) pairs p ef in
-      let two = find_so is_lacking needed j em in
+      let two = find_so is_lacking needed_keys j em in
       elim (tested (is_lt (compare j p.key))) [
         | inl t ↦
             let is : j ≡ k = same_Some (sym (ap (λ b. cond b (Some j) (Some p.key)) t) ∙ e) in
@@ -306,7 +314,7 @@ module _ (pairs : List Pair) (up : is_ascending pair_key pairs ≡ true) where
               let some = q.3 in
               cc (not, some))
           | inr n ↦ (
-              let not = find_none is_lacking needed none.1 k n.0 in
+              let not = find_none is_lacking needed_keys none.1 k n.0 in
               let some = n.1 in
               cc (not, some))
         ])
@@ -686,12 +694,12 @@ module _ (back : WrittenBytesAreRead) (sizes : WrittenBytesHaveLengths) (only : 
               ]
         ]
 
-    needed_pair : (k : List ℕ) → In k needed → (p : Pair) × (pair_at k pairs ≡ Some p)
+    needed_pair : (k : List ℕ) → In k needed_keys → (p : Pair) × (pair_at k pairs ≡ Some p)
     needed_pair k i =
         elim (there_or_not (pair_at k pairs)) [
           | inl found ↦ found
           | inr none ↦ absurd (
-              let broken : is_broken pairs k ≡ true = ap (is_broken_at pairs k) none ∙ in_any k needed i in
+              let broken : is_broken pairs k ≡ true = ap (is_broken_at pairs k) none ∙ in_any k needed_keys i in
               let whole = unbroken k in
               cc (broken, whole))
         ]

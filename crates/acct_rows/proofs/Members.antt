@@ -4,8 +4,8 @@ use Rattle.std.specs.List.Sorted.{IsPermutation, IsSortedBy}
 use Rattle.std.specs.Ordering.{is_lt}
 use Rattle.acct_keeper.specs.declared.pairs.Pair.{Pair}
 use Rattle.acct_keeper.specs.Pairs as kept
-use Rattle.acct_tables.proofs.Members.{count_by, count_by-permutation, sorted_rises}
-use Rattle.acct_rows.specs.Keyed.{compare, below_all, is_ascending}
+use Rattle.acct_tables.proofs.Standing.{count_by, count_by-permutation, sorted_rises}
+use Rattle.acct_tables.specs.KeyedRows.{compare, below_all, is_ascending}
 use Rattle.acct_rows.specs.PairRules.{pair_key}
 
 -- how many pairs have a key

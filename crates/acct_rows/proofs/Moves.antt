@@ -1,59 +1,50 @@
 -- The changes that keep sound rows sound
 use Rattle.std.proofs.Common.{◌≡◌, ◌≢◌, ℕ, ◌+◌, ◌<◌, ◌≤◌, ◌==◌, ◌&&◌, Bool, true, false, cond, List, [], ◌∷◌, Option}
-use Rattle.std.proofs.Common.{Some, None}
-use Rattle.std.proofs.Common.{refl, sym, ap, subst, ◌∙◌, inl, inr, ◌⊎◌, is_some, arith}
+use Rattle.std.proofs.Common.{Some, None, refl, sym, ap, subst, ◌∙◌, inl, inr, ◌⊎◌, is_some, arith}
 use Rattle.std.specs.List.{find}
 use Rattle.std.specs.Cmp.{first_so, second_so}
 use Rattle.std.proofs.lemmas.Bool.Decides.{nat_tests}
 use Rattle.std.proofs.lemmas.Cmp.{ranked}
-use Rattle.acct_codes.specs.declared.kind.Kind.{Kind}
-use Rattle.acct_codes.specs.declared.kind.Kind.TheVariants.{Server, Domain, Group, Alias, User, Policy, Account}
-use Rattle.dtyp_sid.specs.Value.{SidValue, IsSid}
-use Rattle.dtyp_sid.specs.Order.{sid_eq}
-use Rattle.dtyp_sid.proofs.Equal.{equal_sids}
-use Rattle.acct_calls.specs.Folding.{is_same}
-use Rattle.acct_calls.proofs.Folds.{equivalence}
 use Rattle.std.specs.Prelude.{not}
 use Rattle.std.specs.Ordering.{is_eq}
-use Rattle.acct_rows.specs.Keyed.{compare, same_key, at, put, without, below_all, is_ascending}
-use Rattle.acct_rows.specs.Rows.{Lists, domain_key, account_key, member_key, alias_key, lsa_key, desc_key, out_key}
-use Rattle.acct_rows.specs.Rows.{sid_key, same_kind, is_of, domain_at, account_at, member_at, has_name, put_row}
-use Rattle.acct_rows.specs.Rows.{remove_row, removed}
-use Rattle.acct_rows.specs.ObjectKeys.{object_key}
-use Rattle.acct_rows.specs.Objects.{same_object, exists}
-use Rattle.acct_rows.specs.declared.object.Object.{Object}
-use Rattle.acct_rows.specs.declared.object.Object.TheVariants as objects
-use Rattle.acct_rows.specs.Sound.{good_place, next_rid_of, IsGoodDomain, IsGoodAccount, IsGoodMember}
-use Rattle.acct_rows.specs.Sound.{IsGoodLsa, IsGoodDescriptor, IsGoodOut, IsSoundRows}
-use Rattle.acct_rows.specs.Laws.{Keeps, nothing, IsNew, Replaces}
-use Rattle.acct_rows.specs.Laws.{DomainsStaySound, NextIsFree, AddedAccountsStaySound, AddedUsersStaySound}
-use Rattle.acct_rows.specs.Laws.{ReplacedAccountsStaySound, OwnNameIsFree, UnusedNameIsFree, NameFoundIsFree}
-use Rattle.acct_rows.specs.Laws.{MembersStaySound, RemovedMembersStaySound, AliasRowsStaySound}
+use Rattle.std.specs.declared.cmp.Ordering.TheVariants.{Less}
+use Rattle.acct_codes.specs.declared.kind.Kind.{Kind}
+use Rattle.acct_codes.specs.declared.kind.Kind.TheVariants.{Server, Domain, Group, Alias, User, Policy, Account}
+use Rattle.dtyp_sid.specs.Sids.{SidValue, IsSid, sid_eq}
+use Rattle.dtyp_sid.proofs.Equal.{equal_sids}
+use Rattle.acct_calls.specs.Names.{is_same}
+use Rattle.acct_calls.proofs.Folds.{equivalence}
+use Rattle.acct_tables.specs.KeyedRows.{compare, same_key, at, put, without, below_all, is_ascending}
+use Rattle.acct_rows.specs.Rows.{Lists, is_of, domain_at, account_at, member_at, put_row, remove_row, removed, exists}
+use Rattle.acct_tables.specs.Keys.{domain_key, account_key, member_key, alias_key, lsa_key, desc_key, out_key, sid_key}
+use Rattle.acct_tables.specs.Keys.{object_key, same_object}
+use Rattle.acct_tables.specs.Selected.{same_kind, has_name}
+use Rattle.acct_tables.specs.declared.object.Object.{Object}
+use Rattle.acct_tables.specs.declared.object.Object.TheVariants as objects
+use Rattle.acct_rows.specs.Sound.{next_rid_of, IsGoodAccount, IsSoundRows}
+use Rattle.acct_tables.specs.Good.{good_place, IsGoodDomain, IsGoodMember, IsGoodLsa, IsGoodDescriptor, IsGoodOut}
+use Rattle.acct_rows.specs.Laws.{Keeps, nothing, IsNew, Replaces, DomainsStaySound, NextIsFree, AddedAccountsStaySound}
+use Rattle.acct_rows.specs.Laws.{AddedUsersStaySound, ReplacedAccountsStaySound, OwnNameIsFree, UnusedNameIsFree}
+use Rattle.acct_rows.specs.Laws.{NameFoundIsFree, MembersStaySound, RemovedMembersStaySound, AliasRowsStaySound}
 use Rattle.acct_rows.specs.Laws.{RemovedAliasRowsStaySound, LsaAccountsStaySound, RemovedLsaAccountsStaySound}
 use Rattle.acct_rows.specs.Laws.{DescriptorsStaySound, RemovedDescriptorsStaySound, OutsStaySound, RemovedOutsStaySound}
-use Rattle.acct_rows.specs.declared.row.DomainRow.{DomainRow}
-use Rattle.acct_rows.specs.declared.row.AccountRow.{AccountRow}
-use Rattle.acct_rows.specs.declared.row.MemberRow.{MemberRow}
-use Rattle.acct_rows.specs.declared.row.AliasRow.{AliasRow}
-use Rattle.acct_rows.specs.declared.row.OutRow.{OutRow}
-use Rattle.acct_rows.specs.declared.row.Row.TheVariants as rows
-use Rattle.acct_rows.specs.declared.row.RowKey.TheVariants as keys
-use Rattle.std.specs.declared.cmp.Ordering.TheVariants.{Less}
+use Rattle.acct_tables.specs.declared.row.DomainRow.{DomainRow}
+use Rattle.acct_tables.specs.declared.row.AccountRow.{AccountRow}
+use Rattle.acct_tables.specs.declared.row.MemberRow.{MemberRow}
+use Rattle.acct_tables.specs.declared.row.AliasRow.{AliasRow}
+use Rattle.acct_tables.specs.declared.row.OutRow.{OutRow}
+use Rattle.acct_tables.specs.declared.row.Row.TheVariants as rows
+use Rattle.acct_tables.specs.declared.row.RowKey.TheVariants as keys
 use Rattle.acct_tables.proofs.Ascending.{below_in, is_ascending-put, is_ascending-filter}
-use Rattle.acct_tables.proofs.Members.{at_in}
-use Rattle.acct_rows.proofs.FoldOrder.{alone}
-use Rattle.acct_tables.proofs.Lookups.{below_apart, same_Some, there_or_not, key_found, put_here, put_cases}
-use Rattle.acct_tables.proofs.Lookups.{put_either, find_none}
+use Rattle.acct_tables.proofs.Standing.{at_in}
+use Rattle.acct_tables.proofs.FoldOrder.{alone}
+use Rattle.acct_tables.proofs.Lookups.{below_apart, same_Some, there_or_not, key_found, put_here, put_cases, put_either}
+use Rattle.acct_tables.proofs.Lookups.{find_none}
 use Rattle.acct_tables.proofs.Orders.{same_key-is, same_key-itself, tested}
 use Rattle.acct_tables.proofs.Removals.{without_found, without_keeps}
 use Rattle.acct_rows.proofs.Kept.{Kept, MembersKept, OutsRun, outs_run, good_kept, moved}
-use Rattle.acct_rows.proofs.ObjectKeys.{same_object_key, one_object}
-
-pub equals : (m n : ℕ) → m ≡ n → (m == n) ≡ true
-equals m n e = grind (arith, nat_tests)
-
-pub equal_is : (m n : ℕ) → (m == n) ≡ true → m ≡ n
-equal_is m n e = grind (arith, nat_tests)
+use Rattle.acct_tables.proofs.ObjectKeys.{same_object_key, one_object}
+use Rattle.acct_tables.proofs.Equals.{equals, equal_is, one_sid, nat_cases}
 
 -- a SID is itself
 sid_itself : (sid : SidValue) → sid_eq sid sid ≡ true
@@ -207,16 +198,6 @@ another x y apart = elim (tested (same_object x y)) [
   | inr t ↦ t
 ]
 
--- SIDs with one key are one
-abbrev sid_made : ℕ → List ℕ → SidValue
-sid_made authority subs = record { authority = authority; subs = subs }
-
-pub one_sid : (a b : SidValue) → sid_key a ≡ sid_key b → a ≡ b
-one_sid a b key =
-    let authority : a.authority ≡ b.authority = cc in
-    let subs : a.subs ≡ b.subs = cc in
-    ap (λ n. sid_made n a.subs) authority ∙ ap (sid_made b.authority) subs
-
 pub removed_lsa_sound : RemovedLsaAccountsStaySound
 removed_lsa_sound r gone sound =
     let object = objects.Account gone in
@@ -328,9 +309,6 @@ outs_moved r outs next sound ascend run =
       descs = λ x d e. inl (e, refl);
       outs = run;
     }) (λ sid was other. was)
-
-pub nat_cases : (m n : ℕ) → (m ≡ n) ⊎ (m ≢ n)
-nat_cases m n = elim (tested (m == n)) [ inl t ↦ inl (equal_is m n t) | inr t ↦ inr (λ e. cc (t, equals m n e)) ]
 
 first_of : (m n : ℕ) → m ∷ [] ≡ n ∷ [] → m ≡ n
 first_of m n e = cc

@@ -1,8 +1,8 @@
 -- Changes of accounts that take the next out numbers in order, row by row
 use Rattle.std.proofs.Common.{ℕ, List, [], ◌∷◌}
 use Rattle.acct_rows.specs.Rows.{next_after, TakeNumbers}
-use Rattle.acct_rows.specs.declared.row.Row.{Row}
-use Rattle.acct_rows.specs.declared.row.Row.TheVariants as rows
+use Rattle.acct_tables.specs.declared.row.Row.{Row}
+use Rattle.acct_tables.specs.declared.row.Row.TheVariants as rows
 
 pub first_numbers : (row : Row) (puts : List Row) (next : ℕ) → TakeNumbers next (row ∷ puts)
     → TakeNumbers next (row ∷ [])

@@ -6,29 +6,33 @@ use Rattle.std.specs.List.{filter}
 use Rattle.std.proofs.lemmas.Bool.Decides.{nat_tests}
 use Rattle.acct_codes.specs.declared.kind.Kind.{Kind}
 use Rattle.acct_codes.specs.declared.kind.Kind.TheVariants.{Server, Domain, Group, Alias, User, Policy, Account}
-use Rattle.dtyp_sid.specs.Value.{SidValue}
-use Rattle.acct_rows.specs.Keyed.{at, without, without_all}
-use Rattle.acct_rows.specs.Rows.{Lists, account_key, member_key, alias_key, desc_key, sid_key, same_kind, is_of}
-use Rattle.acct_rows.specs.Rows.{account_at, member_at, desc_at, remove_row, removed}
-use Rattle.acct_rows.specs.ObjectKeys.{object_key}
-use Rattle.acct_rows.specs.Objects.{same_object, exists}
-use Rattle.acct_rows.specs.declared.object.Object.{Object}
-use Rattle.acct_rows.specs.declared.object.Object.TheVariants as objects
+use Rattle.dtyp_sid.specs.Sids.{SidValue}
+use Rattle.acct_tables.specs.KeyedRows.{at, without, without_all}
+use Rattle.acct_rows.specs.Rows.{Lists, is_of}
+use Rattle.acct_tables.specs.Keys.{account_key, member_key, alias_key, desc_key, sid_key}
+use Rattle.acct_tables.specs.Selected.{same_kind}
+use Rattle.acct_rows.specs.Rows.{account_at, member_at, desc_at, remove_row, removed, naming}
+use Rattle.acct_tables.specs.Selected.{is_member_of, is_alias_row_of, key_of_member, key_of_alias}
+use Rattle.acct_tables.specs.Keys.{object_key}
+use Rattle.acct_rows.specs.Rows.{exists}
+use Rattle.acct_tables.specs.Keys.{same_object}
+use Rattle.acct_tables.specs.declared.object.Object.{Object}
+use Rattle.acct_tables.specs.declared.object.Object.TheVariants as objects
 use Rattle.acct_rows.specs.Sound.{IsGoodAccount, IsSoundRows}
-use Rattle.acct_rows.specs.Laws.{Keeps, naming, is_member_of, is_alias_row_of, key_of_member, key_of_alias, IsNoPrimary}
-use Rattle.acct_rows.specs.Laws.{OthersAreNoPrimary, RemovedAccountsStaySound}
-use Rattle.acct_rows.specs.declared.row.AccountRow.{AccountRow}
-use Rattle.acct_rows.specs.declared.row.MemberRow.{MemberRow}
-use Rattle.acct_rows.specs.declared.row.AliasRow.{AliasRow}
-use Rattle.acct_rows.specs.declared.row.DescRow.{DescRow}
-use Rattle.acct_rows.specs.declared.row.RowKey.{RowKey}
-use Rattle.acct_rows.specs.declared.row.RowKey.TheVariants as keys
+use Rattle.acct_rows.specs.Laws.{Keeps, IsNoPrimary, OthersAreNoPrimary, RemovedAccountsStaySound}
+use Rattle.acct_tables.specs.declared.row.AccountRow.{AccountRow}
+use Rattle.acct_tables.specs.declared.row.MemberRow.{MemberRow}
+use Rattle.acct_tables.specs.declared.row.AliasRow.{AliasRow}
+use Rattle.acct_tables.specs.declared.row.DescRow.{DescRow}
+use Rattle.acct_tables.specs.declared.row.RowKey.{RowKey}
+use Rattle.acct_tables.specs.declared.row.RowKey.TheVariants as keys
 use Rattle.acct_tables.proofs.Ascending.{is_ascending-filter}
 use Rattle.acct_tables.proofs.Lookups.{there_or_not, key_found}
 use Rattle.acct_tables.proofs.Orders.{tested}
 use Rattle.acct_tables.proofs.Removals.{without_found, without_keeps, is_ascending-without_all, purged_found}
 use Rattle.acct_tables.proofs.Removals.{purged_keeps}
-use Rattle.acct_rows.proofs.Moves.{equals, user_domain, another, there_still, removed_desc_sound}
+use Rattle.acct_rows.proofs.Moves.{user_domain, another, there_still, removed_desc_sound}
+use Rattle.acct_tables.proofs.Equals.{equals}
 
 -- the rows that are left
 abbrev pub left : Lists → ℕ → ℕ → SidValue → Lists
@@ -193,8 +197,8 @@ module _ (r : Lists) (domain rid : ℕ) (sid : SidValue) (kind : Kind) (sound : 
     descriptors_ascend = sound.descriptors_ascend;
     outs_ascend = sound.outs_ascend;
     domain_rules = sound.domain_rules;
-    account_domain = sound.account_domain;
-    builtin_domain = sound.builtin_domain;
+    has_account_domain = sound.has_account_domain;
+    has_builtin_domain = sound.has_builtin_domain;
     account_rules = λ n i a e.
         let found = without_found account_key (n ∷ i ∷ []) (domain ∷ rid ∷ []) r.accounts a e in
         good_stays n i a found.0 found.1 (sound.account_rules n i a found.0);

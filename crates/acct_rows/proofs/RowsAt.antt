@@ -1,7 +1,7 @@
 -- What a plan leaves at each key, and rows that are equal at every key.
 use Rattle.std.proofs.Common.{◌≡◌, ◌≢◌, ℕ, ◌==◌, Bool, true, false, ◌&&◌, ◌||◌, cond, List, [], ◌∷◌}
 use Rattle.std.proofs.Common.{Option, Some, None, refl, sym, ap, subst, ◌∙◌, arith, inl, inr, ◌⊎◌}
-use Rattle.std.specs.Prelude.{option_map, not}
+use Rattle.std.specs.Prelude.{option_map, not, All, IfSome}
 use Rattle.std.specs.List.{list_any, AllByRecursion}
 use Rattle.std.specs.Cmp.{first_so, second_so}
 use Rattle.std.specs.Cmp.Lexicographic.{nat_list_cmp_total}
@@ -9,35 +9,36 @@ use Rattle.std.specs.Ordering.{ordering_reverse}
 use Rattle.std.specs.declared.cmp.Ordering.TheVariants.{Less, Greater}
 use Rattle.std.proofs.lemmas.Bool.Decides.{nat_tests}
 use Rattle.std.proofs.lemmas.List.Elements.{recursion_from_All}
-use Rattle.dtyp_sid.specs.Value.{SidValue}
-use Rattle.dtyp_sid.specs.Order.{sid_eq, EqualSidsAreOne}
+use Rattle.dtyp_sid.specs.Sids.{SidValue, sid_eq, EqualSidsAreOne}
 use Rattle.acct_rows.specs.Changes.{row_at, same_row_key, is_put}
-use Rattle.acct_rows.specs.Keyed.{compare, same_key, at, without, below_all, is_ascending}
+use Rattle.acct_tables.specs.KeyedRows.{compare, same_key, at, without, below_all, is_ascending}
 use Rattle.acct_rows.specs.PairsOf.{AllFit, AreTables, IsRowOf}
-use Rattle.acct_rows.specs.ObjectKeys.{object_key}
-use Rattle.acct_rows.specs.Rows.{Lists, domain_key, account_key, member_key, alias_key, lsa_key, desc_key, out_key}
-use Rattle.acct_rows.specs.Rows.{sid_key, domain_at, account_at, lsa_at, desc_at, out_at, put_row, remove_row, removed}
+use Rattle.acct_tables.specs.Keys.{object_key}
+use Rattle.acct_rows.specs.Rows.{Lists}
+use Rattle.acct_tables.specs.Keys.{domain_key, account_key, member_key, alias_key, lsa_key, desc_key, out_key}
+use Rattle.acct_rows.specs.Rows.{domain_at, account_at, lsa_at, desc_at, out_at, put_row, remove_row, removed}
+use Rattle.acct_tables.specs.Keys.{sid_key}
 use Rattle.acct_rows.specs.Rows.{place_row, next_after, with_puts}
 use Rattle.acct_rows.specs.Loading.{placed}
 use Rattle.acct_rows.specs.Sound.{IsSoundRows}
-use Rattle.acct_rows.specs.Spelled.{key_of, Fits, FitsDomain, FitsAccount, FitsMember, FitsAlias, FitsLsa, FitsDesc}
-use Rattle.acct_rows.specs.Spelled.{FitsOut}
-use Rattle.acct_rows.specs.declared.object.Object.{Object}
-use Rattle.acct_rows.specs.declared.row.DomainRow.{DomainRow}
-use Rattle.acct_rows.specs.declared.row.AccountRow.{AccountRow}
-use Rattle.acct_rows.specs.declared.row.LsaRow.{LsaRow}
-use Rattle.acct_rows.specs.declared.row.DescRow.{DescRow}
-use Rattle.acct_rows.specs.declared.row.OutRow.{OutRow}
-use Rattle.acct_rows.specs.declared.row.Row.{Row}
-use Rattle.acct_rows.specs.declared.row.Row.TheVariants as rows
-use Rattle.acct_rows.specs.declared.row.RowKey.{RowKey}
-use Rattle.acct_rows.specs.declared.row.RowKey.TheVariants as keys
+use Rattle.acct_tables.specs.Spelled.{key_of, Fits, FitsDomain, FitsAccount, FitsMember, FitsAlias, FitsLsa, FitsDesc}
+use Rattle.acct_tables.specs.Spelled.{FitsOut}
+use Rattle.acct_tables.specs.declared.object.Object.{Object}
+use Rattle.acct_tables.specs.declared.row.DomainRow.{DomainRow}
+use Rattle.acct_tables.specs.declared.row.AccountRow.{AccountRow}
+use Rattle.acct_tables.specs.declared.row.LsaRow.{LsaRow}
+use Rattle.acct_tables.specs.declared.row.DescRow.{DescRow}
+use Rattle.acct_tables.specs.declared.row.OutRow.{OutRow}
+use Rattle.acct_tables.specs.declared.row.Row.{Row}
+use Rattle.acct_tables.specs.declared.row.Row.TheVariants as rows
+use Rattle.acct_tables.specs.declared.row.RowKey.{RowKey}
+use Rattle.acct_tables.specs.declared.row.RowKey.TheVariants as keys
 use Rattle.acct_tables.proofs.Ascending.{In, below_in}
 use Rattle.acct_tables.proofs.Lookups.{at-without, below_apart, key_found, put_here, put_elsewhere, there_or_not}
-use Rattle.acct_tables.proofs.Members.{at_in, in_at}
+use Rattle.acct_tables.proofs.Standing.{at_in, in_at}
 use Rattle.acct_tables.proofs.Orders.{same_key-is, same_key-itself, tested}
-use Rattle.acct_rows.proofs.Moves.{one_sid}
-use Rattle.acct_rows.proofs.ObjectKeys.{one_object, same_object_is, same_object_itself}
+use Rattle.acct_tables.proofs.Equals.{one_sid}
+use Rattle.acct_tables.proofs.ObjectKeys.{one_object, same_object_is, same_object_itself}
 
 all_in : {A : Type 0} (P : A → Type 0) (a : A) (xs : List A) → AllByRecursion P xs → In a xs → P a
 all_in P a [] all i = absurd i
@@ -45,31 +46,36 @@ all_in P a (x ∷ xs) all (inl i) = subst P (sym i) all.0
 all_in P a (x ∷ xs) all (inr i) = all_in P a xs all.1 i
 
 -- what is found in rows that have spellings has one
-pub domain_found_fits : (lists : Lists) (number : ℕ) (d : DomainRow) → AllFit lists → domain_at lists number ≡ Some d
+pub found_fits : {A : Type 0} (F : A → Type 0) (key : A → List ℕ) (q : List ℕ) (xs : List A) → All F xs
+    → (found : Option A) → found ≡ at key q xs → IfSome found F
+found_fits F key q xs all None e = tt
+found_fits F key q xs all (Some a) e = all_in F a xs (recursion_from_All F xs all) (at_in key q a xs (sym e))
+
+domain_found_fits : (lists : Lists) (number : ℕ) (d : DomainRow) → AllFit lists → domain_at lists number ≡ Some d
     → FitsDomain d
 domain_found_fits lists number d fit e =
     all_in FitsDomain d lists.domains (recursion_from_All FitsDomain lists.domains fit.domains)
     (at_in domain_key (number ∷ []) d lists.domains e)
 
-pub account_found_fits : (lists : Lists) (domain rid : ℕ) (a : AccountRow) → AllFit lists
+account_found_fits : (lists : Lists) (domain rid : ℕ) (a : AccountRow) → AllFit lists
     → account_at lists domain rid ≡ Some a → FitsAccount a
 account_found_fits lists domain rid a fit e =
     all_in FitsAccount a lists.accounts (recursion_from_All FitsAccount lists.accounts fit.accounts)
     (at_in account_key (domain ∷ rid ∷ []) a lists.accounts e)
 
-pub lsa_found_fits : (lists : Lists) (sid : SidValue) (l : LsaRow) → AllFit lists → lsa_at lists sid ≡ Some l
+lsa_found_fits : (lists : Lists) (sid : SidValue) (l : LsaRow) → AllFit lists → lsa_at lists sid ≡ Some l
     → FitsLsa l
 lsa_found_fits lists sid l fit e =
     all_in FitsLsa l lists.lsa (recursion_from_All FitsLsa lists.lsa fit.lsa)
     (at_in lsa_key (sid_key sid) l lists.lsa e)
 
-pub desc_found_fits : (lists : Lists) (object : Object) (d : DescRow) → AllFit lists → desc_at lists object ≡ Some d
+desc_found_fits : (lists : Lists) (object : Object) (d : DescRow) → AllFit lists → desc_at lists object ≡ Some d
     → FitsDesc d
 desc_found_fits lists object d fit e =
     all_in FitsDesc d lists.descriptors (recursion_from_All FitsDesc lists.descriptors fit.descriptors)
     (at_in desc_key (object_key object) d lists.descriptors e)
 
-pub out_found_fits : (lists : Lists) (number : ℕ) (o : OutRow) → AllFit lists → out_at lists number ≡ Some o
+out_found_fits : (lists : Lists) (number : ℕ) (o : OutRow) → AllFit lists → out_at lists number ≡ Some o
     → FitsOut o
 out_found_fits lists number o fit e =
     all_in FitsOut o lists.outs (recursion_from_All FitsOut lists.outs fit.outs)

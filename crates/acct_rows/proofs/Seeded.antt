@@ -14,24 +14,23 @@ use Rattle.ucd_case.specs.CaseFolding.{simple_fold}
 use Rattle.ucd_case.proofs.CaseFoldingLemmas.{simple_fold-ascii}
 use Rattle.acct_codes.specs.declared.kind.Kind.TheVariants.{Group, Alias, User}
 use Rattle.acct_codes.specs.Limits.{most_domain_subs}
-use Rattle.acct_codes.specs.Rids.{domain_user_rid_admin, domain_user_rid_guest, domain_group_rid_admins}
-use Rattle.acct_codes.specs.Rids.{domain_group_rid_users, domain_group_rid_guests, domain_alias_rid_admins}
-use Rattle.acct_codes.specs.Rids.{domain_alias_rid_users, domain_alias_rid_guests, first_created_rid}
-use Rattle.acct_codes.specs.UserControl.{user_normal_account}
-use Rattle.dtyp_sid.specs.Made.{with_last}
-use Rattle.dtyp_sid.specs.Value.{SidValue, IsSid}
-use Rattle.acct_calls.specs.CodePoints.{AreUnits, is_surrogate, code_points, units_of}
-use Rattle.acct_calls.specs.Folding.{folded_point, folded_points, is_same}
-use Rattle.acct_calls.specs.Validity.{is_valid_name}
-use Rattle.acct_rows.specs.Keyed.{compare, at, is_ascending}
-use Rattle.acct_rows.specs.Rows.{Lists, sid_key, domain_key, account_key, member_key, alias_key}
-use Rattle.acct_rows.specs.Rows.{account_at, member_at, is_of}
-use Rattle.acct_rows.specs.declared.row.AccountRow.{AccountRow}
-use Rattle.acct_rows.specs.declared.row.MemberRow.{MemberRow}
-use Rattle.acct_rows.specs.declared.row.AliasRow.{AliasRow}
-use Rattle.acct_calls.specs.Domains.{name_of_text, builtin_name, is_domain_name, is_domain_sid}
-use Rattle.acct_rows.specs.Sound.{control_is_good, IsGoodDomain}
-use Rattle.acct_rows.specs.Sound.{IsGoodAccount, IsGoodMember, IsSoundRows}
+use Rattle.acct_codes.specs.Accounts.{domain_user_rid_admin, domain_user_rid_guest, domain_group_rid_admins}
+use Rattle.acct_codes.specs.Accounts.{domain_group_rid_users, domain_group_rid_guests, domain_alias_rid_admins}
+use Rattle.acct_codes.specs.Accounts.{domain_alias_rid_users, domain_alias_rid_guests, first_created_rid}
+use Rattle.acct_codes.specs.Accounts.{user_normal_account}
+use Rattle.dtyp_sid.specs.Sids.{with_last, SidValue, IsSid}
+use Rattle.acct_calls.specs.Names.{AreUnits, is_surrogate, code_points, units_of, folded_point, folded_points, is_same}
+use Rattle.acct_calls.specs.Names.{is_valid_name, name_of_text, builtin_name, is_domain_name, is_domain_sid}
+use Rattle.acct_tables.specs.KeyedRows.{compare, at, is_ascending}
+use Rattle.acct_rows.specs.Rows.{Lists, account_at, member_at}
+use Rattle.acct_tables.specs.Keys.{sid_key, domain_key, account_key, member_key, alias_key}
+use Rattle.acct_rows.specs.Rows.{is_of}
+use Rattle.acct_tables.specs.declared.row.AccountRow.{AccountRow}
+use Rattle.acct_tables.specs.declared.row.MemberRow.{MemberRow}
+use Rattle.acct_tables.specs.declared.row.AliasRow.{AliasRow}
+use Rattle.acct_tables.specs.Good.{control_is_good, IsGoodDomain}
+use Rattle.acct_rows.specs.Sound.{IsGoodAccount, IsSoundRows}
+use Rattle.acct_tables.specs.Good.{IsGoodMember}
 use Rattle.acct_rows.specs.Seed.{guest_control, seed_user, seed_group, seed_alias, seed_domains, seed_accounts}
 use Rattle.acct_rows.specs.Seed.{seed_members, seed_aliases, seed_lists}
 use Rattle.acct_tables.proofs.Lookups.{key_found}
@@ -318,8 +317,8 @@ module _ (name : List ℕ) (sid : SidValue) where
     outs_ascend = refl;
     domain_rules = λ number d there. found_is domain_key IsGoodDomain (number ∷ []) (seed_domains name sid) d
         (domains_are_good named sided whole sided_whole) there;
-    account_domain = refl;
-    builtin_domain = refl;
+    has_account_domain = refl;
+    has_builtin_domain = refl;
     account_rules = λ domain rid a there. found_is account_key (IsGoodAccount (seed_lists name sid))
         (domain ∷ rid ∷ []) seed_accounts a accounts_are_good there;
     names_differ = seed_names_differ;

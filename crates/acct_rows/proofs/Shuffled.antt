@@ -11,33 +11,34 @@ use Rattle.acct_codes.specs.declared.kind.Kind.TheVariants.{Group, Alias, User}
 use Rattle.acct_keeper.specs.declared.pairs.Pair.{Pair}
 use Rattle.acct_keeper.specs.Pairs as kept
 use Rattle.std.specs.Ordering.{is_lt, is_eq}
-use Rattle.acct_rows.specs.Keyed.{compare, same_key, is_ascending}
+use Rattle.acct_tables.specs.KeyedRows.{compare, same_key, is_ascending}
 use Rattle.acct_rows.specs.Loading.{BadPairs}
 use Rattle.acct_rows.specs.PairRules.{pair_key, pair_at, is_there, domain_in, is_missing, is_past}
 use Rattle.acct_rows.specs.PairRules.{is_earlier, has_taken_name, lacks_primary}
-use Rattle.acct_rows.specs.PairRules.{breaks_alone, breaks_among, breaks_rule, is_format, is_broken_at}
+use Rattle.acct_rows.specs.PairRules.{breaks_among, breaks_rule, is_format, is_broken_at}
+use Rattle.acct_tables.specs.RowRules.{breaks_alone}
 use Rattle.acct_rows.specs.PairRules.{is_broken, AreUnbroken, IsSmallestBroken, is_other, as_domain, as_account}
 use Rattle.acct_rows.specs.PairRules.{has_value, is_old, next_in, next_out_in, is_next_out, is_out_of_turn, lacks}
 use Rattle.acct_rows.specs.PairsOf.{HoldPairs, migration, migrated, keys_differ, AscendingKeysDiffer}
-use Rattle.acct_rows.specs.Rows.{Lists, same_kind}
-use Rattle.acct_rows.specs.Spelled.{stored_key, format_key, format_value, old_format_value, next_out_key}
+use Rattle.acct_rows.specs.Rows.{Lists}
+use Rattle.acct_tables.specs.Selected.{same_kind}
+use Rattle.acct_tables.specs.Spelled.{stored_key, format_key, format_value, old_format_value, next_out_key}
 use Rattle.acct_base.specs.Reading.{◌>>=◌}
-use Rattle.acct_rows.specs.Stored.{row_of, next_out_of}
-use Rattle.acct_rows.specs.declared.object.Object.{Object}
-use Rattle.acct_rows.specs.declared.object.Object.TheVariants as objects
-use Rattle.acct_rows.specs.declared.row.RowKey.{RowKey}
+use Rattle.acct_tables.specs.Stored.{row_of, next_out_of}
+use Rattle.acct_tables.specs.declared.object.Object.{Object}
+use Rattle.acct_tables.specs.declared.object.Object.TheVariants as objects
+use Rattle.acct_tables.specs.declared.row.RowKey.{RowKey}
 use Rattle.acct_rows.specs.declared.pairs.loading.PairsError.{PairsError}
 use Rattle.acct_rows.specs.declared.pairs.loading.PairsError.TheVariants.{BadPair, Memory}
-use Rattle.acct_rows.specs.declared.row.Row.{Row}
-use Rattle.acct_rows.specs.declared.row.Row.TheVariants as rows
-use Rattle.acct_rows.specs.declared.row.RowKey.TheVariants as keys
+use Rattle.acct_tables.specs.declared.row.Row.{Row}
+use Rattle.acct_tables.specs.declared.row.Row.TheVariants as rows
+use Rattle.acct_tables.specs.declared.row.RowKey.TheVariants as keys
 use Rattle.acct_tables.proofs.Ascending.{In}
 use Rattle.acct_tables.proofs.Lookups.{there_or_not, key_found}
-use Rattle.acct_tables.proofs.Members.{at_in, in_at, in_permutation, one_if}
+use Rattle.acct_tables.proofs.Standing.{at_in, in_at, in_permutation, one_if}
 use Rattle.acct_tables.proofs.Orders.{same_key-is, same_key-itself, less, tested}
 use Rattle.acct_rows.proofs.Changed.{set_here, set_apart}
-use Rattle.acct_rows.proofs.Members.{count, count-permutation, precedes}
-use Rattle.acct_rows.proofs.Members.{sorted_ascends, ascending-kept}
+use Rattle.acct_rows.proofs.Members.{count, count-permutation, precedes, sorted_ascends, ascending-kept}
 
 both_parts : (a b : Bool) → (a && b) ≡ true → (a ≡ true) × (b ≡ true)
 both_parts true b e = (refl, e)

@@ -8,41 +8,40 @@ use Rattle.std.proofs.lemmas.Bool.Decides.{nat_tests}
 use Rattle.std.proofs.lemmas.List.{append-nil}
 use Rattle.std.proofs.lemmas.Nat.{from_le_bytes-to_le_bytes_8}
 use Rattle.acct_codes.specs.declared.kind.Kind.{Kind}
-use Rattle.dtyp_sid.specs.Value.{SidValue}
-use Rattle.dtyp_sid.specs.Bytes.{WrittenBytesAreRead, WrittenBytesHaveLengths, ReadBytesAreWritten}
+use Rattle.dtyp_sid.specs.Sids.{SidValue, WrittenBytesAreRead, WrittenBytesHaveLengths, ReadBytesAreWritten}
 use Rattle.acct_keeper.specs.declared.pairs.Pair.{Pair}
-use Rattle.acct_rows.specs.Keyed.{at}
-use Rattle.acct_rows.specs.ObjectKeys.{object_key}
+use Rattle.acct_tables.specs.KeyedRows.{at}
+use Rattle.acct_tables.specs.Keys.{object_key}
 use Rattle.acct_rows.specs.Rows.{Lists, domain_at, account_at, member_at, alias_row_at, lsa_at, desc_at, out_at}
-use Rattle.acct_rows.specs.Rows.{domain_key, account_key, member_key, alias_key, lsa_key, desc_key, out_key, sid_key}
+use Rattle.acct_tables.specs.Keys.{domain_key, account_key, member_key, alias_key, lsa_key, desc_key, out_key, sid_key}
 use Rattle.acct_rows.specs.Rows.{is_of}
-use Rattle.acct_rows.specs.Spelled.{stored_key, key_of, pair_of, format_key, format_pair, old_format_value, Fits}
-use Rattle.acct_rows.specs.Spelled.{next_out_key, next_out_value, next_out_pair}
+use Rattle.acct_tables.specs.Spelled.{stored_key, key_of, pair_of, format_key, format_pair, old_format_value, Fits}
+use Rattle.acct_tables.specs.Spelled.{next_out_key, next_out_value, next_out_pair}
 use Rattle.acct_base.specs.Reading.{◌>>=◌, is_end, front_at}
-use Rattle.acct_rows.specs.Stored.{row_key, row_of, byte_at, lettered, only_if, next_out_of}
+use Rattle.acct_tables.specs.Stored.{row_key, row_of, byte_at, lettered, only_if, next_out_of}
 use Rattle.acct_rows.specs.PairRules.{pair_key, pair_at, is_there, row_in, as_domain, as_account, domain_in, account_in}
 use Rattle.acct_rows.specs.PairRules.{is_other, is_missing, has_value, is_old, next_in, next_out_in}
 use Rattle.acct_keeper.specs.Pairs as kept
 use Rattle.acct_rows.specs.PairsOf.{IsRowOf, HoldPairs, migration, migrated}
 use Rattle.acct_rows.specs.Changes.{row_at}
-use Rattle.acct_rows.specs.declared.row.DomainRow.{DomainRow}
-use Rattle.acct_rows.specs.declared.row.AccountRow.{AccountRow}
-use Rattle.acct_rows.specs.declared.row.MemberRow.{MemberRow}
-use Rattle.acct_rows.specs.declared.row.AliasRow.{AliasRow}
-use Rattle.acct_rows.specs.declared.row.LsaRow.{LsaRow}
-use Rattle.acct_rows.specs.declared.row.DescRow.{DescRow}
-use Rattle.acct_rows.specs.declared.row.OutRow.{OutRow}
-use Rattle.acct_rows.specs.declared.object.Object.{Object}
-use Rattle.acct_rows.specs.declared.row.Row.{Row}
-use Rattle.acct_rows.specs.declared.row.Row.TheVariants as rows
-use Rattle.acct_rows.specs.declared.row.RowKey.{RowKey}
-use Rattle.acct_rows.specs.declared.row.RowKey.TheVariants as keys
+use Rattle.acct_tables.specs.declared.row.DomainRow.{DomainRow}
+use Rattle.acct_tables.specs.declared.row.AccountRow.{AccountRow}
+use Rattle.acct_tables.specs.declared.row.MemberRow.{MemberRow}
+use Rattle.acct_tables.specs.declared.row.AliasRow.{AliasRow}
+use Rattle.acct_tables.specs.declared.row.LsaRow.{LsaRow}
+use Rattle.acct_tables.specs.declared.row.DescRow.{DescRow}
+use Rattle.acct_tables.specs.declared.row.OutRow.{OutRow}
+use Rattle.acct_tables.specs.declared.object.Object.{Object}
+use Rattle.acct_tables.specs.declared.row.Row.{Row}
+use Rattle.acct_tables.specs.declared.row.Row.TheVariants as rows
+use Rattle.acct_tables.specs.declared.row.RowKey.{RowKey}
+use Rattle.acct_tables.specs.declared.row.RowKey.TheVariants as keys
 use Rattle.acct_tables.proofs.Lookups.{same_Some, key_found, there_or_not}
-use Rattle.acct_rows.proofs.Moves.{one_sid, nat_cases}
-use Rattle.acct_rows.proofs.ObjectKeys.{one_object}
-use Rattle.acct_rows.proofs.Taken.{front_again}
-use Rattle.acct_rows.proofs.ReadRows.{FitsKey}
-use Rattle.acct_rows.proofs.SpelledRows.{key_again, fits_key, spelled_rows_are_read}
+use Rattle.acct_tables.proofs.Equals.{one_sid, nat_cases}
+use Rattle.acct_tables.proofs.ObjectKeys.{one_object}
+use Rattle.acct_tables.proofs.Taken.{front_again}
+use Rattle.acct_tables.proofs.ReadRows.{FitsKey}
+use Rattle.acct_tables.proofs.SpelledRows.{key_again, fits_key, spelled_rows_are_read}
 
 -- one of the rows is found at its key
 pub is_row_at : (lists : Lists) (row : Row) → IsRowOf lists row → row_at lists (key_of row) ≡ Some row

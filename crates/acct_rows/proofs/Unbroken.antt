@@ -8,53 +8,58 @@ use Rattle.std.proofs.lemmas.Bool.Decides.{nat_tests}
 use Rattle.std.proofs.lemmas.Slice.Eq.{bytes_eq-Decides}
 use Rattle.acct_codes.specs.declared.kind.Kind.{Kind}
 use Rattle.acct_codes.specs.declared.kind.Kind.TheVariants.{Group, Alias, User}
-use Rattle.acct_codes.specs.Rids.{domain_group_rid_users}
-use Rattle.dtyp_sid.specs.Value.{SidValue}
-use Rattle.dtyp_sid.specs.Order.{EqualSidsAreOne}
-use Rattle.dtyp_sid.specs.Bytes.{WrittenBytesAreRead, WrittenBytesHaveLengths, ReadBytesAreWritten}
-use Rattle.acct_calls.specs.Folding.{is_same, IsEquivalence}
+use Rattle.acct_codes.specs.Accounts.{domain_group_rid_users}
+use Rattle.dtyp_sid.specs.Sids.{SidValue, EqualSidsAreOne, WrittenBytesAreRead, WrittenBytesHaveLengths}
+use Rattle.dtyp_sid.specs.Sids.{ReadBytesAreWritten}
+use Rattle.acct_calls.specs.Names.{is_same, IsEquivalence}
 use Rattle.acct_keeper.specs.declared.pairs.Pair.{Pair}
-use Rattle.acct_rows.specs.Keyed.{same_key, is_ascending}
-use Rattle.acct_rows.specs.Rows.{Lists, domain_at, account_at, member_at, alias_row_at, domain_key, account_key}
-use Rattle.acct_rows.specs.Rows.{member_key, alias_key, lsa_key, desc_key, out_key, lsa_at, desc_at, out_at, same_kind}
-use Rattle.acct_rows.specs.Rows.{is_of}
-use Rattle.acct_rows.specs.Objects.{exists}
-use Rattle.acct_rows.specs.Sound.{IsGoodDomain, IsGoodAccount, IsGoodOut, IsSoundRows, next_rid_of}
-use Rattle.acct_rows.specs.Spelled.{rid_bytes, stored_key, key_of, pair_of, format_key, format_value, old_format_value}
-use Rattle.acct_rows.specs.Spelled.{format_pair, next_out_key, next_out_value, next_out_pair, Fits, FitsObject}
-use Rattle.acct_rows.specs.Stored.{row_of, next_out_of}
+use Rattle.acct_tables.specs.KeyedRows.{same_key, is_ascending}
+use Rattle.acct_rows.specs.Rows.{Lists, domain_at, account_at, member_at, alias_row_at}
+use Rattle.acct_tables.specs.Keys.{domain_key, account_key}
+use Rattle.acct_rows.specs.Rows.{lsa_at, desc_at, out_at}
+use Rattle.acct_tables.specs.Keys.{member_key, alias_key, lsa_key, desc_key, out_key}
+use Rattle.acct_tables.specs.Selected.{same_kind}
+use Rattle.acct_rows.specs.Rows.{is_of, exists}
+use Rattle.acct_rows.specs.Sound.{IsGoodAccount, IsSoundRows, next_rid_of}
+use Rattle.acct_tables.specs.Good.{IsGoodDomain, IsGoodOut}
+use Rattle.acct_tables.specs.Spelled.{rid_bytes, stored_key, key_of, pair_of, format_key, format_value}
+use Rattle.acct_tables.specs.Spelled.{old_format_value}
+use Rattle.acct_tables.specs.Spelled.{format_pair, next_out_key, next_out_value, next_out_pair, Fits, FitsObject}
+use Rattle.acct_tables.specs.Stored.{row_of, next_out_of}
 use Rattle.acct_rows.specs.PairRules.{pair_key, pair_at, is_there, is_missing, is_past, is_past_next}
 use Rattle.acct_rows.specs.PairRules.{is_earlier, has_taken_name, lacks_group_or_user, lacks_primary}
-use Rattle.acct_rows.specs.PairRules.{breaks_alone, breaks_among, breaks_rule, is_format, is_broken_pair, needed}
+use Rattle.acct_rows.specs.PairRules.{breaks_among, breaks_rule, is_format, is_broken_pair, needed_keys}
+use Rattle.acct_tables.specs.RowRules.{breaks_alone}
 use Rattle.acct_rows.specs.PairRules.{is_broken_at, is_broken, is_old, next_out_in, is_next_out, lacks, is_out_of_turn}
 use Rattle.acct_rows.specs.PairRules.{is_misnumbered, AreUnbroken}
 use Rattle.acct_rows.specs.PairsOf.{IsRowOf, IsPairOf, HoldPairs}
-use Rattle.acct_rows.specs.declared.row.DomainRow.{DomainRow}
-use Rattle.acct_rows.specs.declared.row.AccountRow.{AccountRow}
-use Rattle.acct_rows.specs.declared.row.MemberRow.{MemberRow}
-use Rattle.acct_rows.specs.declared.row.AliasRow.{AliasRow}
-use Rattle.acct_rows.specs.declared.row.DescRow.{DescRow}
-use Rattle.acct_rows.specs.declared.row.OutRow.{OutRow}
-use Rattle.acct_rows.specs.declared.object.Object.{Object}
-use Rattle.acct_rows.specs.declared.object.Object.TheVariants as objects
-use Rattle.acct_rows.specs.declared.row.Row.{Row}
-use Rattle.acct_rows.specs.declared.row.Row.TheVariants as rows
-use Rattle.acct_rows.specs.declared.row.RowKey.{RowKey}
-use Rattle.acct_rows.specs.declared.row.RowKey.TheVariants as keys
+use Rattle.acct_tables.specs.declared.row.DomainRow.{DomainRow}
+use Rattle.acct_tables.specs.declared.row.AccountRow.{AccountRow}
+use Rattle.acct_tables.specs.declared.row.MemberRow.{MemberRow}
+use Rattle.acct_tables.specs.declared.row.AliasRow.{AliasRow}
+use Rattle.acct_tables.specs.declared.row.DescRow.{DescRow}
+use Rattle.acct_tables.specs.declared.row.OutRow.{OutRow}
+use Rattle.acct_tables.specs.declared.object.Object.{Object}
+use Rattle.acct_tables.specs.declared.object.Object.TheVariants as objects
+use Rattle.acct_tables.specs.declared.row.Row.{Row}
+use Rattle.acct_tables.specs.declared.row.Row.TheVariants as rows
+use Rattle.acct_tables.specs.declared.row.RowKey.{RowKey}
+use Rattle.acct_tables.specs.declared.row.RowKey.TheVariants as keys
 use Rattle.acct_tables.proofs.Ascending.{In}
 use Rattle.acct_tables.proofs.Lookups.{there_or_not, key_found}
-use Rattle.acct_tables.proofs.Members.{at_in, in_at}
+use Rattle.acct_tables.proofs.Standing.{at_in, in_at}
 use Rattle.acct_tables.proofs.Orders.{same_key-is, tested}
-use Rattle.acct_rows.proofs.ReadRows.{FitsKey}
-use Rattle.acct_rows.proofs.SpelledRows.{fits_key, spelled_rows_are_read}
+use Rattle.acct_tables.proofs.ReadRows.{FitsKey}
+use Rattle.acct_tables.proofs.SpelledRows.{fits_key, spelled_rows_are_read}
 use Rattle.acct_rows.specs.Changes.{row_at}
 use Rattle.acct_rows.proofs.Translated.{domain_found, account_found, member_found, alias_found, lsa_found, desc_found}
 use Rattle.acct_rows.proofs.Translated.{out_found, format_none, next_out_none, next_read, next_read_bounds, not_format}
 use Rattle.acct_rows.proofs.Translated.{not_next_out, not_old, next_there, next_known, row_there, there_is, domain_is}
-use Rattle.acct_rows.proofs.Moves.{nat_cases}
+use Rattle.acct_tables.proofs.Equals.{nat_cases}
 use Rattle.acct_rows.proofs.Translated.{missing_is}
-use Rattle.acct_rows.proofs.Judged.{either_false, both_false, not_false, not_true, domain_good, account_good, lsa_good}
-use Rattle.acct_rows.proofs.Judged.{out_good, good_domain, good_account, good_lsa, good_out, IsUsersGroup, users_kind}
+use Rattle.acct_tables.proofs.Judged.{either_false, both_false, not_false, not_true, domain_good, account_good}
+use Rattle.acct_tables.proofs.Judged.{lsa_good}
+use Rattle.acct_tables.proofs.Judged.{out_good, good_domain, good_account, good_lsa, good_out, IsUsersGroup, users_kind}
 
 any_false : {A : Type 0} (p : A → Bool) (a : A) (xs : List A) → list_any p xs ≡ false → In a xs → p a ≡ false
 any_false p a [] e i = absurd i
@@ -123,7 +128,7 @@ module _ (back : WrittenBytesAreRead) (sizes : WrittenBytesHaveLengths) (only : 
         ∙ ap (is_broken_at pairs (stored_key (key_of row))) (sym (row_there back sizes only lists pairs fit held row e))
         ∙ unbroken (stored_key (key_of row)))
 
-    needed_there : (k : List ℕ) → list_any (same_key k) needed ≡ true → is_some (pair_at k pairs) ≡ true
+    needed_there : (k : List ℕ) → list_any (same_key k) needed_keys ≡ true → is_some (pair_at k pairs) ≡ true
     needed_there k need =
         elim (there_or_not (pair_at k pairs)) [
           | inl there ↦ ap is_some there.1
@@ -133,7 +138,7 @@ module _ (back : WrittenBytesAreRead) (sizes : WrittenBytesHaveLengths) (only : 
               cc (broken, whole))
         ]
 
-    key_there : (key : RowKey) → FitsKey key → list_any (same_key (stored_key key)) needed ≡ true
+    key_there : (key : RowKey) → FitsKey key → list_any (same_key (stored_key key)) needed_keys ≡ true
         → is_some (row_at lists key) ≡ true
     key_there key fits need =
         sym (there_is back sizes only lists pairs fit held key fits) ∙ needed_there (stored_key key) need
@@ -374,8 +379,8 @@ module _ (back : WrittenBytesAreRead) (sizes : WrittenBytesHaveLengths) (only : 
       descriptors_ascend = t;
       outs_ascend = o;
       domain_rules = good_domain_at;
-      account_domain = domain_there 0 (omega arith);
-      builtin_domain = domain_there 1 (omega arith);
+      has_account_domain = domain_there 0 (omega arith);
+      has_builtin_domain = domain_there 1 (omega arith);
       account_rules = good_account_at;
       names_differ = names_apart;
       users_group = users_there;
@@ -571,16 +576,16 @@ module _ (back : WrittenBytesAreRead) (sizes : WrittenBytesHaveLengths) (only : 
         let f : is_some (pair_at k pairs) ≡ false = ap is_some none in
         cc (t, f)
 
-    not_needed : (k : List ℕ) → pair_at k pairs ≡ None → list_any (same_key k) needed ≡ false
+    not_needed : (k : List ℕ) → pair_at k pairs ≡ None → list_any (same_key k) needed_keys ≡ false
     not_needed k none =
         both_false _ _ (apart (stored_key (keys.Account 0 domain_group_rid_users))
         (some_there (keys.Account 0 domain_group_rid_users) (omega arith, omega arith)
         (some_row (λ a. rows.Account a) (account_at lists 0 domain_group_rid_users)
         (of_some Group (account_at lists 0 domain_group_rid_users) sound.users_group))))
         (both_false _ _ (apart (stored_key (keys.Domain 0)) (some_there (keys.Domain 0) (omega arith)
-        (some_row (λ d. rows.Domain d) (domain_at lists 0) sound.account_domain)))
+        (some_row (λ d. rows.Domain d) (domain_at lists 0) sound.has_account_domain)))
         (both_false _ _ (apart (stored_key (keys.Domain 1)) (some_there (keys.Domain 1) (omega arith)
-        (some_row (λ d. rows.Domain d) (domain_at lists 1) sound.builtin_domain)))
+        (some_row (λ d. rows.Domain d) (domain_at lists 1) sound.has_builtin_domain)))
         (both_false _ _ (apart format_key (ap is_some ((held format_pair).1 (inl refl)))) refl)))
       where
         apart : (j : List ℕ) → is_some (pair_at j pairs) ≡ true → same_key k j ≡ false

@@ -3,9 +3,9 @@ use Rattle.std.proofs.Common.{◌≡◌, ℕ, Bool, true, false, not, cond, List
 use Rattle.std.proofs.Common.{refl, ap, ◌∙◌}
 use Rattle.std.specs.declared.cmp.Ordering.TheVariants.{Less, Equal, Greater}
 use Rattle.std.specs.Ordering.{is_eq}
-use Rattle.acct_rows.specs.Keyed.{compare, same_key, by_order, at, put, without}
+use Rattle.acct_tables.specs.KeyedRows.{compare, same_key, by_order, at, put, without}
 use Rattle.acct_rows.specs.Laws.{PutsAreUndone}
-use Rattle.acct_rows.specs.Rows.{member_key, alias_key}
+use Rattle.acct_tables.specs.Keys.{member_key, alias_key}
 use Rattle.acct_tables.proofs.Orders.{same_key-itself}
 
 module _ {A : Type 0} (key : A → List ℕ) where

@@ -4,19 +4,23 @@ use Rattle.std.proofs.Common.{Some, None, refl, sym, ap, subst, ◌∙◌, inl, 
 use Rattle.std.specs.Cmp.{first_so, second_so}
 use Rattle.std.specs.List.{filter, list_any}
 use Rattle.std.proofs.lemmas.List.Elements.{All-nil, All-cons, All-head, All-tail, All-weaker}
-use Rattle.dtyp_sid.specs.Value.{SidValue}
-use Rattle.dtyp_sid.specs.Order.{sid_eq}
-use Rattle.acct_rows.specs.Keyed.{same_key, at, without, without_all}
-use Rattle.acct_rows.specs.Laws.{IsWithout, NamingIsRemoved, is_member_of, is_alias_row_of}
-use Rattle.acct_rows.specs.Rows.{Lists, account_key, member_key, alias_key, account_at, find_name, has_name}
+use Rattle.dtyp_sid.specs.Sids.{SidValue, sid_eq}
+use Rattle.acct_tables.specs.KeyedRows.{same_key, at, without, without_all}
+use Rattle.acct_rows.specs.Laws.{IsWithout, NamingIsRemoved}
+use Rattle.acct_rows.specs.Rows.{Lists, account_at}
+use Rattle.acct_tables.specs.Selected.{is_member_of, is_alias_row_of}
+use Rattle.acct_tables.specs.Keys.{account_key, member_key, alias_key}
+use Rattle.acct_rows.specs.Rows.{find_name}
+use Rattle.acct_tables.specs.Selected.{has_name}
 use Rattle.acct_rows.specs.Sound.{IsSoundRows}
-use Rattle.acct_rows.specs.declared.row.AccountRow.{AccountRow}
-use Rattle.acct_rows.specs.declared.row.AliasRow.{AliasRow}
-use Rattle.acct_rows.specs.declared.row.MemberRow.{MemberRow}
+use Rattle.acct_tables.specs.declared.row.AccountRow.{AccountRow}
+use Rattle.acct_tables.specs.declared.row.AliasRow.{AliasRow}
+use Rattle.acct_tables.specs.declared.row.MemberRow.{MemberRow}
 use Rattle.acct_tables.proofs.Ascending.{is_ascending-filter}
 use Rattle.acct_tables.proofs.Lookups.{there_or_not, at-without}
 use Rattle.acct_tables.proofs.Orders.{tested, same_key-itself}
-use Rattle.acct_rows.proofs.Moves.{search_found, equal_is}
+use Rattle.acct_rows.proofs.Moves.{search_found}
+use Rattle.acct_tables.proofs.Equals.{equal_is}
 use Rattle.acct_rows.proofs.Purges.{left, all_removed}
 use Rattle.acct_tables.proofs.Removals.{unlisted, without_found}
 

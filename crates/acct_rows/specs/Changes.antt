@@ -2,21 +2,21 @@
 use Rattle.std.specs.Prelude.{◌≡◌, ◌==◌, Bool, false, ◌&&◌, not, List, [], ◌∷◌, ◌++◌, Option, Some, None}
 use Rattle.std.specs.Prelude.{ℕ, is_some, option_map, if◌then◌else◌}
 use Rattle.std.specs.List.{list_any}
-use Rattle.dtyp_sid.specs.Order.{sid_eq}
+use Rattle.dtyp_sid.specs.Sids.{sid_eq}
 use Rattle.acct_keeper.specs.declared.pairs.Pair.{Pair}
 use Rattle.acct_keeper.specs.declared.pairs.Change.{Change}
 use Rattle.acct_keeper.specs.Pairs.{after}
-use Rattle.acct_rows.specs.Objects.{same_object}
+use Rattle.acct_tables.specs.Keys.{same_object}
 use Rattle.acct_rows.specs.Rows.{Lists, domain_at, account_at, member_at, alias_row_at, lsa_at, desc_at, out_at}
 use Rattle.acct_rows.specs.Rows.{next_past}
-use Rattle.acct_rows.specs.Spelled.{stored_key, stored_value, key_of, pair_of, next_out_key, next_out_value, Fits}
+use Rattle.acct_tables.specs.Spelled.{stored_key, stored_value, key_of, pair_of, next_out_key, next_out_value, Fits}
 pub use Rattle.acct_rows.specs.PairRules.{has_value}
 use Rattle.acct_rows.specs.PairsOf.{ArePairsOf}
 use Rattle.acct_rows.specs.declared.plan.Plan.{Plan}
-use Rattle.acct_rows.specs.declared.row.Row.{Row}
-use Rattle.acct_rows.specs.declared.row.Row.TheVariants as rows
-use Rattle.acct_rows.specs.declared.row.RowKey.{RowKey}
-use Rattle.acct_rows.specs.declared.row.RowKey.TheVariants as keys
+use Rattle.acct_tables.specs.declared.row.Row.{Row}
+use Rattle.acct_tables.specs.declared.row.Row.TheVariants as rows
+use Rattle.acct_tables.specs.declared.row.RowKey.{RowKey}
+use Rattle.acct_tables.specs.declared.row.RowKey.TheVariants as keys
 
 -- changes that take the pairs of some rows to those of the later ones
 abbrev pub Follow : Lists → Lists → List Change → Type 0

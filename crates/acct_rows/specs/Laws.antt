@@ -1,31 +1,36 @@
 -- What changes of rows keep: sound rows stay sound, and the objects that are there stay
-use Rattle.std.specs.Prelude.{◌≡◌, ◌≢◌, ℕ, ◌^◌, ◌<◌, ◌≤◌, ◌==◌, Bool, true, false, ◌&&◌, ◌||◌, not, List, []}
-use Rattle.std.specs.Prelude.{◌∷◌, ◌++◌, map, Some, None, is_some, All}
+use Rattle.std.specs.Prelude.{◌≡◌, ◌≢◌, ℕ, ◌^◌, ◌<◌, ◌≤◌, Bool, true, false, not, List, [], ◌∷◌, Some, None, is_some}
+use Rattle.std.specs.Prelude.{All}
 use Rattle.std.specs.List.{filter}
 use Rattle.acct_codes.specs.declared.kind.Kind.TheVariants.{Group, Alias, User}
-use Rattle.acct_codes.specs.Rids.{domain_group_rid_users}
-use Rattle.dtyp_sid.specs.Value.{SidValue, IsSid}
-use Rattle.dtyp_sid.specs.Order.{sid_eq}
-use Rattle.acct_calls.specs.Folding.{is_same}
-use Rattle.acct_rows.specs.Keyed.{without}
-use Rattle.acct_rows.specs.Rows.{account_key}
-use Rattle.acct_rows.specs.Rows.{Lists, domain_at, account_at, member_at, alias_row_at, lsa_at, desc_at, out_at}
-use Rattle.acct_rows.specs.Rows.{find_name, same_kind, is_of, put_row, remove_row, removed}
-use Rattle.acct_rows.specs.Objects.{kind_of, domain_of, rid_of, exists, same_object}
-use Rattle.acct_rows.specs.Sound.{is_account_kind, next_rid_of, IsGoodDomain, IsGoodRow, IsGoodAccount}
-use Rattle.acct_rows.specs.Sound.{IsGoodMember, IsGoodLsa, IsGoodDescriptor, IsGoodOut, IsSoundRows}
-use Rattle.acct_rows.specs.declared.object.Object.{Object}
-use Rattle.acct_rows.specs.declared.object.Object.TheVariants as objects
-use Rattle.acct_rows.specs.declared.row.DomainRow.{DomainRow}
-use Rattle.acct_rows.specs.declared.row.AccountRow.{AccountRow}
-use Rattle.acct_rows.specs.declared.row.MemberRow.{MemberRow}
-use Rattle.acct_rows.specs.declared.row.AliasRow.{AliasRow}
-use Rattle.acct_rows.specs.declared.row.LsaRow.{LsaRow}
-use Rattle.acct_rows.specs.declared.row.DescRow.{DescRow}
-use Rattle.acct_rows.specs.declared.row.OutRow.{OutRow}
-use Rattle.acct_rows.specs.declared.row.Row.TheVariants as rows
-use Rattle.acct_rows.specs.declared.row.RowKey.{RowKey}
-use Rattle.acct_rows.specs.declared.row.RowKey.TheVariants as keys
+use Rattle.acct_codes.specs.Accounts.{domain_group_rid_users}
+use Rattle.dtyp_sid.specs.Sids.{SidValue, IsSid}
+use Rattle.acct_calls.specs.Names.{is_same}
+use Rattle.acct_tables.specs.Keys.{account_domain}
+use Rattle.acct_tables.specs.KeyedRows.{without}
+use Rattle.acct_rows.specs.Rows.{Lists, domain_at, account_at, member_at, alias_row_at, lsa_at, desc_at}
+use Rattle.acct_tables.specs.Keys.{account_key}
+use Rattle.acct_rows.specs.Rows.{out_at, find_name, is_of, put_row, remove_row, removed}
+use Rattle.acct_tables.specs.Selected.{same_kind, is_alias_row_of}
+use Rattle.acct_rows.specs.Rows.{naming}
+use Rattle.acct_tables.specs.Selected.{is_member_of, key_of_alias, key_of_member}
+use Rattle.acct_rows.specs.Rows.{exists}
+use Rattle.acct_tables.specs.Keys.{kind_of, domain_of, rid_of, same_object}
+use Rattle.acct_rows.specs.Sound.{next_rid_of, IsGoodAccount}
+use Rattle.acct_tables.specs.Good.{is_account_kind, IsGoodDomain, IsGoodRow, IsGoodMember}
+use Rattle.acct_rows.specs.Sound.{IsSoundRows}
+use Rattle.acct_tables.specs.Good.{IsGoodLsa, IsGoodDescriptor, IsGoodOut}
+use Rattle.acct_tables.specs.declared.object.Object.{Object}
+use Rattle.acct_tables.specs.declared.object.Object.TheVariants as objects
+use Rattle.acct_tables.specs.declared.row.DomainRow.{DomainRow}
+use Rattle.acct_tables.specs.declared.row.AccountRow.{AccountRow}
+use Rattle.acct_tables.specs.declared.row.MemberRow.{MemberRow}
+use Rattle.acct_tables.specs.declared.row.AliasRow.{AliasRow}
+use Rattle.acct_tables.specs.declared.row.LsaRow.{LsaRow}
+use Rattle.acct_tables.specs.declared.row.DescRow.{DescRow}
+use Rattle.acct_tables.specs.declared.row.OutRow.{OutRow}
+use Rattle.acct_tables.specs.declared.row.Row.TheVariants as rows
+use Rattle.acct_tables.specs.declared.row.RowKey.TheVariants as keys
 
 -- the later rows are sound, and every object that was there is there, except those that are gone
 pub record Keeps (gone : Object → Bool) (lists later : Lists) : Type 0 where
@@ -74,7 +79,8 @@ AddedAccountsStaySound = (lists : Lists) (a : AccountRow) → IsSoundRows lists 
 -- a user is added, with its row as a member of its primary group, which is there
 abbrev pub AddedUsersStaySound : Type 0
 AddedUsersStaySound = (lists : Lists) (a : AccountRow) (m : MemberRow) → IsSoundRows lists → IsNew lists a
-    → same_kind User a.kind ≡ true → is_of Group (account_at lists 0 a.primary) ≡ true → m.group ≡ a.primary
+    → same_kind User a.kind ≡ true → is_of Group (account_at lists account_domain a.primary) ≡ true
+    → m.group ≡ a.primary
     → m.user ≡ a.rid → IsGoodMember m
     → Keeps nothing lists (put_row (rows.Member m) (put_row (rows.Account a) lists))
 
@@ -89,7 +95,7 @@ pub record Replaces (lists : Lists) (old a : AccountRow) : Type 0 where
   pub kind : a.kind ≡ old.kind
   pub good : IsGoodRow a
   pub free : IsFree lists a
-  pub primary_group : same_kind User a.kind ≡ true → is_of Group (account_at lists 0 a.primary) ≡ true
+  pub primary_group : same_kind User a.kind ≡ true → is_of Group (account_at lists account_domain a.primary) ≡ true
   pub primary_member : same_kind User a.kind ≡ true → is_some (member_at lists a.primary a.rid) ≡ true
 
 abbrev pub ReplacedAccountsStaySound : Type 0
@@ -112,13 +118,15 @@ NameFoundIsFree = (lists : Lists) (a found : AccountRow) → IsSoundRows lists
 -- a member row is put: its group and its user are there
 abbrev pub MembersStaySound : Type 0
 MembersStaySound = (lists : Lists) (m : MemberRow) → IsSoundRows lists → IsGoodMember m
-    → is_of Group (account_at lists 0 m.group) ≡ true → is_of User (account_at lists 0 m.user) ≡ true
+    → is_of Group (account_at lists account_domain m.group) ≡ true
+    → is_of User (account_at lists account_domain m.user) ≡ true
     → Keeps nothing lists (put_row (rows.Member m) lists)
 
 -- a member row is removed that isn't the user's for its primary group
 abbrev pub RemovedMembersStaySound : Type 0
 RemovedMembersStaySound = (lists : Lists) (group user : ℕ) → IsSoundRows lists
-    → ((a : AccountRow) → account_at lists 0 user ≡ Some a → same_kind User a.kind ≡ true → a.primary ≢ group)
+    → ((a : AccountRow) → account_at lists account_domain user ≡ Some a → same_kind User a.kind ≡ true
+    → a.primary ≢ group)
     → Keeps nothing lists (remove_row (keys.Member group user) lists)
 
 -- an alias row is put, of an alias that is there, or removed
@@ -164,31 +172,11 @@ RemovedOutsStaySound = (lists : Lists) (o : OutRow) (others : List OutRow) → I
     → Keeps nothing lists (remove_row (keys.Out o.number) lists)
     × ((remove_row (keys.Out o.number) lists).outs ≡ others)
 
--- whether a member row names an account of a domain
-abbrev pub is_member_of : ℕ → ℕ → MemberRow → Bool
-is_member_of domain rid m = (domain == 0) && ((m.group == rid) || (m.user == rid))
-
--- whether an alias row is of the alias, or has the SID as its member
-abbrev pub is_alias_row_of : ℕ → ℕ → SidValue → AliasRow → Bool
-is_alias_row_of domain rid sid a = ((a.domain == domain) && (a.alias == rid)) || sid_eq a.member sid
-
-abbrev pub key_of_member : MemberRow → RowKey
-key_of_member m = keys.Member m.group m.user
-
-abbrev pub key_of_alias : AliasRow → RowKey
-key_of_alias a = keys.Alias a.domain a.alias a.member
-
--- the keys of an account and of every row that names it: as a group or a user, as an alias, or by its SID
-abbrev pub naming : Lists → ℕ → ℕ → SidValue → List RowKey
-naming lists domain rid sid =
-    map key_of_member (filter (is_member_of domain rid) lists.members)
-    ++ map key_of_alias (filter (is_alias_row_of domain rid sid) lists.aliases)
-    ++ keys.Account domain rid ∷ []
-
 -- the account is no user's primary group
 abbrev pub IsNoPrimary : Lists → ℕ → ℕ → Type 0
-IsNoPrimary lists domain rid = (j : ℕ) (u : AccountRow) → account_at lists 0 j ≡ Some u → same_kind User u.kind ≡ true
-    → domain ≡ 0 → u.primary ≢ rid
+IsNoPrimary lists domain rid = (j : ℕ) (u : AccountRow) → account_at lists account_domain j ≡ Some u
+    → same_kind User u.kind ≡ true
+    → domain ≡ account_domain → u.primary ≢ rid
 
 -- so it is with an account that isn't a group
 abbrev pub OthersAreNoPrimary : Type 0

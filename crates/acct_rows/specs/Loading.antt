@@ -4,18 +4,18 @@ use Rattle.std.specs.Prelude.{Option, Some, None, is_some, option_map, if◌then
 use Rattle.std.specs.Ordering.{is_lt}
 use Rattle.acct_keeper.specs.declared.pairs.Pair.{Pair}
 use Rattle.acct_keeper.specs.Pairs.{compare}
-use Rattle.acct_rows.specs.Keyed.{is_ascending}
+use Rattle.acct_tables.specs.KeyedRows.{is_ascending}
 use Rattle.std.specs.Option.{unwrap_or}
-use Rattle.acct_rows.specs.PairRules.{pair_key, pair_at, domain_in, account_in, has_taken_name, is_broken_pair, needed}
-use Rattle.acct_rows.specs.PairRules.{next_out_in, IsSmallestBroken}
+use Rattle.acct_rows.specs.PairRules.{pair_key, pair_at, domain_in, account_in, has_taken_name, is_broken_pair}
+use Rattle.acct_rows.specs.PairRules.{needed_keys, next_out_in, IsSmallestBroken}
 use Rattle.acct_rows.specs.Rows.{Lists, domain_at, account_at, find_name, place_row}
-use Rattle.acct_rows.specs.Spelled.{IsSpelled, next_out_value}
-use Rattle.acct_rows.specs.Stored.{row_of, next_out_of}
+use Rattle.acct_tables.specs.Spelled.{IsSpelled, next_out_value}
+use Rattle.acct_tables.specs.Stored.{row_of, next_out_of}
 use Rattle.acct_rows.specs.declared.pairs.loading.PairsError.{PairsError}
 use Rattle.acct_rows.specs.declared.pairs.loading.PairsError.TheVariants.{BadPair, Memory}
-use Rattle.acct_rows.specs.declared.row.AccountRow.{AccountRow}
-use Rattle.acct_rows.specs.declared.row.Row.{Row}
-use Rattle.acct_rows.specs.declared.row.Row.TheVariants as rows
+use Rattle.acct_tables.specs.declared.row.AccountRow.{AccountRow}
+use Rattle.acct_tables.specs.declared.row.Row.{Row}
+use Rattle.acct_tables.specs.declared.row.Row.TheVariants as rows
 
 -- why pairs are no rows: the smallest broken key, or running out of memory, which has no cause in the pairs
 abbrev pub BadPairs : List Pair → PairsError → Type 0
@@ -83,7 +83,7 @@ smaller (Some j) (Some k) = if is_lt (compare k j) then Some k else Some j
 
 -- the first needed key that has no pair
 abbrev pub first_missing : List Pair → Option (List ℕ)
-first_missing pairs = find (λ k. not (is_some (pair_at k pairs))) needed
+first_missing pairs = find (λ k. not (is_some (pair_at k pairs))) needed_keys
 
 -- the smallest broken key of pairs by ascending key: that of the first pair that breaks a rule, or a missing one
 unfoldable pub smallest_broken : List Pair → Option (List ℕ)

@@ -1,37 +1,30 @@
 -- Which pairs break a rule, and which key is the smallest of those that are broken
-use Rattle.std.specs.Prelude.{◌≡◌, ◌≢◌, ℕ, ◌+◌, ◌==◌, nat_lt, nat_le, Bool, true, false, ◌&&◌, ◌||◌, not, List, []}
-use Rattle.std.specs.Prelude.{◌∷◌}
-use Rattle.std.specs.Prelude.{length, Option, Some, None, is_some, bit_and}
-use Rattle.std.specs.List.{list_any, list_all}
+use Rattle.std.specs.Prelude.{◌≡◌, ◌≢◌, ℕ, ◌+◌, ◌==◌, nat_lt, nat_le, Bool, true, false, ◌&&◌, ◌||◌, not, List, [], ◌∷◌}
+use Rattle.std.specs.Prelude.{Option, Some, None, is_some}
+use Rattle.std.specs.List.{list_any}
 use Rattle.std.specs.Str.{bytes_eq}
 use Rattle.std.specs.declared.cmp.Ordering.TheVariants.{Less}
 use Rattle.acct_codes.specs.declared.kind.Kind.{Kind}
 use Rattle.acct_codes.specs.declared.kind.Kind.TheVariants.{Group, Alias, User}
-use Rattle.acct_codes.specs.Limits.{most_text}
-use Rattle.acct_codes.specs.Privileges.{se_create_token, se_create_global}
-use Rattle.acct_codes.specs.Rids.{domain_group_rid_users, first_created_rid, most_rid}
-use Rattle.acct_codes.specs.SystemAccess.{known_system_access}
-use Rattle.dtyp_sid.specs.Order.{sid_eq}
-use Rattle.acct_calls.specs.Domains.{builtin_name, builtin_sid, is_domain_name, is_domain_sid}
-use Rattle.acct_calls.specs.Folding.{is_same}
-use Rattle.acct_calls.specs.Validity.{is_valid_name}
+use Rattle.acct_codes.specs.Accounts.{domain_group_rid_users}
+use Rattle.acct_calls.specs.Names.{is_same}
 use Rattle.acct_keeper.specs.declared.pairs.Pair.{Pair}
 use Rattle.acct_keeper.specs.Pairs.{compare, same_key}
-use Rattle.acct_rows.specs.Keyed.{at}
-use Rattle.acct_rows.specs.Rows.{same_kind}
-use Rattle.acct_rows.specs.Sound.{control_is_good, good_primary}
-use Rattle.acct_rows.specs.Spelled.{stored_key, format_key, format_value, old_format_value, next_out_key}
+use Rattle.acct_tables.specs.Keys.{account_domain, builtin_domain}
+use Rattle.acct_tables.specs.KeyedRows.{at}
+use Rattle.acct_tables.specs.Selected.{same_kind}
+use Rattle.acct_tables.specs.Spelled.{stored_key, format_key, format_value, old_format_value, next_out_key}
 use Rattle.acct_base.specs.Reading.{◌>>=◌}
-use Rattle.acct_rows.specs.Stored.{row_of, next_out_of}
-use Rattle.acct_rows.specs.declared.object.Object.{Object}
-use Rattle.acct_rows.specs.declared.object.Object.TheVariants as objects
-use Rattle.acct_rows.specs.declared.row.DomainRow.{DomainRow}
-use Rattle.acct_rows.specs.declared.row.AccountRow.{AccountRow}
-use Rattle.acct_rows.specs.declared.row.Held.{Held}
-use Rattle.acct_rows.specs.declared.row.Row.{Row}
-use Rattle.acct_rows.specs.declared.row.Row.TheVariants as rows
-use Rattle.acct_rows.specs.declared.row.RowKey.{RowKey}
-use Rattle.acct_rows.specs.declared.row.RowKey.TheVariants as keys
+use Rattle.acct_tables.specs.Stored.{row_of, next_out_of}
+use Rattle.acct_tables.specs.declared.object.Object.{Object}
+use Rattle.acct_tables.specs.declared.object.Object.TheVariants as objects
+use Rattle.acct_tables.specs.declared.row.DomainRow.{DomainRow}
+use Rattle.acct_tables.specs.declared.row.AccountRow.{AccountRow}
+use Rattle.acct_tables.specs.declared.row.Row.{Row}
+use Rattle.acct_tables.specs.declared.row.Row.TheVariants as rows
+use Rattle.acct_tables.specs.declared.row.RowKey.{RowKey}
+use Rattle.acct_tables.specs.declared.row.RowKey.TheVariants as keys
+use Rattle.acct_tables.specs.RowRules.{breaks_alone}
 
 abbrev pub pair_key : Pair → List ℕ
 pair_key pair = pair.key
@@ -87,35 +80,7 @@ next_in (Some pair) = next_out_of pair.value
 abbrev pub next_out_in : List Pair → Option ℕ
 next_out_in pairs = next_in (pair_at next_out_key pairs)
 
--- The rules, each as a test of a row that breaks it.
-
--- the name of an account, or of a change of one, is none that its kind may have, or a text is too long
-abbrev pub has_bad_text : Row → Bool
-has_bad_text (rows.Domain d) = nat_lt most_text (length d.oem)
-has_bad_text (rows.Account a) =
-    not (is_valid_name a.kind a.name) || (nat_lt most_text (length a.full_name) || nat_lt most_text (length a.comment))
-has_bad_text (rows.Out o) = not (is_valid_name o.kind o.name)
-has_bad_text _ = false
-
--- a user's bits are no control
-abbrev pub has_bad_control : Row → Bool
-has_bad_control (rows.Account a) = same_kind User a.kind && not (control_is_good a.bits)
-has_bad_control _ = false
-
--- an alias has bits, or a group or an alias a primary group
-abbrev pub has_needless_number : Row → Bool
-has_needless_number (rows.Account a) =
-    (same_kind Alias a.kind && not (a.bits == 0)) || not (good_primary a.kind a.primary)
-has_needless_number _ = false
-
--- an access has a bit that is none of a right, or a privilege isn't known
-abbrev pub is_known_low : Held → Bool
-is_known_low held = nat_le se_create_token held.low && nat_le held.low se_create_global
-
-abbrev pub has_unknown_right : Row → Bool
-has_unknown_right (rows.Lsa l) =
-    not (bit_and l.access known_system_access == l.access) || not (list_all is_known_low l.privileges)
-has_unknown_right _ = false
+-- The rules of a row among the pairs, each as a test of a row that breaks it.
 
 -- an account's RID isn't below its domain's next RID
 abbrev pub is_past : ℕ → Option DomainRow → Bool
@@ -126,16 +91,6 @@ abbrev pub is_past_next : List Pair → Row → Bool
 is_past_next pairs (rows.Account a) = is_past a.rid (domain_in pairs a.domain)
 is_past_next pairs _ = false
 
--- a domain's next RID is none that a created account may take, nor the limit
-abbrev pub has_bad_next : Row → Bool
-has_bad_next (rows.Domain d) = nat_lt d.next_rid first_created_rid || nat_lt most_rid d.next_rid
-has_bad_next _ = false
-
--- a change's action is none, or its RID none that a domain may have given out
-abbrev pub is_bad_change : Row → Bool
-is_bad_change (rows.Out o) = (o.action == 0) || (nat_lt 3 o.action || nat_le most_rid o.rid)
-is_bad_change _ = false
-
 -- an account of the domain with a smaller RID has the name
 abbrev pub is_earlier : AccountRow → Option Row → Bool
 is_earlier a (Some (rows.Account b)) = (b.domain == a.domain) && (nat_lt b.rid a.rid && is_same b.name a.name)
@@ -144,14 +99,6 @@ is_earlier a _ = false
 abbrev pub has_taken_name : List Pair → Row → Bool
 has_taken_name pairs (rows.Account a) = list_any (λ pair. is_earlier a (row_of pair)) pairs
 has_taken_name pairs _ = false
-
--- an account of BUILTIN, or one that was changed, isn't an alias, or the account of all users isn't a group
-abbrev pub is_misplaced : Row → Bool
-is_misplaced (rows.Account a) =
-    ((a.domain == 1) && not (same_kind Alias a.kind))
-    || ((a.domain == 0) && ((a.rid == domain_group_rid_users) && not (same_kind Group a.kind)))
-is_misplaced (rows.Out o) = (o.domain == 1) && not (same_kind Alias o.kind)
-is_misplaced _ = false
 
 -- a member row's group or user is missing
 abbrev pub lacks_group_or_user : List Pair → Row → Bool
@@ -199,24 +146,7 @@ is_too_new pairs (rows.Desc d) = is_old pairs
 is_too_new pairs (rows.Out o) = is_old pairs
 is_too_new pairs _ = false
 
--- the account domain's name or SID is none that a configuration may name
-abbrev pub is_bad_account_domain : Row → Bool
-is_bad_account_domain (rows.Domain d) = (d.number == 0) && not (is_domain_name d.name && is_domain_sid d.sid)
-is_bad_account_domain _ = false
-
--- those of BUILTIN aren't its own
-abbrev pub is_bad_builtin : Row → Bool
-is_bad_builtin (rows.Domain d) =
-    (d.number == 1) && not (bytes_eq d.name builtin_name && sid_eq d.sid builtin_sid)
-is_bad_builtin _ = false
-
--- a row breaks a rule: by itself, or among the pairs
-abbrev pub breaks_alone : Row → Bool
-breaks_alone row =
-    has_bad_text row || (has_bad_control row || (has_needless_number row || (has_unknown_right row
-    || (has_bad_next row || (is_bad_change row || (is_misplaced row
-    || (is_bad_account_domain row || is_bad_builtin row)))))))
-
+-- a row breaks a rule among the pairs
 abbrev pub breaks_among : List Pair → Row → Bool
 breaks_among pairs row =
     is_past_next pairs row || (has_taken_name pairs row || (lacks_group_or_user pairs row
@@ -243,13 +173,14 @@ is_broken_pair pairs pair =
     not (is_format pair) && (not (is_next_out pairs pair) && breaks_rule pairs (row_of pair))
 
 -- the keys of which each has a pair, ascending: the group of all users, the two domains and the format
-abbrev pub needed : List (List ℕ)
-needed = stored_key (keys.Account 0 domain_group_rid_users) ∷ stored_key (keys.Domain 0) ∷ stored_key (keys.Domain 1)
-    ∷ format_key ∷ []
+abbrev pub needed_keys : List (List ℕ)
+needed_keys =
+    stored_key (keys.Account account_domain domain_group_rid_users) ∷ stored_key (keys.Domain account_domain)
+    ∷ stored_key (keys.Domain builtin_domain) ∷ format_key ∷ []
 
 -- a key is broken: its pair breaks a rule, or it is needed and there is none
 abbrev pub is_broken_at : List Pair → List ℕ → Option Pair → Bool
-is_broken_at pairs key None = list_any (same_key key) needed
+is_broken_at pairs key None = list_any (same_key key) needed_keys
 is_broken_at pairs key (Some pair) = is_broken_pair pairs pair
 
 abbrev pub is_broken : List Pair → List ℕ → Bool

@@ -1,60 +1,33 @@
--- The rows of the account database as lists by ascending key, what is looked up in them, and a plan applied to them
-use Rattle.std.specs.Prelude.{◌≡◌, ℕ, ◌+◌, ◌^◌, ◌<◌, ◌==◌, Bool, true, false, ◌&&◌, List, [], ◌∷◌, length, Option}
-use Rattle.std.specs.Prelude.{Some, None, map, option_map, if◌then◌else◌}
+-- The rows of the account database as lists by ascending key, what is looked up in them, and a plan applied to them.
+use Rattle.std.specs.Prelude.{◌≡◌, ℕ, ◌+◌, ◌^◌, ◌<◌, Bool, true, false, List, [], ◌∷◌, length, Option, Some, None, map}
+use Rattle.std.specs.Prelude.{option_map, ◌++◌, is_some}
 use Rattle.std.specs.List.{filter, find, list_any}
 use Rattle.acct_codes.specs.declared.kind.Kind.{Kind}
-use Rattle.acct_codes.specs.declared.kind.Kind.TheVariants.{Server, Domain, Group, Alias, User, Policy, Account}
-use Rattle.dtyp_sid.specs.Value.{SidValue}
-use Rattle.dtyp_sid.specs.Order.{sid_eq}
+use Rattle.dtyp_sid.specs.Sids.{SidValue}
 use Rattle.dtyp_access.specs.declared.descriptor.Descriptor.{Descriptor}
-use Rattle.acct_calls.specs.Folding.{is_same}
-use Rattle.acct_rows.specs.Keyed.{at, put, without}
-use Rattle.acct_rows.specs.ObjectKeys.{object_key}
-use Rattle.acct_rows.specs.declared.object.Object.{Object}
-use Rattle.acct_rows.specs.declared.row.DomainRow.{DomainRow}
-use Rattle.acct_rows.specs.declared.row.AccountRow.{AccountRow}
-use Rattle.acct_rows.specs.declared.row.MemberRow.{MemberRow}
-use Rattle.acct_rows.specs.declared.row.AliasRow.{AliasRow}
-use Rattle.acct_rows.specs.declared.row.LsaRow.{LsaRow}
-use Rattle.acct_rows.specs.declared.row.DescRow.{DescRow}
-use Rattle.acct_rows.specs.declared.row.OutRow.{OutRow}
-use Rattle.acct_rows.specs.declared.row.Row.{Row}
-use Rattle.acct_rows.specs.declared.row.Row.TheVariants as rows
-use Rattle.acct_rows.specs.declared.row.RowKey.{RowKey}
-use Rattle.acct_rows.specs.declared.row.RowKey.TheVariants as keys
+use Rattle.acct_tables.specs.KeyedRows.{at, put, without}
+use Rattle.acct_tables.specs.Keys.{object_key, account_domain, sid_key, domain_key, account_key, member_key, alias_key}
+use Rattle.acct_tables.specs.Keys.{lsa_key, desc_key, out_key}
+use Rattle.acct_tables.specs.declared.object.Object.{Object}
 use Rattle.acct_rows.specs.declared.plan.Plan.{Plan}
+use Rattle.acct_tables.specs.declared.row.AccountRow.{AccountRow}
+use Rattle.acct_tables.specs.declared.row.AliasRow.{AliasRow}
+use Rattle.acct_tables.specs.declared.row.DescRow.{DescRow}
+use Rattle.acct_tables.specs.declared.row.DomainRow.{DomainRow}
+use Rattle.acct_tables.specs.declared.row.LsaRow.{LsaRow}
+use Rattle.acct_tables.specs.declared.row.MemberRow.{MemberRow}
+use Rattle.acct_tables.specs.declared.row.OutRow.{OutRow}
+use Rattle.acct_tables.specs.declared.row.Row.{Row}
+use Rattle.acct_tables.specs.declared.row.Row.TheVariants as rows
+use Rattle.acct_tables.specs.declared.row.RowKey.{RowKey}
+use Rattle.acct_tables.specs.declared.row.RowKey.TheVariants as keys
+use Rattle.acct_tables.specs.Ranges.{is_behind}
+use Rattle.acct_codes.specs.declared.kind.Kind.TheVariants as kinds
+use Rattle.acct_tables.specs.declared.object.Object.TheVariants as objects
+use Rattle.acct_tables.specs.Selected.{same_kind, has_name, has_primary, is_in_group, is_of_user, is_in_alias, has_one}
+use Rattle.acct_tables.specs.Selected.{each_once, is_member_of, is_alias_row_of, key_of_member, key_of_alias}
 
--- a SID in a key: its authority, and then its sub-authorities
-abbrev pub sid_key : SidValue → List ℕ
-sid_key sid = sid.authority ∷ sid.subs
-
-abbrev pub domain_key : DomainRow → List ℕ
-domain_key d = d.number ∷ []
-
-abbrev pub account_key : AccountRow → List ℕ
-account_key a = a.domain ∷ a.rid ∷ []
-
-abbrev pub member_key : MemberRow → List ℕ
-member_key m = m.group ∷ m.user ∷ []
-
-abbrev pub alias_key : AliasRow → List ℕ
-alias_key a = a.domain ∷ a.alias ∷ sid_key a.member
-
-abbrev pub lsa_key : LsaRow → List ℕ
-lsa_key l = sid_key l.sid
-
-abbrev pub desc_key : DescRow → List ℕ
-desc_key d = object_key d.object
-
-abbrev pub out_key : OutRow → List ℕ
-out_key o = o.number ∷ []
-
--- the numbers of the account domain, which has every group and every user, and of BUILTIN, which has aliases alone
-abbrev pub account_domain : ℕ
-account_domain = 0
-
-abbrev pub builtin_domain : ℕ
-builtin_domain = 1
+-- ======== rows
 
 -- The rows: the domains, their accounts, the members of groups and of aliases, the accounts of the policy, the security
 -- descriptors of objects, and the changes of accounts that are to be told to a program. Each change takes the next out
@@ -109,75 +82,48 @@ out_at lists number = at out_key (number ∷ []) lists.outs
 abbrev pub descriptor_of : Lists → Object → Option Descriptor
 descriptor_of lists object = option_map (λ d. d.descriptor) (desc_at lists object)
 
--- whether two kinds are one
-abbrev pub same_kind : Kind → Kind → Bool
-same_kind Server Server = true
-same_kind Domain Domain = true
-same_kind Group Group = true
-same_kind Alias Alias = true
-same_kind User User = true
-same_kind Policy Policy = true
-same_kind Account Account = true
-same_kind _ _ = false
-
 -- whether there is an account, and of that kind
 abbrev pub is_of : Kind → Option AccountRow → Bool
 is_of kind None = false
 is_of kind (Some a) = same_kind kind a.kind
 
--- whether an account of a domain has a name: names are one where they are so after simple case folding
-abbrev pub has_name : ℕ → List ℕ → AccountRow → Bool
-has_name domain name a = (a.domain == domain) && is_same a.name name
+-- whether an object is there: the server and the policy always are
+abbrev pub exists : Lists → Object → Bool
+exists lists objects.Server = true
+exists lists (objects.Domain number) = is_some (domain_at lists number)
+exists lists (objects.Group rid) = is_of kinds.Group (account_at lists account_domain rid)
+exists lists (objects.Alias domain rid) = is_of kinds.Alias (account_at lists domain rid)
+exists lists (objects.User rid) = is_of kinds.User (account_at lists account_domain rid)
+exists lists objects.Policy = true
+exists lists (objects.Account sid) = is_some (lsa_at lists sid)
 
 -- the account of a domain with that name, the one with the least RID if there are several
 abbrev pub find_name : Lists → ℕ → List ℕ → Option AccountRow
 find_name lists domain name = find (has_name domain name) lists.accounts
-
--- whether an account is a user with that primary group
-abbrev pub has_primary : ℕ → AccountRow → Bool
-has_primary group a = same_kind User a.kind && (a.primary == group)
 
 -- whether a group is some user's primary group
 abbrev pub is_primary : Lists → ℕ → Bool
 is_primary lists group = list_any (has_primary group) lists.accounts
 
 -- the members of a group by ascending user
-abbrev pub is_in_group : ℕ → MemberRow → Bool
-is_in_group group m = m.group == group
-
 abbrev pub members_of : Lists → ℕ → List MemberRow
 members_of lists group = filter (is_in_group group) lists.members
 
 -- the groups of a user by ascending group, each as the member row
-abbrev pub is_of_user : ℕ → MemberRow → Bool
-is_of_user user m = m.user == user
-
 abbrev pub groups_of : Lists → ℕ → List MemberRow
 groups_of lists user = filter (is_of_user user) lists.members
 
 -- the members of an alias by ascending SID, each as the alias row
-abbrev pub is_in_alias : ℕ → ℕ → AliasRow → Bool
-is_in_alias domain alias a = (a.domain == domain) && (a.alias == alias)
-
 abbrev pub alias_members_of : Lists → ℕ → ℕ → List AliasRow
 alias_members_of lists domain alias = filter (is_in_alias domain alias) lists.aliases
-
--- whether an alias row is of the domain, with one of the SIDs
-abbrev pub has_one : ℕ → List SidValue → AliasRow → Bool
-has_one domain sids a = (a.domain == domain) && list_any (sid_eq a.member) sids
-
--- numbers that don't fall, each once: without those that are equal to the one before
-abbrev pub each_once_after : ℕ → List ℕ → List ℕ
-each_once_after before [] = []
-each_once_after before (n ∷ ns) = if n == before then each_once_after before ns else n ∷ each_once_after n ns
-
-abbrev pub each_once : List ℕ → List ℕ
-each_once [] = []
-each_once (n ∷ ns) = n ∷ each_once_after n ns
 
 -- the RIDs of the aliases of a domain that have one of the SIDs as a member, ascending, each once
 abbrev pub aliases_of : Lists → ℕ → List SidValue → List ℕ
 aliases_of lists domain sids = each_once (map (λ a. a.alias) (filter (has_one domain sids) lists.aliases))
+
+-- the accounts of a domain after a RID, by ascending RID
+abbrev pub accounts_behind : Lists → ℕ → ℕ → List AccountRow
+accounts_behind lists domain rid = filter (is_behind domain rid) lists.accounts
 
 -- with a row in its place: one with its key goes
 abbrev pub place_row : Row → Lists → Lists
@@ -232,3 +178,12 @@ with_puts (row ∷ rows) lists = with_puts rows (put_row row lists)
 -- the rows after a plan: first without the rows that it removes, then with those that it puts
 abbrev pub after : Plan → Lists → Lists
 after plan lists = with_puts plan.puts (removed plan.removes lists)
+
+-- ======== which rows name an account
+
+-- the keys of an account and of every row that names it: as a group or a user, as an alias, or by its SID
+abbrev pub naming : Lists → ℕ → ℕ → SidValue → List RowKey
+naming lists domain rid sid =
+    map key_of_member (filter (is_member_of domain rid) lists.members)
+    ++ map key_of_alias (filter (is_alias_row_of domain rid sid) lists.aliases)
+    ++ keys.Account domain rid ∷ []

@@ -1,19 +1,19 @@
 -- The rows that a database without rows begins with (the accounts that MS-SAMR 3.1.4.2 makes in every domain)
 use Rattle.std.specs.Prelude.{ℕ, ◌+◌, codes, List, [], ◌∷◌, ◌++◌}
 use Rattle.acct_codes.specs.declared.kind.Kind.TheVariants.{Group, Alias, User}
-use Rattle.acct_codes.specs.UserControl.{user_account_disabled, user_password_not_required, user_normal_account}
-use Rattle.acct_codes.specs.GroupAttributes.{new_group_attributes}
-use Rattle.acct_codes.specs.Rids.{domain_user_rid_admin, domain_user_rid_guest, domain_group_rid_admins}
-use Rattle.acct_codes.specs.Rids.{domain_group_rid_users, domain_group_rid_guests, domain_alias_rid_admins}
-use Rattle.acct_codes.specs.Rids.{domain_alias_rid_users, domain_alias_rid_guests, first_created_rid}
-use Rattle.acct_calls.specs.Domains.{name_of_text, builtin_name, builtin_sid}
-use Rattle.dtyp_sid.specs.Value.{SidValue}
-use Rattle.dtyp_sid.specs.Made.{with_last}
+use Rattle.acct_codes.specs.Accounts.{user_account_disabled, user_password_not_required, user_normal_account}
+use Rattle.acct_codes.specs.Accounts.{new_group_attributes, domain_user_rid_admin, domain_user_rid_guest}
+use Rattle.acct_codes.specs.Accounts.{domain_group_rid_admins, domain_group_rid_users, domain_group_rid_guests}
+use Rattle.acct_codes.specs.Accounts.{domain_alias_rid_admins, domain_alias_rid_users, domain_alias_rid_guests}
+use Rattle.acct_codes.specs.Accounts.{first_created_rid}
+use Rattle.acct_calls.specs.Names.{name_of_text, builtin_name, builtin_sid}
+use Rattle.dtyp_sid.specs.Sids.{SidValue, with_last}
+use Rattle.acct_tables.specs.Keys.{account_domain, builtin_domain}
 use Rattle.acct_rows.specs.Rows.{Lists}
-use Rattle.acct_rows.specs.declared.row.DomainRow.{DomainRow}
-use Rattle.acct_rows.specs.declared.row.AccountRow.{AccountRow}
-use Rattle.acct_rows.specs.declared.row.MemberRow.{MemberRow}
-use Rattle.acct_rows.specs.declared.row.AliasRow.{AliasRow}
+use Rattle.acct_tables.specs.declared.row.DomainRow.{DomainRow}
+use Rattle.acct_tables.specs.declared.row.AccountRow.{AccountRow}
+use Rattle.acct_tables.specs.declared.row.MemberRow.{MemberRow}
+use Rattle.acct_tables.specs.declared.row.AliasRow.{AliasRow}
 
 abbrev pub seed_domain : ℕ → SidValue → List ℕ → DomainRow
 seed_domain number sid name = record { number = number; sid = sid; name = name; oem = []; next_rid = first_created_rid }
@@ -21,7 +21,7 @@ seed_domain number sid name = record { number = number; sid = sid; name = name; 
 -- a user by RID, name, control and primary group
 abbrev pub seed_user : ℕ → List ℕ → ℕ → ℕ → AccountRow
 seed_user rid text control primary = record {
-  domain = 0;
+  domain = account_domain;
   rid = rid;
   kind = User;
   name = name_of_text text;
@@ -33,7 +33,7 @@ seed_user rid text control primary = record {
 
 abbrev pub seed_group : ℕ → List ℕ → AccountRow
 seed_group rid text = record {
-  domain = 0;
+  domain = account_domain;
   rid = rid;
   kind = Group;
   name = name_of_text text;
@@ -45,7 +45,7 @@ seed_group rid text = record {
 
 abbrev pub seed_alias : ℕ → List ℕ → AccountRow
 seed_alias rid text = record {
-  domain = 1;
+  domain = builtin_domain;
   rid = rid;
   kind = Alias;
   name = name_of_text text;
@@ -60,7 +60,7 @@ seed_member group user = record { group = group; user = user; attributes = new_g
 
 -- an alias of BUILTIN with an account of a domain
 abbrev pub seed_alias_row : ℕ → SidValue → ℕ → AliasRow
-seed_alias_row alias sid rid = record { domain = 1; alias = alias; member = with_last sid rid }
+seed_alias_row alias sid rid = record { domain = builtin_domain; alias = alias; member = with_last sid rid }
 
 -- the account domain and BUILTIN
 abbrev pub seed_domains : List ℕ → SidValue → List DomainRow

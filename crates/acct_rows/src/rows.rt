@@ -1,35 +1,32 @@
 // The rows.
 ghost use Rattle.std.specs.Prelude.{◌≡◌, ◌+◌, ◌<◌, ◌≤◌, true, [], ◌∷◌, ◌++◌, IfOk, OnOk, OnErr, length, map};
 ghost use Rattle.std.specs.List.{filter};
-ghost use Rattle.acct_calls.specs.Domains.{is_domain_name, is_domain_sid};
+ghost use Rattle.acct_calls.specs.Names.{is_domain_name, is_domain_sid};
 ghost use Rattle.acct_rows.specs.Sound.{IsSoundRows};
 ghost use Rattle.acct_rows.specs.Seed.{seed_lists};
 ghost use Rattle.std.specs.Option.{option_copied};
-ghost use Rattle.acct_rows.specs.Keyed.{is_ascending};
-ghost use Rattle.acct_rows.specs.Laws.{is_member_of, is_alias_row_of, key_of_member, key_of_alias};
-ghost use Rattle.acct_rows.specs.Rows.{members_of, aliases_of, HasRoom, domain_key, account_key, member_key, alias_key};
-ghost use Rattle.acct_rows.specs.Rows.{lsa_key, desc_key, out_key, domain_at, descriptor_of, TakeNumbers};
-ghost use Rattle.acct_rows.specs.Ranges.{accounts_behind};
-ghost use Rattle.acct_rows.specs.Users.{row_of};
-ghost use Rattle.acct_rows.specs.Rows.{groups_of, alias_members_of, alias_row_at, desc_at, out_at};
-ghost use Rattle.acct_rows.specs.Rows.{account_at, is_primary, member_at, lsa_at, find_name, put_row, remove_row};
-ghost use Rattle.acct_rows.specs.Rows.{removed, with_puts, after};
+ghost use Rattle.acct_tables.specs.KeyedRows.{is_ascending};
+ghost use Rattle.acct_rows.specs.Rows.{members_of};
+ghost use Rattle.acct_tables.specs.Selected.{is_member_of, is_alias_row_of, key_of_member, key_of_alias};
+ghost use Rattle.acct_rows.specs.Rows.{aliases_of, HasRoom};
+ghost use Rattle.acct_tables.specs.Keys.{domain_key, account_key, member_key, alias_key, lsa_key};
+ghost use Rattle.acct_rows.specs.Rows.{domain_at, descriptor_of, TakeNumbers, groups_of};
+ghost use Rattle.acct_tables.specs.Keys.{desc_key, out_key};
+ghost use Rattle.acct_rows.specs.Rows.{alias_members_of, alias_row_at, desc_at, out_at, account_at, is_primary};
+ghost use Rattle.acct_rows.specs.Rows.{member_at, lsa_at, find_name, put_row, remove_row, removed, with_puts, after};
+ghost use Rattle.acct_rows.specs.Rows.{accounts_behind};
+ghost use Rattle.acct_tables.specs.steps.Users.{row_of};
 
 pub mod tables;
 
-use crate::accounts::Accounts;
-use crate::aliases::Aliases;
-use crate::copies::{copy_descriptors, copy_domains, copy_lsa, copy_outs};
-use crate::groups::{ByUser, Members};
-use crate::keyed::Table;
-use crate::object::Object;
 use crate::plan::Plan;
-use crate::row::{
-    AccountRow, AliasRow, DescRow, DomainRow, LsaRow, MemberRow, OutRow, Row, RowKey,
-};
 use crate::rows::tables::Tables;
 use acct_base::Seq;
 use acct_calls::{Name, NoMemory, Rids, Sids};
+use acct_tables::{
+    AccountRow, Accounts, AliasRow, Aliases, ByUser, DescRow, DomainRow, LsaRow, MemberRow,
+    Members, Object, OutRow, Row, RowKey, RowTable,
+};
 use dtyp_access::Descriptor;
 use dtyp_sid::Sid;
 use std::alloc::Global;
@@ -39,13 +36,13 @@ use std::marker::Model;
 /// is room.
 #[derive(Drop)]
 pub struct Rows {
-    domains: Table<DomainRow>,
+    domains: RowTable<DomainRow>,
     accounts: Accounts,
     members: Members,
     aliases: Aliases,
-    lsa: Table<LsaRow>,
-    descriptors: Table<DescRow>,
-    outs: Table<OutRow>,
+    lsa: RowTable<LsaRow>,
+    descriptors: RowTable<DescRow>,
+    outs: RowTable<OutRow>,
     next_out: u64,
     spare: usize,
 }
@@ -127,10 +124,10 @@ impl Rows {
         alloc: Global,
     ) -> Result<
         (
-            Table<DomainRow>,
-            Table<LsaRow>,
-            Table<DescRow>,
-            Table<OutRow>,
+            RowTable<DomainRow>,
+            RowTable<LsaRow>,
+            RowTable<DescRow>,
+            RowTable<OutRow>,
         ),
         NoMemory,
     >
@@ -139,16 +136,11 @@ impl Rows {
         ensures descriptors { IfOk result (λ copies. copies.2.0 ≡ self.now.lists.descriptors) }
         ensures outs { IfOk result (λ copies. copies.3.0 ≡ self.now.lists.outs) }
     {
-        let domains = copy_domains(alloc, self.domains.rows())?;
-        let lsa = copy_lsa(alloc, self.lsa.rows())?;
-        let descriptors = copy_descriptors(alloc, self.descriptors.rows())?;
-        let outs = copy_outs(alloc, self.outs.rows())?;
-        Ok((
-            Table::from_rows(domains),
-            Table::from_rows(lsa),
-            Table::from_rows(descriptors),
-            Table::from_rows(outs),
-        ))
+        let domains = self.domains.copy(alloc)?;
+        let lsa = self.lsa.copy(alloc)?;
+        let descriptors = self.descriptors.copy(alloc)?;
+        let outs = self.outs.copy(alloc)?;
+        Ok((domains, lsa, descriptors, outs))
     }
 
     // Copies of the lists that have indexes.
@@ -326,34 +318,35 @@ impl Rows {
         self.aliases.aliases_of(alloc, domain, sids.as_slice())
     }
 
-    /// Adds the keys of the member rows that have the account of a domain as a group or a user. It takes time as there
-    /// are such rows. Where memory runs out some may have been added.
-    pub fn push_member_keys(
+    /// The list and after it the keys of the member rows that have the account of a domain as a group or a user. It
+    /// takes time as there are such rows.
+    pub fn with_member_keys(
         &self,
-        keys: &mut Seq<RowKey>,
+        mut keys: Seq<RowKey>,
         domain: u8,
         rid: u32,
-    ) -> Result<(), NoMemory>
-        ensures { OnOk result
-            (keys.new ≡ keys.old ++ map key_of_member (filter (is_member_of domain rid) self.now.lists.members)) }
+    ) -> Result<Seq<RowKey>, NoMemory>
+        ensures { IfOk result (λ longer. longer
+            ≡ keys ++ map key_of_member (filter (is_member_of domain rid) self.now.lists.members)) }
     {
-        self.members.push_keys(keys, domain, rid)
+        self.members.push_keys(&mut keys, domain, rid)?;
+        Ok(keys)
     }
 
-    /// Adds the keys of the alias rows that are of the account of a domain, or have its SID. It takes time as there are
-    /// such rows. Where memory runs out some may have been added.
-    pub fn push_alias_keys(
+    /// The list and after it the keys of the alias rows that are of the account of a domain, or have its SID. It takes
+    /// time as there are such rows.
+    pub fn with_alias_keys(
         &self,
-        keys: &mut Seq<RowKey>,
+        mut keys: Seq<RowKey>,
         domain: u8,
         rid: u32,
         sid: &Sid,
-    ) -> Result<(), NoMemory>
-        ensures { OnOk result
-            (keys.new ≡ keys.old
-            ++ map key_of_alias (filter (is_alias_row_of domain rid sid.now) self.now.lists.aliases)) }
+    ) -> Result<Seq<RowKey>, NoMemory>
+        ensures { IfOk result (λ longer. longer
+            ≡ keys ++ map key_of_alias (filter (is_alias_row_of domain rid sid.now) self.now.lists.aliases)) }
     {
-        self.aliases.push_keys(keys, domain, rid, sid)
+        self.aliases.push_keys(&mut keys, domain, rid, sid)?;
+        Ok(keys)
     }
 
     /// The account of the policy with that SID.

@@ -1,11 +1,10 @@
 // The rows that a database without rows begins with.
-ghost use Rattle.std.specs.Prelude.{◌≡◌, ◌≤◌, ◌++◌, length, IfOk, OnOk};
+ghost use Rattle.std.specs.Prelude.{◌≡◌, ◌≤◌, [], ◌∷◌, ◌++◌, length, IfOk, OnOk};
 ghost use Rattle.acct_codes.specs.Limits.{most_domain_subs};
 ghost use Rattle.acct_rows.specs.Seed.{seed_domain, seed_user, seed_group, seed_alias, seed_member, seed_alias_row};
 ghost use Rattle.acct_rows.specs.Seed.{seed_domains, seed_users, seed_groups, builtin_aliases, seed_accounts};
 ghost use Rattle.acct_rows.specs.Seed.{seed_members, seed_aliases};
 
-use crate::row::{AccountRow, AliasRow, DomainRow, MemberRow};
 use acct_base::Seq;
 use acct_calls::domain::{BUILTIN_NAME, builtin_sid};
 use acct_calls::{Name, NoMemory};
@@ -19,6 +18,7 @@ use acct_codes::rid::{
 use acct_codes::user_control::{
     USER_ACCOUNT_DISABLED, USER_NORMAL_ACCOUNT, USER_PASSWORD_NOT_REQUIRED,
 };
+use acct_tables::{ACCOUNT_DOMAIN, AccountRow, AliasRow, BUILTIN_DOMAIN, DomainRow, MemberRow};
 use dtyp_sid::Sid;
 use std::alloc::Global;
 
@@ -44,7 +44,7 @@ fn seed_user(
     ensures { IfOk result (λ row. row ≡ seed_user rid text.now control primary) }
 {
     Ok(AccountRow {
-        domain: 0,
+        domain: ACCOUNT_DOMAIN,
         rid,
         kind: Kind::User,
         name: Name::from_text(alloc, text)?,
@@ -59,7 +59,7 @@ fn seed_group(alloc: Global, rid: u32, text: &str) -> Result<AccountRow, NoMemor
     ensures { IfOk result (λ row. row ≡ seed_group rid text.now) }
 {
     Ok(AccountRow {
-        domain: 0,
+        domain: ACCOUNT_DOMAIN,
         rid,
         kind: Kind::Group,
         name: Name::from_text(alloc, text)?,
@@ -74,7 +74,7 @@ fn seed_alias(alloc: Global, rid: u32, text: &str) -> Result<AccountRow, NoMemor
     ensures { IfOk result (λ row. row ≡ seed_alias rid text.now) }
 {
     Ok(AccountRow {
-        domain: 1,
+        domain: BUILTIN_DOMAIN,
         rid,
         kind: Kind::Alias,
         name: Name::from_text(alloc, text)?,
@@ -103,7 +103,7 @@ fn seed_alias_row(alias: u32, sid: Sid, rid: u32) -> AliasRow
         unreachable!()
     };
     AliasRow {
-        domain: 1,
+        domain: BUILTIN_DOMAIN,
         alias,
         member,
     }
@@ -112,51 +112,89 @@ fn seed_alias_row(alias: u32, sid: Sid, rid: u32) -> AliasRow
 pub fn seed_domains(alloc: Global, name: &Name, sid: Sid) -> Result<Vec<DomainRow>, NoMemory>
     ensures { IfOk result (λ rows. rows.items ≡ seed_domains name.now sid) }
 {
-    let account = seed_domain(alloc, 0, sid, name.copy(alloc)?);
+    let account = seed_domain(alloc, ACCOUNT_DOMAIN, sid, name.copy(alloc)?);
     let builtin = seed_domain(
         alloc,
-        1,
+        BUILTIN_DOMAIN,
         builtin_sid(),
         Name::from_text(alloc, BUILTIN_NAME)?,
     );
     Ok(vec![in alloc; account, builtin]?)
 }
 
+fn push_user(
+    alloc: Global,
+    rows: &mut Seq<AccountRow>,
+    rid: u32,
+    text: &str,
+    control: u32,
+    primary: u32,
+) -> Result<(), NoMemory>
+    ensures { OnOk result (rows.new ≡ rows.old ++ seed_user rid text.now control primary ∷ []) }
+{
+    rows.push(seed_user(alloc, rid, text, control, primary)?)
+}
+
+fn push_group(
+    alloc: Global,
+    rows: &mut Seq<AccountRow>,
+    rid: u32,
+    text: &str,
+) -> Result<(), NoMemory>
+    ensures { OnOk result (rows.new ≡ rows.old ++ seed_group rid text.now ∷ []) }
+{
+    rows.push(seed_group(alloc, rid, text)?)
+}
+
+fn push_alias(
+    alloc: Global,
+    rows: &mut Seq<AccountRow>,
+    rid: u32,
+    text: &str,
+) -> Result<(), NoMemory>
+    ensures { OnOk result (rows.new ≡ rows.old ++ seed_alias rid text.now ∷ []) }
+{
+    rows.push(seed_alias(alloc, rid, text)?)
+}
+
 fn push_users(alloc: Global, rows: &mut Seq<AccountRow>) -> Result<(), NoMemory>
     ensures { OnOk result (rows.new ≡ rows.old ++ seed_users) }
 {
+    let admin_control = USER_NORMAL_ACCOUNT;
     let guest_control = USER_NORMAL_ACCOUNT + USER_PASSWORD_NOT_REQUIRED + USER_ACCOUNT_DISABLED;
-    rows.push(seed_user(
+    push_user(
         alloc,
+        rows,
         DOMAIN_USER_RID_ADMIN,
         "Administrator",
-        USER_NORMAL_ACCOUNT,
+        admin_control,
         DOMAIN_GROUP_RID_USERS,
-    )?)?;
-    rows.push(seed_user(
+    )?;
+    push_user(
         alloc,
+        rows,
         DOMAIN_USER_RID_GUEST,
         "Guest",
         guest_control,
         DOMAIN_GROUP_RID_GUESTS,
-    )?)
+    )
 }
 
 fn push_groups(alloc: Global, rows: &mut Seq<AccountRow>) -> Result<(), NoMemory>
     ensures { OnOk result (rows.new ≡ rows.old ++ seed_groups) }
 {
-    rows.push(seed_group(alloc, DOMAIN_GROUP_RID_ADMINS, "Domain Admins")?)?;
-    rows.push(seed_group(alloc, DOMAIN_GROUP_RID_USERS, "Domain Users")?)?;
-    rows.push(seed_group(alloc, DOMAIN_GROUP_RID_GUESTS, "Domain Guests")?)?;
+    push_group(alloc, rows, DOMAIN_GROUP_RID_ADMINS, "Domain Admins")?;
+    push_group(alloc, rows, DOMAIN_GROUP_RID_USERS, "Domain Users")?;
+    push_group(alloc, rows, DOMAIN_GROUP_RID_GUESTS, "Domain Guests")?;
     Ok(())
 }
 
 fn push_aliases(alloc: Global, rows: &mut Seq<AccountRow>) -> Result<(), NoMemory>
     ensures { OnOk result (rows.new ≡ rows.old ++ builtin_aliases) }
 {
-    rows.push(seed_alias(alloc, DOMAIN_ALIAS_RID_ADMINS, "Administrators")?)?;
-    rows.push(seed_alias(alloc, DOMAIN_ALIAS_RID_USERS, "Users")?)?;
-    rows.push(seed_alias(alloc, DOMAIN_ALIAS_RID_GUESTS, "Guests")?)
+    push_alias(alloc, rows, DOMAIN_ALIAS_RID_ADMINS, "Administrators")?;
+    push_alias(alloc, rows, DOMAIN_ALIAS_RID_USERS, "Users")?;
+    push_alias(alloc, rows, DOMAIN_ALIAS_RID_GUESTS, "Guests")
 }
 
 pub fn seed_accounts(alloc: Global) -> Result<Vec<AccountRow>, NoMemory>

@@ -14,7 +14,7 @@ use Rattle.std.specs.declared.cmp.Ordering.{Ordering}
 use Rattle.std.specs.declared.cmp.Ordering.TheVariants.{Less, Equal, Greater}
 use Rattle.std.proofs.lemmas.Bool.Decides.{nat_tests}
 use Rattle.acct_tables.specs.Keyed.{Key, compare, compare_front, is_within, below_all, is_ascending}
-use Rattle.acct_tables.specs.Turns.{TurnsAt}
+use Rattle.acct_tables.specs.steps.Turns.{TurnsAt}
 use Rattle.acct_tables.proofs.Orders.{tested, less, fronts, le_then_le, le_then_lt}
 use Rattle.acct_tables.proofs.Ascending.{below_at}
 

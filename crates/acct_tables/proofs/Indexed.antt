@@ -9,7 +9,7 @@ use Rattle.acct_tables.specs.Keyed.{index}
 use Rattle.acct_tables.specs.Keyed.{compare, same_key, by_order, at, put, without, below_all, is_ascending}
 use Rattle.acct_tables.proofs.Ascending.{In, below_in, is_ascending-put, is_ascending-filter, below_less}
 use Rattle.acct_tables.proofs.Lookups.{same_Some, key_found, there_or_not, swapped, at-put, at-without, below_apart}
-use Rattle.acct_tables.proofs.Members.{at_in, in_at}
+use Rattle.acct_tables.proofs.Standing.{at_in, in_at}
 use Rattle.acct_tables.proofs.Orders.{tested, same_key-is, same_key-itself, tied-is, apart}
 
 module _ {A : Type 0} (key : A → List ℕ) where

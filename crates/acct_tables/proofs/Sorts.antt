@@ -12,8 +12,8 @@ use Rattle.acct_tables.specs.Keyed.{index}
 use Rattle.acct_tables.specs.Keyed.{compare, same_key, below_all, is_ascending}
 use Rattle.acct_tables.proofs.Indexed.{same_members, index_ascends, in_index, index_in}
 use Rattle.acct_tables.proofs.Ascending.{In, below_in}
-use Rattle.acct_tables.proofs.Members.{in_map, map_in, in_permutation, one_if, count_by, count_by-permutation}
-use Rattle.acct_tables.proofs.Members.{sorted_rises}
+use Rattle.acct_tables.proofs.Standing.{in_map, map_in, in_permutation, one_if, count_by, count_by-permutation}
+use Rattle.acct_tables.proofs.Standing.{sorted_rises}
 use Rattle.acct_tables.proofs.Orders.{tested, same_key-is}
 
 -- an index of rows by ascending key, whose own key tells that of a row

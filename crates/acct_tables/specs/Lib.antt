@@ -1,2 +1,10 @@
+pub mod Good
 pub mod Keyed
-pub mod Turns
+pub mod KeyedRows
+pub mod Keys
+pub mod Ranges
+pub mod RowRules
+pub mod Selected
+pub mod Spelled
+pub mod Stored
+pub mod steps

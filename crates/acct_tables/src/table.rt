@@ -7,7 +7,7 @@ ghost use Rattle.std.specs.Option.{option_copied};
 ghost use Rattle.std.specs.Ordering.{is_lt, is_le};
 ghost use Rattle.acct_tables.specs.Keyed.{compare, compare_front, at, is_within, put, without, without_all, place};
 ghost use Rattle.acct_tables.specs.Keyed.{is_ascending};
-ghost use Rattle.acct_tables.specs.Turns.{TurnsAt};
+ghost use Rattle.acct_tables.specs.steps.Turns.{TurnsAt};
 
 use crate::{Fronts, Order, Test, Whole};
 use std::alloc::{AllocError, Global};

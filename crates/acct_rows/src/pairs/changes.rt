@@ -1,51 +1,24 @@
 // What a plan changes of the stored pairs.
-ghost use Rattle.std.specs.Prelude.{◌≡◌, ◌↔◌, ◌++◌, [], ◌∷◌, false, Some, is_some, IfOk, OnOk};
+ghost use Rattle.std.specs.Prelude.{◌≡◌, ◌↔◌, ◌++◌, [], ◌∷◌, false, Some, is_some, option_map, IfSome, IfOk, OnOk};
+ghost use Rattle.std.specs.Option.{option_copied};
 ghost use Rattle.acct_rows.specs.Changes.{Follow, row_at, stored_at, same_row_key};
 ghost use Rattle.acct_rows.specs.Changes.{is_put, has_value, removal, removals};
 ghost use Rattle.acct_rows.specs.Changes.{row_written, last_written, rows_written, next_out_written, LastFit};
 ghost use Rattle.acct_rows.specs.PairsOf.{AllFit};
 ghost use Rattle.acct_rows.specs.Rows.{after, next_past, TakeNumbers};
 ghost use Rattle.acct_rows.specs.Sound.{IsSoundRows};
-ghost use Rattle.acct_rows.specs.Spelled.{key_of, pair_of, Fits};
+ghost use Rattle.acct_tables.specs.Spelled.{key_of, Fits};
 
-use super::writing::{
-    account_pair, alias_pair, desc_pair, domain_pair, key_bytes, lsa_pair, member_pair,
-    next_out_pair, out_pair,
-};
 use crate::plan::Plan;
-use crate::row::{Row, RowKey};
 use crate::rows::Rows;
 use acct_base::is_same;
 use acct_calls::NoMemory;
 use acct_keeper::{Change, Pair};
+use acct_tables::{Paired, Row, RowKey, key_bytes, next_out_pair, row_key, row_pair};
 use dtyp_sid::laws::{
     equal_sids_are_one, read_bytes_are_written, written_bytes_are_read, written_bytes_have_lengths,
 };
 use std::alloc::Global;
-
-fn row_key(row: &Row) -> RowKey
-    ensures { result ≡ key_of row.now }
-{
-    match row {
-        Row::Domain(domain) => RowKey::Domain(domain.number),
-        Row::Account(account) => RowKey::Account {
-            domain: account.domain,
-            rid: account.rid,
-        },
-        Row::Member(member) => RowKey::Member {
-            group: member.group,
-            user: member.user,
-        },
-        Row::Alias(alias) => RowKey::Alias {
-            domain: alias.domain,
-            alias: alias.alias,
-            member: alias.member,
-        },
-        Row::Lsa(account) => RowKey::Lsa(account.sid),
-        Row::Desc(row) => RowKey::Desc(row.object),
-        Row::Out(row) => RowKey::Out(row.number),
-    }
-}
 
 fn is_same_key(left: &RowKey, right: &RowKey) -> bool
     ensures { result ≡ same_row_key left.now right.now }
@@ -113,18 +86,14 @@ fn push_removals(
     Ok(())
 }
 
-fn row_pair(alloc: Global, row: &Row) -> Result<Pair, NoMemory>
-    requires { Fits row.now }
-    ensures { IfOk result (λ pair. pair ≡ pair_of row.now) }
+// The pair of a row that was found.
+fn found_pair<T: Paired>(alloc: Global, row: Option<&T>) -> Result<Option<Pair>, NoMemory>
+    requires { IfSome (option_copied row) T.fits }
+    ensures { IfOk result (λ pair. pair ≡ option_map T.stored (option_copied row.entry)) }
 {
     match row {
-        Row::Domain(domain) => domain_pair(alloc, domain),
-        Row::Account(account) => account_pair(alloc, account),
-        Row::Member(member) => member_pair(alloc, member),
-        Row::Alias(alias) => alias_pair(alloc, alias),
-        Row::Lsa(account) => lsa_pair(alloc, account),
-        Row::Desc(row) => desc_pair(alloc, row),
-        Row::Out(row) => out_pair(alloc, row),
+        Some(row) => Ok(Some(row.pair(alloc)?)),
+        None => Ok(None),
     }
 }
 
@@ -134,38 +103,17 @@ fn stored_at(alloc: Global, rows: &Rows, key: RowKey) -> Result<Option<Pair>, No
     ensures { IfOk result (λ pair. pair ≡ stored_at rows.now.lists key) }
 {
     match key {
-        RowKey::Domain(number) => match rows.domain(number) {
-            Some(row) => Ok(Some(domain_pair(alloc, row)?)),
-            None => Ok(None),
-        },
-        RowKey::Account { domain, rid } => match rows.find_rid(domain, rid) {
-            Some(row) => Ok(Some(account_pair(alloc, row)?)),
-            None => Ok(None),
-        },
-        RowKey::Member { group, user } => match rows.member(group, user) {
-            Some(row) => Ok(Some(member_pair(alloc, row)?)),
-            None => Ok(None),
-        },
+        RowKey::Domain(number) => found_pair(alloc, rows.domain(number)),
+        RowKey::Account { domain, rid } => found_pair(alloc, rows.find_rid(domain, rid)),
+        RowKey::Member { group, user } => found_pair(alloc, rows.member(group, user)),
         RowKey::Alias {
             domain,
             alias,
             member,
-        } => match rows.alias_row(domain, alias, &member) {
-            Some(row) => Ok(Some(alias_pair(alloc, row)?)),
-            None => Ok(None),
-        },
-        RowKey::Lsa(sid) => match rows.lsa_account(&sid) {
-            Some(row) => Ok(Some(lsa_pair(alloc, row)?)),
-            None => Ok(None),
-        },
-        RowKey::Desc(object) => match rows.descriptor_row(&object) {
-            Some(row) => Ok(Some(desc_pair(alloc, row)?)),
-            None => Ok(None),
-        },
-        RowKey::Out(number) => match rows.out_row(number) {
-            Some(row) => Ok(Some(out_pair(alloc, row)?)),
-            None => Ok(None),
-        },
+        } => found_pair(alloc, rows.alias_row(domain, alias, &member)),
+        RowKey::Lsa(sid) => found_pair(alloc, rows.lsa_account(&sid)),
+        RowKey::Desc(object) => found_pair(alloc, rows.descriptor_row(&object)),
+        RowKey::Out(number) => found_pair(alloc, rows.out_row(number)),
     }
 }
 

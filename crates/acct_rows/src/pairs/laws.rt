@@ -3,7 +3,6 @@ ghost use Rattle.std.specs.Prelude.{◌≡◌, IfOk, IfErr};
 ghost use Rattle.acct_rows.specs.declared.pairs.loading.PairsError.TheVariants.{Memory};
 ghost use Rattle.acct_rows.specs.Sound.{IsSoundRows};
 ghost use Rattle.acct_rows.specs.PairsOf.{SoundIsUnbroken, PairsAreOfOne, AscendingKeysDiffer, MigratedPairsAscend};
-ghost use Rattle.acct_rows.specs.Stored.{ReadRowsAreSpelled, SpelledRowsAreRead};
 
 use super::loading::PairsError;
 use crate::rows::Rows;
@@ -12,24 +11,6 @@ use dtyp_sid::laws::{
     equal_sids_are_one, read_bytes_are_written, written_bytes_are_read, written_bytes_have_lengths,
 };
 use std::alloc::Global;
-
-/// The row that is read of a pair is the one that the pair spells.
-pub fn read_rows_are_spelled()
-    ensures { ReadRowsAreSpelled }
-{
-    written_bytes_are_read();
-    written_bytes_have_lengths();
-    read_bytes_are_written();
-}
-
-/// The row that a pair spells is read of it.
-pub fn spelled_rows_are_read()
-    ensures { SpelledRowsAreRead }
-{
-    written_bytes_are_read();
-    written_bytes_have_lengths();
-    read_bytes_are_written();
-}
 
 /// The pairs of sound rows break no rule, and rows whose pairs break none are sound.
 pub fn sound_is_unbroken()

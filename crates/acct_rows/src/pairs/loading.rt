@@ -6,21 +6,16 @@ ghost use Rattle.std.specs.List.{list_any};
 ghost use Rattle.std.specs.List.Sorted.{IsPermutation};
 ghost use Rattle.std.specs.Option.{option_copied};
 ghost use Rattle.acct_rows.specs.declared.pairs.loading.PairsError.TheVariants.{Memory};
-ghost use Rattle.acct_rows.specs.Keyed.{is_ascending};
+ghost use Rattle.acct_tables.specs.KeyedRows.{is_ascending};
 ghost use Rattle.acct_rows.specs.Loading.{BadPairs, IsReadWell, IsLoaded, somes, placed, loaded, smaller};
 ghost use Rattle.acct_rows.specs.Loading.{first_missing, smallest_broken};
 ghost use Rattle.acct_rows.specs.PairRules.{pair_key, pair_at, is_old, is_format, breaks_rule, is_broken_pair};
 ghost use Rattle.acct_rows.specs.PairRules.{AreUnbroken};
 ghost use Rattle.acct_rows.specs.PairsOf.{HoldPairs, migration, migrated, keys_differ};
 ghost use Rattle.acct_rows.specs.Sound.{IsSoundRows};
-ghost use Rattle.acct_rows.specs.Stored.{row_of};
+ghost use Rattle.acct_tables.specs.Stored.{row_of};
 
-use super::laws::read_rows_are_spelled;
-use super::reading::read_row;
-use super::rules::breaks_alone;
 use super::store::{Store, next_out_in};
-use super::writing::{format_pair, key_bytes};
-use crate::row::{ACCOUNT_DOMAIN, BUILTIN_DOMAIN, Row, RowKey};
 use crate::rows::Rows;
 use crate::rows::tables::Tables;
 use acct_base::{Seq, Unread, is_same};
@@ -28,6 +23,10 @@ use acct_calls::NoMemory;
 use acct_calls::laws::same_is_equivalence;
 use acct_codes::rid::DOMAIN_GROUP_RID_USERS;
 use acct_keeper::{Change, Pair, is_ascending};
+use acct_tables::laws::read_rows_are_spelled;
+use acct_tables::{
+    ACCOUNT_DOMAIN, BUILTIN_DOMAIN, Row, RowKey, breaks_alone, format_pair, key_bytes, read_row,
+};
 use dtyp_sid::laws::{
     equal_sids_are_one, read_bytes_are_written, written_bytes_are_read, written_bytes_have_lengths,
 };

@@ -1,23 +1,22 @@
 // Pairs by ascending key with the rows that are loaded of them, and the rules that a row breaks among them.
 ghost use Rattle.std.specs.Prelude.{◌≡◌, ◌<◌, ◌≤◌, true, length, is_some, IfOk, MatchResult};
 ghost use Rattle.std.specs.Option.{option_copied};
-ghost use Rattle.acct_rows.specs.declared.row.Row.TheVariants as rows;
-ghost use Rattle.acct_rows.specs.Keyed.{place, is_ascending};
+ghost use Rattle.acct_tables.specs.declared.row.Row.TheVariants as rows;
+ghost use Rattle.acct_tables.specs.KeyedRows.{place, is_ascending};
 ghost use Rattle.acct_rows.specs.Loading.{IsLoaded, LoadedRowsAreFound, is_smaller};
 ghost use Rattle.acct_rows.specs.PairRules.{pair_key, pair_at, is_there, domain_in, account_in, is_missing};
 ghost use Rattle.acct_rows.specs.PairRules.{is_past_next, has_taken_name};
 ghost use Rattle.acct_rows.specs.PairRules.{lacks_group_or_user, lacks_primary, lacks_alias, lacks, is_old};
 ghost use Rattle.acct_rows.specs.PairRules.{next_out_in, is_misnumbered, is_next_out, breaks_among};
 
-use super::reading::read_next_out;
-use super::writing::key_bytes;
-use crate::object::Object;
-use crate::row::{ACCOUNT_DOMAIN, AccountRow, DomainRow, OutRow, Row, RowKey};
 use crate::rows::Rows;
 use acct_base::is_same;
 use acct_calls::NoMemory;
 use acct_codes::Kind;
 use acct_keeper::Pair;
+use acct_tables::{
+    ACCOUNT_DOMAIN, AccountRow, DomainRow, Object, OutRow, Row, RowKey, key_bytes, read_next_out,
+};
 use dtyp_sid::laws::{
     equal_sids_are_one, read_bytes_are_written, written_bytes_are_read, written_bytes_have_lengths,
 };

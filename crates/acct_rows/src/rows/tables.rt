@@ -1,18 +1,17 @@
 // The rows as they are loaded: tables alone, whose indexes are made at once when all rows are there.
 ghost use Rattle.std.specs.Prelude.{◌≡◌, ◌+◌, ◌<◌, ◌≤◌, true, IfOk, OnOk};
-ghost use Rattle.acct_calls.specs.Domains.{is_domain_name, is_domain_sid};
+ghost use Rattle.acct_calls.specs.Names.{is_domain_name, is_domain_sid};
 ghost use Rattle.acct_rows.specs.Loading.{no_lists};
 ghost use Rattle.acct_rows.specs.Rows.{place_row};
 ghost use Rattle.acct_rows.specs.Seed.{seed_lists};
 
 use super::Rows;
-use crate::accounts::Accounts;
-use crate::aliases::Aliases;
-use crate::groups::Members;
-use crate::keyed::Table;
-use crate::row::{AccountRow, AliasRow, DescRow, DomainRow, LsaRow, MemberRow, OutRow, Row};
 use crate::seed::{seed_accounts, seed_aliases, seed_domains, seed_members};
 use acct_calls::{Name, NoMemory};
+use acct_tables::{
+    AccountRow, Accounts, AliasRow, Aliases, DescRow, DomainRow, LsaRow, MemberRow, Members,
+    OutRow, Row, RowTable,
+};
 use dtyp_sid::Sid;
 use std::alloc::Global;
 use std::marker::Model;
@@ -21,13 +20,13 @@ use std::marker::Model;
 /// for how many more rows there is room.
 #[derive(Drop)]
 pub struct Tables {
-    domains: Table<DomainRow>,
-    accounts: Table<AccountRow>,
-    members: Table<MemberRow>,
-    aliases: Table<AliasRow>,
-    lsa: Table<LsaRow>,
-    descriptors: Table<DescRow>,
-    outs: Table<OutRow>,
+    domains: RowTable<DomainRow>,
+    accounts: RowTable<AccountRow>,
+    members: RowTable<MemberRow>,
+    aliases: RowTable<AliasRow>,
+    lsa: RowTable<LsaRow>,
+    descriptors: RowTable<DescRow>,
+    outs: RowTable<OutRow>,
     next_out: u64,
     spare: usize,
 }
@@ -67,13 +66,13 @@ impl Tables {
         ensures { result ≡ record { lists = no_lists next_out; spare = 0 } }
     {
         Tables {
-            domains: Table::new(alloc),
-            accounts: Table::new(alloc),
-            members: Table::new(alloc),
-            aliases: Table::new(alloc),
-            lsa: Table::new(alloc),
-            descriptors: Table::new(alloc),
-            outs: Table::new(alloc),
+            domains: RowTable::new(alloc),
+            accounts: RowTable::new(alloc),
+            members: RowTable::new(alloc),
+            aliases: RowTable::new(alloc),
+            lsa: RowTable::new(alloc),
+            descriptors: RowTable::new(alloc),
+            outs: RowTable::new(alloc),
             next_out,
             spare: 0,
         }
@@ -90,13 +89,13 @@ impl Tables {
         let domains = seed_domains(alloc, name, sid)?;
         let accounts = seed_accounts(alloc)?;
         Ok(Tables {
-            domains: Table::from_rows(domains),
-            accounts: Table::from_rows(accounts),
-            members: Table::from_rows(members),
-            aliases: Table::from_rows(aliases),
-            lsa: Table::new(alloc),
-            descriptors: Table::new(alloc),
-            outs: Table::new(alloc),
+            domains: RowTable::from_rows(domains),
+            accounts: RowTable::from_rows(accounts),
+            members: RowTable::from_rows(members),
+            aliases: RowTable::from_rows(aliases),
+            lsa: RowTable::new(alloc),
+            descriptors: RowTable::new(alloc),
+            outs: RowTable::new(alloc),
             next_out: 1,
             spare: 0,
         })
@@ -165,9 +164,9 @@ impl Tables {
 // The tables that have indexes, with those.
 fn indexed(
     alloc: Global,
-    accounts: Table<AccountRow>,
-    members: Table<MemberRow>,
-    aliases: Table<AliasRow>,
+    accounts: RowTable<AccountRow>,
+    members: RowTable<MemberRow>,
+    aliases: RowTable<AliasRow>,
 ) -> Result<(Accounts, Members, Aliases), NoMemory>
     ensures accounts { IfOk result (λ indexed. indexed.0.0 ≡ accounts.0) }
     ensures members { IfOk result (λ indexed. indexed.1.0 ≡ members.0) }

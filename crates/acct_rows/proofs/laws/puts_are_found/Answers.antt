@@ -1,5 +1,5 @@
 -- A row of any list is found at its key once it was put.
-use Rattle.acct_rows.specs.Rows.{domain_key, account_key, member_key, alias_key, lsa_key, desc_key, out_key}
+use Rattle.acct_tables.specs.Keys.{domain_key, account_key, member_key, alias_key, lsa_key, desc_key, out_key}
 use Rattle.acct_tables.proofs.Lookups.{put_here}
 use Rattle.acct_rows.proofs.laws.puts_are_found.Goals as goal
 

@@ -1,9 +1,9 @@
 -- A put is found at its key alone.
 use Rattle.std.proofs.Common.{◌≡◌, ℕ, List, [], ◌∷◌}
-use Rattle.acct_rows.specs.Rows.{domain_key, account_key, member_key, alias_key, lsa_key, desc_key, out_key, sid_key}
-use Rattle.acct_rows.specs.ObjectKeys.{object_key}
-use Rattle.acct_rows.proofs.Moves.{one_sid}
-use Rattle.acct_rows.proofs.ObjectKeys.{one_object}
+use Rattle.acct_tables.specs.Keys.{domain_key, account_key, member_key, alias_key, lsa_key, desc_key, out_key, sid_key}
+use Rattle.acct_tables.specs.Keys.{object_key}
+use Rattle.acct_tables.proofs.Equals.{one_sid}
+use Rattle.acct_tables.proofs.ObjectKeys.{one_object}
 use Rattle.acct_tables.proofs.Lookups.{put_elsewhere}
 use Rattle.acct_rows.proofs.laws.puts_leave_others.Goals as goal
 

@@ -1,26 +1,40 @@
 -- `stored_at` meets its contract: what is found has a spelling.
-use Rattle.std.proofs.Common.{rules}
-use Rattle.acct_rows.proofs.RowsAt.{domain_found_fits, account_found_fits, lsa_found_fits, desc_found_fits}
-use Rattle.acct_rows.proofs.RowsAt.{out_found_fits}
+use Rattle.std.proofs.Common.{[], ◌∷◌}
+use Rattle.acct_tables.specs.Keys.{domain_key, account_key, member_key, alias_key, lsa_key, desc_key, out_key}
+use Rattle.acct_tables.specs.Keys.{sid_key, object_key}
+use Rattle.acct_tables.specs.Spelled.{FitsDomain, FitsAccount, FitsMember, FitsAlias, FitsLsa, FitsDesc, FitsOut}
+use Rattle.acct_rows.proofs.RowsAt.{found_fits}
 use Rattle.acct_rows.proofs.pairs.changes.stored_at.Goals as goal
 
-pub domain_pair-requires : goal.domain_pair-requires
-domain_pair-requires c =
-    domain_found_fits c.args.rows.now.lists c.in-Domain.number c.in-Some.row.now c.requires (search rules)
+pub found_pair-requires : goal.found_pair-requires
+found_pair-requires c =
+    found_fits FitsDomain domain_key (c.in-Domain.number ∷ []) c.args.rows.now.lists.domains c.requires.domains _
+    c.domain.ensures
 
-pub account_pair-requires : goal.account_pair-requires
-account_pair-requires c =
-    account_found_fits c.args.rows.now.lists c.in-Account.domain c.in-Account.rid c.in-Some-find_rid.row.now c.requires
-    (search rules)
+pub found_pair-requires-in-Account : goal.found_pair-requires-in-Account
+found_pair-requires-in-Account c =
+    found_fits FitsAccount account_key (c.in-Account.domain ∷ c.in-Account.rid ∷ []) c.args.rows.now.lists.accounts
+    c.requires.accounts _ c.find_rid.ensures
 
-pub lsa_pair-requires : goal.lsa_pair-requires
-lsa_pair-requires c =
-    lsa_found_fits c.args.rows.now.lists c.in-Lsa.sid c.in-Some-lsa_account.row.now c.requires (search rules)
+pub found_pair-requires-in-Member : goal.found_pair-requires-in-Member
+found_pair-requires-in-Member c =
+    found_fits FitsMember member_key (c.in-Member.group ∷ c.in-Member.user ∷ []) c.args.rows.now.lists.members
+    c.requires.members _ c.member.ensures
 
-pub desc_pair-requires : goal.desc_pair-requires
-desc_pair-requires c =
-    desc_found_fits c.args.rows.now.lists c.in-Desc.object c.in-Some-descriptor_row.row.now c.requires (search rules)
+pub found_pair-requires-in-Alias : goal.found_pair-requires-in-Alias
+found_pair-requires-in-Alias c =
+    found_fits FitsAlias alias_key (c.in-Alias.domain ∷ c.in-Alias.alias ∷ sid_key c.in-Alias.member)
+    c.args.rows.now.lists.aliases c.requires.aliases _ c.alias_row.ensures
 
-pub out_pair-requires : goal.out_pair-requires
-out_pair-requires c =
-    out_found_fits c.args.rows.now.lists c.in-Out.number c.in-Some-out_row.row.now c.requires (search rules)
+pub found_pair-requires-in-Lsa : goal.found_pair-requires-in-Lsa
+found_pair-requires-in-Lsa c =
+    found_fits FitsLsa lsa_key (sid_key c.in-Lsa.sid) c.args.rows.now.lists.lsa c.requires.lsa _ c.lsa_account.ensures
+
+pub found_pair-requires-in-Desc : goal.found_pair-requires-in-Desc
+found_pair-requires-in-Desc c =
+    found_fits FitsDesc desc_key (object_key c.in-Desc.object) c.args.rows.now.lists.descriptors c.requires.descriptors _
+    c.descriptor_row.ensures
+
+pub found_pair-requires-in-Out : goal.found_pair-requires-in-Out
+found_pair-requires-in-Out c =
+    found_fits FitsOut out_key (c.in-Out.number ∷ []) c.args.rows.now.lists.outs c.requires.outs _ c.out_row.ensures

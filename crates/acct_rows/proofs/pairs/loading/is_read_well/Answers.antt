@@ -1,7 +1,7 @@
 -- `is_read_well` meets its contract: what is read of a pair is what it spells.
 use Rattle.std.proofs.Common.{ℕ, ◌<◌, ◌^◌, All, List, subst}
-use Rattle.acct_rows.proofs.Described.{next_is_spelled}
-use Rattle.acct_rows.proofs.Taken.{bytes_from_All}
+use Rattle.acct_tables.proofs.Described.{next_is_spelled}
+use Rattle.acct_tables.proofs.Taken.{bytes_from_All}
 use Rattle.acct_rows.proofs.pairs.loading.is_read_well.Goals as goal
 
 pub returns : goal.returns

@@ -2,7 +2,7 @@
 use Rattle.std.proofs.Common.{◌+◌, drop, map, sym, ap, ◌∙◌, arith, rules}
 use Rattle.acct_rows.specs.Loading.{somes, placed}
 use Rattle.acct_rows.specs.Rows.{Lists}
-use Rattle.acct_rows.specs.Stored.{row_of}
+use Rattle.acct_tables.specs.Stored.{row_of}
 use Rattle.acct_rows.proofs.Loaded.{next_loaded, all_loaded, next_read}
 use Rattle.acct_rows.proofs.pairs.loading.put_reads.Goals as goal
 

@@ -2,7 +2,7 @@
 use Rattle.std.proofs.Common.{◌≡◌, ℕ, ◌+◌, ◌<◌, ◌≤◌, drop, length, map, get_or}
 use Rattle.acct_keeper.specs.declared.pairs.Pair.{Pair}
 use Rattle.acct_rows.specs.Loading.{IsReadWell, somes, placed}
-use Rattle.acct_rows.specs.Stored.{row_of}
+use Rattle.acct_tables.specs.Stored.{row_of}
 use Rattle.acct_rows.proofs.pairs.loading.put_reads.Given as goal
 
 abbrev pub invariant-loop-pair : goal.invariant-loop-pair

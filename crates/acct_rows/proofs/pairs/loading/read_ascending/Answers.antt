@@ -6,7 +6,7 @@ use Rattle.acct_rows.specs.PairRules.{next_out_in}
 use Rattle.acct_rows.specs.PairsOf.{HoldPairs, migrated}
 use Rattle.acct_rows.specs.Rows.{Lists}
 use Rattle.acct_rows.specs.Sound.{IsSoundRows}
-use Rattle.acct_rows.specs.Stored.{row_of}
+use Rattle.acct_tables.specs.Stored.{row_of}
 use Rattle.acct_rows.proofs.Loaded.{smallest_is, none_is_unbroken, loaded_tables, loaded_fits, loaded_held, next_fits}
 use Rattle.acct_rows.proofs.Loaded.{migrated_unbroken}
 use Rattle.acct_rows.proofs.Unbroken.{unbroken_is_sound}

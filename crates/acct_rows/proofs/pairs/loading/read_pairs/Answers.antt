@@ -3,7 +3,7 @@ use Rattle.std.proofs.Common.{◌≡◌, true, List, sym, subst}
 use Rattle.std.proofs.lemmas.Result.{MatchResult-weaker, IfOk-weaker, on_ok_weaker}
 use Rattle.std.specs.List.Sorted.{IsPermutation}
 use Rattle.acct_keeper.specs.declared.pairs.Pair.{Pair}
-use Rattle.acct_rows.specs.Keyed.{is_ascending}
+use Rattle.acct_tables.specs.KeyedRows.{is_ascending}
 use Rattle.acct_rows.specs.PairRules.{pair_key}
 use Rattle.acct_rows.specs.PairsOf.{HoldPairs, migrated}
 use Rattle.acct_rows.proofs.Shuffled.{unbroken_alike, bad_alike, hold_alike}

@@ -2,7 +2,7 @@
 use Rattle.std.proofs.Common.{rules}
 use Rattle.std.proofs.lemmas.Fn.{always_returns_same}
 use Rattle.acct_keeper.specs.declared.pairs.Pair.{Pair}
-use Rattle.acct_rows.specs.Keyed.{compare}
+use Rattle.acct_tables.specs.KeyedRows.{compare}
 use Rattle.acct_rows.specs.PairRules.{pair_key}
 use Rattle.acct_tables.proofs.Halving.{searched}
 use Rattle.acct_rows.proofs.pairs.store.place.Goals as goal

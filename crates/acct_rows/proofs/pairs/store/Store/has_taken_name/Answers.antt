@@ -2,7 +2,7 @@
 use Rattle.std.proofs.Common.{sym, ap, ◌∙◌}
 use Rattle.acct_rows.specs.Loading.{is_smaller}
 use Rattle.acct_rows.specs.PairRules.{has_taken_name}
-use Rattle.acct_rows.specs.declared.row.Row.TheVariants as rows
+use Rattle.acct_tables.specs.declared.row.Row.TheVariants as rows
 use Rattle.acct_rows.proofs.pairs.store.Store.has_taken_name.Goals as goal
 
 pub returns : goal.returns

@@ -2,7 +2,7 @@
 use Rattle.std.proofs.Common.{◌≡◌, Some, None, sym, ap, ◌∙◌, rules}
 use Rattle.std.specs.Prelude.{not}
 use Rattle.acct_rows.specs.PairRules.{account_in}
-use Rattle.acct_rows.specs.Rows.{same_kind}
+use Rattle.acct_tables.specs.Selected.{same_kind}
 use Rattle.acct_rows.proofs.Found.{missing_if_other, missing_if_none}
 use Rattle.acct_rows.proofs.pairs.store.Store.is_missing.Goals as goal
 

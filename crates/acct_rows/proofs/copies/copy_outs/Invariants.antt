@@ -1,6 +1,0 @@
--- The copies so far are the first so many rows of changes.
-use Rattle.std.proofs.Common.{◌≡◌, take}
-use Rattle.acct_rows.proofs.copies.copy_outs.Given as goal
-
-abbrev pub invariant-loop-row : goal.invariant-loop-row
-invariant-loop-row l = l.copies.items ≡ take l.row-index l.rows

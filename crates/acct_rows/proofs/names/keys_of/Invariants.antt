@@ -1,7 +1,0 @@
--- The keys so far are the domains and RIDs of the first so many accounts.
-use Rattle.std.proofs.Common.{◌≡◌, take, map}
-use Rattle.acct_rows.specs.Indexes.{pair_of}
-use Rattle.acct_rows.proofs.names.keys_of.Given as goal
-
-abbrev pub invariant-loop-row : goal.invariant-loop-row
-invariant-loop-row l = l.keys.items ≡ map (λ row. pair_of row.now) (take l.row-index l.rows)

@@ -1,7 +1,0 @@
--- The units read so far, with those that the bytes left give, are what reading all of them gives.
-use Rattle.acct_rows.specs.Stored.{unit_at}
-use Rattle.acct_base.proofs.Many.{SoFar}
-use Rattle.acct_rows.proofs.pairs.fields.read_units.Given as goal
-
-abbrev pub invariant-loop : goal.invariant-loop
-invariant-loop l = SoFar unit_at l.units l.count l.counter l.fn.fields l.fields

@@ -1,0 +1,8 @@
+-- What was pushed, and the keys of the rows to come, are those of all.
+use Rattle.std.proofs.Common.{◌≡◌, ◌++◌, drop, map}
+use Rattle.acct_tables.specs.Selected.{key_of_member}
+use Rattle.acct_tables.proofs.naming.push_members.Given as goal
+
+abbrev pub invariant-loop-row : goal.invariant-loop-row
+invariant-loop-row l =
+    l.keys ++ map key_of_member (drop l.row-index l.rows) ≡ l.fn.keys ++ map key_of_member l.rows

@@ -1,0 +1,8 @@
+-- The first so many units were added in two bytes each, the lower one first, after what was there.
+use Rattle.std.proofs.Common.{◌≡◌, ◌++◌, take}
+use Rattle.std.specs.Int.{w16, to_le_bytes}
+use Rattle.std.specs.List.{flat_map}
+use Rattle.acct_tables.proofs.writing.push_units.Given as goal
+
+abbrev pub invariant-loop-unit : goal.invariant-loop-unit
+invariant-loop-unit l = l.out.items ≡ l.fn.out.items ++ flat_map (to_le_bytes w16) (take l.unit-index l.units)
