@@ -10,22 +10,23 @@ use Rattle.std.proofs.Math.Seq.{take-append_seam, drop-append_seam}
 use Rattle.std.proofs.lemmas.List.{append-nil, length-map}
 use Rattle.acct_calls.specs.declared.calls.Call.{Call}
 use Rattle.acct_codes.specs.Statuses.{status_insufficient_resources}
-use Rattle.acct_config.specs.Right.{IsRight}
+use Rattle.acct_config.specs.Spelled.{IsRightConfig}
 use Rattle.acct_tables.specs.Keyed.{compare, by_order, put}
 use Rattle.acct_tables.proofs.Ascending.{In}
-use Rattle.acct_tables.proofs.Members.{in_at}
+use Rattle.acct_tables.proofs.Standing.{in_at}
 use Rattle.acct_rows.specs.Laws.{RemovedOutsStaySound}
-use Rattle.acct_rows.specs.Rows.{Lists, out_key, put_row, remove_row, removed, with_puts, after}
+use Rattle.acct_rows.specs.Rows.{Lists, put_row, remove_row, removed, with_puts, after}
+use Rattle.acct_tables.specs.Keys.{out_key}
 use Rattle.acct_rows.specs.Sound.{IsSoundRows}
 use Rattle.acct_rows.specs.declared.plan.Plan.{Plan}
-use Rattle.acct_rows.specs.declared.row.OutRow.{OutRow}
-use Rattle.acct_rows.specs.declared.row.Row.{Row}
-use Rattle.acct_rows.specs.declared.row.Row.TheVariants as rows
-use Rattle.acct_rows.specs.declared.row.RowKey.{RowKey}
-use Rattle.acct_rows.specs.declared.row.RowKey.TheVariants as keys
+use Rattle.acct_tables.specs.declared.row.OutRow.{OutRow}
+use Rattle.acct_tables.specs.declared.row.Row.{Row}
+use Rattle.acct_tables.specs.declared.row.Row.TheVariants as rows
+use Rattle.acct_tables.specs.declared.row.RowKey.{RowKey}
+use Rattle.acct_tables.specs.declared.row.RowKey.TheVariants as keys
 use Rattle.acct_rules.specs.declared.planned.Planned.{Planned}
 use Rattle.acct_rules.specs.Operations as operations
-use Rattle.acct_rules.specs.Operations.{Operation}
+use Rattle.acct_rules.specs.Profiles.{Operation}
 use Rattle.acct_rules.specs.Planned.{Ruled, refusal, decision}
 use Rattle.acct_rules.specs.Touched.{is_out_row, is_out_key, is_modest}
 use Rattle.acct_operations.specs.Laws.{AreRight}
@@ -34,10 +35,9 @@ use Rattle.acct_machine.specs.declared.entry.Verdict.{Verdict}
 use Rattle.acct_machine.specs.declared.entry.Entry.{Entry}
 use Rattle.acct_machine.specs.declared.entry.Entry.TheVariants.{Opened, Called, Gone, Hooked}
 use Rattle.acct_machine.specs.State.{State, Start, first}
-use Rattle.acct_machine.specs.Opening.{described}
+use Rattle.acct_machine.specs.Access.{described}
 use Rattle.acct_machine.specs.Outbox.{has_hook, account_change, is_full, with_out, told_planned, least_in}
-use Rattle.acct_machine.specs.Outcome.{decided_of, planned_of, changed}
-use Rattle.acct_machine.specs.Step.{acted, step, state_after, state_at}
+use Rattle.acct_machine.specs.Step.{decided_of, planned_of, changed, acted, step, state_after, state_at}
 use Rattle.acct_machine.specs.Legal.{HasPassed, May, LegalAfter, Legal}
 use Rattle.acct_machine.specs.Sound.{KeepsSound}
 use Rattle.acct_machine.specs.Outs.{the_one, account_changes, adds, added, hooks_of, left_by}
@@ -286,7 +286,7 @@ splits-by start before (Hooked number) es may outs rest =
     splits-hooked (state_at start before) number es first.0 first.1 first.2 first.3 outs rest
 
 splits-after : AreRight → RemovedOutsStaySound → KeepsSound → (start : Start) (before es : List Entry)
-    → IsRight start.config → IsSoundRows start.rows → Legal start before → LegalAfter start before es
+    → IsRightConfig start.config → IsSoundRows start.rows → Legal start before → LegalAfter start before es
     → Splits (state_at start before) es
 splits-after right taken keeps start before [] configured rows was legal =
     record { taken = []; all = append-nil (state_at start before).rows.outs; hooks = refl }

@@ -6,27 +6,28 @@ use Rattle.std.proofs.lemmas.Bool.Decides.{nat_tests}
 use Rattle.acct_codes.specs.Statuses.{status_access_denied}
 use Rattle.dtyp_access.specs.Laws.{GrantsAreValid}
 use Rattle.acct_config.specs.declared.config.Config.{Config}
-use Rattle.acct_config.specs.Right as configs
+use Rattle.acct_config.specs.Spelled as configs
 use Rattle.acct_calls.specs.declared.calls.Call.{Call}
 use Rattle.acct_calls.specs.declared.calls.Face.{Face}
 use Rattle.acct_calls.specs.declared.replies.Outs.{Outs}
 use Rattle.acct_calls.specs.declared.replies.Outs.TheVariants as outs
 use Rattle.acct_calls.specs.declared.replies.Reply.TheVariants.{Done}
-use Rattle.acct_layouts.specs.Bounds.{IsHandle, IsLong}
+use Rattle.acct_layouts.specs.Values.{IsHandle, IsLong}
 use Rattle.acct_layouts.specs.CallShapes.{CanBeSpelled}
 use Rattle.acct_layouts.specs.Laws.{RefusalsHaveShape}
 use Rattle.acct_layouts.specs.Refusals.{is_refusal}
 use Rattle.acct_layouts.specs.ReplyShapes.{HasShape}
 use Rattle.acct_layouts.specs.Table.{layout_of}
-use Rattle.acct_rows.specs.declared.object.Object.{Object}
-use Rattle.acct_rows.specs.Objects.{kind_of}
+use Rattle.acct_tables.specs.declared.object.Object.{Object}
+use Rattle.acct_tables.specs.Keys.{kind_of}
 use Rattle.acct_rows.specs.Rows.{HasRoom}
 use Rattle.acct_rules.specs.declared.planned.Opening.{Opening}
 use Rattle.acct_rules.specs.declared.planned.Effect.{Effect}
 use Rattle.acct_rules.specs.declared.planned.Effect.TheVariants as effects
 use Rattle.acct_rules.specs.declared.planned.Planned.{Planned}
 use Rattle.acct_rules.specs.Planned.{Ruled, refusal}
-use Rattle.acct_rules.specs.Operations.{Operation, is_condition_status, IsRight}
+use Rattle.acct_rules.specs.Profiles.{Operation}
+use Rattle.acct_rules.specs.Operations.{is_condition_status, IsRight}
 use Rattle.acct_operations.specs.Table.{work_of}
 use Rattle.acct_operations.specs.Laws.{AreRight}
 use Rattle.acct_machine.specs.declared.checks.Access.{Access}
@@ -35,12 +36,9 @@ use Rattle.acct_machine.specs.declared.entry.Verdict.{Verdict}
 use Rattle.acct_machine.specs.declared.entry.Verdict.TheVariants.{Ran, StoreFault, NoMemory}
 use Rattle.acct_machine.specs.declared.entry.Entry.{Entry}
 use Rattle.acct_machine.specs.State.{State, Start, last_serial}
-use Rattle.acct_machine.specs.Opening.{grant_of}
-use Rattle.acct_machine.specs.Calls.{operation_of}
-use Rattle.acct_machine.specs.Access.{access}
-use Rattle.acct_machine.specs.Outcome.{refused, refusal_outs, filled_by, done, opened_to, by_grant, by_effect}
-use Rattle.acct_machine.specs.Outcome.{concluded, next_handle, ruled_of, planned_of}
-use Rattle.acct_machine.specs.Step.{by_access, by_operation, state_at}
+use Rattle.acct_machine.specs.Access.{grant_of, operation_of, access}
+use Rattle.acct_machine.specs.Step.{refused, refusal_outs, filled_by, done, opened_to, by_grant, by_effect, concluded}
+use Rattle.acct_machine.specs.Step.{next_handle, ruled_of, planned_of, by_access, by_operation, state_at}
 use Rattle.acct_machine.specs.Legal.{HasPassed}
 use Rattle.acct_machine.specs.Sound.{IsSound, KeepsSound}
 use Rattle.acct_machine.specs.Shapes.{IsAnswer, RepliesAreShaped}
@@ -154,7 +152,7 @@ outcome-by o s conn call right few known asks (inr passes) =
     (effect-answers s conn call planned known fits planned.effect)
 
 access-answers : AreRight → (config : Config) (o : Operation) (s : State) (conn : ℕ) (call : Call)
-    → configs.IsRight s.config → IsSound config s → HasRoom s.rows 0 → CanBeSpelled call → Known s conn call
+    → configs.IsRightConfig s.config → IsSound config s → HasRoom s.rows 0 → CanBeSpelled call → Known s conn call
     → operation_of call ≡ Some o → (answer : Access) → access o s conn call ≡ answer
     → IsAnswer call (by_access o s conn call answer).1
 access-answers right config o s conn call configured sound few spelled known found Passed is =
@@ -170,7 +168,7 @@ access-answers right config o s conn call configured sound few spelled known fou
     known.refusals _ (omega arith)
 
 operation-answers : AreRight → (config : Config) (s : State) (conn : ℕ) (call : Call) (verdict : Verdict)
-    → configs.IsRight s.config → IsSound config s → HasRoom s.rows 0
+    → configs.IsRightConfig s.config → IsSound config s → HasRoom s.rows 0
     → CanBeSpelled call → Known s conn call → (o : Option Operation) → operation_of call ≡ o
     → IsAnswer call (by_operation o s conn call verdict).1
 operation-answers right config s conn call verdict configured sound few spelled known None is = tt
@@ -201,8 +199,8 @@ answers-in-history right refusals within keeps start before conn call verdict by
     few =
     let s : State = state_at start before in
     let sound : IsSound start.config s = keeps start before configured rows legal in
-    let here : configs.IsRight s.config =
-    subst (λ (c : Config). configs.IsRight c) (sym sound.connected.configuration) configured in
+    let here : configs.IsRightConfig s.config =
+    subst (λ (c : Config). configs.IsRightConfig c) (sym sound.connected.configuration) configured in
     let small : conn < 2 ^ 32 =
     omega (arith, live-within 1 conn s.conns sound.connected.numbered may.0, sound.connected.few) in
     operation-answers right start.config s conn call verdict here sound few may.1.1

@@ -5,16 +5,14 @@ use Rattle.acct_codes.specs.Statuses.{status_access_denied}
 use Rattle.acct_rules.specs.declared.planned.Opening.{Opening}
 use Rattle.acct_rules.specs.declared.planned.Effect.{Effect}
 use Rattle.acct_rules.specs.declared.planned.Effect.TheVariants as effects
-use Rattle.acct_rules.specs.Operations.{Operation}
+use Rattle.acct_rules.specs.Profiles.{Operation}
 use Rattle.acct_machine.specs.declared.checks.Access.{Access}
 use Rattle.acct_machine.specs.declared.checks.Access.TheVariants.{Passed, Unknown, WrongKind, Denied}
 use Rattle.acct_machine.specs.declared.entry.Verdict.{Verdict}
 use Rattle.acct_machine.specs.declared.entry.Verdict.TheVariants.{Ran, StoreFault, NoMemory}
 use Rattle.acct_machine.specs.State.{State}
-use Rattle.acct_machine.specs.Opening.{grant_of}
-use Rattle.acct_machine.specs.Calls.{operation_of}
-use Rattle.acct_machine.specs.Access.{access}
-use Rattle.acct_machine.specs.Outcome.{changed, with_handle, refused, done, opened_to, by_grant, by_effect, planned_of}
+use Rattle.acct_machine.specs.Access.{grant_of, operation_of, access}
+use Rattle.acct_machine.specs.Step.{changed, with_handle, refused, done, opened_to, by_grant, by_effect, planned_of}
 use Rattle.acct_machine.specs.Step.{by_access, by_operation, acted}
 use Rattle.acct_machine.specs.Legal.{HasPassed}
 

@@ -15,20 +15,23 @@ use Rattle.acct_codes.specs.declared.kind.Kind.TheVariants as kind
 use Rattle.acct_tables.specs.Keyed.{Key, compare, same_key, by_order, at, put, without, is_ascending}
 use Rattle.acct_tables.proofs.Ascending.{In, below_in}
 use Rattle.acct_tables.proofs.Lookups.{at-put, at-without}
-use Rattle.acct_tables.proofs.Members.{in_at}
+use Rattle.acct_tables.proofs.Standing.{in_at}
 use Rattle.acct_tables.proofs.Orders.{same_key-is, tied}
 use Rattle.acct_tables.proofs.Sorted.{in_filter}
-use Rattle.acct_rows.specs.Rows.{Lists, account_key, account_at, same_kind, put_row, remove_row, removed, with_puts, after}
+use Rattle.acct_rows.specs.Rows.{Lists, account_at, put_row, remove_row, removed, with_puts}
+use Rattle.acct_tables.specs.Keys.{account_key}
+use Rattle.acct_tables.specs.Selected.{same_kind}
+use Rattle.acct_rows.specs.Rows.{after}
 use Rattle.acct_rows.specs.Sound.{IsSoundRows}
 use Rattle.acct_rows.specs.declared.plan.Plan.{Plan}
-use Rattle.acct_rows.specs.declared.row.AccountRow.{AccountRow}
-use Rattle.acct_rows.specs.declared.row.OutRow.{OutRow}
-use Rattle.acct_rows.specs.declared.row.Row.{Row}
-use Rattle.acct_rows.specs.declared.row.Row.TheVariants as rows
-use Rattle.acct_rows.specs.declared.row.RowKey.{RowKey}
-use Rattle.acct_rows.specs.declared.row.RowKey.TheVariants as keys
-use Rattle.acct_rules.specs.Touched.{put_account, removed_account, is_account_row, is_account_key}
-use Rattle.acct_rules.specs.Touched.{is_modest}
+use Rattle.acct_tables.specs.declared.row.AccountRow.{AccountRow}
+use Rattle.acct_tables.specs.declared.row.OutRow.{OutRow}
+use Rattle.acct_tables.specs.declared.row.Row.{Row}
+use Rattle.acct_tables.specs.declared.row.Row.TheVariants as rows
+use Rattle.acct_tables.specs.declared.row.RowKey.{RowKey}
+use Rattle.acct_tables.specs.declared.row.RowKey.TheVariants as keys
+use Rattle.acct_rules.specs.Planned.{put_account, removed_account}
+use Rattle.acct_rules.specs.Touched.{is_account_row, is_account_key, is_modest}
 use Rattle.acct_machine.specs.Outbox.{same_account, out_row, out_removed, out_changed, told_of_put, told_of_removed}
 use Rattle.acct_machine.specs.Outbox.{told_by, account_change}
 use Rattle.acct_machine.specs.Outs.{the_one, told_of_later, account_changes}

@@ -8,12 +8,12 @@ use Rattle.std.proofs.lemmas.Bool.Decides.{nat_tests}
 use Rattle.std.proofs.lemmas.List.Elements.{All-filter}
 use Rattle.acct_config.specs.declared.config.Config.{Config}
 use Rattle.acct_calls.specs.declared.calls.Call.{Call}
-use Rattle.acct_rows.specs.Objects.{same_object}
+use Rattle.acct_tables.specs.Keys.{same_object}
 use Rattle.acct_rules.specs.declared.planned.Effect.{Effect}
 use Rattle.acct_rules.specs.declared.planned.Effect.TheVariants as effects
 use Rattle.acct_rules.specs.declared.planned.Opening.{Opening}
 use Rattle.acct_rules.specs.declared.planned.Planned.{Planned}
-use Rattle.acct_rules.specs.Operations.{Operation}
+use Rattle.acct_rules.specs.Profiles.{Operation}
 use Rattle.acct_machine.specs.declared.entry.Verdict.{Verdict}
 use Rattle.acct_machine.specs.declared.entry.Verdict.TheVariants.{Ran}
 use Rattle.acct_machine.specs.declared.entry.Entry.{Entry}
@@ -21,9 +21,8 @@ use Rattle.acct_machine.specs.declared.entry.Entry.TheVariants.{Opened, Called, 
 use Rattle.acct_machine.specs.declared.state.Conn.{Conn}
 use Rattle.acct_machine.specs.declared.state.Held.{Held}
 use Rattle.acct_machine.specs.State.{State, Start, is_live, last_serial, number_of, is_handle}
-use Rattle.acct_machine.specs.Opening.{grant_of}
-use Rattle.acct_machine.specs.Outcome.{left, changed, with_handle, planned_of}
-use Rattle.acct_machine.specs.Step.{new_conn, acted, step, state_at}
+use Rattle.acct_machine.specs.Access.{grant_of}
+use Rattle.acct_machine.specs.Step.{left, changed, with_handle, planned_of, new_conn, acted, step, state_at}
 use Rattle.acct_machine.specs.Legal.{HasPassed, May}
 use Rattle.acct_machine.specs.Sound.{IsHeldSoundly, AreApart, IsSound, KeepsSound}
 use Rattle.acct_machine.specs.Coming.{handle_at, GivesNone, GivesOne, HandlesComeInOrder, HandlesAreFound}

@@ -4,18 +4,18 @@ use Rattle.std.proofs.Common.{None, Result, Ok, Err, OnOk, OnErr, IfErr, nat_lt,
 use Rattle.std.proofs.lemmas.Bool.Decides.{nat_tests}
 use Rattle.std.proofs.lemmas.Grind.{common_steps}
 use Rattle.std.specs.Option.{option_map}
-use Rattle.acct_keeper.specs.Counts.{after_call}
+use Rattle.acct_keeper.specs.Faults.{after_call}
 use Rattle.acct_keeper.specs.declared.keeper.KeepError.{KeepError}
 use Rattle.acct_keeper.specs.declared.keeper.KeepError.TheVariants.{Failed}
 use Rattle.acct_keeper.specs.declared.pairs.Pair.{Pair}
 use Rattle.acct_keeper.specs.declared.pairs.Change.{Change}
 use Rattle.acct_keeper.specs.Pairs.{after as after_changes}
-use Rattle.acct_rows.specs.declared.row.Row.{Row}
-use Rattle.acct_rows.specs.declared.row.RowKey.{RowKey}
+use Rattle.acct_tables.specs.declared.row.Row.{Row}
+use Rattle.acct_tables.specs.declared.row.RowKey.{RowKey}
 use Rattle.acct_rows.specs.Rows.{Lists, removed, with_puts}
 use Rattle.acct_rows.specs.Changes.{Follow}
 use Rattle.acct_machine.specs.Committing.{CommitsRows}
-use Rattle.acct_machine.specs.Storing.{HoldsRows}
+use Rattle.acct_machine.specs.Outbox.{HoldsRows}
 
 -- a plan without a change leaves the rows
 pub unchanged : (puts : List Row) (removes : List RowKey) (rows : Lists)

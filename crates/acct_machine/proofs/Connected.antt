@@ -9,8 +9,7 @@ use Rattle.acct_machine.specs.declared.entry.Entry.{Entry}
 use Rattle.acct_machine.specs.declared.entry.Entry.TheVariants.{Opened, Called, Gone, Hooked}
 use Rattle.acct_machine.specs.declared.state.Conn.{Conn}
 use Rattle.acct_machine.specs.State.{State, Start, first, last_serial}
-use Rattle.acct_machine.specs.Outcome.{serial_set}
-use Rattle.acct_machine.specs.Step.{new_conn, live_ended, acted, step, state_after, state_at}
+use Rattle.acct_machine.specs.Step.{serial_set, new_conn, live_ended, acted, step, state_after, state_at}
 use Rattle.acct_machine.specs.Legal.{May, LegalAfter}
 use Rattle.acct_machine.specs.Sound.{AreConnected}
 use Rattle.acct_machine.proofs.Conns.{numbered-set, numbered-ended, numbered-push, length-set, length-ended}

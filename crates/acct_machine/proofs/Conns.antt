@@ -5,8 +5,7 @@ use Rattle.std.proofs.lemmas.Bool.{cases_eq}
 use Rattle.std.proofs.lemmas.Bool.Decides.{nat_tests}
 use Rattle.acct_machine.specs.declared.state.Conn.{Conn}
 use Rattle.acct_machine.specs.State.{is_live, last_serial}
-use Rattle.acct_machine.specs.Outcome.{serial_set}
-use Rattle.acct_machine.specs.Step.{new_conn, live_ended}
+use Rattle.acct_machine.specs.Step.{serial_set, new_conn, live_ended}
 use Rattle.acct_machine.specs.Sound.{IsNumberedFrom}
 use Rattle.acct_machine.specs.Shown.{live_count}
 

@@ -6,15 +6,13 @@ use Rattle.std.specs.Prelude.{nat_le, nat_lt}
 use Rattle.std.proofs.lemmas.Bool.Decides.{nat_tests}
 use Rattle.std.proofs.lemmas.List.{append-nil}
 use Rattle.acct_config.specs.declared.config.Config.{Config}
-use Rattle.acct_config.specs.Right.{IsRight}
+use Rattle.acct_config.specs.Spelled.{IsRightConfig}
 use Rattle.acct_machine.specs.declared.entry.Entry.{Entry}
 use Rattle.acct_machine.specs.declared.entry.Entry.TheVariants.{Opened, Called, Gone, Hooked}
 use Rattle.acct_machine.specs.State.{State, Start, first, is_live}
 use Rattle.acct_machine.specs.Step.{new_conn, step, state_after, state_at}
-use Rattle.acct_machine.specs.Room.{opened_count, call_count, stub_bytes, hooked_count, conns_full, calls_full}
-use Rattle.acct_machine.specs.Room.{bytes_full}
-use Rattle.acct_machine.specs.Room.{IsWithin}
-use Rattle.acct_machine.specs.Legal.{May, LegalAfter, Legal, LimitsAreKept}
+use Rattle.acct_machine.specs.Legal.{opened_count, call_count, stub_bytes, hooked_count, conns_full, calls_full}
+use Rattle.acct_machine.specs.Legal.{bytes_full, IsWithin, May, LegalAfter, Legal, LimitsAreKept}
 use Rattle.acct_machine.specs.Shown.{live_count}
 use Rattle.acct_machine.proofs.Conns.{count-push, count-ended-live, length-push, length-ended}
 use Rattle.acct_machine.proofs.Lives.{same_live-acted, live_count-acted}
@@ -246,5 +244,5 @@ ends-at start history legal = omega (arith, ends-after start [] history legal (f
 
 -- ---- the ranges of the limits
 
-pub most-conns : (config : Config) → IsRight config → config.limits.max_conns ≤ 65536
+pub most-conns : (config : Config) → IsRightConfig config → config.limits.max_conns ≤ 65536
 most-conns config right = right.limits.conns.1

@@ -5,20 +5,20 @@ use Rattle.std.specs.Prelude.{◌⊎◌}
 use Rattle.acct_calls.specs.declared.calls.Call.{Call}
 use Rattle.acct_codes.specs.Statuses.{status_access_denied}
 use Rattle.acct_layouts.specs.Refusals.{is_refusal}
-use Rattle.acct_rows.specs.declared.object.Object.{Object}
+use Rattle.acct_tables.specs.declared.object.Object.{Object}
 use Rattle.acct_rules.specs.declared.planned.Effect.{Effect}
 use Rattle.acct_rules.specs.declared.planned.Effect.TheVariants as effects
 use Rattle.acct_rules.specs.declared.planned.Planned.{Planned}
 use Rattle.acct_rules.specs.Planned.{Ruled, opening_of}
-use Rattle.acct_rules.specs.Operations.{Operation, is_condition_status, IsRight}
+use Rattle.acct_rules.specs.Profiles.{Operation}
+use Rattle.acct_rules.specs.Operations.{is_condition_status, IsRight}
 use Rattle.acct_machine.specs.declared.checks.Access.{Access}
 use Rattle.acct_machine.specs.declared.checks.Access.TheVariants.{Passed, Unknown, WrongKind, Denied}
 use Rattle.acct_machine.specs.State.{State}
-use Rattle.acct_machine.specs.Opening.{grant_of, is_opening_refused}
-use Rattle.acct_machine.specs.Access.{access}
-use Rattle.acct_machine.specs.Outcome.{refused, done, opened_to, by_grant, by_effect, concluded, ruled_of, planned_of}
+use Rattle.acct_machine.specs.Access.{grant_of, is_opening_refused, access}
+use Rattle.acct_machine.specs.Step.{refused, done, opened_to, by_grant, by_effect, concluded, ruled_of, planned_of}
 use Rattle.acct_machine.specs.Step.{by_access}
-use Rattle.acct_machine.specs.Denial.{HasStatus, IsOpeningDenied, IsDenied}
+use Rattle.acct_machine.specs.Legal.{HasStatus, IsOpeningDenied, IsDenied}
 use Rattle.acct_machine.proofs.Deciding.{Decision, decides}
 use Rattle.acct_machine.proofs.Ruling.{ruled-refuses, ruled-succeeds}
 

@@ -4,16 +4,16 @@ use Rattle.std.specs.List.{All, slice_get}
 use Rattle.std.specs.Option.{option_or}
 use Rattle.std.proofs.lemmas.Option.{slice_get_within, get_or_from_slice_get}
 use Rattle.dtyp_access.specs.declared.descriptor.Descriptor.{Descriptor}
-use Rattle.dtyp_access.specs.Limits.{IsDescriptor}
+use Rattle.dtyp_access.specs.Parts.{IsDescriptor}
 use Rattle.acct_config.specs.declared.config.Config.{Config}
 use Rattle.acct_config.specs.Kinds.{kind_place}
-use Rattle.acct_config.specs.Right.{IsRight}
-use Rattle.acct_rows.specs.declared.object.Object.{Object}
-use Rattle.acct_rows.specs.declared.row.DescRow.{DescRow}
-use Rattle.acct_rows.specs.Objects.{kind_of}
+use Rattle.acct_config.specs.Spelled.{IsRightConfig}
+use Rattle.acct_tables.specs.declared.object.Object.{Object}
+use Rattle.acct_tables.specs.declared.row.DescRow.{DescRow}
+use Rattle.acct_tables.specs.Keys.{kind_of}
 use Rattle.acct_rows.specs.Rows.{Lists, desc_at, descriptor_of}
 use Rattle.acct_rows.specs.Sound.{IsSoundRows}
-use Rattle.acct_machine.specs.Opening.{configured, described_in}
+use Rattle.acct_machine.specs.Access.{configured, described_in}
 
 row-limits : (r : Lists) (object : Object) (row : Option DescRow) → IsSoundRows r → desc_at r object ≡ row
     → IfSome (option_map (λ (d : DescRow). d.descriptor) row) IsDescriptor
@@ -32,7 +32,7 @@ either-limits : (row others : Option Descriptor) → IfSome row IsDescriptor →
 either-limits None others first second = second
 either-limits (Some d) others first second = first
 
-pub described-limits : (config : Config) (r : Lists) (object : Object) → IsRight config → IsSoundRows r
+pub described-limits : (config : Config) (r : Lists) (object : Object) → IsRightConfig config → IsSoundRows r
     → IfSome (described_in config r object) IsDescriptor
 described-limits config r object right sound =
     either-limits (descriptor_of r object) (configured config (kind_of object))
@@ -41,7 +41,7 @@ described-limits config r object right sound =
     refl)
 
 -- so does a descriptor that was found to be the object's
-pub limits-of : (config : Config) (r : Lists) (object : Object) (d : Descriptor) → IsRight config → IsSoundRows r
+pub limits-of : (config : Config) (r : Lists) (object : Object) (d : Descriptor) → IsRightConfig config → IsSoundRows r
     → Some d ≡ described_in config r object → IsDescriptor d
 limits-of config r object d right sound is =
     subst (λ (o : Option Descriptor). IfSome o IsDescriptor) (sym is) (described-limits config r object right sound)

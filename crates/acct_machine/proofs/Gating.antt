@@ -4,14 +4,13 @@ use Rattle.std.proofs.Common.{Some, None, refl, sym, ap, ◌∙◌, subst, arith
 use Rattle.std.specs.List.{slice_get}
 use Rattle.std.proofs.Math.Nat.{le_refl}
 use Rattle.std.proofs.lemmas.List.{append-nil, length_push}
-use Rattle.account_hooks.specs.Gates.{Begins, IsNext, left, numbers}
-use Rattle.account_hooks.specs.Runs.{Job}
+use Rattle.account_hooks.specs.Drains.{Begins, IsNext, left, numbers, Job}
 use Rattle.account_hooks.specs.declared.gate.HookedEnd.{HookedEnd}
 use Rattle.account_hooks.specs.declared.gate.HookedEnd.TheVariants as ends
-use Rattle.acct_config.specs.Right.{IsRight}
+use Rattle.acct_config.specs.Spelled.{IsRightConfig}
 use Rattle.acct_rows.specs.Rows.{Lists}
 use Rattle.acct_rows.specs.Sound.{IsSoundRows}
-use Rattle.acct_rows.specs.declared.row.OutRow.{OutRow}
+use Rattle.acct_tables.specs.declared.row.OutRow.{OutRow}
 use Rattle.acct_machine.specs.declared.entry.Entry.{Entry}
 use Rattle.acct_machine.specs.declared.entry.Entry.TheVariants.{Opened, Called, Gone, Hooked}
 use Rattle.acct_machine.specs.Gates.{IsGood, IsReady, Moves, JobsAreLeft, HooksAreTold, room_at}
@@ -211,7 +210,7 @@ pub hook-ready : JobsAreLeft → (old new : Past) → IsReady old → new.start 
     → Legal new.start new.history → IsReady new
 hook-ready law old new ready start legal =
     let good : IsGood new = record {
-      right = subst (λ (s : Start). IsRight s.config) (sym start) ready.good.right;
+      right = subst (λ (s : Start). IsRightConfig s.config) (sym start) ready.good.right;
       sound = subst (λ (s : Start). IsSoundRows s.rows) (sym start) ready.good.sound;
       legal = legal;
     } in record {

@@ -7,15 +7,14 @@ use Rattle.std.proofs.lemmas.List.Elements.{All-push, All-filter}
 use Rattle.acct_calls.specs.declared.calls.Call.{Call}
 use Rattle.acct_rules.specs.declared.planned.Effect.{Effect}
 use Rattle.acct_rules.specs.declared.planned.Effect.TheVariants as effects
-use Rattle.acct_rows.specs.Objects.{same_object}
+use Rattle.acct_tables.specs.Keys.{same_object}
 use Rattle.acct_machine.specs.declared.entry.Verdict.{Verdict}
 use Rattle.acct_machine.specs.declared.entry.Verdict.TheVariants.{Ran}
 use Rattle.acct_machine.specs.declared.entry.Entry.{Entry}
 use Rattle.acct_machine.specs.declared.entry.Entry.TheVariants.{Opened, Called, Gone, Hooked}
 use Rattle.acct_machine.specs.declared.state.Held.{Held}
 use Rattle.acct_machine.specs.State.{State, Start, first, last_serial, is_handle}
-use Rattle.acct_machine.specs.Outcome.{left, planned_of}
-use Rattle.acct_machine.specs.Step.{acted, step, state_after, state_at}
+use Rattle.acct_machine.specs.Step.{left, planned_of, acted, step, state_after, state_at}
 use Rattle.acct_machine.specs.Grants.{OpensHandle, IsGrantedIn}
 use Rattle.acct_machine.proofs.Cases.{acted-cases}
 use Rattle.acct_machine.proofs.History.{state_after-push}

@@ -5,19 +5,20 @@ use Rattle.std.proofs.Common.{None, option_map, refl, subst, sym, arith}
 use Rattle.std.specs.List.{All, find}
 use Rattle.acct_calls.specs.declared.calls.Call.{Call}
 use Rattle.acct_config.specs.declared.config.Config.{Config}
-use Rattle.acct_config.specs.Right as configs
+use Rattle.acct_config.specs.Spelled as configs
 use Rattle.acct_layouts.specs.CallShapes.{CanBeSpelled}
 use Rattle.acct_rows.specs.Laws.{OutsStaySound, PutsAreFound}
-use Rattle.acct_rows.specs.Objects.{kind_of, exists}
+use Rattle.acct_rows.specs.Rows.{exists}
+use Rattle.acct_tables.specs.Keys.{kind_of}
 use Rattle.acct_rows.specs.Rows.{Lists}
 use Rattle.acct_rows.specs.Sound.{IsSoundRows}
 use Rattle.acct_rules.specs.declared.profile.Brings.{Brings}
 use Rattle.acct_rules.specs.declared.profile.Brings.TheVariants as brings
 use Rattle.acct_rules.specs.declared.profile.Kinds.{Kinds}
 use Rattle.acct_rules.specs.declared.planned.Planned.{Planned}
-use Rattle.acct_rules.specs.Profiles.{takes, needed}
+use Rattle.acct_rules.specs.Profiles.{takes, needed_bits, Operation}
 use Rattle.acct_rules.specs.Planned.{Ruled, refusal}
-use Rattle.acct_rules.specs.Operations.{Operation, IsTaken, IsRight, Keeps, KeepsRows}
+use Rattle.acct_rules.specs.Operations.{IsTaken, IsRight, Keeps, KeepsRows}
 use Rattle.acct_operations.specs.declared.table.Work.{Work}
 use Rattle.acct_operations.specs.Table.{operation, work_of}
 use Rattle.acct_operations.specs.Laws.{AreRight, KeepRows}
@@ -25,7 +26,7 @@ use Rattle.acct_machine.specs.declared.checks.Access.TheVariants.{Passed, Denied
 use Rattle.acct_machine.specs.declared.state.Held.{Held}
 use Rattle.acct_machine.specs.State.{State, is_handle}
 use Rattle.acct_machine.specs.Access.{object_of, held_by, has_bits, access_by, access_with}
-use Rattle.acct_machine.specs.Outcome.{ruled_of, planned_of}
+use Rattle.acct_machine.specs.Step.{ruled_of, planned_of}
 use Rattle.acct_machine.specs.Legal.{HasPassed}
 use Rattle.acct_machine.specs.Sound.{IsHeldSoundly, IsSound}
 use Rattle.acct_machine.proofs.Deciding.{of-work, Decision, decides}
@@ -82,7 +83,8 @@ opnum-by right call o (Some work) is found =
     subst (λ (p : Operation). call.opnum ≡ p.profile.opnum) same (sym (right.opnum call.face call.opnum work is))
 
 pub is-asked : AreRight → (config : Config) (s : State) (conn : ℕ) (call : Call) (o : Operation)
-    → configs.IsRight s.config → IsSound config s → CanBeSpelled call → HasPassed o s conn call → Asks o s conn call
+    → configs.IsRightConfig s.config → IsSound config s → CanBeSpelled call → HasPassed o s conn call
+    → Asks o s conn call
 is-asked right config s conn call o configured sound spelled passed = record {
   face = face-by right call o (work_of call.face call.opnum) refl passed.found;
   opnum = opnum-by right call o (work_of call.face call.opnum) refl passed.found;
@@ -91,7 +93,8 @@ is-asked right config s conn call o configured sound spelled passed = record {
   limits = described-limits s.config s.rows (asked_of s conn call) configured sound.rows;
   there = object-there s (held_by s conn call)
       (λ h is. find-all (IsHeldSoundly s) (is_handle conn call.handle.number) s.handles h sound.held is);
-  taken = passed-taken o.profile.brings (needed o.profile.needs s.rows call.args) (held_by s conn call) passed.passed;
+  taken = passed-taken o.profile.brings (needed_bits o.profile.needs s.rows call.args) (held_by s conn call)
+      passed.passed;
 }
 
 -- ---- what is planned keeps the rows
@@ -100,7 +103,7 @@ refusal-keeps : (r : Lists) (status : ℕ) → IsSoundRows r → Keeps r (refusa
 refusal-keeps r status sound = record { sound = sound; stays = λ x was other. was; opens = λ opening is. cc }
 
 keeps-by : OutsStaySound → PutsAreFound → AreRight → KeepRows → (config : Config) (s : State) (conn : ℕ) (call : Call)
-    (o : Operation) → configs.IsRight s.config → IsSound config s → CanBeSpelled call → HasPassed o s conn call
+    (o : Operation) → configs.IsRightConfig s.config → IsSound config s → CanBeSpelled call → HasPassed o s conn call
     → Decision (λ status. true) (ruled_of o s conn call).conditions (ruled_of o s conn call).planned
     → Keeps s.rows (planned_of o s conn call)
 keeps-by stay found right each config s conn call o configured sound spelled passed (inl fails) =
@@ -113,7 +116,7 @@ keeps-by stay found right each config s conn call o configured sound spelled pas
     (is-asked right config s conn call o configured sound spelled passed) passes.none)
 
 pub keeps : OutsStaySound → PutsAreFound → AreRight → KeepRows → (config : Config) (s : State) (conn : ℕ) (call : Call)
-    (o : Operation) → configs.IsRight s.config → IsSound config s → CanBeSpelled call → HasPassed o s conn call
+    (o : Operation) → configs.IsRightConfig s.config → IsSound config s → CanBeSpelled call → HasPassed o s conn call
     → Keeps s.rows (planned_of o s conn call)
 keeps stay found right each config s conn call o configured sound spelled passed =
     let ruled : Ruled = ruled_of o s conn call in

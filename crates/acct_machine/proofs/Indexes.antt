@@ -8,12 +8,11 @@ use Rattle.std.specs.declared.cmp.Ordering.{Ordering}
 use Rattle.std.specs.declared.cmp.Ordering.TheVariants.{Less, Equal, Greater}
 use Rattle.std.proofs.lemmas.Cmp.{ranked}
 use Rattle.std.proofs.lemmas.Bool.Decides.{nat_tests}
-use Rattle.dtyp_sid.specs.Value.{SidValue}
-use Rattle.dtyp_sid.specs.Order.{sid_eq, sid_cmp}
+use Rattle.dtyp_sid.specs.Sids.{SidValue, sid_eq, sid_cmp}
 use Rattle.dtyp_sid.proofs.Equal.{equal_sids}
-use Rattle.acct_rows.specs.declared.object.Object.{Object}
-use Rattle.acct_rows.specs.declared.object.Object.TheVariants.{Server, Domain, Group, Alias, User, Policy, Account}
-use Rattle.acct_rows.specs.Objects.{domain_of, rid_of, same_object}
+use Rattle.acct_tables.specs.declared.object.Object.{Object}
+use Rattle.acct_tables.specs.declared.object.Object.TheVariants.{Server, Domain, Group, Alias, User, Policy, Account}
+use Rattle.acct_tables.specs.Keys.{domain_of, rid_of, same_object}
 use Rattle.acct_tables.specs.Keyed.{Key, compare, compare_front, is_within, put, without_all, is_ascending, sorted}
 use Rattle.acct_tables.proofs.Ascending.{In, is_ascending-filter}
 use Rattle.acct_tables.proofs.Ended.{then_then, ended-compare, ended-front, ended-parts}
@@ -23,9 +22,9 @@ use Rattle.acct_machine.specs.declared.state.Held.{Held}
 use Rattle.acct_machine.specs.declared.arrivals.Arrival.{Arrival}
 use Rattle.acct_machine.specs.declared.arrivals.Numbered.TheVariants as numbers
 use Rattle.acct_machine.specs.State.{number_of, is_handle, find_handle}
-use Rattle.acct_machine.specs.Arrivals.{number_key, number_front, rank_of, sid_part, object_part, object_order}
-use Rattle.acct_machine.specs.Arrivals.{object_key, object_front, turn_key}
-use Rattle.acct_machine.specs.Indexed.{held_of, arrived, CameBefore}
+use Rattle.acct_machine.specs.steps.Arrivals.{number_key, number_front, rank_of, sid_part, object_part, object_order}
+use Rattle.acct_machine.specs.steps.Arrivals.{object_key, object_front, turn_key}
+use Rattle.acct_machine.specs.steps.Indexed.{held_of, arrived, CameBefore}
 
 -- ---- orders
 

@@ -4,7 +4,7 @@ use Rattle.std.proofs.Common.{subst}
 use Rattle.std.proofs.Common.{arith}
 use Rattle.std.proofs.lemmas.List.{append-nil}
 use Rattle.acct_config.specs.declared.config.Config.{Config}
-use Rattle.acct_config.specs.Right.{IsRight}
+use Rattle.acct_config.specs.Spelled.{IsRightConfig}
 use Rattle.acct_rows.specs.Rows.{Lists}
 use Rattle.acct_rows.specs.Sound.{IsSoundRows}
 use Rattle.acct_calls.specs.declared.calls.Call.{Call}
@@ -13,10 +13,9 @@ use Rattle.acct_machine.specs.declared.entry.Entry.{Entry}
 use Rattle.acct_machine.specs.declared.entry.Entry.TheVariants.{Opened, Called, Gone, Hooked}
 use Rattle.acct_machine.specs.State.{State, Start, first, is_live}
 use Rattle.acct_machine.specs.Step.{new_conn, acted, step, state_at}
-use Rattle.acct_machine.specs.Calls.{IsCall}
-use Rattle.acct_machine.specs.Room.{opened_count, call_count, stub_bytes, hooked_count, most_entries, conns_full}
-use Rattle.acct_machine.specs.Room.{TakesCall}
-use Rattle.acct_machine.specs.Legal.{MayHave, Rises, May, Legal, calls_of, replies}
+use Rattle.acct_machine.specs.Access.{IsCall}
+use Rattle.acct_machine.specs.Legal.{opened_count, call_count, stub_bytes, hooked_count, most_entries, conns_full}
+use Rattle.acct_machine.specs.Legal.{TakesCall, MayHave, Rises, May, Legal, calls_of, replies}
 use Rattle.acct_machine.specs.Sound.{AreConnected, KeepsConnected}
 use Rattle.acct_machine.specs.Shown.{Past, IsKept, begins, live_count}
 use Rattle.acct_machine.specs.Machine.{state_of, with_entry, SameLive, OneMoreLive, OneLessLive, SameCalls, OneMoreCall}
@@ -153,7 +152,7 @@ begins-same s s' rows since e is =
 -- nothing has happened
 pub kept-new : (s : State) (config : Config) (rows lists : Lists) (history : List Entry) (since capacity : ℕ)
     → s ≡ record { config = config; rows = rows; conns = []; handles = [] } → lists ≡ rows → history ≡ []
-    → IsRight config → IsSoundRows rows → most_entries config.limits ≤ capacity
+    → IsRightConfig config → IsSoundRows rows → most_entries config.limits ≤ capacity
     → IsKept (begins s lists since) history s 0 0 capacity
 kept-new s config rows lists history since capacity is same none right sound fits =
     subst (λ (h : List Entry). IsKept (begins s lists since) h s 0 0 capacity) (sym none)

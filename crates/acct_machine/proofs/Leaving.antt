@@ -6,14 +6,13 @@ use Rattle.std.proofs.lemmas.List.{append-nil}
 use Rattle.acct_rows.specs.Laws.{RemovedOutsStaySound}
 use Rattle.acct_rows.specs.Rows.{Lists, remove_row}
 use Rattle.acct_rows.specs.Sound.{IsSoundRows}
-use Rattle.acct_rows.specs.declared.row.OutRow.{OutRow}
-use Rattle.acct_rows.specs.declared.row.RowKey.TheVariants as keys
+use Rattle.acct_tables.specs.declared.row.OutRow.{OutRow}
+use Rattle.acct_tables.specs.declared.row.RowKey.TheVariants as keys
 use Rattle.acct_machine.specs.declared.entry.Entry.{Entry}
 use Rattle.acct_machine.specs.declared.entry.Entry.TheVariants.{Opened, Called, Gone, Hooked}
 use Rattle.acct_machine.specs.State.{State, Start, first}
 use Rattle.acct_machine.specs.Step.{step, state_at}
-use Rattle.acct_machine.specs.Room.{opened_count, call_count, hooked_count, most_entries}
-use Rattle.acct_machine.specs.Legal.{May, calls_of, replies}
+use Rattle.acct_machine.specs.Legal.{opened_count, call_count, hooked_count, most_entries, May, calls_of, replies}
 use Rattle.acct_machine.specs.Machine.{SameLive, SameCalls}
 use Rattle.acct_machine.specs.Outbox.{least_in}
 use Rattle.acct_machine.specs.Shown.{IsKept, begins}

@@ -12,7 +12,7 @@ use Rattle.acct_rows.specs.Rows.{Lists, Shown}
 use Rattle.acct_machine.specs.declared.opened.OpenError.{OpenError}
 use Rattle.acct_machine.specs.declared.opened.OpenError.TheVariants.{StoreFault, StoredPair, Memory}
 use Rattle.acct_machine.specs.Opened.{OpensRows, OpenCause, LoadCause, IsMigrated}
-use Rattle.acct_machine.specs.Storing.{HoldsRows}
+use Rattle.acct_machine.specs.Outbox.{HoldsRows}
 
 never : (A : Type 0) → true ≡ false → A
 never A p = cc

@@ -2,25 +2,27 @@
 use Rattle.std.proofs.Common.{◌≡◌, ℕ, ◌^◌, ◌<◌, ◌≤◌, Bool, true, false, cond, List, [], ◌∷◌, ◌++◌}
 use Rattle.std.proofs.Common.{length, Option, Some, None, refl, sym, ap, subst, ◌∙◌, arith}
 use Rattle.std.specs.List.{filter, list_any}
-use Rattle.acct_codes.specs.Rids.{most_rid}
+use Rattle.acct_codes.specs.Accounts.{most_rid}
 use Rattle.acct_rows.specs.Laws.{OutsStaySound, PutsAreFound}
-use Rattle.acct_rows.specs.Objects.{exists}
-use Rattle.acct_rows.specs.Keyed.{at}
-use Rattle.acct_rows.specs.Rows.{Lists, account_key, domain_at, account_at, put_row, remove_row, removed, with_puts}
+use Rattle.acct_rows.specs.Rows.{exists}
+use Rattle.acct_tables.specs.KeyedRows.{at}
+use Rattle.acct_rows.specs.Rows.{Lists, domain_at, account_at, put_row, remove_row, removed, with_puts}
+use Rattle.acct_tables.specs.Keys.{account_key}
 use Rattle.acct_rows.specs.Rows.{after}
-use Rattle.acct_rows.specs.Sound.{IsSoundRows, IsGoodAccount, IsGoodOut, next_rid_of}
+use Rattle.acct_rows.specs.Sound.{IsSoundRows, IsGoodAccount, next_rid_of}
+use Rattle.acct_tables.specs.Good.{IsGoodOut}
 use Rattle.acct_rows.specs.declared.plan.Plan.{Plan}
-use Rattle.acct_rows.specs.declared.row.AccountRow.{AccountRow}
-use Rattle.acct_rows.specs.declared.row.DomainRow.{DomainRow}
-use Rattle.acct_rows.specs.declared.row.OutRow.{OutRow}
-use Rattle.acct_rows.specs.declared.row.Row.{Row}
-use Rattle.acct_rows.specs.declared.row.Row.TheVariants as rows
-use Rattle.acct_rows.specs.declared.row.RowKey.{RowKey}
-use Rattle.acct_rows.specs.declared.row.RowKey.TheVariants as keys
+use Rattle.acct_tables.specs.declared.row.AccountRow.{AccountRow}
+use Rattle.acct_tables.specs.declared.row.DomainRow.{DomainRow}
+use Rattle.acct_tables.specs.declared.row.OutRow.{OutRow}
+use Rattle.acct_tables.specs.declared.row.Row.{Row}
+use Rattle.acct_tables.specs.declared.row.Row.TheVariants as rows
+use Rattle.acct_tables.specs.declared.row.RowKey.{RowKey}
+use Rattle.acct_tables.specs.declared.row.RowKey.TheVariants as keys
 use Rattle.acct_rules.specs.declared.planned.Planned.{Planned}
 use Rattle.acct_rules.specs.Operations.{Keeps}
-use Rattle.acct_rules.specs.Touched.{put_account, removed_account, is_account_row, is_out_row}
-use Rattle.acct_rules.specs.Touched.{is_modest}
+use Rattle.acct_rules.specs.Planned.{put_account, removed_account}
+use Rattle.acct_rules.specs.Touched.{is_account_row, is_out_row, is_modest}
 use Rattle.acct_machine.specs.Outbox.{out_row, same_account, told_of_put, told_of_removed, told_by, account_change}
 use Rattle.acct_machine.specs.Outbox.{is_full, with_out}
 use Rattle.acct_machine.proofs.Telling.{few-accounts, no-out, change-number, below-full}

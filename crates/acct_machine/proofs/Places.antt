@@ -5,8 +5,7 @@ use Rattle.std.proofs.Common.{◌∙◌, ap, arith, get_or, set}
 use Rattle.std.proofs.lemmas.Bool.Decides.{nat_tests}
 use Rattle.acct_machine.specs.declared.state.Conn.{Conn}
 use Rattle.acct_machine.specs.State.{find_conn}
-use Rattle.acct_machine.specs.Outcome.{serial_set}
-use Rattle.acct_machine.specs.Step.{live_ended}
+use Rattle.acct_machine.specs.Step.{serial_set, live_ended}
 use Rattle.acct_machine.specs.Sound.{IsNumberedFrom}
 use Rattle.acct_machine.proofs.Conns.{set-past, ended-past}
 

@@ -1,7 +1,7 @@
 -- What holds of what an operation decides holds of what the machine does with it.
 use Rattle.std.proofs.Common.{◌≡◌, inl, inr, ℕ, Bool, true, false, [], ◌∷◌, Option, Some, refl, sym}
 use Rattle.std.proofs.Common.{◌∙◌, ap, subst}
-use Rattle.std.specs.Prelude.{not, ◌&&◌, ◌||◌}
+use Rattle.std.specs.Prelude.{◌&&◌, ◌||◌}
 use Rattle.std.specs.List.{list_all}
 use Rattle.dtyp_access.specs.declared.descriptor.Descriptor.{Descriptor}
 use Rattle.acct_calls.specs.declared.calls.Args.{Args}
@@ -12,23 +12,24 @@ use Rattle.acct_layouts.specs.Refusals.{is_refusal}
 use Rattle.acct_rows.specs.Laws.{OutsStaySound, PutsAreFound}
 use Rattle.acct_rows.specs.Rows.{Lists, HasRoom, TakeNumbers}
 use Rattle.acct_rows.specs.Sound.{IsSoundRows}
-use Rattle.acct_rows.specs.declared.object.Object.{Object}
-use Rattle.acct_rows.specs.declared.row.OutRow.{OutRow}
+use Rattle.acct_tables.specs.declared.object.Object.{Object}
+use Rattle.acct_tables.specs.declared.row.OutRow.{OutRow}
 use Rattle.acct_rules.specs.declared.planned.Planned.{Planned}
 use Rattle.acct_rules.specs.declared.profile.Memory.{Memory}
 use Rattle.acct_rules.specs.declared.profile.Memory.TheVariants as memory
-use Rattle.acct_rules.specs.Operations.{Operation, is_condition_status, IsAsked, IsShaped, IsRight, Keeps, KeepsRows}
+use Rattle.acct_rules.specs.Profiles.{Operation, is_never}
+use Rattle.acct_rules.specs.Operations.{is_condition_status, IsAsked, IsShaped, IsRight, Keeps, KeepsRows}
 use Rattle.acct_rules.specs.Planned.{Condition, Ruled, when, none_fails, decision, gives_handle, has_change, takes_room}
-use Rattle.acct_rules.specs.Profiles.{is_anywhere, is_never}
 use Rattle.acct_operations.specs.declared.table.Work.{Work}
-use Rattle.acct_operations.specs.Frugal.{taken_by}
+use Rattle.acct_operations.specs.declared.table.Work.TheVariants as works
+use Rattle.acct_operations.specs.Frugal.{taken_by, is_for_handle, may_want_to_decide, MayWantToDecide}
 use Rattle.acct_operations.specs.Laws.{AreFrugal}
 use Rattle.acct_operations.specs.Table.{operation}
 use Rattle.acct_machine.specs.State.{State}
-use Rattle.acct_machine.specs.Access.{held_by, object_of}
-use Rattle.acct_machine.specs.Opening.{described}
+use Rattle.acct_machine.specs.Access.{held_by, object_of, described}
 use Rattle.acct_machine.specs.Outbox.{account_change, is_full, with_out, told, needs_out, outboxed, told_planned}
-use Rattle.acct_machine.specs.Outcome.{decided_of, ruled_of, planned_of}
+use Rattle.acct_machine.specs.Legal.{MayWant}
+use Rattle.acct_machine.specs.Step.{decided_of, ruled_of, planned_of}
 use Rattle.acct_machine.proofs.Deciding.{Decision, decides}
 use Rattle.acct_machine.proofs.Telling.{told-cases, all-join, told-passes, told-decides, no-change, none-some}
 use Rattle.acct_machine.proofs.Telling.{modest-takes, out-takes}
@@ -149,6 +150,7 @@ told-never memory.Never r ruled out frugal is =
     second-not (gives_handle ruled.planned.effect) (has_change ruled.planned.plan) frugal in
     absurd (none-some out (sym (no-change r ruled.planned.plan none) ∙ is))
 told-never memory.AfterConditions r ruled out frugal is = refl
+told-never memory.BeforeOpening r ruled out frugal is = refl
 told-never memory.Anywhere r ruled out frugal is = refl
 
 -- what takes no memory plans nothing that takes room
@@ -162,32 +164,68 @@ ruled-never are work s conn call =
     told-cases (λ (r : Ruled). (is_never (taken_by work) && takes_room r.planned) ≡ false) s.config s.rows ruled plain
     (λ out is. told-never (taken_by work) s.rows ruled out plain is)
 
-anywhere-by : (anywhere change : Bool) → (not anywhere && change) ≡ false → change ≡ true → anywhere ≡ true
-anywhere-by true change frugal is = refl
-anywhere-by false change frugal is = let e : true ≡ false = sym is ∙ frugal in cc
+decides-by : (m : Memory) (change none : Bool) → (is_for_handle m && change) ≡ false → change ≡ true → none ≡ true
+    → may_want_to_decide m none ≡ true
+decides-by memory.Never change none frugal is passes = let e : true ≡ false = sym is ∙ frugal in cc
+decides-by memory.AfterConditions change none frugal is passes = let e : true ≡ false = sym is ∙ frugal in cc
+decides-by memory.BeforeOpening change none frugal is passes = passes
+decides-by memory.Anywhere change none frugal is passes = refl
 
 changes-by : AreFrugal → (work : Work) (r : Lists) (row : Option Descriptor) (object : Object) (asked : Args)
     → Decision (λ status. true) ((operation work).rule r row object asked).conditions
     ((operation work).rule r row object asked).planned
     → has_change (decision ((operation work).rule r row object asked)).plan ≡ true
-    → is_anywhere (taken_by work) ≡ true
+    → may_want_to_decide (taken_by work) (none_fails ((operation work).rule r row object asked).conditions) ≡ true
 changes-by are work r row object asked (inl fails) changes =
     let none : has_change (decision ((operation work).rule r row object asked)).plan ≡ false =
     ap (λ (p : Planned). has_change p.plan) fails.refuses in
     absurd (let e : true ≡ false = sym changes ∙ none in cc)
 changes-by are work r row object asked (inr passes) changes =
-    anywhere-by (is_anywhere (taken_by work)) (has_change ((operation work).rule r row object asked).planned.plan)
-    (are.changes work r row object asked)
-    (subst (λ (p : Planned). has_change p.plan ≡ true) passes.plans changes)
+    decides-by (taken_by work) (has_change ((operation work).rule r row object asked).planned.plan)
+    (none_fails ((operation work).rule r row object asked).conditions) (are.changes work r row object asked)
+    (subst (λ (p : Planned). has_change p.plan ≡ true) passes.plans changes) passes.none
 
--- what changes rows may run out of memory anywhere
-pub changes-anywhere : AreFrugal → (work : Work) (r : Lists) (row : Option Descriptor) (object : Object) (asked : Args)
-    (planned : Planned) → decision ((operation work).rule r row object asked) ≡ planned
-    → has_change planned.plan ≡ true → is_anywhere (taken_by work) ≡ true
-changes-anywhere are work r row object asked planned is changes =
-    let ruled : Ruled = (operation work).rule r row object asked in
-    changes-by are work r row object asked (decides (λ status. true) ruled.conditions ruled.planned)
-    (subst (λ (p : Planned). has_change p.plan ≡ true) (sym is) changes)
+wants-by-decision : (m : Memory) (o : Operation) (s : State) (conn : ℕ) (call : Call)
+    → may_want_to_decide m (none_fails (decided_of o s (asked_of s conn call) call).conditions) ≡ true
+    → MayWant m o s conn call
+wants-by-decision memory.Never o s conn call is = cc
+wants-by-decision memory.AfterConditions o s conn call is = cc
+wants-by-decision memory.BeforeOpening o s conn call is = is
+wants-by-decision memory.Anywhere o s conn call is = tt
+
+wants-at : (m : Memory) (o : Operation) (s : State) (conn : ℕ) (call : Call) (object : Object)
+    → object ≡ asked_of s conn call
+    → may_want_to_decide m (none_fails (decided_of o s object call).conditions) ≡ true → MayWant m o s conn call
+wants-at m o s conn call object at is =
+    wants-by-decision m o s conn call
+    (subst (λ (x : Object). may_want_to_decide m (none_fails (decided_of o s x call).conditions) ≡ true) at is)
+
+-- the last case is checked at each of the others
+by-taken : (work : Work) (r : Lists) (row : Option Descriptor) (object : Object) (asked : Args)
+    → MayWantToDecide work r row object asked
+    → may_want_to_decide (taken_by work) (none_fails ((operation work).rule r row object asked).conditions) ≡ true
+by-taken works.SamrSetSecurityObject r row object asked wants = refl
+by-taken works.LsarSetSecurityObject r row object asked wants = refl
+by-taken _ r row object asked wants = wants
+
+-- memory that runs out where the operation is decided may run out of the call
+pub wants-deciding : (work : Work) (s : State) (conn : ℕ) (call : Call) (object : Object)
+    → object ≡ asked_of s conn call → MayWantToDecide work s.rows (described s object) object call.args
+    → MayWant (taken_by work) (operation work) s conn call
+wants-deciding work s conn call object at wants =
+    wants-at (taken_by work) (operation work) s conn call object at
+    (by-taken work s.rows (described s object) object call.args wants)
+
+-- and so may that for the change of rows that was decided
+pub wants-changing : AreFrugal → (work : Work) (s : State) (conn : ℕ) (call : Call) (object : Object)
+    (planned : Planned) → object ≡ asked_of s conn call → decision (decided_of (operation work) s object call) ≡ planned
+    → has_change planned.plan ≡ true → MayWant (taken_by work) (operation work) s conn call
+wants-changing are work s conn call object planned at is changes =
+    let ruled : Ruled = decided_of (operation work) s object call in
+    wants-at (taken_by work) (operation work) s conn call object at
+    (changes-by are work s.rows (described s object) object call.args
+    (decides (λ status. true) ruled.conditions ruled.planned)
+    (subst (λ (p : Planned). has_change p.plan ≡ true) (sym is) changes))
 
 -- ---- the plan
 

@@ -6,8 +6,7 @@ use Rattle.acct_machine.specs.declared.entry.Entry.{Entry}
 use Rattle.acct_machine.specs.declared.entry.Entry.TheVariants.{Opened, Called, Gone, Hooked}
 use Rattle.acct_machine.specs.declared.state.Conn.{Conn}
 use Rattle.acct_machine.specs.State.{State, Start, first, last_serial}
-use Rattle.acct_machine.specs.Outcome.{serial_set}
-use Rattle.acct_machine.specs.Step.{new_conn, live_ended, step, state_after, state_at}
+use Rattle.acct_machine.specs.Step.{serial_set, new_conn, live_ended, step, state_after, state_at}
 use Rattle.acct_machine.proofs.Conns.{set-here, set-past, ended-here, ended-past, serial-here, serial-past}
 use Rattle.acct_machine.proofs.Cases.{acted-cases}
 

@@ -5,13 +5,13 @@ use Rattle.std.proofs.Common.{refl, sym, ◌∙◌, subst, arith}
 use Rattle.std.proofs.lemmas.Nat.{and_le_r}
 use Rattle.acct_codes.specs.declared.kind.Kind.{Kind}
 use Rattle.acct_codes.specs.declared.kind.Kind.TheVariants as kind
-use Rattle.acct_codes.specs.Mappings.{valid_rights}
+use Rattle.acct_codes.specs.Rights.{valid_rights}
 use Rattle.acct_calls.specs.declared.calls.Call.{Call}
 use Rattle.acct_calls.specs.declared.handle.Handle.{Handle}
 use Rattle.acct_calls.specs.declared.replies.Outs.{Outs}
 use Rattle.acct_calls.specs.declared.replies.Outs.TheVariants as outs
 use Rattle.acct_calls.specs.declared.replies.Reply.TheVariants.{Done}
-use Rattle.acct_layouts.specs.Bounds.{IsHandle, IsLong}
+use Rattle.acct_layouts.specs.Values.{IsHandle, IsLong}
 use Rattle.acct_layouts.specs.declared.outputs.Outputs.{Outputs}
 use Rattle.acct_layouts.specs.declared.outputs.Outputs.TheVariants as outputs
 use Rattle.acct_layouts.specs.declared.outputs.ScalarOutputs.{ScalarOutputs}
@@ -29,8 +29,8 @@ use Rattle.acct_layouts.specs.Refusals.{is_refusal}
 use Rattle.acct_layouts.specs.ReplyShapes.{ArePlain, AreLists, ArePolicyOuts, AreTranslated, AreOutputs}
 use Rattle.acct_layouts.specs.ReplyShapes.{HasOutputs, HasShape}
 use Rattle.acct_layouts.specs.Table.{layout_of}
-use Rattle.acct_rules.specs.Filled.{shown_grant, filled}
-use Rattle.acct_machine.specs.Outcome.{refused_by, refusal_outs, filled_by}
+use Rattle.acct_rules.specs.Planned.{shown_grant, filled}
+use Rattle.acct_machine.specs.Step.{refused_by, refusal_outs, filled_by}
 
 -- ---- refusals
 

@@ -8,25 +8,27 @@ use Rattle.std.proofs.lemmas.List.Elements.{All-push, All-filter, filter_passes}
 use Rattle.std.proofs.lemmas.List.Kept.{AllPairs-filter}
 use Rattle.std.proofs.lemmas.List.Quantifiers.{all_pairs_push}
 use Rattle.acct_codes.specs.declared.kind.Kind.{Kind}
-use Rattle.acct_codes.specs.Mappings.{valid_rights}
+use Rattle.acct_codes.specs.Rights.{valid_rights}
 use Rattle.dtyp_access.specs.declared.descriptor.Descriptor.{Descriptor}
 use Rattle.dtyp_access.specs.Laws.{GrantsAreValid}
 use Rattle.acct_config.specs.declared.config.Config.{Config}
 use Rattle.acct_config.specs.declared.config.Listener.{Listener}
-use Rattle.acct_config.specs.Right.{IsRight}
+use Rattle.acct_config.specs.Spelled.{IsRightConfig}
 use Rattle.acct_calls.specs.declared.calls.Call.{Call}
 use Rattle.acct_layouts.specs.CallShapes.{CanBeSpelled}
-use Rattle.acct_rows.specs.declared.object.Object.{Object}
+use Rattle.acct_tables.specs.declared.object.Object.{Object}
 use Rattle.acct_rows.specs.Laws.{OutsStaySound, RemovedOutsStaySound, PutsAreFound}
-use Rattle.acct_rows.specs.Objects.{kind_of, same_object, exists}
+use Rattle.acct_rows.specs.Rows.{exists}
+use Rattle.acct_tables.specs.Keys.{kind_of, same_object}
 use Rattle.acct_rows.specs.Rows.{Lists, remove_row}
 use Rattle.acct_rows.specs.Sound.{IsSoundRows}
-use Rattle.acct_rows.specs.declared.row.OutRow.{OutRow}
-use Rattle.acct_rows.specs.declared.row.RowKey.TheVariants as keys
+use Rattle.acct_tables.specs.declared.row.OutRow.{OutRow}
+use Rattle.acct_tables.specs.declared.row.RowKey.TheVariants as keys
 use Rattle.acct_rules.specs.declared.planned.Effect.{Effect}
 use Rattle.acct_rules.specs.declared.planned.Effect.TheVariants as effects
 use Rattle.acct_rules.specs.declared.planned.Planned.{Planned}
-use Rattle.acct_rules.specs.Operations.{Operation, is_deleted, Keeps}
+use Rattle.acct_rules.specs.Profiles.{Operation}
+use Rattle.acct_rules.specs.Operations.{is_deleted, Keeps}
 use Rattle.acct_operations.specs.Laws.{AreRight, KeepRows}
 use Rattle.acct_machine.specs.declared.entry.Verdict.{Verdict}
 use Rattle.acct_machine.specs.declared.entry.Entry.{Entry}
@@ -34,10 +36,10 @@ use Rattle.acct_machine.specs.declared.entry.Entry.TheVariants.{Opened, Called, 
 use Rattle.acct_machine.specs.declared.state.Conn.{Conn}
 use Rattle.acct_machine.specs.declared.state.Held.{Held}
 use Rattle.acct_machine.specs.State.{State, Start, first, find_conn, is_live, last_serial, is_handle, without_conn}
-use Rattle.acct_machine.specs.Opening.{described, listener_of, checked, grant_of}
+use Rattle.acct_machine.specs.Access.{described, listener_of, checked, grant_of}
 use Rattle.acct_machine.specs.Outbox.{least_in}
-use Rattle.acct_machine.specs.Outcome.{serial_set, left, changed, with_handle, planned_of}
-use Rattle.acct_machine.specs.Step.{new_conn, acted, step, state_after, state_at}
+use Rattle.acct_machine.specs.Step.{serial_set, left, changed, with_handle, planned_of, new_conn, acted, step}
+use Rattle.acct_machine.specs.Step.{state_after, state_at}
 use Rattle.acct_machine.specs.Legal.{HasPassed, May, LegalAfter, Legal}
 use Rattle.acct_machine.specs.Sound.{IsHeldSoundly, AreApart, AreConnected, KeepsConnected, IsSound, KeepsSound}
 use Rattle.acct_machine.proofs.Conns.{live-set, serial-set-same, serial-set-other, live-ended-other, serial-ended}
@@ -184,7 +186,8 @@ record Promised : Type 0 where
   taken : RemovedOutsStaySound
   found : PutsAreFound
 
-sound-called : Promised → (config : Config) (s : State) (conn : ℕ) (call : Call) (verdict : Verdict) → IsRight s.config
+sound-called : Promised → (config : Config) (s : State) (conn : ℕ) (call : Call) (verdict : Verdict)
+    → IsRightConfig s.config
     → IsSound config s → is_live conn s.conns ≡ true → CanBeSpelled call → With config (acted s conn call verdict).0
 sound-called laws config s conn call verdict configured sound live spelled =
     let kept : (o : Operation) → HasPassed o s conn call → Keeps s.rows (planned_of o s conn call) = λ o passed.
@@ -266,21 +269,21 @@ sound-hooked taken config s number sound least connected =
       distinct = sound.distinct;
     }
 
-sound-step : Promised → (start : Start) (before : List Entry) (e : Entry) → IsRight start.config
+sound-step : Promised → (start : Start) (before : List Entry) (e : Entry) → IsRightConfig start.config
     → IsSound start.config (state_at start before)
     → May start before e → With start.config (step (state_at start before) e)
 sound-step laws start before (Opened conn listener) configured sound may =
     sound-arrived start.config (state_at start before) conn listener sound may.0
 sound-step laws start before (Called conn call verdict bytes) configured sound may =
-    let here : IsRight (state_at start before).config =
-    subst (λ (c : Config). IsRight c) (sym sound.connected.configuration) configured in
+    let here : IsRightConfig (state_at start before).config =
+    subst (λ (c : Config). IsRightConfig c) (sym sound.connected.configuration) configured in
     sound-called laws start.config (state_at start before) conn call verdict here sound may.0 may.1.1
 sound-step laws start before (Gone conn) configured sound may =
     sound-gone start.config (state_at start before) conn sound
 sound-step laws start before (Hooked number) configured sound may =
     sound-hooked laws.taken start.config (state_at start before) number sound may
 
-sound-after : Promised → KeepsConnected → (start : Start) (before es : List Entry) → IsRight start.config
+sound-after : Promised → KeepsConnected → (start : Start) (before es : List Entry) → IsRightConfig start.config
     → Legal start before
     → LegalAfter start before es → (s : State) → state_at start before ≡ s → IsSound start.config s
     → IsSound start.config (state_after s es)

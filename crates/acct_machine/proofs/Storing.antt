@@ -4,7 +4,7 @@ use Rattle.std.proofs.Common.{refl, sym, ◌∙◌, ap, subst, arith}
 use Rattle.std.specs.List.{All}
 use Rattle.std.proofs.lemmas.List.Elements.{All-nil, All-cons}
 use Rattle.acct_calls.specs.declared.calls.Call.{Call}
-use Rattle.acct_keeper.specs.Counts.{one_more}
+use Rattle.acct_keeper.specs.Faults.{one_more}
 use Rattle.acct_keeper.specs.declared.pairs.Pair.{Pair}
 use Rattle.acct_rows.specs.Rows.{Lists}
 use Rattle.acct_machine.specs.declared.entry.Verdict.{Verdict}
@@ -13,8 +13,7 @@ use Rattle.acct_machine.specs.declared.entry.Entry.{Entry}
 use Rattle.acct_machine.specs.declared.entry.Entry.TheVariants.{Opened, Called, Gone, Hooked}
 use Rattle.acct_machine.specs.State.{Start}
 use Rattle.acct_machine.specs.Legal.{faults_of, counts_of, Rises}
-use Rattle.acct_machine.specs.Outbox.{has_hook}
-use Rattle.acct_machine.specs.Storing.{HoldsRows, Counts, risen, CountsTo, AreCounted, IsStored}
+use Rattle.acct_machine.specs.Outbox.{has_hook, HoldsRows, Counts, risen, CountsTo, AreCounted, IsStored}
 
 -- ---- counts
 

@@ -8,14 +8,14 @@ use Rattle.acct_codes.specs.Statuses.{status_insufficient_resources}
 use Rattle.acct_config.specs.declared.config.Config.{Config}
 use Rattle.acct_rows.specs.Rows.{Lists, account_at, TakeNumbers}
 use Rattle.acct_rows.specs.declared.plan.Plan.{Plan}
-use Rattle.acct_rows.specs.declared.row.AccountRow.{AccountRow}
-use Rattle.acct_rows.specs.declared.row.OutRow.{OutRow}
-use Rattle.acct_rows.specs.declared.row.Row.{Row}
-use Rattle.acct_rows.specs.declared.row.Row.TheVariants as rows
-use Rattle.acct_rows.specs.declared.row.RowKey.{RowKey}
+use Rattle.acct_tables.specs.declared.row.AccountRow.{AccountRow}
+use Rattle.acct_tables.specs.declared.row.OutRow.{OutRow}
+use Rattle.acct_tables.specs.declared.row.Row.{Row}
+use Rattle.acct_tables.specs.declared.row.Row.TheVariants as rows
+use Rattle.acct_tables.specs.declared.row.RowKey.{RowKey}
 use Rattle.acct_rules.specs.Planned.{Condition, Ruled, when, none_fails, refusal, decided, decision, has_change}
-use Rattle.acct_rules.specs.Touched.{put_account, removed_account, is_out_row, is_out_key, is_modest}
-use Rattle.acct_rules.specs.Touched.{accounts_touched, touches_outbox}
+use Rattle.acct_rules.specs.Planned.{put_account, removed_account}
+use Rattle.acct_rules.specs.Touched.{is_out_row, is_out_key, is_modest, accounts_touched, touches_outbox}
 use Rattle.acct_rules.specs.declared.planned.Planned.{Planned}
 use Rattle.acct_machine.specs.Outbox.{has_hook, out_row, told_of_put, told_of_removed, told_by, same_account}
 use Rattle.acct_machine.specs.Outbox.{account_change, is_full, with_out, told, needs_out, outboxed, told_planned}

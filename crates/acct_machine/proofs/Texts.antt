@@ -1,7 +1,7 @@
 -- The text of a name, a code point at a time.
 use Rattle.std.proofs.Common.{◌≡◌, ℕ, List, [], ◌∷◌, ◌++◌, encode_utf8, ap}
 use Rattle.std.specs.List.{flat_map}
-use Rattle.acct_calls.specs.CodePoints.{code_points}
+use Rattle.acct_calls.specs.Names.{code_points}
 use Rattle.acct_machine.specs.Jobs.{shown_point, utf8_of}
 
 pub utf8_of-nil : (units : List ℕ) → units ≡ [] → utf8_of units ≡ []

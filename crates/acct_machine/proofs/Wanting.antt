@@ -4,16 +4,16 @@ use Rattle.std.proofs.Common.{subst}
 use Rattle.std.specs.Prelude.{◌&&◌, ⊤}
 use Rattle.acct_calls.specs.declared.calls.Call.{Call}
 use Rattle.acct_codes.specs.Statuses.{status_access_denied}
-use Rattle.acct_rows.specs.declared.object.Object.{Object}
+use Rattle.acct_tables.specs.declared.object.Object.{Object}
 use Rattle.acct_rows.specs.Rows.{after}
+use Rattle.acct_tables.specs.declared.row.OutRow.{OutRow}
 use Rattle.acct_rules.specs.declared.planned.Effect.{Effect}
 use Rattle.acct_rules.specs.declared.planned.Effect.TheVariants as effects
 use Rattle.acct_rules.specs.declared.planned.Planned.{Planned}
 use Rattle.acct_rules.specs.declared.profile.Memory.{Memory}
 use Rattle.acct_rules.specs.declared.profile.Memory.TheVariants as memory
-use Rattle.acct_rules.specs.Profiles.{is_anywhere, is_never}
-use Rattle.acct_rules.specs.Planned.{Ruled, opening_of, takes_room}
-use Rattle.acct_rules.specs.Operations.{Operation}
+use Rattle.acct_rules.specs.Profiles.{is_never, Operation}
+use Rattle.acct_rules.specs.Planned.{Ruled, none_fails, opening_of, takes_room}
 use Rattle.acct_operations.specs.declared.table.Work.{Work}
 use Rattle.acct_operations.specs.Frugal.{taken_by, is_no_more}
 use Rattle.acct_operations.specs.Laws.{AreFrugal}
@@ -21,12 +21,14 @@ use Rattle.acct_operations.specs.Table.{operation, work_of}
 use Rattle.acct_machine.specs.declared.entry.Verdict.{Verdict}
 use Rattle.acct_machine.specs.declared.entry.Verdict.TheVariants.{Ran, StoreFault, NoMemory}
 use Rattle.acct_machine.specs.State.{State}
-use Rattle.acct_machine.specs.Opening.{grant_of, is_opening_refused}
-use Rattle.acct_machine.specs.Outcome.{refused, done, opened_to, by_grant, by_effect, ruled_of, planned_of}
+use Rattle.acct_machine.specs.Access.{grant_of, is_opening_refused}
+use Rattle.acct_machine.specs.Outbox.{needs_out, told}
+use Rattle.acct_machine.specs.Step.{refused, done, opened_to, by_grant, by_effect, decided_of, ruled_of, planned_of}
 use Rattle.acct_machine.specs.Legal.{NoneFails, HasCommit, HasPassed, MayWant, MayHave}
 use Rattle.acct_machine.specs.Wants.{WantsRoom, IsFrugal}
 use Rattle.acct_machine.proofs.Deciding.{Decision, decides}
-use Rattle.acct_machine.proofs.Ruling.{ruled-never}
+use Rattle.acct_machine.proofs.Ruling.{asked_of, ruled-never}
+use Rattle.acct_machine.proofs.Telling.{told-passes}
 
 -- what a verdict says of a call of an operation whose handle passed, and that takes memory so
 abbrev pub Wants : Memory → Operation → State → ℕ → Call → Verdict → Type 0
@@ -34,11 +36,24 @@ Wants m o s conn call Ran = ⊤
 Wants m o s conn call (StoreFault n) = HasCommit o s conn call
 Wants m o s conn call NoMemory = MayWant m o s conn call
 
+-- none of the operation's own conditions fails, where none does with that of the outbox
+own-pass : (out : Option OutRow) (ruled : Ruled) → none_fails (told out ruled).conditions ≡ true
+    → none_fails ruled.conditions ≡ true
+own-pass None ruled none = none
+own-pass (Some out) ruled none = (told-passes out ruled none).0
+
+own-none : (o : Operation) (s : State) (conn : ℕ) (call : Call) → NoneFails o s conn call
+    → none_fails (decided_of o s (asked_of s conn call) call).conditions ≡ true
+own-none o s conn call none =
+    let ruled : Ruled = decided_of o s (asked_of s conn call) call in
+    own-pass (needs_out s.config s.rows ruled.planned.plan) ruled none.conditions
+
 may-want : (m : Memory) (o : Operation) (s : State) (conn : ℕ) (call : Call) (room : Bool)
     → (is_never m && room) ≡ false → room ≡ true
     → NoneFails o s conn call → MayWant m o s conn call
 may-want memory.Never o s conn call room frugal takes none = let e : true ≡ false = sym takes ∙ frugal in cc
 may-want memory.AfterConditions o s conn call room frugal takes none = none
+may-want memory.BeforeOpening o s conn call room frugal takes none = own-none o s conn call none
 may-want memory.Anywhere o s conn call room frugal takes none = tt
 
 wants-by : (m : Memory) (o : Operation) (s : State) (conn : ℕ) (call : Call)
@@ -116,12 +131,6 @@ pub wants-room : AreFrugal → (work : Work) (s : State) (conn : ℕ) (call : Ca
 wants-room are work s conn call verdict wants =
     wants-with (taken_by work) (operation work) s conn call (ruled-never are work s conn call) verdict wants
 
-pub wants-anywhere : (m : Memory) (o : Operation) (s : State) (conn : ℕ) (call : Call) → is_anywhere m ≡ true
-    → MayWant m o s conn call
-wants-anywhere memory.Never o s conn call is = cc
-wants-anywhere memory.AfterConditions o s conn call is = cc
-wants-anywhere memory.Anywhere o s conn call is = tt
-
 -- ---- what a legal history allows
 
 allows : (less more : Memory) (o : Operation) (s : State) (conn : ℕ) (call : Call) → is_no_more less more ≡ true
@@ -129,9 +138,15 @@ allows : (less more : Memory) (o : Operation) (s : State) (conn : ℕ) (call : C
 allows memory.Never more o s conn call within wants = absurd wants
 allows memory.AfterConditions memory.Never o s conn call within wants = cc
 allows memory.AfterConditions memory.AfterConditions o s conn call within wants = wants
+allows memory.AfterConditions memory.BeforeOpening o s conn call within wants = own-none o s conn call wants
 allows memory.AfterConditions memory.Anywhere o s conn call within wants = tt
+allows memory.BeforeOpening memory.Never o s conn call within wants = cc
+allows memory.BeforeOpening memory.AfterConditions o s conn call within wants = cc
+allows memory.BeforeOpening memory.BeforeOpening o s conn call within wants = wants
+allows memory.BeforeOpening memory.Anywhere o s conn call within wants = tt
 allows memory.Anywhere memory.Never o s conn call within wants = cc
 allows memory.Anywhere memory.AfterConditions o s conn call within wants = cc
+allows memory.Anywhere memory.BeforeOpening o s conn call within wants = cc
 allows memory.Anywhere memory.Anywhere o s conn call within wants = tt
 
 pub may-have : AreFrugal → (work : Work) (s : State) (conn : ℕ) (call : Call) (verdict : Verdict)

@@ -1,10 +1,10 @@
 -- How handles come: one at a time, each with the next serial of its connection, by a call that ran and opened it.
 use Rattle.std.specs.Prelude.{◌≡◌, ◌≢◌, ℕ, ◌≤◌, List, length, Option, Some, None, ◌⊎◌}
-use Rattle.acct_config.specs.Right.{IsRight}
+use Rattle.acct_config.specs.Spelled.{IsRightConfig}
 use Rattle.acct_calls.specs.declared.calls.Call.{Call}
 use Rattle.acct_rows.specs.Sound.{IsSoundRows}
 use Rattle.acct_rules.specs.declared.planned.Opening.{Opening}
-use Rattle.acct_rules.specs.Operations.{Operation}
+use Rattle.acct_rules.specs.Profiles.{Operation}
 use Rattle.acct_machine.specs.declared.entry.Verdict.TheVariants.{Ran}
 use Rattle.acct_machine.specs.declared.entry.Entry.{Entry}
 use Rattle.acct_machine.specs.declared.entry.Entry.TheVariants.{Called}
@@ -43,7 +43,7 @@ pub record GivesOne (s : State) (e : Entry) (new : State) (conn : ℕ) : Type 0 
 -- so it is with each event that may come after a legal history, of each connection
 abbrev pub HandlesComeInOrder : Type 0
 HandlesComeInOrder =
-    (start : Start) (before : List Entry) (e : Entry) (conn : ℕ) → IsRight start.config → IsSoundRows start.rows
+    (start : Start) (before : List Entry) (e : Entry) (conn : ℕ) → IsRightConfig start.config → IsSoundRows start.rows
     → Legal start before → May start before e
     → GivesNone (state_at start before) (step (state_at start before) e) conn
     ⊎ GivesOne (state_at start before) e (step (state_at start before) e) conn

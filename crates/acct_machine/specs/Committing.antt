@@ -1,13 +1,13 @@
 -- A plan whose change may be committed, and what its commit does to a keeper.
 use Rattle.std.specs.Prelude.{◌≡◌, ◌≢◌, ℕ, ◌≤◌, List, Option, Result, OnOk, OnErr, IfErr}
-use Rattle.acct_keeper.specs.Counts.{after_call}
+use Rattle.acct_keeper.specs.Faults.{after_call}
 use Rattle.acct_keeper.specs.declared.keeper.KeepError.{KeepError}
 use Rattle.acct_keeper.specs.declared.keeper.KeepError.TheVariants.{Failed}
 use Rattle.acct_keeper.specs.declared.pairs.Pair.{Pair}
 use Rattle.acct_rows.specs.Rows.{Lists, after, TakeNumbers}
 use Rattle.acct_rows.specs.Sound.{IsSoundRows}
 use Rattle.acct_rows.specs.declared.plan.Plan.{Plan}
-use Rattle.acct_machine.specs.Storing.{HoldsRows}
+use Rattle.acct_machine.specs.Outbox.{HoldsRows}
 
 -- The rows are sound before the plan and after it, and the out rows that it puts take the next numbers.
 pub record MayCommit (plan : Plan) (rows : Lists) : Type 0 where

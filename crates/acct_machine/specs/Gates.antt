@@ -1,11 +1,10 @@
 -- The machine as a gate of its outbox: what it shows, and what taking a change out tells of the jobs.
 use Rattle.std.specs.Prelude.{◌≡◌, ℕ, ◌-◌, ◌^◌, ◌<◌, ◌≤◌, true, List, ◌++◌, length, map}
-use Rattle.account_hooks.specs.Runs.{Job}
-use Rattle.account_hooks.specs.Gates.{Begins, IsNext, LeavesBy, IfPast, left, numbers}
+use Rattle.account_hooks.specs.Drains.{Job, Begins, IsNext, LeavesBy, IfPast, left, numbers}
 use Rattle.account_hooks.specs.declared.gate.HookedEnd.{HookedEnd}
 use Rattle.account_hooks.specs.declared.gate.HookedEnd.TheVariants as ends
-use Rattle.acct_config.specs.Right.{IsRight}
-use Rattle.acct_keeper.specs.Causes.{Rose}
+use Rattle.acct_config.specs.Spelled.{IsRightConfig}
+use Rattle.acct_keeper.specs.Faults.{Rose}
 use Rattle.acct_rows.specs.Sound.{IsSoundRows}
 use Rattle.acct_machine.specs.declared.entry.Entry.{Entry}
 use Rattle.acct_machine.specs.declared.entry.Entry.TheVariants.{Hooked}
@@ -19,7 +18,7 @@ use Rattle.acct_machine.specs.Shown.{Past, Shown}
 
 -- A history that began rightly and is legal.
 pub record IsGood (m : Past) : Type 0 where
-  pub right : IsRight m.start.config
+  pub right : IsRightConfig m.start.config
   pub sound : IsSoundRows m.start.rows
   pub legal : Legal m.start m.history
 

@@ -2,19 +2,17 @@
 use Rattle.std.specs.Prelude.{ℕ, Bool, true, false, ◌&&◌, Option, Some, None, option_map, if◌then◌else◌}
 use Rattle.acct_calls.specs.declared.calls.Args.{Args}
 use Rattle.acct_calls.specs.declared.calls.Call.{Call}
-use Rattle.acct_rows.specs.declared.object.Object.{Object}
+use Rattle.acct_tables.specs.declared.object.Object.{Object}
 use Rattle.acct_rows.specs.Rows.{Lists}
 use Rattle.acct_rules.specs.declared.profile.Brings.{Brings}
 use Rattle.acct_rules.specs.declared.profile.Brings.TheVariants as brings
 use Rattle.acct_rules.specs.declared.profile.Profile.{Profile}
-use Rattle.acct_rules.specs.Profiles.{needed}
-use Rattle.acct_rules.specs.Operations.{Operation}
+use Rattle.acct_rules.specs.Profiles.{needed_bits, Operation}
 use Rattle.acct_machine.specs.declared.checks.Access.{Access}
 use Rattle.acct_machine.specs.declared.checks.Access.TheVariants.{Passed, Unknown, WrongKind, Denied}
 use Rattle.acct_machine.specs.declared.state.Held.{Held}
 use Rattle.acct_machine.specs.State.{State, find_handle}
-use Rattle.acct_machine.specs.Calls.{operation_of}
-use Rattle.acct_machine.specs.Access.{held_by, access}
+use Rattle.acct_machine.specs.Access.{operation_of, held_by, access}
 
 -- a handle's object, and the access that its opening granted
 abbrev pub given_by : Held → Object × ℕ
@@ -31,7 +29,7 @@ is_brought (brings.Handle kinds) = true
 
 -- the bits that the grant of the handle must have; none where no handle is brought
 abbrev pub needed_by : Profile → Lists → Args → ℕ
-needed_by profile r asked = if is_brought profile.brings then needed profile.needs r asked else 0
+needed_by profile r asked = if is_brought profile.brings then needed_bits profile.needs r asked else 0
 
 abbrev pub needed_in : Option Operation → Lists → Args → ℕ
 needed_in None r asked = 0

@@ -3,15 +3,14 @@ use Rattle.std.specs.Prelude.{◌≡◌, ℕ, ◌+◌, List, ◌∷◌, ◌++◌
 use Rattle.acct_calls.specs.declared.calls.Call.{Call}
 use Rattle.acct_rules.specs.declared.planned.Opening.{Opening}
 use Rattle.acct_rules.specs.declared.planned.Effect.TheVariants as effects
-use Rattle.acct_rules.specs.Operations.{Operation}
+use Rattle.acct_rules.specs.Profiles.{Operation}
 use Rattle.acct_machine.specs.declared.entry.Verdict.TheVariants.{Ran}
 use Rattle.acct_machine.specs.declared.entry.Entry.{Entry}
 use Rattle.acct_machine.specs.declared.entry.Entry.TheVariants.{Called}
 use Rattle.acct_machine.specs.declared.state.Held.{Held}
 use Rattle.acct_machine.specs.State.{State, Start, last_serial}
-use Rattle.acct_machine.specs.Opening.{grant_of}
-use Rattle.acct_machine.specs.Outcome.{planned_of}
-use Rattle.acct_machine.specs.Step.{state_at}
+use Rattle.acct_machine.specs.Access.{grant_of}
+use Rattle.acct_machine.specs.Step.{planned_of, state_at}
 use Rattle.acct_machine.specs.Legal.{HasPassed}
 
 -- At the state before it the call's handle passed, and what its operation plans is an opening of the handle's object.

@@ -2,7 +2,7 @@
 use Rattle.std.specs.Prelude.{◌≡◌, ℕ, ◌^◌, ◌<◌, ◌≤◌, Option, Some, None}
 use Rattle.account_hooks.specs.declared.gate.HookedEnd.{HookedEnd}
 use Rattle.account_hooks.specs.declared.gate.HookedEnd.TheVariants as ends
-use Rattle.acct_keeper.specs.Counts.{one_more}
+use Rattle.acct_keeper.specs.Faults.{one_more}
 use Rattle.acct_machine.specs.declared.entry.Entry.TheVariants.{Hooked}
 use Rattle.acct_machine.specs.Machine.{with_entry, state_of}
 use Rattle.acct_machine.specs.Outbox.{least_out}

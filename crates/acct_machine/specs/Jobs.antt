@@ -2,13 +2,13 @@
 use Rattle.std.specs.Prelude.{ℕ, ◌==◌, List, [], ◌∷◌, map, codes, encode_utf8, Option, Some, None, if◌then◌else◌}
 use Rattle.std.specs.Fmt.{decimal}
 use Rattle.std.specs.List.{flat_map}
-use Rattle.account_hooks.specs.Runs.{Job}
-use Rattle.acct_calls.specs.CodePoints.{code_points, is_surrogate}
+use Rattle.account_hooks.specs.Drains.{Job}
+use Rattle.acct_calls.specs.Names.{code_points, is_surrogate}
 use Rattle.acct_codes.specs.declared.kind.Kind.{Kind}
 use Rattle.acct_codes.specs.declared.kind.Kind.TheVariants.{User, Group}
 use Rattle.acct_rows.specs.Rows.{Lists, domain_at}
-use Rattle.acct_rows.specs.declared.row.DomainRow.{DomainRow}
-use Rattle.acct_rows.specs.declared.row.OutRow.{OutRow}
+use Rattle.acct_tables.specs.declared.row.DomainRow.{DomainRow}
+use Rattle.acct_tables.specs.declared.row.OutRow.{OutRow}
 use Rattle.acct_machine.specs.declared.entry.Entry.{Entry}
 use Rattle.acct_machine.specs.Outbox.{out_made, out_changed}
 use Rattle.acct_machine.specs.Outs.{outs_of}

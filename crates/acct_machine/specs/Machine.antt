@@ -13,12 +13,11 @@ use Rattle.acct_machine.specs.declared.machine.Opened as answer
 use Rattle.acct_machine.specs.declared.machine.Opened.TheVariants as opens
 use Rattle.acct_machine.specs.State.{State, is_live}
 use Rattle.acct_machine.specs.Step.{state_at, acted}
-use Rattle.acct_machine.specs.Room.{conns_full, calls_full, bytes_full, TakesCall}
-use Rattle.acct_machine.specs.Legal.{replies, calls_of}
+use Rattle.acct_machine.specs.Legal.{conns_full, calls_full, bytes_full, TakesCall, replies, calls_of}
 use Rattle.acct_machine.specs.Shapes.{IsAnswer}
 use Rattle.acct_machine.specs.Wants.{IsFrugal}
 use Rattle.acct_machine.specs.Passing.{AreOfOthers}
-use Rattle.acct_machine.specs.Storing.{HoldsRows, Counts}
+use Rattle.acct_machine.specs.Outbox.{HoldsRows, Counts}
 use Rattle.acct_machine.specs.Shown.{Past, Shown}
 
 -- one more event, and nothing else

@@ -9,8 +9,7 @@ use Rattle.acct_rows.specs.declared.pairs.loading.PairsError.{PairsError}
 use Rattle.acct_rows.specs.declared.pairs.loading.PairsError.TheVariants as no_rows
 use Rattle.acct_rows.specs.Rows.{Lists}
 use Rattle.acct_rows.specs.Seed.{seed_lists}
-use Rattle.acct_keeper.specs.Causes.{Rose}
-use Rattle.acct_keeper.specs.Counts.{one_more}
+use Rattle.acct_keeper.specs.Faults.{Rose, one_more}
 use Rattle.acct_machine.specs.declared.opened.OpenError.{OpenError}
 use Rattle.acct_machine.specs.declared.opened.OpenError.TheVariants.{StoreFault, StoredPair, Memory}
 use Rattle.acct_rows.specs.PairsOf.{ArePairsOf, migrated}
@@ -22,8 +21,8 @@ abbrev pub OpensRows : Config → List Pair → Lists → Type 0
 OpensRows config [] rows = rows ≡ seed_lists config.name config.sid
 OpensRows config (pair ∷ pairs) rows = AreUnbroken (pair ∷ pairs) × ArePairsOf rows (migrated (pair ∷ pairs))
 
--- What a store that had pairs has once it is opened: these pairs, in format 2. Where they were of that format nothing
--- was committed, and else the one pair that tells the format.
+-- What a store that had pairs has once it is opened: these pairs, in format 2. So pairs of that format are as they
+-- were, and of format 1 only the pair that tells the format is another.
 abbrev pub IsMigrated : List Pair → Option (List Pair) → Type 0
 IsMigrated [] held = ⊤
 IsMigrated (pair ∷ pairs) held = held ≡ Some (migrated (pair ∷ pairs))

@@ -1,20 +1,31 @@
--- The outbox of account changes. Where the configuration has a program that is told of them, a call that makes, changes
--- or removes an account row puts an out row besides, with the next out number, and is refused where there is none.
-use Rattle.std.specs.Prelude.{◌≡◌, ℕ, ◌^◌, ◌==◌, nat_le, Bool, true, false, ◌&&◌, List, [], ◌∷◌, ◌++◌}
-use Rattle.std.specs.Prelude.{Option, Some, None, is_some, if◌then◌else◌}
+-- The outbox of account changes, and what the keeper of a machine has to do with its history.
+use Rattle.std.specs.Prelude.{◌≡◌, ℕ, ◌^◌, ◌==◌, nat_le, Bool, true, false, ◌&&◌, List, [], ◌∷◌, ◌++◌, Option, Some}
+use Rattle.std.specs.Prelude.{None, is_some, if◌then◌else◌, zero, suc, ◌+◌, ◌≤◌, ◌<◌, IfSome}
 use Rattle.std.specs.Str.{bytes_eq}
 use Rattle.acct_codes.specs.Statuses.{status_insufficient_resources}
 use Rattle.acct_config.specs.declared.config.Config.{Config}
-use Rattle.acct_rows.specs.Rows.{Lists, account_at, same_kind}
+use Rattle.acct_keeper.specs.Faults.{one_more}
+use Rattle.acct_keeper.specs.declared.pairs.Pair.{Pair}
+use Rattle.acct_rows.specs.PairsOf.{ArePairsOf}
+use Rattle.acct_rows.specs.Rows.{Lists, account_at}
+use Rattle.acct_tables.specs.Selected.{same_kind}
 use Rattle.acct_rows.specs.declared.plan.Plan.{Plan}
-use Rattle.acct_rows.specs.declared.row.AccountRow.{AccountRow}
-use Rattle.acct_rows.specs.declared.row.OutRow.{OutRow}
-use Rattle.acct_rows.specs.declared.row.Row.TheVariants as rows
-use Rattle.acct_rules.specs.Planned.{Ruled, when, refusal}
-use Rattle.acct_rules.specs.Touched.{put_account, removed_account}
+use Rattle.acct_tables.specs.declared.row.AccountRow.{AccountRow}
+use Rattle.acct_tables.specs.declared.row.OutRow.{OutRow}
+use Rattle.acct_tables.specs.declared.row.Row.TheVariants as rows
+use Rattle.acct_rules.specs.Planned.{Ruled, when, refusal, put_account, removed_account}
 use Rattle.acct_rules.specs.declared.planned.Planned.{Planned}
+use Rattle.acct_machine.specs.State.{Start}
+use Rattle.acct_machine.specs.declared.entry.Entry.{Entry}
+use Rattle.acct_machine.specs.declared.entry.Entry.TheVariants.{Opened, Called, Gone, Hooked}
+use Rattle.acct_machine.specs.declared.entry.Verdict.{Verdict}
+use Rattle.acct_machine.specs.declared.entry.Verdict.TheVariants.{Ran, StoreFault, NoMemory}
 use Rattle.acct_machine.specs.declared.outbox.Need.{Need}
 use Rattle.acct_machine.specs.declared.outbox.Need.TheVariants as needs
+
+-- ======== the outbox of account changes
+-- Where the configuration has a program that is told of them, a call that makes, changes or removes an account row puts
+-- an out row besides, with the next out number, and is refused where there is none.
 
 -- a program is told of changes
 abbrev pub has_hook : Config → Bool
@@ -115,3 +126,47 @@ least_in (o ∷ others) = Some o.number
 
 abbrev pub least_out : Lists → Option ℕ
 least_out r = least_in r.outs
+
+-- ======== what the keeper of a machine has to do with its history
+
+-- what a keeper holds, where it tells, are the pairs of the rows
+abbrev pub HoldsRows : Option (List Pair) → Lists → Type 0
+HoldsRows held rows = IfSome held (λ told. ArePairsOf rows told)
+
+-- the keeper's count stays, but is one more where a commit failed, and then the verdict has it
+abbrev pub Counts : ℕ → ℕ → Verdict → Type 0
+Counts before now Ran = now ≡ before
+Counts before now (StoreFault n) = (n ≡ now) × (n < 2 ^ 64) × (now ≡ one_more before)
+Counts before now NoMemory = now ≡ before
+
+-- a count once it rose so many times more
+abbrev pub risen : ℕ → ℕ → ℕ
+risen zero count = count
+risen (suc times) count = one_more (risen times count)
+
+-- From a count on, each call whose commit failed counts one more, and so does each out row that couldn't be taken out,
+-- of which a history has no entry and there were so many; and nothing else does. Then the count is this one.
+abbrev pub CountsTo : ℕ → ℕ → ℕ → List Entry → Type 0
+CountsTo now missed count [] = now ≡ risen missed count
+CountsTo now missed count (Opened conn listener ∷ es) = CountsTo now missed count es
+CountsTo now missed count (Called conn call Ran bytes ∷ es) = CountsTo now missed count es
+CountsTo now missed count (Called conn call (StoreFault n) bytes ∷ es) =
+    (earlier : ℕ) × (later : ℕ) × (earlier + later ≡ missed) × (n ≡ one_more (risen earlier count))
+    × CountsTo now later n es
+CountsTo now missed count (Called conn call NoMemory bytes ∷ es) = CountsTo now missed count es
+CountsTo now missed count (Gone conn ∷ es) = CountsTo now missed count es
+CountsTo now missed count (Hooked number ∷ es) = CountsTo now missed count es
+
+-- The keeper's count now is that where the history began, with one more for each commit that failed since: those of its
+-- calls, and those of out rows that couldn't be taken out, which there are only where a program is told of changes.
+pub record AreCounted (now : ℕ) (start : Start) (history : List Entry) : Type 0 where
+  pub missed : ℕ
+  pub told : has_hook start.config ≡ false → missed ≡ 0
+  pub each : CountsTo now missed start.faults history
+  pub later : start.faults ≤ now
+
+-- What the keeper holds are the pairs of the rows, and its count is that of the commits that failed.
+pub record IsStored (held : Option (List Pair)) (rows : Lists) (now : ℕ) (start : Start) (history : List Entry)
+    : Type 0 where
+  pub pairs : HoldsRows held rows
+  pub counts : AreCounted now start history

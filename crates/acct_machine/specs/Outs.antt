@@ -2,11 +2,11 @@
 use Rattle.std.specs.Prelude.{◌≡◌, ℕ, List, [], ◌∷◌, ◌++◌, length, map, take, drop, Option, Some, None, is_some}
 use Rattle.std.specs.Prelude.{if◌then◌else◌}
 use Rattle.std.specs.List.{flat_map}
-use Rattle.acct_config.specs.Right.{IsRight}
+use Rattle.acct_config.specs.Spelled.{IsRightConfig}
 use Rattle.acct_rows.specs.Rows.{Lists, account_at}
 use Rattle.acct_rows.specs.Sound.{IsSoundRows}
-use Rattle.acct_rows.specs.declared.row.AccountRow.{AccountRow}
-use Rattle.acct_rows.specs.declared.row.OutRow.{OutRow}
+use Rattle.acct_tables.specs.declared.row.AccountRow.{AccountRow}
+use Rattle.acct_tables.specs.declared.row.OutRow.{OutRow}
 use Rattle.acct_machine.specs.declared.entry.Entry.{Entry}
 use Rattle.acct_machine.specs.declared.entry.Entry.TheVariants.{Opened, Called, Gone, Hooked}
 use Rattle.acct_machine.specs.Legal.{Legal}
@@ -70,7 +70,7 @@ left_by (Hooked number) outs = drop 1 outs
 -- After each entry that may come the outbox has the rows that it had, less the one that the entry takes out, and those
 -- that it adds.
 abbrev pub OutsAreAdded : Type 0
-OutsAreAdded = (start : Start) (before : List Entry) (e : Entry) → IsRight start.config → IsSoundRows start.rows
+OutsAreAdded = (start : Start) (before : List Entry) (e : Entry) → IsRightConfig start.config → IsSoundRows start.rows
     → Legal start (before ++ e ∷ [])
     → (step (state_at start before) e).rows.outs
     ≡ left_by e (state_at start before).rows.outs ++ adds (state_at start before) e
@@ -81,7 +81,7 @@ pub record OutsLeft (start : Start) (history : List Entry) : Type 0 where
   pub gone : hooks_of history ≡ map (λ o. o.number) (take (length (hooks_of history)) (outs_of start history))
 
 abbrev pub OutsAreLeft : Type 0
-OutsAreLeft = (start : Start) (history : List Entry) → IsRight start.config → IsSoundRows start.rows
+OutsAreLeft = (start : Start) (history : List Entry) → IsRightConfig start.config → IsSoundRows start.rows
     → Legal start history → OutsLeft start history
 
 -- where a history goes on, out rows are added after those of before, and numbers taken out after those of before

@@ -3,7 +3,7 @@ use Rattle.std.specs.Prelude.{ℕ, ◌^◌, ◌<◌, List, length, ⊤}
 use Rattle.acct_calls.specs.declared.calls.Call.{Call}
 use Rattle.acct_calls.specs.declared.replies.Reply.{Reply}
 use Rattle.acct_calls.specs.declared.replies.Reply.TheVariants.{Fault, Done}
-use Rattle.acct_config.specs.Right.{IsRight}
+use Rattle.acct_config.specs.Spelled.{IsRightConfig}
 use Rattle.acct_layouts.specs.ReplyShapes.{HasShape}
 use Rattle.acct_rows.specs.Rows.{HasRoom}
 use Rattle.acct_rows.specs.Sound.{IsSoundRows}
@@ -24,7 +24,7 @@ IsAnswer call (Done status outs) = HasShape call.face call.opnum (Done status ou
 abbrev pub RepliesAreShaped : Type 0
 RepliesAreShaped =
     (start : Start) (before : List Entry) (conn : ℕ) (call : Call) (verdict : Verdict) (bytes : ℕ)
-    → IsRight start.config → IsSoundRows start.rows → Legal start before
+    → IsRightConfig start.config → IsSoundRows start.rows → Legal start before
     → May start before (Called conn call verdict bytes) → length before < 2 ^ 64
     → HasRoom (state_at start before).rows 0
     → IsAnswer call (acted (state_at start before) conn call verdict).1

@@ -1,7 +1,7 @@
 -- What a machine shows, and what its parts must keep.
 use Rattle.std.specs.Prelude.{◌≡◌, ℕ, ◌+◌, ◌≤◌, List, [], ◌∷◌, Option, if◌then◌else◌}
 use Rattle.acct_config.specs.declared.config.Config.{Config}
-use Rattle.acct_config.specs.Right.{IsRight}
+use Rattle.acct_config.specs.Spelled.{IsRightConfig}
 use Rattle.acct_keeper.specs.declared.pairs.Pair.{Pair}
 use Rattle.acct_rows.specs.Rows.{Lists}
 use Rattle.acct_rows.specs.Sound.{IsSoundRows}
@@ -9,8 +9,7 @@ use Rattle.acct_machine.specs.declared.entry.Entry.{Entry}
 use Rattle.acct_machine.specs.declared.state.Conn.{Conn}
 use Rattle.acct_machine.specs.State.{State, Start}
 use Rattle.acct_machine.specs.Step.{state_at}
-use Rattle.acct_machine.specs.Room.{call_count, stub_bytes, hooked_count, most_entries}
-use Rattle.acct_machine.specs.Legal.{Legal}
+use Rattle.acct_machine.specs.Legal.{call_count, stub_bytes, hooked_count, most_entries, Legal}
 use Rattle.acct_machine.specs.Sound.{IsNumberedFrom}
 
 -- where a history began, and the history
@@ -40,7 +39,7 @@ live_count (c ∷ cs) = (if c.live then 1 else 0) + live_count cs
 -- The history began rightly and is legal, and the store is the state after it. Its calls and the bytes of their stubs
 -- are counted, and there is room for all that it may come to have.
 pub record IsKept (start : Start) (history : List Entry) (s : State) (calls bytes capacity : ℕ) : Type 0 where
-  pub right : IsRight start.config
+  pub right : IsRightConfig start.config
   pub rows : IsSoundRows start.rows
   pub legal : Legal start history
   pub state : state_at start history ≡ s
@@ -50,6 +49,6 @@ pub record IsKept (start : Start) (history : List Entry) (s : State) (calls byte
 
 -- The configuration is right, the connections are numbered in order, and there is room for as many as it says.
 pub record HasRoom (config : Config) (conns : List Conn) (capacity : ℕ) : Type 0 where
-  pub right : IsRight config
+  pub right : IsRightConfig config
   pub numbered : IsNumberedFrom 1 conns
   pub room : config.limits.max_conns ≤ capacity

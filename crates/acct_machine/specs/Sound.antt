@@ -1,10 +1,11 @@
 -- Which states are sound: their rows are, their connections are numbered, and each handle stands for an object that is
 -- there and has what its connection was given.
 use Rattle.std.specs.Prelude.{◌≡◌, ◌≢◌, ℕ, ◌+◌, ◌^◌, ◌≤◌, ◌<◌, true, bit_and, List, [], ◌∷◌, length, ⊤, All, AllPairs}
-use Rattle.acct_codes.specs.Mappings.{valid_rights}
+use Rattle.acct_codes.specs.Rights.{valid_rights}
 use Rattle.acct_config.specs.declared.config.Config.{Config}
-use Rattle.acct_config.specs.Right.{IsRight}
-use Rattle.acct_rows.specs.Objects.{kind_of, exists}
+use Rattle.acct_config.specs.Spelled.{IsRightConfig}
+use Rattle.acct_rows.specs.Rows.{exists}
+use Rattle.acct_tables.specs.Keys.{kind_of}
 use Rattle.acct_rows.specs.Sound.{IsSoundRows}
 use Rattle.acct_machine.specs.declared.state.Conn.{Conn}
 use Rattle.acct_machine.specs.declared.state.Held.{Held}
@@ -53,5 +54,5 @@ KeepsConnected =
 -- under a right configuration every state of a legal history that begins with sound rows is sound
 abbrev pub KeepsSound : Type 0
 KeepsSound =
-    (start : Start) (history : List Entry) → IsRight start.config → IsSoundRows start.rows → Legal start history
+    (start : Start) (history : List Entry) → IsRightConfig start.config → IsSoundRows start.rows → Legal start history
     → IsSound start.config (state_at start history)

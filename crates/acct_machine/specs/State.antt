@@ -2,8 +2,8 @@
 use Rattle.std.specs.Prelude.{ℕ, ◌+◌, ◌*◌, ◌^◌, ◌==◌, Bool, false, ◌&&◌, not, List, [], Option, Some, None}
 use Rattle.std.specs.List.{filter, find}
 use Rattle.acct_config.specs.declared.config.Config.{Config}
-use Rattle.acct_rows.specs.declared.object.Object.{Object}
-use Rattle.acct_rows.specs.Objects.{same_object}
+use Rattle.acct_tables.specs.declared.object.Object.{Object}
+use Rattle.acct_tables.specs.Keys.{same_object}
 use Rattle.acct_rows.specs.Rows.{Lists}
 use Rattle.acct_machine.specs.declared.state.Conn.{Conn}
 use Rattle.acct_machine.specs.declared.state.Held.{Held}

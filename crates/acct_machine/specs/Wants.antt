@@ -10,7 +10,7 @@ use Rattle.acct_operations.specs.Frugal.{taken_by}
 use Rattle.acct_machine.specs.declared.entry.Verdict.{Verdict}
 use Rattle.acct_machine.specs.declared.entry.Verdict.TheVariants.{Ran, StoreFault, NoMemory}
 use Rattle.acct_machine.specs.State.{State}
-use Rattle.acct_machine.specs.Opening.{is_opening_refused}
+use Rattle.acct_machine.specs.Access.{is_opening_refused}
 use Rattle.acct_machine.specs.Legal.{MayWant, MayHave}
 
 -- Where the change of a plan may not be made: its commit fails only where the rows after it aren't those before, and

@@ -1,10 +1,10 @@
 // The handles as they came, and the orders by which they are found.
 ghost use Rattle.std.specs.Prelude.{◌≡◌, ◌==◌, not};
-ghost use Rattle.acct_rows.specs.Objects.{same_object};
+ghost use Rattle.acct_tables.specs.Keys.{same_object};
 ghost use Rattle.acct_tables.specs.Keyed.{compare};
 ghost use Rattle.acct_machine.specs.State.{number_of};
-ghost use Rattle.acct_machine.specs.Arrivals.{number_key, number_front, rank_of, sid_part, object_order, object_key};
-ghost use Rattle.acct_machine.specs.Arrivals.{object_front};
+ghost use Rattle.acct_machine.specs.steps.Arrivals.{number_key, number_front, rank_of, sid_part, object_order};
+ghost use Rattle.acct_machine.specs.steps.Arrivals.{object_key, object_front};
 
 use crate::lists::number_of;
 use crate::{Held, Object};

@@ -1,8 +1,8 @@
 // What leaves the outbox: its first row, and the room that its entry takes.
 ghost use Rattle.std.specs.Prelude.{◌≡◌, ◌+◌, ◌≤◌, [], ◌∷◌, IfOk};
-ghost use Rattle.acct_rows.specs.declared.row.RowKey.TheVariants as keys;
+ghost use Rattle.acct_tables.specs.declared.row.RowKey.TheVariants as keys;
 ghost use Rattle.acct_machine.specs.Outbox.{least_out};
-ghost use Rattle.acct_machine.specs.Room.{most_entries};
+ghost use Rattle.acct_machine.specs.Legal.{most_entries};
 
 use crate::{Limits, NoMemory, Rows};
 use acct_base::Seq;

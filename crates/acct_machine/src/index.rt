@@ -3,8 +3,8 @@ ghost use Rattle.std.specs.Prelude.{◌≡◌, ◌==◌, ◌<◌, ◌≤◌, ◌
 ghost use Rattle.std.specs.List.{filter};
 ghost use Rattle.std.specs.Option.{option_copied};
 ghost use Rattle.acct_tables.specs.Keyed.{sorted};
-ghost use Rattle.acct_rows.specs.Objects.{same_object};
-ghost use Rattle.acct_machine.specs.Arrivals.{object_key};
+ghost use Rattle.acct_tables.specs.Keys.{same_object};
+ghost use Rattle.acct_machine.specs.steps.Arrivals.{object_key};
 ghost use Rattle.acct_machine.specs.State.{find_handle, without_handle, without_conn, without_object};
 
 use crate::arrivals::{Arrival, ByNumber, ByObject, Numbered, OfOthers, ToOthers};
@@ -26,7 +26,7 @@ pub struct Handles {
 impl Model for Handles {
     ghost use Rattle.std.specs.Prelude.{ℕ, List};
     ghost use Rattle.acct_machine.specs.declared.state.Held.{Held};
-    ghost use Rattle.acct_machine.specs.Indexed.{arrived, AreIndexed};
+    ghost use Rattle.acct_machine.specs.steps.Indexed.{arrived, AreIndexed};
 
     ghost Value = { List Held × ℕ };
 

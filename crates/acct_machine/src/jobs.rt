@@ -1,6 +1,6 @@
 // The jobs of changes of accounts, and the machine itself as a gate to them.
 ghost use Rattle.std.specs.Prelude.{◌≡◌, ◌≤◌, IfOk, map, string_bytes};
-ghost use Rattle.account_hooks.specs.Gates.{IsFirstLeft};
+ghost use Rattle.account_hooks.specs.Drains.{IsFirstLeft};
 ghost use Rattle.acct_machine.specs.Gates.{IsReady};
 ghost use Rattle.acct_machine.specs.Jobs.{action_word, kind_word, shown_point, utf8_of, name_in, arguments, jobs_at};
 ghost use Rattle.acct_machine.specs.Outs.{hooks_of};
@@ -104,7 +104,7 @@ impl<K: Keeper + Drop> Machine<K> {
 
 impl<K: Keeper + Drop> HookGate for Machine<K> {
     ghost use Rattle.acct_machine.specs.Gates.{IsReady, Moves, RoseTo, room_at};
-    ghost use Rattle.acct_machine.specs.Moving.{still, moved, rose-since};
+    ghost use Rattle.acct_machine.specs.steps.Moving.{still, moved, rose-since};
 
     ghost jobs = { λ m. jobs_at m.past.start m.past.history };
 

@@ -1,7 +1,6 @@
 // Laws of the machine's histories: each function does nothing, and its contract is the law.
-ghost use Rattle.acct_machine.specs.Legal.{FrontsAreLegal, LimitsAreKept, RepliesToEach};
+ghost use Rattle.acct_machine.specs.Legal.{FrontsAreLegal, LimitsAreKept, RepliesToEach, DeniesExactly, DeniesRan};
 ghost use Rattle.acct_machine.specs.Sound.{KeepsConnected, KeepsSound};
-ghost use Rattle.acct_machine.specs.Denial.{DeniesExactly, DeniesRan};
 ghost use Rattle.acct_machine.specs.Grants.{GrantsInHistory};
 ghost use Rattle.acct_machine.specs.Shapes.{RepliesAreShaped};
 ghost use Rattle.acct_machine.specs.Decided.{OpeningsAreDecided};

@@ -2,8 +2,7 @@
 ghost use Rattle.std.specs.Prelude.{◌≡◌, ◌+◌, ◌*◌, map};
 ghost use Rattle.std.specs.Vec.{vec_capacity};
 ghost use Rattle.acct_machine.specs.State.{find_conn, serial_of, number_of};
-ghost use Rattle.acct_machine.specs.Outcome.{serial_set};
-ghost use Rattle.acct_machine.specs.Step.{live_ended};
+ghost use Rattle.acct_machine.specs.Step.{serial_set, live_ended};
 ghost use Rattle.acct_machine.specs.Sound.{IsNumberedFrom};
 
 use crate::Conn;

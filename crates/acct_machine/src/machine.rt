@@ -1,19 +1,17 @@
 // The machine: one history, and the state after it.
 ghost use Rattle.std.specs.Prelude.{◌≡◌, ◌^◌, ◌<◌, ◌≤◌, ◌++◌, ◌∷◌, true, [], length, IfOk, IfErr};
-ghost use Rattle.acct_config.specs.Right.{IsRight};
+ghost use Rattle.acct_config.specs.Spelled.{IsRightConfig};
 ghost use Rattle.acct_rows.specs.Sound.{IsSoundRows};
 ghost use Rattle.acct_machine.specs.State.{is_live};
-ghost use Rattle.acct_machine.specs.Calls.{IsCall};
-ghost use Rattle.acct_machine.specs.Legal.{Legal};
+ghost use Rattle.acct_machine.specs.Access.{IsCall};
+ghost use Rattle.acct_machine.specs.Legal.{Legal, most_entries};
 ghost use Rattle.acct_machine.specs.Sound.{IsSound};
 ghost use Rattle.acct_machine.specs.Machine.{state_of, Opens, OpensFresh, OpensLive, Acts, ActsCalls, SameLive};
 ghost use Rattle.acct_machine.specs.Machine.{SameCalls, Ends, OneLessLive, Shaped, Frugal, Stored, Commits};
 ghost use Rattle.acct_machine.specs.Hooking.{Hooks, HookCommits};
-ghost use Rattle.acct_machine.specs.Outbox.{has_hook};
-ghost use Rattle.acct_machine.specs.Room.{most_entries};
+ghost use Rattle.acct_machine.specs.Outbox.{has_hook, HoldsRows, AreCounted};
 ghost use Rattle.std.specs.List.{slice_get};
 ghost use Rattle.std.specs.Option.{option_copied};
-ghost use Rattle.acct_machine.specs.Storing.{HoldsRows, AreCounted};
 ghost use Rattle.std.specs.Vec.{vec_capacity};
 ghost use Rattle.acct_machine.specs.State.{last_serial, number_of};
 ghost use Rattle.acct_machine.specs.Given.{given, needed_of, passed_handle};
@@ -84,7 +82,7 @@ pub struct Machine<K: Keeper + Drop> {
 impl<K: Keeper + Drop> Model for Machine<K> {
     ghost use Rattle.std.specs.Vec.{vec_capacity};
     ghost use Rattle.acct_machine.specs.Shown.{Shown, IsKept, begins};
-    ghost use Rattle.acct_machine.specs.Storing.{IsStored};
+    ghost use Rattle.acct_machine.specs.Outbox.{IsStored};
 
     ghost Value = { Shown };
 
@@ -111,7 +109,7 @@ fn history_room(alloc: Global, limits: &Limits) -> Result<Vec<Entry>, NoMemory>
 
 // The state where a history begins, under a copy of the configuration.
 fn store_over(alloc: Global, config: &Config, rows: Rows) -> Result<Store, NoMemory>
-    requires { IsRight config.now }
+    requires { IsRightConfig config.now }
     ensures { IfOk result (λ store. store
         ≡ record { config = config.now; rows = rows.lists; conns = []; handles = [] }) }
 {
@@ -126,7 +124,7 @@ fn store_over(alloc: Global, config: &Config, rows: Rows) -> Result<Store, NoMem
 
 // A copy of the opening rows, and the state where a history begins.
 fn opening_and_store(alloc: Global, config: &Config, rows: Rows) -> Result<(Rows, Store), NoMemory>
-    requires { IsRight config.now }
+    requires { IsRightConfig config.now }
     ensures opening { IfOk result (λ parts. parts.0.lists ≡ rows.lists) }
     ensures store { IfOk result (λ parts. parts.1
         ≡ record { config = config.now; rows = rows.lists; conns = []; handles = [] }) }
@@ -149,7 +147,7 @@ fn opening_and_store(alloc: Global, config: &Config, rows: Rows) -> Result<(Rows
 
 // What a machine is made of: its opening rows, room for its history, and the state where that begins.
 fn begun(alloc: Global, config: &Config, rows: Rows) -> Result<(Rows, Vec<Entry>, Store), NoMemory>
-    requires { IsRight config.now }
+    requires { IsRightConfig config.now }
     ensures opening { IfOk result (λ parts. parts.0.lists ≡ rows.lists) }
     ensures history { IfOk result (λ parts. parts.1.items ≡ []) }
     ensures room { IfOk result (λ parts. most_entries config.now.limits ≤ vec_capacity parts.1) }
@@ -186,7 +184,7 @@ impl<K: Keeper + Drop> Machine<K> {
         rows: Rows,
         keeper: K,
     ) -> Result<Machine<K>, NoMachine<K>>
-        requires right { IsRight config.now }
+        requires right { IsRightConfig config.now }
         requires sound { IsSoundRows rows.lists }
         requires stored { HoldsRows (K.held keeper) rows.lists }
         ensures made { IfOk result (λ machine. machine ≡ record {
@@ -219,7 +217,7 @@ impl<K: Keeper + Drop> Machine<K> {
     /// The configuration.
     pub fn config(&self) -> &Config
         ensures all { result.now ≡ self.now.past.start.config }
-        ensures right { IsRight result.now }
+        ensures right { IsRightConfig result.now }
     {
         self.store.config()
     }

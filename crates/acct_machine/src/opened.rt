@@ -1,7 +1,7 @@
 // Opening a store: the rows whose pairs a keeper holds.
 ghost use Rattle.std.specs.Prelude.{◌≡◌, ◌≤◌, true, [], ◌∷◌, Some, None, map, option_map, IfOk, IfErr, IfSome};
 ghost use Rattle.std.specs.Prelude.{OnOk, OnErr};
-ghost use Rattle.acct_config.specs.Right.{IsRight};
+ghost use Rattle.acct_config.specs.Spelled.{IsRightConfig};
 ghost use Rattle.acct_keeper.specs.Pairs.{after, is_ascending};
 ghost use Rattle.acct_rows.specs.Seed.{seed_lists};
 ghost use Rattle.acct_rows.specs.Sound.{IsSoundRows};
@@ -9,7 +9,7 @@ ghost use Rattle.acct_machine.specs.Opened.{OpensRows, OpenCause, LoadCause, IsN
 ghost use Rattle.acct_machine.specs.Opened.{unopened, unloaded};
 ghost use Rattle.acct_rows.specs.PairRules.{AreUnbroken};
 ghost use Rattle.acct_rows.specs.PairsOf.{ArePairsOf, migration, migrated};
-ghost use Rattle.acct_machine.specs.Storing.{HoldsRows};
+ghost use Rattle.acct_machine.specs.Outbox.{HoldsRows};
 
 use crate::{Config, Keeper, NoMemory, Rows, seed_rows};
 use acct_base::Seq;
@@ -82,7 +82,7 @@ fn first_changes(alloc: Global, rows: &Rows) -> Result<Vec<Change>, NoMemory>
 
 // The seed rows of the configured domain, whose pairs a keeper without a pair gets in one commit.
 fn seed_store<K: Keeper>(alloc: Global, config: &Config, keeper: &mut K) -> Result<Rows, OpenError>
-    requires right { IsRight config.now }
+    requires right { IsRightConfig config.now }
     requires empty { IfSome (K.held keeper.old) (λ told. told ≡ []) }
     ensures lists { IfOk result (λ rows. rows.lists ≡ seed_lists config.now.name config.now.sid) }
     ensures sound { IfOk result (λ rows. IsSoundRows rows.lists) }
@@ -175,7 +175,7 @@ pub fn open_store<K: Keeper>(
     config: &Config,
     keeper: &mut K,
 ) -> Result<Rows, OpenError>
-    requires { IsRight config.now }
+    requires { IsRightConfig config.now }
     ensures opened { IfOk result (λ rows. IfSome (K.held keeper.old) (λ told. OpensRows config.now told rows.lists)) }
     ensures kept { OnOk result (IfSome (K.held keeper.old) (λ told. IsMigrated told (K.held keeper.new))) }
     ensures sound { IfOk result (λ rows. IsSoundRows rows.lists) }

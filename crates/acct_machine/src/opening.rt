@@ -1,14 +1,14 @@
 // What an opening of an object grants.
 ghost use Rattle.std.specs.Prelude.{◌≡◌, Some, option_map};
-ghost use Rattle.acct_config.specs.Right.{IsRight};
-ghost use Rattle.acct_machine.specs.Opening.{described_in, listener_of, granted_to};
+ghost use Rattle.acct_config.specs.Spelled.{IsRightConfig};
+ghost use Rattle.acct_machine.specs.Access.{described_in, listener_of, granted_to};
 
 use crate::{Config, Conn, Listener, Object, Rows};
 use dtyp_access::{Descriptor, opening};
 
 /// The descriptor of an object: that of its row, where it has one, and else the one that is configured for its kind.
 pub fn described<'a>(config: &'a Config, rows: &'a Rows, object: &Object) -> &'a Descriptor
-    requires { IsRight config.now }
+    requires { IsRightConfig config.now }
     ensures { Some result.now ≡ described_in config.now rows.now.lists object.now }
 {
     match rows.descriptor_of(object) {

@@ -1,10 +1,9 @@
 // The outbox of account changes: the row that tells of what a plan changes.
 ghost use Rattle.std.specs.Prelude.{◌≡◌, ℕ, true, None, Some, is_some, option_map, IfOk, OnErr};
 ghost use Rattle.std.specs.Option.{option_copied};
-ghost use Rattle.acct_rules.specs.Planned.{has_change};
-ghost use Rattle.acct_rules.specs.Touched.{put_account, removed_account};
+ghost use Rattle.acct_rules.specs.Planned.{has_change, put_account, removed_account};
 ghost use Rattle.std.specs.declared.option.Option.{Option};
-ghost use Rattle.acct_rows.specs.declared.row.OutRow.{OutRow};
+ghost use Rattle.acct_tables.specs.declared.row.OutRow.{OutRow};
 ghost use Rattle.acct_machine.specs.Outbox.{same_account, out_row, told_of_put, told_of_removed, told_by};
 ghost use Rattle.acct_machine.specs.Outbox.{account_change, needs_out, IsNeed, with_out, told_planned};
 

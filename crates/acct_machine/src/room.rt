@@ -1,6 +1,6 @@
 // What a history takes at most.
 ghost use Rattle.std.specs.Prelude.{◌≡◌};
-ghost use Rattle.acct_machine.specs.Room.{most_entries};
+ghost use Rattle.acct_machine.specs.Legal.{most_entries};
 
 use crate::Limits;
 

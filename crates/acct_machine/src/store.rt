@@ -2,7 +2,7 @@
 ghost use Rattle.std.specs.Prelude.{◌≡◌, ◌<◌, ◌≤◌, ◌-◌, ◌^◌, ◌+◌, length, [], Some, nat_lt, true, IfOk, OnOk, OnErr};
 ghost use Rattle.std.specs.Prelude.{if◌then◌else◌};
 ghost use Rattle.std.specs.Vec.{vec_capacity};
-ghost use Rattle.acct_config.specs.Right.{IsRight};
+ghost use Rattle.acct_config.specs.Spelled.{IsRightConfig};
 ghost use Rattle.acct_calls.specs.declared.replies.Reply.TheVariants.{Done};
 ghost use Rattle.acct_rows.specs.Rows.{after};
 ghost use Rattle.acct_rows.specs.Sound.{IsSoundRows};
@@ -10,7 +10,6 @@ ghost use Rattle.acct_codes.specs.Statuses.{status_internal_db_error, status_no_
 ghost use Rattle.acct_keeper.specs.declared.keeper.KeepError.TheVariants as keeps;
 ghost use Rattle.acct_layouts.specs.CallShapes.{CanBeSpelled};
 ghost use Rattle.acct_rules.specs.Planned.{has_change};
-ghost use Rattle.acct_rules.specs.Profiles.{is_anywhere};
 ghost use Rattle.acct_rules.specs.declared.planned.Effect.TheVariants as effects;
 ghost use Rattle.acct_operations.specs.Table.{operation, work_of};
 ghost use Rattle.acct_operations.specs.Frugal.{taken_by};
@@ -19,16 +18,14 @@ ghost use Rattle.acct_layouts.specs.Refusals.{is_refusal};
 ghost use Rattle.acct_machine.specs.declared.entry.Entry.TheVariants.{Opened, Gone, Hooked};
 ghost use Rattle.acct_machine.specs.declared.entry.Verdict.TheVariants as verdicts;
 ghost use Rattle.acct_machine.specs.State.{find_handle, last_serial, number_of};
-ghost use Rattle.acct_machine.specs.Opening.{described, grant_of, granted_to};
-ghost use Rattle.acct_machine.specs.Access.{held_by, object_of};
-ghost use Rattle.acct_machine.specs.Outcome.{refusal_outs, filled_by, left, with_handle, with_plan, done_by};
-ghost use Rattle.acct_machine.specs.Outcome.{concluded_by, planned_of};
+ghost use Rattle.acct_machine.specs.Access.{described, grant_of, granted_to, held_by, object_of};
+ghost use Rattle.acct_machine.specs.Step.{refusal_outs, filled_by, left, with_handle, with_plan, done_by, concluded_by};
+ghost use Rattle.acct_machine.specs.Step.{planned_of, acted, step};
 ghost use Rattle.acct_machine.specs.Outbox.{least_out};
 ghost use Rattle.acct_machine.specs.Sound.{IsSound};
-ghost use Rattle.acct_machine.specs.Step.{acted, step};
 ghost use Rattle.acct_machine.specs.Committing.{MayCommit, CommitsRows};
-ghost use Rattle.acct_machine.specs.Concluding.{Concludes};
-ghost use Rattle.acct_machine.specs.Legal.{HasPassed};
+ghost use Rattle.acct_machine.specs.steps.Concluding.{Concludes};
+ghost use Rattle.acct_machine.specs.Legal.{HasPassed, MayWant};
 ghost use Rattle.acct_machine.specs.Wants.{MayEndWith, MayMiss, WantsRoom};
 ghost use Rattle.std.specs.Option.{option_copied};
 
@@ -216,7 +213,7 @@ fn conns_room(alloc: Global, limits: &Limits) -> Result<Vec<Conn>, NoMemory>
 impl Store {
     /// The state where a history begins, with room for all its connections.
     pub fn new(alloc: Global, config: Config, rows: Rows) -> Result<Self, NoMemory>
-        requires { IsRight config }
+        requires { IsRightConfig config }
         ensures { IfOk result (λ store. store
             ≡ record { config = config; rows = rows.lists; conns = []; handles = [] }) }
     {
@@ -238,7 +235,7 @@ impl Store {
     /// The configuration.
     pub fn config(&self) -> &Config
         ensures all { result.now ≡ self.now.config }
-        ensures right { IsRight result.now }
+        ensures right { IsRightConfig result.now }
     {
         &self.config
     }
@@ -544,7 +541,7 @@ impl Store {
         requires object { object ≡ object_of (held_by self.now conn call.now) }
         requires sound { IsSoundRows self.now.rows }
         ensures planned { IfOk result (λ planned. planned ≡ planned_of (operation work) self.now conn call.now) }
-        ensures frugal { OnErr result (is_anywhere (taken_by work) ≡ true) }
+        ensures frugal { OnErr result (MayWant (taken_by work) (operation work) self.now conn call.now) }
     {
         operations_are_frugal();
         let config = self.config();
@@ -570,7 +567,7 @@ impl Store {
         requires found { work_of call.now.face call.now.opnum ≡ Some work }
         requires passed { HasPassed (operation work) self.old conn call.now }
         requires spelled { CanBeSpelled call.now }
-        requires right { IsRight self.old.config }
+        requires right { IsRightConfig self.old.config }
         requires sound { IsSound self.old.config self.old }
         ensures { let planned = planned_of (operation work) self.old conn call.now in
             Concludes K.held K.faults keeper.old keeper.new (concluded_by self.old conn call.now planned)
@@ -597,7 +594,7 @@ impl Store {
     ) -> (Verdict, Reply)
         requires fits { last_serial conn self.old.conns < 2 ^ 64 - 1 }
         requires spelled { CanBeSpelled call.now }
-        requires right { IsRight self.old.config }
+        requires right { IsRightConfig self.old.config }
         requires sound { IsSound self.old.config self.old }
         ensures { Concludes K.held K.faults keeper.old keeper.new (acted self.old conn call.now)
             (MayEndWith self.old conn call.now) self.old self.new result }

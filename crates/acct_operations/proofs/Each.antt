@@ -1,5 +1,5 @@
 -- What holds of each operation of the four crates, and of those of this one, holds of each of the table.
-use Rattle.acct_rules.specs.Operations.{Operation}
+use Rattle.acct_rules.specs.Profiles.{Operation}
 use Rattle.acct_operations.specs.Table.{operation, connect2, connect4, connect5, close_handle, open_policy2}
 use Rattle.acct_operations.specs.Table.{close_policy, samr_set_security, samr_query_security, lsar_query_security}
 use Rattle.acct_operations.specs.Table.{lsar_set_security}

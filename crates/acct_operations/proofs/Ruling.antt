@@ -5,16 +5,15 @@ use Rattle.acct_calls.specs.declared.replies.Outs.TheVariants as outs
 use Rattle.acct_calls.specs.declared.replies.Reply.TheVariants.{Done}
 use Rattle.acct_layouts.specs.ReplyShapes.{HasShape}
 use Rattle.acct_layouts.specs.Table.{layout_of}
-use Rattle.acct_rows.specs.declared.object.Object.{Object}
-use Rattle.acct_rows.specs.Objects.{exists}
-use Rattle.acct_rows.specs.Rows.{Lists}
+use Rattle.acct_tables.specs.declared.object.Object.{Object}
+use Rattle.acct_rows.specs.Rows.{exists, Lists}
 use Rattle.acct_rows.specs.Sound.{IsSoundRows}
 use Rattle.acct_rules.specs.declared.profile.Kinds.{Kinds}
 use Rattle.acct_calls.specs.Calls.{zero_handle}
 use Rattle.acct_rules.specs.Planned.{opens, closes}
-use Rattle.acct_rules.specs.Operations.{IsRight, Keeps, KeepsRows, undescribed}
-use Rattle.acct_operations.specs.Openings.{connect, open_policy}
-use Rattle.acct_operations.specs.Closings.{close}
+use Rattle.acct_rules.specs.Operations.{IsRight, Keeps, KeepsRows}
+use Rattle.acct_rules.specs.Profiles.{undescribed}
+use Rattle.acct_operations.specs.Openings.{connect, open_policy, close}
 use Rattle.acct_operations.specs.Table.{opening, closing}
 
 -- a reply with a handle alone has the shape

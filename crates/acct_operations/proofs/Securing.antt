@@ -12,18 +12,17 @@ use Rattle.acct_calls.specs.declared.calls.Face.TheVariants.{Samr, Lsa}
 use Rattle.acct_calls.specs.declared.replies.Outs.TheVariants as outs
 use Rattle.acct_calls.specs.declared.replies.Reply.TheVariants.{Done}
 use Rattle.acct_codes.specs.Opnums.{samr_set_security_object, lsar_set_security_object}
-use Rattle.acct_codes.specs.SecurityInformation.{owner_security_information, group_security_information}
-use Rattle.acct_codes.specs.SecurityInformation.{dacl_security_information}
-use Rattle.acct_layouts.specs.Bounds.{IsListed, IsSmall, IfThere}
+use Rattle.acct_codes.specs.Descriptors.{owner_security_information, group_security_information}
+use Rattle.acct_codes.specs.Descriptors.{dacl_security_information}
+use Rattle.acct_layouts.specs.Values.{IsListed, IsSmall, IfThere}
 use Rattle.acct_layouts.specs.CallShapes.{CanBeSpelled, HasArguments, AreSecurityArgs}
 use Rattle.acct_layouts.specs.ReplyShapes.{HasShape}
 use Rattle.acct_layouts.specs.Table.{layout_of, samr_layout, lsa_layout}
 use Rattle.acct_layouts.specs.declared.fields.SecurityFields.TheVariants as security
 use Rattle.acct_rows.specs.Laws.{DescriptorsStaySound}
-use Rattle.acct_rows.specs.Objects.{exists}
-use Rattle.acct_rows.specs.Rows.{Lists}
+use Rattle.acct_rows.specs.Rows.{exists, Lists}
 use Rattle.acct_rows.specs.Sound.{IsSoundRows}
-use Rattle.acct_rows.specs.declared.object.Object.{Object}
+use Rattle.acct_tables.specs.declared.object.Object.{Object}
 use Rattle.acct_rules.specs.declared.profile.Kinds.{Kinds}
 use Rattle.acct_rules.specs.Asked.{named_info, set_bytes}
 use Rattle.acct_rules.specs.Operations.{IsRight, Keeps, KeepsRows}
@@ -34,13 +33,13 @@ use Rattle.dtyp_access.specs.declared.descriptor.Descriptor.{Descriptor}
 use Rattle.dtyp_access.specs.declared.errors.DescError.{DescError}
 use Rattle.dtyp_access.specs.declared.parts.Parts.{Parts}
 use Rattle.dtyp_access.specs.Granted.{shares}
-use Rattle.dtyp_access.specs.Limits.{IsSidOrNone, IsList, AreParts, IsDescriptor, HasFewAces, has_few_aces}
-use Rattle.dtyp_access.specs.Parts.{named_parts, replaced}
+use Rattle.dtyp_access.specs.Parts.{IsSidOrNone, IsList, AreParts, IsDescriptor, HasFewAces, has_few_aces, named_parts}
+use Rattle.dtyp_access.specs.Parts.{replaced}
 use Rattle.dtyp_access.specs.Reading.{parts_of_bytes}
 use Rattle.dtyp_access.specs.Spelled.{ReadPartsAreParts, WrittenAreBytes}
-use Rattle.dtyp_sid.specs.Value.{SidValue, IsSid}
-use Rattle.acct_operations.specs.Security.{names_parts, spelled_parts, set_parts, are_spelled, shown_parts}
-use Rattle.acct_operations.specs.Security.{replaced_row, query_security, set_security}
+use Rattle.dtyp_sid.specs.Sids.{SidValue, IsSid}
+use Rattle.acct_operations.specs.Openings.{names_parts, spelled_parts, set_parts, are_spelled, shown_parts}
+use Rattle.acct_operations.specs.Openings.{replaced_row, query_security, set_security}
 use Rattle.acct_operations.specs.Table.{querying, setting}
 
 -- ---- what is shown

@@ -1,6 +1,4 @@
-pub mod Openings
-pub mod Closings
-pub mod Security
-pub mod Table
 pub mod Frugal
 pub mod Laws
+pub mod Openings
+pub mod Table

@@ -13,13 +13,10 @@ use Rattle.acct_rules.specs.declared.profile.Kinds.TheVariants as kinds
 use Rattle.acct_rules.specs.declared.profile.Needs.TheVariants as needs
 use Rattle.acct_rules.specs.declared.profile.Memory.TheVariants as memory
 use Rattle.acct_rules.specs.declared.profile.Profile.{Profile}
-use Rattle.acct_rules.specs.Operations.{Operation, undescribed}
-use Rattle.acct_rules.specs.Profiles.{asking}
+use Rattle.acct_rules.specs.Profiles.{Operation, undescribed, asking}
 use Rattle.acct_operations.specs.declared.table.Work.{Work}
 use Rattle.acct_operations.specs.declared.table.Work.TheVariants as works
-use Rattle.acct_operations.specs.Openings.{connect, open_policy}
-use Rattle.acct_operations.specs.Closings.{close}
-use Rattle.acct_operations.specs.Security.{query_security, set_security}
+use Rattle.acct_operations.specs.Openings.{connect, open_policy, close, query_security, set_security}
 use Rattle.lsad_rights.specs.Table as rights
 use Rattle.lsat_translate.specs.Table as translations
 use Rattle.samr_members.specs.Table as members

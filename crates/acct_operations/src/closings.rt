@@ -1,7 +1,7 @@
 // The operations that close a handle.
 ghost use Rattle.std.specs.Prelude.{◌≡◌};
 ghost use Rattle.acct_rules.specs.Planned.{decision};
-ghost use Rattle.acct_operations.specs.Closings.{close};
+ghost use Rattle.acct_operations.specs.Openings.{close};
 
 use acct_calls::Args;
 use acct_rows::{Object, Rows};

@@ -1,11 +1,11 @@
 // The operations that read and set the security descriptor of an object.
 ghost use Rattle.std.specs.Prelude.{◌≡◌, true, Some, IfOk, OnErr};
-ghost use Rattle.dtyp_access.specs.Limits.{IsDescriptor};
+ghost use Rattle.dtyp_access.specs.Parts.{IsDescriptor};
 ghost use Rattle.dtyp_access.specs.Reading.{parts_of_bytes};
-ghost use Rattle.acct_rules.specs.Asked.{named_info};
 ghost use Rattle.acct_rules.specs.Planned.{decision, none_fails};
-ghost use Rattle.acct_operations.specs.Security.{names_parts, spelled_parts, are_spelled, have_owner, shown_parts};
-ghost use Rattle.acct_operations.specs.Security.{replaced_row, query_security, set_security};
+ghost use Rattle.acct_operations.specs.Openings.{names_parts, spelled_parts, are_spelled, have_owner, shown_parts};
+ghost use Rattle.acct_operations.specs.Openings.{replaced_row, query_security, set_security};
+ghost use Rattle.acct_operations.specs.Frugal.{ReachesEntry, MayWantToSet};
 
 use acct_base::Seq;
 use acct_calls::{Args, Bytes, Outs};
@@ -67,7 +67,8 @@ pub fn query_security(
 
 // The parts that bytes spell, if they spell some.
 fn spelled_parts(alloc: Global, bytes: &[u8]) -> Result<Option<Parts>, NoMemory>
-    ensures { IfOk result (λ parts. parts ≡ spelled_parts (parts_of_bytes bytes.now)) }
+    ensures spelled { IfOk result (λ parts. parts ≡ spelled_parts (parts_of_bytes bytes.now)) }
+    ensures frugal { OnErr result (ReachesEntry bytes.now) }
 {
     match read_parts(alloc, bytes) {
         Ok(parts) => Ok(Some(parts)),
@@ -127,7 +128,7 @@ pub fn set_security(
 ) -> Result<Planned, NoMemory>
     ensures decided { IfOk result (λ p.
         p ≡ decision (set_security rows.now.lists (Some described.now) object args.now)) }
-    ensures frugal { OnErr result (names_parts (named_info args.now) ≡ true) }
+    ensures frugal { OnErr result (MayWantToSet rows.now.lists (Some described.now) object args.now) }
 {
     let info = named_info(args);
     if !names_parts(info) {

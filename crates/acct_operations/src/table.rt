@@ -3,14 +3,14 @@ ghost use Rattle.std.specs.Prelude.{◌≡◌, ◌+◌, true, Some, None, map, g
 ghost use Rattle.std.specs.List.{range_with_len};
 ghost use Rattle.acct_calls.specs.declared.calls.Face.TheVariants.{Samr, Lsa};
 ghost use Rattle.acct_rules.specs.Planned.{decision};
-ghost use Rattle.acct_rules.specs.Profiles.{asking, is_anywhere};
+ghost use Rattle.acct_rules.specs.Profiles.{asking};
 ghost use Rattle.acct_codes.specs.Rights.{domain_lookup, policy_lookup_names, policy_create_account};
 ghost use Rattle.acct_codes.specs.declared.kind.Kind.TheVariants as kind;
 ghost use Rattle.acct_rules.specs.declared.profile.Kinds.TheVariants.{Only};
 ghost use Rattle.acct_rules.specs.declared.profile.Needs.TheVariants as needs;
 ghost use Rattle.acct_rules.specs.declared.profile.Memory.TheVariants.{Anywhere};
-ghost use Rattle.dtyp_access.specs.Limits.{IsDescriptor};
-ghost use Rattle.acct_operations.specs.Frugal.{taken_by};
+ghost use Rattle.dtyp_access.specs.Parts.{IsDescriptor};
+ghost use Rattle.acct_operations.specs.Frugal.{MayWantToDecide};
 ghost use Rattle.acct_operations.specs.Table.{opening, closing, querying, setting, operation, work_of, opnum_count};
 ghost use Rattle.samr_objects.specs.Table.{asking_user};
 
@@ -758,7 +758,7 @@ pub fn decide(
     requires { IsDescriptor described.now }
     ensures decided { IfOk result (λ planned.
         planned ≡ decision ((operation work).rule rows.now.lists (Some described.now) object args.now)) }
-    ensures frugal { OnErr result (is_anywhere (taken_by work) ≡ true) }
+    ensures frugal { OnErr result (MayWantToDecide work rows.now.lists (Some described.now) object args.now) }
 {
     match work {
         Work::SamrConnect2 => Ok(connect(alloc, rows, object, args)),

@@ -1,6 +1,6 @@
 -- What the arguments of a call ask for.
 use Rattle.std.specs.Prelude.{ℕ, Bool, false, is_some, List, [], length, Option, Some, None}
-use Rattle.dtyp_sid.specs.Value.{SidValue}
+use Rattle.dtyp_sid.specs.Sids.{SidValue}
 use Rattle.acct_calls.specs.declared.calls.Args.{Args}
 use Rattle.acct_calls.specs.declared.calls.Args.TheVariants as args
 use Rattle.acct_calls.specs.declared.info.Info.{Info}
@@ -24,9 +24,9 @@ desired_access (args.Policy rooted access) = access
 desired_access _ = 0
 
 -- the policy has an account of the SID whose rights are asked for
-abbrev pub has_account : Lists → Args → Bool
-has_account r (args.Rights sid all names) = is_some (lsa_at r sid)
-has_account r _ = false
+abbrev pub has_asked_account : Lists → Args → Bool
+has_asked_account r (args.Rights sid all names) = is_some (lsa_at r sid)
+has_asked_account r _ = false
 
 -- the SID that is looked for or opened
 abbrev pub asked_sid : Args → Option SidValue
@@ -102,9 +102,9 @@ made_name (args.Make name bits access) = Some name
 made_name _ = None
 
 -- the control bits that it begins with; 0 where there are none
-abbrev pub made_bits : Args → ℕ
-made_bits (args.Make name bits access) = bits
-made_bits _ = 0
+abbrev pub made_type : Args → ℕ
+made_type (args.Make name bits access) = bits
+made_type _ = 0
 
 -- ---- what a set asks for
 

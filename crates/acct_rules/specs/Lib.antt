@@ -1,10 +1,6 @@
 pub mod Asked
-pub mod Profiles
-pub mod Planned
-pub mod Touched
-pub mod Filled
-pub mod Mapped
 pub mod Operations
 pub mod Pages
-pub mod PageEntries
-pub mod Sids
+pub mod Planned
+pub mod Profiles
+pub mod Touched

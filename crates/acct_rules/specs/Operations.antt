@@ -1,8 +1,8 @@
--- What an operation is, and what each owes.
+-- What each operation owes.
 use Rattle.std.specs.Prelude.{◌≡◌, ℕ, ◌^◌, ◌==◌, nat_lt, Bool, true, false, ◌&&◌, not, ⊤, Option, IfSome, is_some}
 use Rattle.std.specs.List.{list_all}
 use Rattle.dtyp_access.specs.declared.descriptor.Descriptor.{Descriptor}
-use Rattle.dtyp_access.specs.Limits.{IsDescriptor}
+use Rattle.dtyp_access.specs.Parts.{IsDescriptor}
 use Rattle.acct_calls.specs.declared.calls.Args.{Args}
 use Rattle.acct_calls.specs.declared.calls.Call.{Call}
 use Rattle.acct_calls.specs.declared.replies.Reply.TheVariants.{Done}
@@ -11,30 +11,20 @@ use Rattle.acct_layouts.specs.Table.{layout_of}
 use Rattle.acct_layouts.specs.Refusals.{is_refusal}
 use Rattle.acct_layouts.specs.CallShapes.{CanBeSpelled}
 use Rattle.acct_layouts.specs.ReplyShapes.{HasShape}
-use Rattle.acct_rows.specs.declared.object.Object.{Object}
-use Rattle.acct_rows.specs.Objects.{kind_of, same_object, exists}
+use Rattle.acct_tables.specs.declared.object.Object.{Object}
+use Rattle.acct_rows.specs.Rows.{exists}
+use Rattle.acct_tables.specs.Keys.{kind_of, same_object}
 use Rattle.acct_rows.specs.Rows.{Lists, HasRoom, after}
 use Rattle.acct_rows.specs.Sound.{IsSoundRows}
 use Rattle.acct_rules.specs.declared.profile.Brings.{Brings}
 use Rattle.acct_rules.specs.declared.profile.Brings.TheVariants as brings
-use Rattle.acct_rules.specs.declared.profile.Profile.{Profile}
 use Rattle.acct_rules.specs.declared.planned.Opening.{Opening}
 use Rattle.acct_rules.specs.declared.planned.Effect.{Effect}
 use Rattle.acct_rules.specs.declared.planned.Effect.TheVariants as effects
 use Rattle.acct_rules.specs.declared.planned.Planned.{Planned}
-use Rattle.acct_rules.specs.Profiles.{takes, is_never}
-use Rattle.acct_rules.specs.Planned.{Condition, Ruled, none_fails, takes_room}
+use Rattle.acct_rules.specs.Profiles.{takes, is_never, Operation}
+use Rattle.acct_rules.specs.Planned.{Condition, none_fails, takes_room}
 use Rattle.acct_rules.specs.Touched.{is_modest}
-
--- its profile, and its rule on the rows, the security descriptor and the object of the handle that was brought, and the
--- arguments
-pub record Operation : Type 0 where
-  pub profile : Profile
-  pub rule : Lists → Option Descriptor → Object → Args → Ruled
-
--- a rule that no descriptor decides
-abbrev pub undescribed : (Lists → Object → Args → Ruled) → Lists → Option Descriptor → Object → Args → Ruled
-undescribed rule r described object asked = rule r object asked
 
 -- ---- where a call of an operation is decided
 

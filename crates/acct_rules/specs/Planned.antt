@@ -1,20 +1,35 @@
--- What an operation decides: its conditions in order, each with the status that it answers where it fails, and what is
--- planned where none fails. The condition of an opening stands last of all, and is the machine's.
-use Rattle.std.specs.Prelude.{ℕ, Bool, true, false, not, List, [], ◌∷◌, ◌||◌, nat_lt, length, Option, Some}
-use Rattle.std.specs.Prelude.{None, if◌then◌else◌}
-use Rattle.std.specs.List.{list_all}
+-- What an operation decides, and its outputs.
+use Rattle.std.specs.Prelude.{ℕ, Bool, true, false, not, List, [], ◌∷◌, ◌||◌, nat_lt, length, Option, Some, None}
+use Rattle.std.specs.Prelude.{if◌then◌else◌, ◌==◌, nat_le}
+use Rattle.std.specs.List.{list_all, list_any}
+use Rattle.acct_codes.specs.Limits.{most_domain_subs}
+use Rattle.acct_codes.specs.Statuses.{status_success, status_some_not_mapped, status_none_mapped}
+use Rattle.acct_codes.specs.Accounts.{sid_type_user, sid_type_group, sid_type_alias, sid_type_unknown}
+use Rattle.acct_codes.specs.declared.kind.Kind.{Kind}
+use Rattle.acct_codes.specs.declared.kind.Kind.TheVariants.{User, Group, Alias}
+use Rattle.dtyp_sid.specs.Sids.{with_last, SidValue}
 use Rattle.acct_calls.specs.Calls.{zero_handle}
+use Rattle.acct_calls.specs.declared.handle.Handle.{Handle}
 use Rattle.acct_calls.specs.declared.replies.Outs.{Outs}
 use Rattle.acct_calls.specs.declared.replies.Outs.TheVariants as outs
-use Rattle.acct_codes.specs.Statuses.{status_success}
-use Rattle.acct_rows.specs.declared.object.Object.{Object}
+use Rattle.acct_layouts.specs.declared.outputs.Outputs.{Outputs}
+use Rattle.acct_layouts.specs.declared.outputs.Outputs.TheVariants as outputs
+use Rattle.acct_layouts.specs.declared.outputs.ScalarOutputs.TheVariants as scalar
+use Rattle.acct_tables.specs.declared.object.Object.{Object}
 use Rattle.acct_rows.specs.declared.plan.Plan.{Plan}
-use Rattle.acct_rows.specs.declared.row.Row.{Row}
-use Rattle.acct_rows.specs.declared.row.RowKey.{RowKey}
-use Rattle.acct_rules.specs.declared.planned.Opening.{Opening}
+use Rattle.acct_tables.specs.declared.row.AccountRow.{AccountRow}
+use Rattle.acct_tables.specs.declared.row.Row.{Row}
+use Rattle.acct_tables.specs.declared.row.Row.TheVariants as rows
+use Rattle.acct_tables.specs.declared.row.RowKey.{RowKey}
+use Rattle.acct_tables.specs.declared.row.RowKey.TheVariants as keys
 use Rattle.acct_rules.specs.declared.planned.Effect.{Effect}
 use Rattle.acct_rules.specs.declared.planned.Effect.TheVariants as effects
+use Rattle.acct_rules.specs.declared.planned.Opening.{Opening}
 use Rattle.acct_rules.specs.declared.planned.Planned.{Planned}
+
+-- ======== what an operation decides: its conditions in order, each with the status that it answers where it fails, and
+-- what is planned where none fails
+-- The condition of an opening stands last of all, and is the machine's.
 
 -- whether it fails, and its status
 pub record Condition : Type 0 where
@@ -113,3 +128,55 @@ has_change plan = nat_lt 0 (length plan.puts) || nat_lt 0 (length plan.removes)
 -- room is taken for a handle, and to make and to store a change of rows
 abbrev pub takes_room : Planned → Bool
 takes_room planned = gives_handle planned.effect || has_change planned.plan
+
+-- ======== the outputs of what was opened
+
+-- the grant, where the layout has one
+abbrev pub shown_grant : Outputs → ℕ → ℕ
+shown_grant (outputs.Scalar scalar.Granted) granted = granted
+shown_grant _ granted = 0
+
+-- the handle that was opened in place of the zero handle, with its grant
+abbrev pub filled : Outputs → Handle → ℕ → Outs → Outs
+filled layout handle granted (outs.Handle zero) = outs.Handle handle
+filled layout handle granted (outs.Created zero none rid) = outs.Created handle (shown_grant layout granted) rid
+filled layout handle granted out = out
+
+-- ======== what names and SIDs that were looked for are used for (SID_NAME_USE, MS-SAMR 2.2.2.3), and how many of them
+-- are mapped (MS-SAMR 3.1.5.11.2, MS-LSAT 3.1.4.5)
+
+-- what an account of a kind is used for: only users, groups and aliases are accounts
+abbrev pub use_of_kind : Kind → ℕ
+use_of_kind User = sid_type_user
+use_of_kind Group = sid_type_group
+use_of_kind Alias = sid_type_alias
+use_of_kind _ = sid_type_unknown
+
+abbrev pub is_mapped : ℕ → Bool
+is_mapped usage = not (usage == sid_type_unknown)
+
+-- the status of a look-up, by what each entry is used for: all are mapped, some are, or none of at least one
+abbrev pub mapped_status : List ℕ → ℕ
+mapped_status uses =
+    if list_all is_mapped uses then status_success
+    else (if list_any is_mapped uses then status_some_not_mapped else status_none_mapped)
+
+-- ======== the SID of what has a RID in a domain (MS-SAMR 3.1.5.13.5)
+
+-- the SID followed by a RID, where it has room for one, as that of each domain of sound rows has
+abbrev pub with_rid : ℕ → SidValue → Option SidValue
+with_rid rid sid = if nat_le (length sid.subs) most_domain_subs then Some (with_last sid rid) else None
+
+-- ======== which account row a plan touches
+
+-- the account row that is put, the first if there are several
+abbrev pub put_account : List Row → Option AccountRow
+put_account [] = None
+put_account (rows.Account a ∷ later) = Some a
+put_account (_ ∷ later) = put_account later
+
+-- the domain and the RID of the account row that is removed, the first if there are several
+abbrev pub removed_account : List RowKey → Option (ℕ × ℕ)
+removed_account [] = None
+removed_account (keys.Account domain rid ∷ later) = Some (domain, rid)
+removed_account (_ ∷ later) = removed_account later

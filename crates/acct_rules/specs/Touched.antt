@@ -1,27 +1,13 @@
--- Which account row a plan touches, and that it leaves the outbox alone.
-use Rattle.std.specs.Prelude.{ℕ, ◌+◌, nat_le, Bool, true, false, not, ◌&&◌, ◌||◌, List, [], ◌∷◌, length, Option}
-use Rattle.std.specs.Prelude.{Some, None}
+-- That a plan touches one account row at most, and leaves the outbox alone.
+use Rattle.std.specs.Prelude.{ℕ, ◌+◌, nat_le, Bool, true, false, not, ◌&&◌, ◌||◌, length}
 use Rattle.std.specs.List.{filter, list_any}
 use Rattle.acct_rows.specs.declared.plan.Plan.{Plan}
-use Rattle.acct_rows.specs.declared.row.AccountRow.{AccountRow}
-use Rattle.acct_rows.specs.declared.row.Row.{Row}
-use Rattle.acct_rows.specs.declared.row.Row.TheVariants as rows
-use Rattle.acct_rows.specs.declared.row.RowKey.{RowKey}
-use Rattle.acct_rows.specs.declared.row.RowKey.TheVariants as keys
+use Rattle.acct_tables.specs.declared.row.Row.{Row}
+use Rattle.acct_tables.specs.declared.row.Row.TheVariants as rows
+use Rattle.acct_tables.specs.declared.row.RowKey.{RowKey}
+use Rattle.acct_tables.specs.declared.row.RowKey.TheVariants as keys
 
 -- ---- accounts
-
--- the account row that is put, the first if there are several
-abbrev pub put_account : List Row → Option AccountRow
-put_account [] = None
-put_account (rows.Account a ∷ later) = Some a
-put_account (_ ∷ later) = put_account later
-
--- the domain and the RID of the account row that is removed, the first if there are several
-abbrev pub removed_account : List RowKey → Option (ℕ × ℕ)
-removed_account [] = None
-removed_account (keys.Account domain rid ∷ later) = Some (domain, rid)
-removed_account (_ ∷ later) = removed_account later
 
 abbrev pub is_account_row : Row → Bool
 is_account_row (rows.Account a) = true

@@ -1,9 +1,9 @@
 // What the arguments of a call ask for.
 ghost use Rattle.std.specs.Prelude.{◌≡◌, IfOk};
 ghost use Rattle.std.specs.Option.{option_copied};
-ghost use Rattle.acct_rules.specs.Asked.{class_of, desired_access, has_account, asked_sid, asked_rid, asked_name};
+ghost use Rattle.acct_rules.specs.Asked.{class_of, desired_access, has_asked_account, asked_sid, asked_rid, asked_name};
 ghost use Rattle.acct_rules.specs.Asked.{asked_names, asked_rids, asked_context, asked_length, asked_filter};
-ghost use Rattle.acct_rules.specs.Asked.{asked_index, asked_count, made_name, made_bits, put_text, put_number};
+ghost use Rattle.acct_rules.specs.Asked.{asked_index, asked_count, made_name, made_type, put_text, put_number};
 ghost use Rattle.acct_rules.specs.Asked.{units_in, or_empty, named_info, set_bytes};
 
 use acct_calls::{Args, Info, Name, NoMemory};
@@ -38,8 +38,8 @@ pub fn desired_access(args: &Args) -> u32
 }
 
 /// Whether the policy has an account of the SID whose rights are asked for.
-pub fn has_account(rows: &Rows, args: &Args) -> bool
-    ensures { result ≡ has_account rows.now.lists args.now }
+pub fn has_asked_account(rows: &Rows, args: &Args) -> bool
+    ensures { result ≡ has_asked_account rows.now.lists args.now }
 {
     match args {
         Args::Rights { sid, .. } => rows.lsa_account(sid).is_some(),
@@ -182,8 +182,8 @@ pub fn made_name(args: &Args) -> Option<&Name>
 }
 
 /// The control bits that the new account begins with; 0 where there are none.
-pub fn made_bits(args: &Args) -> u32
-    ensures { result ≡ made_bits args.now }
+pub fn made_type(args: &Args) -> u32
+    ensures { result ≡ made_type args.now }
 {
     match args {
         Args::Make { bits, .. } => *bits,

@@ -22,7 +22,7 @@ pub use acct_calls::NoMemory;
 pub use acct_rows::Object;
 pub use asked::{
     asked_context, asked_count, asked_filter, asked_index, asked_length, asked_name, asked_names,
-    asked_rid, asked_rids, asked_sid, class_of, desired_access, made_bits, made_name, named_info,
+    asked_rid, asked_rids, asked_sid, class_of, desired_access, made_name, made_type, named_info,
     put_number, put_text, set_bytes, text_or_empty, units_in,
 };
 pub use mapped::{mapped_status, use_of_kind};

@@ -1,7 +1,7 @@
 // What names and SIDs that were looked for are used for, and how many of them are mapped.
 ghost use Rattle.std.specs.Prelude.{◌≡◌};
 ghost use Rattle.std.specs.List.{list_all, list_any};
-ghost use Rattle.acct_rules.specs.Mapped.{use_of_kind, is_mapped, mapped_status};
+ghost use Rattle.acct_rules.specs.Planned.{use_of_kind, is_mapped, mapped_status};
 
 use acct_codes::Kind;
 use acct_codes::sid_use::{SID_TYPE_ALIAS, SID_TYPE_GROUP, SID_TYPE_UNKNOWN, SID_TYPE_USER};

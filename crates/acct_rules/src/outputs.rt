@@ -1,6 +1,6 @@
 // The outputs of what was opened.
 ghost use Rattle.std.specs.Prelude.{◌≡◌};
-ghost use Rattle.acct_rules.specs.Filled.{filled, shown_grant};
+ghost use Rattle.acct_rules.specs.Planned.{filled, shown_grant};
 
 use acct_calls::{Handle, Outs};
 use acct_layouts::{Outputs, ScalarOutputs};

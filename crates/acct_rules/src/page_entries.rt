@@ -1,7 +1,6 @@
 // The entries of a page that are names with numbers.
 ghost use Rattle.std.specs.Prelude.{◌≡◌, [], ◌∷◌, ◌++◌, IfOk, if◌then◌else◌};
-ghost use Rattle.acct_rules.specs.Pages.{preferred_room, has_room, room_behind};
-ghost use Rattle.acct_rules.specs.PageEntries.{entry, name_cost, last_rid};
+ghost use Rattle.acct_rules.specs.Pages.{preferred_room, has_room, room_behind, entry, name_cost, last_rid};
 
 use crate::pages::PageRoom;
 use acct_base::Seq;

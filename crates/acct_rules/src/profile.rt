@@ -1,8 +1,8 @@
 // What is fixed for an operation before its conditions: its profile.
 ghost use Rattle.std.specs.Prelude.{◌≡◌};
-ghost use Rattle.acct_rules.specs.Profiles.{needed, change_bits, asking};
+ghost use Rattle.acct_rules.specs.Profiles.{needed_bits, change_bits, asking};
 
-use crate::asked::{class_of, has_account, named_info};
+use crate::asked::{class_of, has_asked_account, named_info};
 use acct_calls::{Args, Face};
 use acct_codes::Kind;
 use acct_codes::security_information::{
@@ -68,6 +68,8 @@ pub enum Memory {
     Never,
     /// Only where no condition fails, that of an opening included.
     AfterConditions,
+    /// Only where no condition fails, that of an opening left out, which comes last.
+    BeforeOpening,
     Anywhere,
 }
 
@@ -115,7 +117,7 @@ fn change_bits(info: u32) -> u32
 
 /// The bits that the handle's grant must have.
 pub fn needed_bits(needs: Needs, rows: &Rows, args: &Args) -> u32
-    ensures { result ≡ needed needs rows.now.lists args.now }
+    ensures { result ≡ needed_bits needs rows.now.lists args.now }
 {
     match needs {
         Needs::Bits(bits) => bits,
@@ -131,7 +133,7 @@ pub fn needed_bits(needs: Needs, rows: &Rows, args: &Args) -> u32
             }
         }
         Needs::ByAccount { bits, missing } => {
-            if has_account(rows, args) {
+            if has_asked_account(rows, args) {
                 bits
             } else {
                 missing

@@ -9,7 +9,7 @@ use Rattle.std.proofs.lemmas.Bool.Decides.{nat_tests}
 use Rattle.std.proofs.lemmas.List.{append-nil}
 use Rattle.std.proofs.lemmas.List.Elements.{filter-append}
 use Rattle.acct_config.specs.declared.config.Config.{Config}
-use Rattle.acct_config.specs.Right.{IsRight}
+use Rattle.acct_config.specs.Spelled.{IsRightConfig}
 use Rattle.acct_calls.specs.declared.calls.Call.{Call}
 use Rattle.acct_rows.specs.Rows.{Lists}
 use Rattle.acct_rows.specs.Sound.{IsSoundRows}
@@ -355,7 +355,7 @@ pub record Laws : Type 0 where
 
 pub audited-more : Laws → (start : Start) (before : List Entry) (e : Entry) (event : ℕ) (past new : Past)
     (at new_at : Openings) (found all : List Trace)
-    → IsRight start.config → IsSoundRows start.rows → Legally start before e → length (before ++ e ∷ []) < 2 ^ 64
+    → IsRightConfig start.config → IsSoundRows start.rows → Legally start before e → length (before ++ e ∷ []) < 2 ^ 64
     → event ≡ length before + 1
     → Audited start.config start.rows before past at found → TracesEvent past at event e found new new_at all
     → Audited start.config start.rows (before ++ e ∷ []) new new_at all
@@ -427,7 +427,7 @@ may-walk start before (e ∷ es) past config rows history legal hooks =
 
 audited-walk : Laws → (start : Start) (before es : List Entry) (past new : Past) (at new_at : Openings)
     (found all : List Trace)
-    → IsRight start.config → IsSoundRows start.rows → Legal start before → LegalAfter start before es
+    → IsRightConfig start.config → IsSoundRows start.rows → Legal start before → LegalAfter start before es
     → length (before ++ es) < 2 ^ 64
     → Audited start.config start.rows before past at found
     → Walks past at (length before + 1) es found new new_at all

@@ -8,17 +8,15 @@ use Rattle.acct_config.specs.declared.config.Config.{Config}
 use Rattle.acct_config.specs.declared.limits.Limits.{Limits}
 use Rattle.acct_calls.specs.declared.calls.Call.{Call}
 use Rattle.acct_rows.specs.Rows.{Lists}
-use Rattle.acct_rules.specs.Operations.{Operation}
+use Rattle.acct_rules.specs.Profiles.{Operation}
 use Rattle.acct_machine.specs.declared.entry.Verdict.{Verdict}
 use Rattle.acct_machine.specs.declared.entry.Verdict.TheVariants.{Ran, StoreFault, NoMemory}
 use Rattle.acct_machine.specs.declared.entry.Entry.{Entry}
 use Rattle.acct_machine.specs.declared.entry.Entry.TheVariants.{Opened, Called, Gone, Hooked}
 use Rattle.acct_machine.specs.State.{State, Start, first, is_live}
-use Rattle.acct_machine.specs.Calls.{operation_of}
-use Rattle.acct_machine.specs.Room.{opened_count, call_count, stub_bytes, hooked_count, conns_full}
-use Rattle.acct_machine.specs.Room.{TakesCall}
+use Rattle.acct_machine.specs.Access.{operation_of}
+use Rattle.acct_machine.specs.Legal.{opened_count, call_count, stub_bytes, hooked_count, conns_full, TakesCall, May}
 use Rattle.acct_machine.specs.Step.{by_operation, step, state_after, state_at}
-use Rattle.acct_machine.specs.Legal.{May}
 use Rattle.acct_machine.specs.Outbox.{has_hook, least_out}
 use Rattle.acct_machine.specs.Machine.{state_of}
 use Rattle.acct_machine.specs.Shown.{Past}

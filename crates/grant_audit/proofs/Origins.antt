@@ -4,18 +4,17 @@ use Rattle.std.proofs.Common.{length, Option, Some, None, refl, sym, ◌∙◌, 
 use Rattle.std.specs.Prelude.{is_none, is_some}
 use Rattle.std.proofs.lemmas.Bool.{cases_eq}
 use Rattle.std.proofs.lemmas.List.{append-nil}
-use Rattle.acct_config.specs.Right.{IsRight}
+use Rattle.acct_config.specs.Spelled.{IsRightConfig}
 use Rattle.acct_rows.specs.Sound.{IsSoundRows}
 use Rattle.acct_rules.specs.declared.planned.Effect.{Effect}
 use Rattle.acct_rules.specs.declared.planned.Effect.TheVariants as effects
 use Rattle.acct_rules.specs.Planned.{opening_of}
-use Rattle.acct_rules.specs.Operations.{Operation}
+use Rattle.acct_rules.specs.Profiles.{Operation}
 use Rattle.acct_machine.specs.declared.entry.Entry.{Entry}
 use Rattle.acct_machine.specs.declared.state.Held.{Held}
 use Rattle.acct_machine.specs.State.{State, Start, first, last_serial, number_of}
-use Rattle.acct_machine.specs.Opening.{grant_of}
-use Rattle.acct_machine.specs.Outcome.{planned_of}
-use Rattle.acct_machine.specs.Step.{step, state_after, state_at}
+use Rattle.acct_machine.specs.Access.{grant_of}
+use Rattle.acct_machine.specs.Step.{planned_of, step, state_after, state_at}
 use Rattle.acct_machine.specs.Legal.{LegalAfter, Legal}
 use Rattle.acct_machine.specs.Coming.{handle_at, GivesNone, GivesOne, HandlesComeInOrder, HandlesAreFound}
 use Rattle.grant_audit.specs.Origins.{gives, granted_to, granted_by, granted_in, Origin, origins_from, origins}
@@ -197,7 +196,7 @@ tracked-step s before e conn serial (inr one) was =
 abbrev pub AllTracked : Start → List Entry → Type 0
 AllTracked start before = (conn serial : ℕ) → Tracked (first start) before conn serial
 
-pub all-tracked : HandlesComeInOrder → (start : Start) (before es : List Entry) → IsRight start.config
+pub all-tracked : HandlesComeInOrder → (start : Start) (before es : List Entry) → IsRightConfig start.config
     → IsSoundRows start.rows → Legal start before → LegalAfter start before es → AllTracked start before
     → AllTracked start (before ++ es)
 all-tracked order start before [] right rows was legal tracked =
@@ -213,7 +212,7 @@ all-tracked order start before (e ∷ es) right rows was legal tracked =
 pub tracked-first : (start : Start) → AllTracked start []
 tracked-first start conn serial = record { later = λ lt. refl; there = λ held is. cc }
 
-pub tracked-at : HandlesComeInOrder → (start : Start) (history : List Entry) → IsRight start.config
+pub tracked-at : HandlesComeInOrder → (start : Start) (history : List Entry) → IsRightConfig start.config
     → IsSoundRows start.rows → Legal start history → AllTracked start history
 tracked-at order start history right rows legal =
     all-tracked order start [] history right rows tt legal (tracked-first start)
@@ -233,7 +232,7 @@ stays-step old new e conn serial (inr one) le =
     )
 
 pub origins-stay : HandlesComeInOrder → (start : Start) (before es : List Entry) (conn serial : ℕ)
-    → IsRight start.config → IsSoundRows start.rows → Legal start before → LegalAfter start before es
+    → IsRightConfig start.config → IsSoundRows start.rows → Legal start before → LegalAfter start before es
     → serial ≤ last_serial conn (state_at start before).conns
     → origins (first start) (before ++ es) conn serial ≡ origins (first start) before conn serial
 origins-stay order start before [] conn serial right rows was legal le =

@@ -4,22 +4,20 @@ use Rattle.std.proofs.Common.{Option, Some, None, refl, sym, ◌∙◌, ap, subs
 use Rattle.std.specs.List.{All}
 use Rattle.std.specs.Prelude.{unwrap_or}
 use Rattle.std.proofs.lemmas.List.Elements.{All-append, All-cons, All-nil}
-use Rattle.acct_config.specs.Right.{IsRight}
+use Rattle.acct_config.specs.Spelled.{IsRightConfig}
 use Rattle.acct_calls.specs.declared.calls.Call.{Call}
-use Rattle.acct_rows.specs.Objects.{kind_of}
+use Rattle.acct_tables.specs.Keys.{kind_of}
 use Rattle.acct_rows.specs.Sound.{IsSoundRows}
 use Rattle.acct_rules.specs.declared.profile.Brings.{Brings}
 use Rattle.acct_rules.specs.declared.profile.Brings.TheVariants as brings
 use Rattle.acct_rules.specs.declared.profile.Kinds.{Kinds}
-use Rattle.acct_rules.specs.Profiles.{takes, needed}
-use Rattle.acct_rules.specs.Operations.{Operation}
+use Rattle.acct_rules.specs.Profiles.{takes, needed_bits, Operation}
 use Rattle.acct_machine.specs.declared.checks.Access.TheVariants.{Passed, WrongKind, Denied}
 use Rattle.acct_machine.specs.declared.entry.Entry.{Entry}
 use Rattle.acct_machine.specs.declared.entry.Entry.TheVariants.{Opened, Called, Gone, Hooked}
 use Rattle.acct_machine.specs.declared.state.Held.{Held}
 use Rattle.acct_machine.specs.State.{State, Start, first, number_of}
-use Rattle.acct_machine.specs.Access.{held_by, has_bits, access_by, access_with}
-use Rattle.acct_machine.specs.Calls.{operation_of}
+use Rattle.acct_machine.specs.Access.{held_by, has_bits, access_by, access_with, operation_of}
 use Rattle.acct_machine.specs.Given.{is_brought, is_passed, needed_in, needed_of, passed_in, passed_handle}
 use Rattle.acct_machine.specs.Step.{state_at}
 use Rattle.acct_machine.specs.Legal.{LegalAfter, Legal}
@@ -57,7 +55,7 @@ enough-in : (o : Option Operation) (s : State) (conn : ℕ) (call : Call) (held 
     → (held_by s conn call ≡ Some held) × (has_bits held.granted (needed_in o s.rows call.args) ≡ true)
 enough-in None s conn call held is = cc
 enough-in (Some o) s conn call held is =
-    enough-brought o.profile.brings (needed o.profile.needs s.rows call.args) (held_by s conn call) held is
+    enough-brought o.profile.brings (needed_bits o.profile.needs s.rows call.args) (held_by s conn call) held is
 
 -- it is the connection's, and its grant has each bit that is needed
 pub passed-enough : (s : State) (conn : ℕ) (call : Call) (held : Held) → passed_handle s conn call ≡ Some held
@@ -99,7 +97,7 @@ single : (P : Trace → Type 0) (t : Trace) → P t → All P (t ∷ [])
 single P t holds = All-cons P t [] holds (All-nil P)
 
 traced-right : HandlesComeInOrder → HandlesAreFound → (start : Start) (before es : List Entry) (conn : ℕ) (call : Call)
-    → IsRight start.config → IsSoundRows start.rows → Legal start before → LegalAfter start before es
+    → IsRightConfig start.config → IsSoundRows start.rows → Legal start before → LegalAfter start before es
     → AllTracked start before → (o : Option Held) → passed_handle (state_at start before) conn call ≡ o
     → All (IsTraced start.config start.rows (before ++ es)) (traced (first start) before call o)
 traced-right order found start before es conn call right rows was legal tracked None is =
@@ -134,7 +132,7 @@ traced-right order found start before es conn call right rows was legal tracked 
     })
 
 event-right : HandlesComeInOrder → HandlesAreFound → (start : Start) (before : List Entry) (e : Entry) (es : List Entry)
-    → IsRight start.config → IsSoundRows start.rows → Legal start before → LegalAfter start before (e ∷ es)
+    → IsRightConfig start.config → IsSoundRows start.rows → Legal start before → LegalAfter start before (e ∷ es)
     → AllTracked start before
     → All (IsTraced start.config start.rows (before ++ e ∷ es)) (traces_at (first start) before e)
 event-right order found start before (Opened conn listener) es right rows was legal tracked =
@@ -148,7 +146,7 @@ event-right order found start before (Hooked number) es right rows was legal tra
     All-nil (IsTraced start.config start.rows (before ++ Hooked number ∷ es))
 
 pub traces-right : HandlesComeInOrder → HandlesAreFound → (start : Start) (before es : List Entry)
-    → IsRight start.config → IsSoundRows start.rows → Legal start before → LegalAfter start before es
+    → IsRightConfig start.config → IsSoundRows start.rows → Legal start before → LegalAfter start before es
     → AllTracked start before
     → All (IsTraced start.config start.rows (before ++ es)) (traces_after (first start) before es)
 traces-right order found start before [] right rows was legal tracked =

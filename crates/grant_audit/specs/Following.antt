@@ -3,7 +3,7 @@ use Rattle.std.specs.Prelude.{◌≡◌, ℕ, ◌+◌, ◌^◌, ◌≤◌, ◌<�
 use Rattle.std.specs.Prelude.{Option, Some, None, unwrap_or, option_to_list, if◌then◌else◌, ⊤}
 use Rattle.std.specs.List.{filter}
 use Rattle.acct_config.specs.declared.config.Config.{Config}
-use Rattle.acct_config.specs.Right.{IsRight}
+use Rattle.acct_config.specs.Spelled.{IsRightConfig}
 use Rattle.acct_calls.specs.declared.calls.Call.{Call}
 use Rattle.acct_rows.specs.Rows.{Lists}
 use Rattle.acct_rows.specs.Sound.{IsSoundRows}
@@ -12,8 +12,8 @@ use Rattle.acct_machine.specs.declared.entry.Entry.{Entry}
 use Rattle.acct_machine.specs.declared.entry.Entry.TheVariants.{Opened, Called, Gone, Hooked}
 use Rattle.acct_machine.specs.declared.state.Held.{Held}
 use Rattle.acct_machine.specs.State.{State, is_live, last_serial, number_of}
-use Rattle.acct_machine.specs.Calls.{IsCall}
-use Rattle.acct_machine.specs.Room.{conns_full, TakesCall}
+use Rattle.acct_machine.specs.Access.{IsCall}
+use Rattle.acct_machine.specs.Legal.{conns_full, TakesCall}
 use Rattle.acct_machine.specs.Step.{state_after}
 use Rattle.acct_machine.specs.Given.{needed_of, passed_handle}
 use Rattle.acct_machine.specs.Hooking.{IsFirst}
@@ -128,7 +128,7 @@ Walks past at n (e ∷ es) found new new_at all =
 -- what was found so is what the definition says
 abbrev pub WalksAreTraces : Type 0
 WalksAreTraces =
-    (config : Config) (rows : Lists) (history : List Entry) → IsRight config → IsSoundRows rows
+    (config : Config) (rows : Lists) (history : List Entry) → IsRightConfig config → IsSoundRows rows
     → IsLegalFrom config rows history → HooksAreTold config history → (past : Past) (at : Openings)
     → past ≡ record { start = record { config = config; rows = rows; faults = 0 }; history = [] }
     → ((number : ℕ) → at number ≡ None)

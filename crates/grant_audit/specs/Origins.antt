@@ -4,14 +4,12 @@ use Rattle.std.specs.Prelude.{if◌then◌else◌}
 use Rattle.acct_calls.specs.declared.calls.Call.{Call}
 use Rattle.acct_rules.specs.declared.planned.Opening.{Opening}
 use Rattle.acct_rules.specs.Planned.{opening_of}
-use Rattle.acct_rules.specs.Operations.{Operation}
+use Rattle.acct_rules.specs.Profiles.{Operation}
 use Rattle.acct_machine.specs.declared.entry.Entry.{Entry}
 use Rattle.acct_machine.specs.declared.entry.Entry.TheVariants.{Opened, Called, Gone, Hooked}
 use Rattle.acct_machine.specs.State.{State}
-use Rattle.acct_machine.specs.Opening.{grant_of}
-use Rattle.acct_machine.specs.Calls.{operation_of}
-use Rattle.acct_machine.specs.Outcome.{planned_of}
-use Rattle.acct_machine.specs.Step.{step}
+use Rattle.acct_machine.specs.Access.{grant_of, operation_of}
+use Rattle.acct_machine.specs.Step.{planned_of, step}
 use Rattle.acct_machine.specs.Coming.{handle_at}
 
 -- the step of an event gives the connection the handle with this serial: it wasn't there before, and is there after

@@ -1,7 +1,7 @@
 -- What holds of the traces of each legal history.
 use Rattle.std.specs.Prelude.{◌≡◌, ℕ, ◌<◌, true, false, List, [], ◌∷◌, Some, All}
 use Rattle.acct_config.specs.declared.config.Config.{Config}
-use Rattle.acct_config.specs.Right.{IsRight}
+use Rattle.acct_config.specs.Spelled.{IsRightConfig}
 use Rattle.acct_rows.specs.Rows.{Lists}
 use Rattle.acct_rows.specs.Sound.{IsSoundRows}
 use Rattle.acct_machine.specs.declared.entry.Entry.{Entry}
@@ -9,9 +9,8 @@ use Rattle.acct_machine.specs.declared.state.Held.{Held}
 use Rattle.acct_machine.specs.State.{Start}
 use Rattle.acct_machine.specs.Access.{has_bits}
 use Rattle.acct_machine.specs.Coming.{handle_at}
-use Rattle.acct_machine.specs.Legal.{Legal}
+use Rattle.acct_machine.specs.Legal.{Legal, hooked_count}
 use Rattle.acct_machine.specs.Outbox.{has_hook}
-use Rattle.acct_machine.specs.Room.{hooked_count}
 use Rattle.acct_machine.specs.Step.{state_at}
 use Rattle.grant_audit.specs.declared.trace.Trace.{Trace}
 use Rattle.grant_audit.specs.Origins.{origins}
@@ -37,7 +36,7 @@ pub record IsTraced (config : Config) (rows : Lists) (history : List Entry) (tra
 -- so it is with each trace of each legal history that begins with sound rows under a right configuration
 abbrev pub TracesAreRight : Type 0
 TracesAreRight =
-    (config : Config) (rows : Lists) (history : List Entry) → IsRight config → IsSoundRows rows
+    (config : Config) (rows : Lists) (history : List Entry) → IsRightConfig config → IsSoundRows rows
     → IsLegalFrom config rows history
     → All (IsTraced config rows history) (traces config rows history)
 
@@ -52,7 +51,7 @@ pub record HasOrigin (config : Config) (rows : Lists) (history : List Entry) (he
 -- so it is with each handle after each such history
 abbrev pub HandlesHaveOrigins : Type 0
 HandlesHaveOrigins =
-    (start : Start) (history : List Entry) (conn serial : ℕ) (held : Held) → IsRight start.config
+    (start : Start) (history : List Entry) (conn serial : ℕ) (held : Held) → IsRightConfig start.config
     → IsSoundRows start.rows → Legal start history
     → handle_at (state_at start history) conn serial ≡ Some held
     → HasOrigin start.config start.rows history held

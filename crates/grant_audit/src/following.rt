@@ -1,12 +1,12 @@
 // The second machine, which runs what had an effect.
 ghost use Rattle.std.specs.Prelude.{◌≡◌, ◌<◌, ◌+◌, ◌-◌, true, [], None, length, slice_get, IfOk, OnOk};
-ghost use Rattle.acct_config.specs.Right.{IsRight};
+ghost use Rattle.acct_config.specs.Spelled.{IsRightConfig};
 ghost use Rattle.acct_rows.specs.Sound.{IsSoundRows};
 ghost use Rattle.acct_machine.specs.declared.entry.Entry.TheVariants.{Opened as OpenedEntry, Called, Hooked};
 ghost use Rattle.acct_machine.specs.declared.entry.Verdict.TheVariants.{Ran};
 ghost use Rattle.acct_machine.specs.State.{is_live};
-ghost use Rattle.acct_machine.specs.Calls.{IsCall};
-ghost use Rattle.acct_machine.specs.Room.{conns_full, TakesCall};
+ghost use Rattle.acct_machine.specs.Access.{IsCall};
+ghost use Rattle.acct_machine.specs.Legal.{conns_full, TakesCall};
 ghost use Rattle.acct_machine.specs.Hooking.{IsFirst};
 ghost use Rattle.acct_machine.specs.Machine.{state_of, with_entry};
 ghost use Rattle.acct_machine.specs.Outbox.{has_hook};
@@ -22,7 +22,7 @@ use std::alloc::{AllocError, Global};
 
 /// A machine to which nothing has happened, from a copy of the rows.
 pub fn begin(alloc: Global, config: &Config, rows: &Rows) -> Result<Machine<Unkept>, NoMemory>
-    requires right { IsRight config.now }
+    requires right { IsRightConfig config.now }
     requires sound { IsSoundRows rows.now.lists }
     ensures { IfOk result (λ machine. machine.past
         ≡ record { start = record { config = config.now; rows = rows.now.lists; faults = 0 }; history = [] }) }

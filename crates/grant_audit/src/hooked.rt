@@ -1,6 +1,6 @@
 // How many changes of accounts were taken from the outbox.
 ghost use Rattle.std.specs.Prelude.{◌≡◌};
-ghost use Rattle.acct_machine.specs.Room.{hooked_count};
+ghost use Rattle.acct_machine.specs.Legal.{hooked_count};
 ghost use Rattle.grant_audit.specs.Following.{is_hooked};
 
 use acct_machine::Entry;

@@ -1,7 +1,7 @@
 // What is told of each event.
 ghost use Rattle.std.specs.Prelude.{◌≡◌, ◌++◌, ℕ, ◌<◌, ◌^◌, length, All, option_to_list, IfOk, OnOk, nat_eq};
 ghost use Rattle.std.specs.HashMap.{get};
-ghost use Rattle.acct_config.specs.Right.{IsRight};
+ghost use Rattle.acct_config.specs.Spelled.{IsRightConfig};
 ghost use Rattle.acct_rows.specs.Sound.{IsSoundRows};
 ghost use Rattle.acct_machine.specs.Given.{passed_handle};
 ghost use Rattle.acct_machine.specs.Machine.{state_of};
@@ -129,7 +129,7 @@ pub fn trace_of(
     rows: &Rows,
     history: &[Entry],
 ) -> Result<Vec<Trace>, NoMemory>
-    requires right { IsRight config.now }
+    requires right { IsRightConfig config.now }
     requires sound { IsSoundRows rows.now.lists }
     requires legal { IsLegalFrom config.now rows.now.lists history.now }
     requires hooks { HooksAreTold config.now history.now }

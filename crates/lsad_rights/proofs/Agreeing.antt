@@ -5,15 +5,14 @@ use Rattle.std.proofs.Common.{refl, sym, ap, ◌∙◌}
 use Rattle.std.specs.List.{filter, list_any}
 use Rattle.std.proofs.lemmas.List.Elements.{All-head, All-tail}
 use Rattle.std.proofs.lemmas.List.Folds.{list_any-append}
-use Rattle.acct_calls.specs.Folding.{is_same, IsEquivalence}
-use Rattle.acct_rows.specs.Sound.{IsKnown, IsGoodLsa}
-use Rattle.acct_rows.specs.declared.row.Held.{Held}
-use Rattle.acct_rows.specs.declared.row.LsaRow.{LsaRow}
-use Rattle.lsad_rights.specs.HeldRights.{name_in, held_name, names_held, privilege_names, logon_names}
+use Rattle.acct_calls.specs.Names.{is_same, IsEquivalence}
+use Rattle.acct_tables.specs.Good.{IsKnown, IsGoodLsa}
+use Rattle.acct_tables.specs.declared.row.Held.{Held}
+use Rattle.acct_tables.specs.declared.row.LsaRow.{LsaRow}
+use Rattle.lsad_rights.specs.Listings.{name_in, held_name, names_held, privilege_names, logon_names}
 use Rattle.lsad_rights.specs.Laws.{holds_some, RightsAgree}
-use Rattle.lsad_rights.specs.LogonRights.{right_row, bit_of, right_name, has_right, rights_of, logon_rights}
-use Rattle.lsad_rights.specs.LogonRights.{is_right_named, logon_right_named}
-use Rattle.lsad_rights.specs.Privileges.{low_of, name_of, privileges, is_named, privilege_named}
+use Rattle.lsad_rights.specs.Rights.{right_row, bit_of, right_name, has_right, rights_of, logon_rights, is_right_named}
+use Rattle.lsad_rights.specs.Rights.{logon_right_named, low_of, name_of, privileges, is_named, privilege_named}
 use Rattle.lsad_rights.specs.Rights.{either_right, has_privilege}
 use Rattle.lsad_rights.specs.declared.logon_rights.LogonRight.{LogonRight}
 use Rattle.lsad_rights.specs.declared.logon_rights.LogonRight.TheVariants.{Interactive, Network, Batch, Service}

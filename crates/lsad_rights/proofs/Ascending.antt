@@ -5,10 +5,10 @@ use Rattle.std.specs.Cmp.{first_so, second_so}
 use Rattle.std.specs.List.{filter}
 use Rattle.std.proofs.lemmas.Bool.Decides.{nat_tests}
 use Rattle.std.proofs.lemmas.List.Elements.{All-cons, All-head, All-tail}
-use Rattle.acct_rows.specs.Sound.{are_above, IsKnown}
-use Rattle.lsad_rights.specs.Held.{with_held, held_at}
+use Rattle.acct_tables.specs.Good.{are_above, IsKnown}
+use Rattle.lsad_rights.specs.Holdings.{with_held, held_at}
 use Rattle.lsad_rights.specs.Rights.{has_privilege}
-use Rattle.acct_rows.specs.declared.row.Held.{Held}
+use Rattle.acct_tables.specs.declared.row.Held.{Held}
 
 below : (m n : ℕ) → m < n → nat_lt m n ≡ true
 below m n lt = grind (arith, nat_tests)

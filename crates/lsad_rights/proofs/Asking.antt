@@ -4,7 +4,7 @@ use Rattle.acct_calls.specs.declared.calls.Args.{Args}
 use Rattle.acct_calls.specs.declared.calls.Args.TheVariants as args
 use Rattle.acct_calls.specs.declared.calls.Call.{Call}
 use Rattle.acct_calls.specs.declared.calls.Face.{Face}
-use Rattle.acct_layouts.specs.Bounds.{IsLong}
+use Rattle.acct_layouts.specs.Values.{IsLong}
 use Rattle.acct_layouts.specs.CallShapes.{CanBeSpelled, HasArguments, AreSearchArgs}
 use Rattle.acct_layouts.specs.Table.{layout_of}
 use Rattle.acct_layouts.specs.declared.fields.Search.TheVariants as search

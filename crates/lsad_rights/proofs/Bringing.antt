@@ -6,12 +6,12 @@ use Rattle.acct_calls.specs.declared.calls.Call.{Call}
 use Rattle.acct_calls.specs.declared.calls.Face.{Face}
 use Rattle.acct_calls.specs.declared.calls.Face.TheVariants.{Lsa}
 use Rattle.acct_codes.specs.Opnums.{lsar_create_account, lsar_add_privileges_to_account, lsar_add_account_rights}
-use Rattle.acct_layouts.specs.Bounds.{IfThere, IsPrivilege}
+use Rattle.acct_layouts.specs.Values.{IfThere, IsPrivilege}
 use Rattle.acct_layouts.specs.CallShapes.{CanBeSpelled, HasArguments, ArePolicyArgs}
 use Rattle.acct_layouts.specs.Table.{layout_of, lsa_layout}
 use Rattle.acct_layouts.specs.declared.fields.PolicyFields.TheVariants as policy
 use Rattle.acct_rules.specs.Asked.{asked_sid}
-use Rattle.dtyp_sid.specs.Value.{IsSid}
+use Rattle.dtyp_sid.specs.Sids.{IsSid}
 use Rattle.lsad_rights.specs.RightsChanges.{brought_sid}
 use Rattle.lsad_rights.specs.Holdings.{brought_privileges}
 

@@ -3,24 +3,23 @@ use Rattle.std.proofs.Common.{◌≡◌, ℕ, Bool, true, false, not, List, [], 
 use Rattle.std.proofs.Common.{subst}
 use Rattle.std.specs.Prelude.{◌&&◌}
 use Rattle.acct_calls.specs.declared.calls.Args.{Args}
-use Rattle.acct_layouts.specs.Bounds.{IfThere}
+use Rattle.acct_layouts.specs.Values.{IfThere}
 use Rattle.acct_rows.specs.Laws.{LsaAccountsStaySound, RemovedLsaAccountsStaySound, PutsAreFound}
-use Rattle.acct_rows.specs.Objects.{exists}
-use Rattle.acct_rows.specs.Rows.{Lists, lsa_at, after}
-use Rattle.acct_rows.specs.Sound.{IsSoundRows, IsGoodLsa}
-use Rattle.acct_rows.specs.declared.object.Object.{Object}
-use Rattle.acct_rows.specs.declared.object.Object.TheVariants as objects
-use Rattle.acct_rows.specs.declared.row.LsaRow.{LsaRow}
+use Rattle.acct_rows.specs.Rows.{exists, Lists, lsa_at, after}
+use Rattle.acct_rows.specs.Sound.{IsSoundRows}
+use Rattle.acct_tables.specs.Good.{IsGoodLsa}
+use Rattle.acct_tables.specs.declared.object.Object.{Object}
+use Rattle.acct_tables.specs.declared.object.Object.TheVariants as objects
+use Rattle.acct_tables.specs.declared.row.LsaRow.{LsaRow}
 use Rattle.acct_rules.specs.Asked.{asked_sid, desired_access}
 use Rattle.acct_rules.specs.Operations.{KeepsRows, Keeps}
 use Rattle.acct_rules.specs.Planned.{opens, puts}
 use Rattle.acct_rules.specs.declared.planned.Effect.TheVariants as effects
 use Rattle.acct_rules.specs.declared.planned.Opening.{Opening}
-use Rattle.dtyp_sid.specs.Value.{SidValue, IsSid}
-use Rattle.lsad_rights.specs.AccountObjects.{new_account, new_rows}
+use Rattle.dtyp_sid.specs.Sids.{SidValue, IsSid}
+use Rattle.lsad_rights.specs.Accounts.{new_account, new_rows, account_of, account_of_sid, object_of_sid}
 use Rattle.lsad_rights.specs.RightsChanges.{brought_sid, brought_names, adjusts, added_rows, left_rows, left_of}
 use Rattle.lsad_rights.specs.RightsChanges.{account_or_new, with_rights}
-use Rattle.lsad_rights.specs.Found.{account_of, account_of_sid, object_of_sid}
 use Rattle.lsad_rights.specs.Holdings.{changed, with_privileges, without_privileges, with_access}
 use Rattle.lsad_rights.specs.Table.{create_account_in_policy, open_account_in_policy, delete_object}
 use Rattle.lsad_rights.specs.Table.{add_privileges_to_account, remove_privileges_from_account}

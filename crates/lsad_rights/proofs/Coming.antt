@@ -7,28 +7,25 @@ use Rattle.std.specs.Ordering.{is_eq}
 use Rattle.std.specs.declared.cmp.Ordering.{Ordering}
 use Rattle.std.specs.declared.cmp.Ordering.TheVariants.{Less, Equal, Greater}
 use Rattle.acct_calls.specs.declared.calls.Args.{Args}
-use Rattle.acct_rows.specs.Keyed.{same_key, at, without}
+use Rattle.acct_tables.specs.KeyedRows.{same_key, at, without}
 use Rattle.acct_rows.specs.Laws.{PutsAreFound, PutsLeaveOthers, EachLsaIsGood}
-use Rattle.acct_rows.specs.Rows.{Lists, lsa_key, sid_key, lsa_at, after, put_row, remove_row}
+use Rattle.acct_rows.specs.Rows.{Lists, lsa_at, after, put_row, remove_row}
+use Rattle.acct_tables.specs.Keys.{lsa_key, sid_key}
 use Rattle.acct_rows.specs.Sound.{IsSoundRows}
-use Rattle.acct_rows.specs.declared.object.Object.{Object}
-use Rattle.acct_rows.specs.declared.object.Object.TheVariants as objects
-use Rattle.acct_rows.specs.declared.row.LsaRow.{LsaRow}
-use Rattle.acct_rows.specs.declared.row.Row.TheVariants as rows
-use Rattle.acct_rows.specs.declared.row.RowKey.TheVariants as keys
+use Rattle.acct_tables.specs.declared.object.Object.{Object}
+use Rattle.acct_tables.specs.declared.object.Object.TheVariants as objects
+use Rattle.acct_tables.specs.declared.row.LsaRow.{LsaRow}
+use Rattle.acct_tables.specs.declared.row.Row.TheVariants as rows
+use Rattle.acct_tables.specs.declared.row.RowKey.TheVariants as keys
 use Rattle.acct_rules.specs.Asked.{asked_sid}
 use Rattle.acct_rules.specs.Planned.{none_fails}
-use Rattle.dtyp_sid.specs.Order.{sid_eq, sid_cmp, EqualSidsAreOne}
-use Rattle.dtyp_sid.specs.Value.{SidValue}
-use Rattle.lsad_rights.specs.AccountObjects.{new_account, new_rows, create_account}
-use Rattle.lsad_rights.specs.Found.{account_of_sid}
-use Rattle.lsad_rights.specs.Held.{held_at}
-use Rattle.lsad_rights.specs.Holdings.{takes_all}
-use Rattle.lsad_rights.specs.Holders.{is_wanted}
+use Rattle.dtyp_sid.specs.Sids.{sid_eq, sid_cmp, EqualSidsAreOne, SidValue}
+use Rattle.lsad_rights.specs.Accounts.{new_account, new_rows, create_account, account_of_sid}
+use Rattle.lsad_rights.specs.Holdings.{held_at, takes_all}
+use Rattle.lsad_rights.specs.Listings.{is_wanted, sid_of_row}
 use Rattle.lsad_rights.specs.ChangeLaws.{OthersStay, IsMade, IsGone, RightsAreAdded, RightsAreTaken, rows_after}
 use Rattle.lsad_rights.specs.ChangeLaws.{names_right}
 use Rattle.lsad_rights.specs.ChangeLaws.{held_by}
-use Rattle.lsad_rights.specs.Listings.{sid_of_row}
 use Rattle.lsad_rights.specs.Rights.{holds}
 use Rattle.lsad_rights.specs.RightsChanges.{brought_sid, brought_names, account_or_new, with_rights, added_rows}
 use Rattle.lsad_rights.specs.RightsChanges.{left_of, left_rows, adjusts, is_no_right, add_rights, remove_rights}

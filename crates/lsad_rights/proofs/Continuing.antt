@@ -11,15 +11,14 @@ use Rattle.acct_calls.specs.declared.lists.RidName.{RidName}
 use Rattle.acct_codes.specs.Limits.{most_page}
 use Rattle.acct_rows.specs.Rows.{Lists}
 use Rattle.acct_rules.specs.Asked.{asked_context, asked_length}
-use Rattle.acct_rules.specs.Pages.{within, page}
-use Rattle.dtyp_sid.specs.Value.{SidValue}
+use Rattle.acct_rules.specs.Pages.{within, page, entry_cost, last_rid}
+use Rattle.dtyp_sid.specs.Sids.{SidValue}
 use Rattle.lsad_rights.specs.Laws.{privileges_given, privilege_context, privileges_given_of_all}
 use Rattle.lsad_rights.specs.Laws.{privilege_context_of_all, accounts_given, account_context, accounts_given_of_all}
 use Rattle.lsad_rights.specs.Laws.{account_context_of_all, EnumerationsGoOn}
-use Rattle.acct_rules.specs.PageEntries.{entry_cost, last_rid}
-use Rattle.lsad_rights.specs.Listings.{given_status, entry_of, is_behind, privileges_left}
-use Rattle.lsad_rights.specs.Listings.{sid_of_row, sid_cost, accounts_left}
-use Rattle.lsad_rights.specs.Privileges.{privilege_row, low_of, privileges}
+use Rattle.lsad_rights.specs.Listings.{given_status, entry_of, is_behind, privileges_left, sid_of_row, sid_cost}
+use Rattle.lsad_rights.specs.Listings.{accounts_left}
+use Rattle.lsad_rights.specs.Rights.{privilege_row, low_of, privileges}
 use Rattle.lsad_rights.specs.declared.privileges.KnownPrivilege.{KnownPrivilege}
 
 -- ---- privileges by ascending LUID

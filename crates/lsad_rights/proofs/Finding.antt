@@ -9,7 +9,7 @@ use Rattle.std.specs.Cmp.{first_so, second_so}
 use Rattle.std.proofs.lemmas.Bool.Decides.{nat_tests}
 use Rattle.std.proofs.lemmas.Option.{slice_get_past, slice_get_read}
 use Rattle.acct_codes.specs.Privileges.{se_create_token}
-use Rattle.lsad_rights.specs.Privileges.{privilege_row, low_of, privileges, has_low, privilege_of}
+use Rattle.lsad_rights.specs.Rights.{privilege_row, low_of, privileges, has_low, privilege_of}
 use Rattle.lsad_rights.specs.declared.privileges.KnownPrivilege.{KnownPrivilege}
 
 -- each has the next LUID, from one on

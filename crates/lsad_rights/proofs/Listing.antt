@@ -5,10 +5,10 @@ use Rattle.std.specs.Prelude.{min, nat_le}
 use Rattle.std.proofs.lemmas.Bool.Decides.{nat_tests}
 use Rattle.std.proofs.lemmas.List.{length-drop, length-map}
 use Rattle.acct_codes.specs.Limits.{most_page}
-use Rattle.acct_rows.specs.declared.row.LsaRow.{LsaRow}
+use Rattle.acct_tables.specs.declared.row.LsaRow.{LsaRow}
 use Rattle.acct_rules.specs.Pages.{within, page, preferred_room, given_in}
 use Rattle.acct_rules.specs.declared.pages.PageRoom.{PageRoom}
-use Rattle.dtyp_sid.specs.Value.{SidValue}
+use Rattle.dtyp_sid.specs.Sids.{SidValue}
 use Rattle.lsad_rights.specs.Listings.{sid_of_row, sid_cost}
 
 -- ---- how many are given

@@ -2,12 +2,12 @@
 use Rattle.std.proofs.Common.{◌≡◌, ℕ, true, List, [], Option, Some, None, refl}
 use Rattle.acct_calls.specs.declared.calls.Args.{Args}
 use Rattle.acct_rows.specs.Rows.{Lists}
-use Rattle.acct_rows.specs.declared.object.Object.{Object}
-use Rattle.acct_rows.specs.declared.object.Object.TheVariants as objects
-use Rattle.acct_rows.specs.declared.row.LsaRow.{LsaRow}
+use Rattle.acct_tables.specs.declared.object.Object.{Object}
+use Rattle.acct_tables.specs.declared.object.Object.TheVariants as objects
+use Rattle.acct_tables.specs.declared.row.LsaRow.{LsaRow}
 use Rattle.acct_rules.specs.Touched.{is_modest}
-use Rattle.dtyp_sid.specs.Value.{SidValue}
-use Rattle.lsad_rights.specs.AccountObjects.{new_rows, keys_of}
+use Rattle.dtyp_sid.specs.Sids.{SidValue}
+use Rattle.lsad_rights.specs.Accounts.{new_rows, keys_of}
 use Rattle.lsad_rights.specs.Holdings.{changed}
 use Rattle.lsad_rights.specs.RightsChanges.{added_rows, left_rows}
 

@@ -11,19 +11,14 @@ use Rattle.std.proofs.lemmas.Bool.Decides.{nat_tests}
 use Rattle.std.proofs.lemmas.Option.{slice_get-get_or}
 use Rattle.ucd_case.specs.CaseFolding.{simple_fold}
 use Rattle.ucd_case.proofs.CaseFoldingLemmas.{simple_fold-ascii}
-use Rattle.acct_calls.specs.CodePoints.{is_surrogate, code_points, units_of}
-use Rattle.acct_calls.specs.Folding.{folded_point, folded_points, is_same}
-use Rattle.acct_codes.specs.Privileges.{se_create_token, se_create_global}
-use Rattle.acct_codes.specs.SystemAccess.{known_system_access}
-use Rattle.acct_rows.specs.Sound.{IsKnown}
-use Rattle.acct_rows.specs.declared.row.Held.{Held}
-use Rattle.lsad_rights.specs.HeldRights.{name_in, held_name}
-use Rattle.lsad_rights.specs.Names.{low_in}
-use Rattle.lsad_rights.specs.LogonRights.{right_row, bit_of, right_name, rights_of, logon_rights, is_right_named}
-use Rattle.lsad_rights.specs.LogonRights.{logon_right_named}
-use Rattle.lsad_rights.specs.Privileges.{privilege_row, low_of, name_of, privileges, has_low, is_named}
-use Rattle.lsad_rights.specs.Privileges.{privilege_of, privilege_named}
-use Rattle.lsad_rights.specs.Rights.{either_right, right_named}
+use Rattle.acct_calls.specs.Names.{is_surrogate, code_points, units_of, folded_point, folded_points, is_same}
+use Rattle.acct_codes.specs.Privileges.{se_create_token, se_create_global, known_system_access}
+use Rattle.acct_tables.specs.Good.{IsKnown}
+use Rattle.acct_tables.specs.declared.row.Held.{Held}
+use Rattle.lsad_rights.specs.Listings.{name_in, held_name, low_in}
+use Rattle.lsad_rights.specs.Rights.{right_row, bit_of, right_name, rights_of, logon_rights, is_right_named}
+use Rattle.lsad_rights.specs.Rights.{logon_right_named, privilege_row, low_of, name_of, privileges, has_low, is_named}
+use Rattle.lsad_rights.specs.Rights.{privilege_of, privilege_named, either_right, right_named}
 use Rattle.lsad_rights.specs.declared.logon_rights.LogonRight.{LogonRight}
 use Rattle.lsad_rights.specs.declared.logon_rights.LogonRight.TheVariants.{Interactive, Network, Batch, Service}
 use Rattle.lsad_rights.specs.declared.logon_rights.LogonRight.TheVariants.{DenyInteractive, DenyNetwork, DenyBatch}

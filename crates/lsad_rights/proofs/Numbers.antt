@@ -5,10 +5,8 @@ use Rattle.std.specs.Prelude.{◌&&◌, bit_and}
 use Rattle.std.specs.Cmp.{first_so, second_so}
 use Rattle.std.specs.List.{find}
 use Rattle.std.proofs.lemmas.Bool.Decides.{nat_tests}
-use Rattle.acct_codes.specs.Privileges.{se_create_token, se_create_global}
-use Rattle.acct_codes.specs.SystemAccess.{known_system_access}
-use Rattle.lsad_rights.specs.LogonRights.{right_row, bit_of}
-use Rattle.lsad_rights.specs.Privileges.{privilege_row, privileges, low_of, has_low, privilege_of}
+use Rattle.acct_codes.specs.Privileges.{se_create_token, se_create_global, known_system_access}
+use Rattle.lsad_rights.specs.Rights.{right_row, bit_of, privilege_row, privileges, low_of, has_low, privilege_of}
 use Rattle.lsad_rights.specs.declared.logon_rights.LogonRight.{LogonRight}
 use Rattle.lsad_rights.specs.declared.logon_rights.LogonRight.TheVariants as right
 use Rattle.lsad_rights.specs.declared.privileges.KnownPrivilege.{KnownPrivilege}

@@ -4,8 +4,8 @@ use Rattle.std.proofs.Common.{get_or}
 use Rattle.std.proofs.Common.{set, insert, refl, sym, ap, subst, ◌∙◌, arith}
 use Rattle.std.specs.List.{prefix_len}
 use Rattle.std.proofs.lemmas.Bool.Decides.{nat_tests}
-use Rattle.lsad_rights.specs.Held.{is_below, with_held}
-use Rattle.acct_rows.specs.declared.row.Held.{Held}
+use Rattle.lsad_rights.specs.Holdings.{is_below, with_held}
+use Rattle.acct_tables.specs.declared.row.Held.{Held}
 
 equals : (m n : ℕ) → m ≡ n → (m == n) ≡ true
 equals m n e = grind (arith, nat_tests)

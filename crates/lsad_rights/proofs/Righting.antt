@@ -4,7 +4,7 @@ use Rattle.acct_layouts.specs.ReplyShapes.{HasShape}
 use Rattle.acct_layouts.specs.Table.{samr_layout, lsa_layout}
 use Rattle.acct_rules.specs.Asked.{asked_sid}
 use Rattle.acct_rules.specs.Operations.{IsRight}
-use Rattle.lsad_rights.specs.Found.{account_of, account_of_sid}
+use Rattle.lsad_rights.specs.Accounts.{account_of, account_of_sid}
 use Rattle.lsad_rights.specs.Holdings.{with_privileges, without_privileges, with_access}
 use Rattle.lsad_rights.specs.RightsChanges.{brought_sid, brought_names}
 use Rattle.lsad_rights.specs.Table.{create_account_in_policy, open_account_in_policy, delete_object}

@@ -7,16 +7,13 @@ use Rattle.std.specs.Int.Bits.{and_zero_l}
 use Rattle.std.specs.List.{list_any}
 use Rattle.std.proofs.lemmas.Bool.Decides.{nat_tests}
 use Rattle.acct_calls.specs.declared.calls.Args.{Args}
-use Rattle.acct_rows.specs.declared.row.Held.{Held}
-use Rattle.acct_rows.specs.declared.row.LsaRow.{LsaRow}
-use Rattle.dtyp_sid.specs.Value.{SidValue}
-use Rattle.lsad_rights.specs.AccountObjects.{new_account}
-use Rattle.lsad_rights.specs.Held.{scalar_held, with_held, with_missing, without_held, held_at}
-use Rattle.lsad_rights.specs.Holdings.{takes_all}
+use Rattle.acct_tables.specs.declared.row.Held.{Held}
+use Rattle.acct_tables.specs.declared.row.LsaRow.{LsaRow}
+use Rattle.dtyp_sid.specs.Sids.{SidValue}
+use Rattle.lsad_rights.specs.Accounts.{new_account}
+use Rattle.lsad_rights.specs.Holdings.{scalar_held, with_held, with_missing, without_held, held_at, takes_all}
 use Rattle.lsad_rights.specs.ChangeLaws.{is_right, names_right}
-use Rattle.lsad_rights.specs.LogonRights.{bit_of, has_right}
-use Rattle.lsad_rights.specs.Privileges.{low_of}
-use Rattle.lsad_rights.specs.Rights.{has_privilege, holds, right_named}
+use Rattle.lsad_rights.specs.Rights.{bit_of, has_right, low_of, has_privilege, holds, right_named}
 use Rattle.lsad_rights.specs.RightsChanges.{with_right, with_rights, without_right, without_rights, left_of}
 use Rattle.lsad_rights.specs.RightsChanges.{brought_names}
 use Rattle.lsad_rights.specs.declared.logon_rights.LogonRight.{LogonRight}

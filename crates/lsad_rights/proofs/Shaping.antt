@@ -12,40 +12,37 @@ use Rattle.std.proofs.lemmas.List.{length-map}
 use Rattle.std.proofs.lemmas.List.Elements.{All-nil, All-cons, All-head, All-tail, All-append, All-map, All-filter}
 use Rattle.std.proofs.lemmas.List.Elements.{All-drop}
 use Rattle.std.proofs.lemmas.Nat.{and_le_r}
-use Rattle.acct_calls.specs.CodePoints.{units_of}
-use Rattle.acct_calls.specs.Domains.{is_domain_name}
+use Rattle.acct_calls.specs.Names.{units_of, is_domain_name}
 use Rattle.acct_calls.specs.declared.info.Info.{Info}
 use Rattle.acct_calls.specs.declared.lists.RidName.{RidName}
 use Rattle.acct_codes.specs.Limits.{most_page}
 use Rattle.acct_codes.specs.Statuses.{status_no_more_entries, status_success, status_more_entries}
-use Rattle.acct_codes.specs.SystemAccess.{known_system_access}
-use Rattle.acct_layouts.specs.Bounds.{IsLong, IsText, IsAccount, IsPrivilege, IsPrivilegeSet, IfThere, IsListed}
-use Rattle.acct_layouts.specs.InfoShapes.{IsOfArm}
+use Rattle.acct_codes.specs.Privileges.{known_system_access}
+use Rattle.acct_layouts.specs.Values.{IsLong, IsText, IsAccount, IsPrivilege, IsPrivilegeSet, IfThere, IsListed}
+use Rattle.acct_layouts.specs.Values.{IsOfArm}
 use Rattle.acct_layouts.specs.Refusals.{is_refusal}
 use Rattle.acct_layouts.specs.ReplyShapes.{IsShown}
 use Rattle.acct_layouts.specs.declared.classes.Arm.TheVariants as arm
 use Rattle.acct_layouts.specs.declared.classes.Subject.TheVariants as subject
 use Rattle.acct_rows.specs.Laws.{EachIsGood, EachLsaIsGood}
-use Rattle.acct_rows.specs.Rows.{Lists, HasRoom, account_domain, domain_at, lsa_at}
-use Rattle.acct_rows.specs.Sound.{IsSoundRows, IsGoodDomain, IsGoodLsa, IsKnown, are_above}
-use Rattle.acct_rows.specs.declared.object.Object.{Object}
-use Rattle.acct_rows.specs.declared.object.Object.TheVariants as objects
-use Rattle.acct_rows.specs.declared.row.DomainRow.{DomainRow}
-use Rattle.acct_rows.specs.declared.row.Held.{Held}
-use Rattle.acct_rows.specs.declared.row.LsaRow.{LsaRow}
-use Rattle.acct_rules.specs.Pages.{within, page, leaves_some}
-use Rattle.dtyp_sid.specs.Value.{SidValue, IsSid}
-use Rattle.lsad_rights.specs.Accounts.{privilege_shown, privileges_shown, access_shown}
-use Rattle.lsad_rights.specs.Found.{account_of, account_of_sid}
-use Rattle.lsad_rights.specs.HeldRights.{name_in, held_name, names_held, privilege_names, logon_names}
-use Rattle.lsad_rights.specs.Holders.{is_wanted, accounts_wanted, holders_status}
-use Rattle.acct_rules.specs.PageEntries.{entry_cost, last_rid}
-use Rattle.lsad_rights.specs.Listings.{listed_status, entry_of, is_behind, privileges_left}
-use Rattle.lsad_rights.specs.Listings.{sid_of_row, sid_cost, accounts_left}
-use Rattle.lsad_rights.specs.LogonRights.{right_row, right_name, rights_of, has_right, logon_rights}
-use Rattle.lsad_rights.specs.Names.{low_in}
-use Rattle.lsad_rights.specs.Policy.{is_shown, place_of}
-use Rattle.lsad_rights.specs.Privileges.{privilege_row, low_of, name_of, privileges, privilege_of}
+use Rattle.acct_rows.specs.Rows.{Lists, HasRoom, domain_at, lsa_at}
+use Rattle.acct_tables.specs.Keys.{account_domain}
+use Rattle.acct_rows.specs.Sound.{IsSoundRows}
+use Rattle.acct_tables.specs.Good.{IsGoodDomain, IsGoodLsa, IsKnown, are_above}
+use Rattle.acct_tables.specs.declared.object.Object.{Object}
+use Rattle.acct_tables.specs.declared.object.Object.TheVariants as objects
+use Rattle.acct_tables.specs.declared.row.DomainRow.{DomainRow}
+use Rattle.acct_tables.specs.declared.row.Held.{Held}
+use Rattle.acct_tables.specs.declared.row.LsaRow.{LsaRow}
+use Rattle.acct_rules.specs.Pages.{within, page, leaves_some, entry_cost, last_rid}
+use Rattle.dtyp_sid.specs.Sids.{SidValue, IsSid}
+use Rattle.lsad_rights.specs.Accounts.{privilege_shown, privileges_shown, access_shown, account_of, account_of_sid}
+use Rattle.lsad_rights.specs.Accounts.{is_shown, place_of}
+use Rattle.lsad_rights.specs.Listings.{name_in, held_name, names_held, privilege_names, logon_names, is_wanted}
+use Rattle.lsad_rights.specs.Listings.{accounts_wanted, holders_status, listed_status, entry_of, is_behind}
+use Rattle.lsad_rights.specs.Listings.{privileges_left, sid_of_row, sid_cost, accounts_left, low_in}
+use Rattle.lsad_rights.specs.Rights.{right_row, right_name, rights_of, has_right, logon_rights, privilege_row, low_of}
+use Rattle.lsad_rights.specs.Rights.{name_of, privileges, privilege_of}
 use Rattle.lsad_rights.specs.declared.holders.Wanted.{Wanted}
 use Rattle.lsad_rights.specs.declared.logon_rights.LogonRight.{LogonRight}
 use Rattle.lsad_rights.specs.declared.privileges.KnownPrivilege.{KnownPrivilege}
@@ -246,7 +243,7 @@ place-shaped each r (Some d) class sound at there is =
 pub policy-shaped : EachIsGood → (r : Lists) (class : ℕ) → IsSoundRows r → is_shown class ≡ true
     → IsShown subject.Policy class (option_map place_of (domain_at r account_domain))
 policy-shaped each r class sound is =
-    place-shaped each r (domain_at r account_domain) class sound refl sound.account_domain is
+    place-shaped each r (domain_at r account_domain) class sound refl sound.has_account_domain is
 
 -- where no class is refused, the class is shown
 pub class-is-shown : (shown : Bool) → (not (not shown) && true) ≡ true → shown ≡ true

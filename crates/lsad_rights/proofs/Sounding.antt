@@ -9,23 +9,21 @@ use Rattle.std.proofs.lemmas.Bool.Decides.{nat_tests}
 use Rattle.std.proofs.lemmas.List.Elements.{All-nil, All-cons, All-head, All-tail, All-filter}
 use Rattle.acct_calls.specs.declared.calls.Args.{Args}
 use Rattle.acct_calls.specs.declared.lists.Privilege.{Privilege}
-use Rattle.acct_codes.specs.SystemAccess.{known_system_access}
-use Rattle.acct_layouts.specs.Bounds.{IsPrivilege}
-use Rattle.acct_rows.specs.Sound.{are_above, IsKnown, IsGoodLsa}
-use Rattle.acct_rows.specs.declared.row.Held.{Held}
-use Rattle.acct_rows.specs.declared.row.LsaRow.{LsaRow}
-use Rattle.dtyp_sid.specs.Value.{SidValue, IsSid}
-use Rattle.lsad_rights.specs.AccountObjects.{new_account}
+use Rattle.acct_codes.specs.Privileges.{known_system_access}
+use Rattle.acct_layouts.specs.Values.{IsPrivilege}
+use Rattle.acct_tables.specs.Good.{are_above, IsKnown, IsGoodLsa}
+use Rattle.acct_tables.specs.declared.row.Held.{Held}
+use Rattle.acct_tables.specs.declared.row.LsaRow.{LsaRow}
+use Rattle.dtyp_sid.specs.Sids.{SidValue, IsSid}
+use Rattle.lsad_rights.specs.Accounts.{new_account}
 use Rattle.lsad_rights.specs.RightsChanges.{with_right, with_rights, without_right, without_rights, left_of}
 use Rattle.lsad_rights.specs.RightsChanges.{brought_names}
-use Rattle.lsad_rights.specs.Held.{is_known, is_unknown, held_of, scalar_held, with_held, with_missing, with_each}
-use Rattle.lsad_rights.specs.Held.{without_held, without_each, is_among}
+use Rattle.lsad_rights.specs.Holdings.{is_known, is_unknown, held_of, scalar_held, with_held, with_missing, with_each}
+use Rattle.lsad_rights.specs.Holdings.{without_held, without_each, is_among, brought_privileges, takes_all}
+use Rattle.lsad_rights.specs.Holdings.{brought_access, has_unknown_bits, with_privileges, without_privileges}
+use Rattle.lsad_rights.specs.Holdings.{with_access}
 use Rattle.lsad_rights.specs.Holdings as holdings
-use Rattle.lsad_rights.specs.Holdings.{brought_privileges, takes_all, brought_access, has_unknown_bits}
-use Rattle.lsad_rights.specs.Holdings.{with_privileges, without_privileges, with_access}
-use Rattle.lsad_rights.specs.LogonRights.{bit_of}
-use Rattle.lsad_rights.specs.Privileges.{low_of, privilege_of}
-use Rattle.lsad_rights.specs.Rights.{has_privilege, right_named}
+use Rattle.lsad_rights.specs.Rights.{bit_of, low_of, privilege_of, has_privilege, right_named}
 use Rattle.lsad_rights.specs.declared.rights.AccountRight.{AccountRight}
 use Rattle.lsad_rights.specs.declared.rights.AccountRight.TheVariants.{Privilege as APrivilege, Logon}
 use Rattle.lsad_rights.proofs.AccessBits.{or-within, and-within}

@@ -5,21 +5,17 @@ use Rattle.std.specs.List.{list_any}
 use Rattle.acct_calls.specs.declared.calls.Args.{Args}
 use Rattle.acct_rows.specs.Rows.{Lists, lsa_at, after}
 use Rattle.acct_rows.specs.Sound.{IsSoundRows}
-use Rattle.acct_rows.specs.declared.object.Object.{Object}
-use Rattle.acct_rows.specs.declared.object.Object.TheVariants.{Account}
-use Rattle.acct_rows.specs.declared.row.Held.{Held}
-use Rattle.acct_rows.specs.declared.row.LsaRow.{LsaRow}
+use Rattle.acct_tables.specs.declared.object.Object.{Object}
+use Rattle.acct_tables.specs.declared.object.Object.TheVariants.{Account}
+use Rattle.acct_tables.specs.declared.row.Held.{Held}
+use Rattle.acct_tables.specs.declared.row.LsaRow.{LsaRow}
 use Rattle.acct_rules.specs.Asked.{asked_sid}
 use Rattle.acct_rules.specs.Planned.{Ruled, none_fails}
-use Rattle.dtyp_sid.specs.Order.{sid_eq}
-use Rattle.dtyp_sid.specs.Value.{SidValue}
-use Rattle.lsad_rights.specs.AccountObjects.{new_account, create_account, delete_account}
-use Rattle.lsad_rights.specs.Held.{with_held, without_held, held_at}
-use Rattle.lsad_rights.specs.Holders.{accounts_wanted}
-use Rattle.lsad_rights.specs.Holdings.{takes_all}
-use Rattle.lsad_rights.specs.LogonRights.{bit_of}
-use Rattle.lsad_rights.specs.Privileges.{low_of}
-use Rattle.lsad_rights.specs.Rights.{right_named, holds}
+use Rattle.dtyp_sid.specs.Sids.{sid_eq, SidValue}
+use Rattle.lsad_rights.specs.Accounts.{new_account, create_account, delete_account}
+use Rattle.lsad_rights.specs.Holdings.{with_held, without_held, held_at, takes_all}
+use Rattle.lsad_rights.specs.Listings.{accounts_wanted}
+use Rattle.lsad_rights.specs.Rights.{bit_of, low_of, right_named, holds}
 use Rattle.lsad_rights.specs.RightsChanges.{brought_sid, brought_names, add_rights, remove_rights}
 use Rattle.lsad_rights.specs.declared.holders.Wanted.TheVariants.{Holders}
 use Rattle.lsad_rights.specs.declared.rights.AccountRight.{AccountRight}

@@ -3,26 +3,23 @@
 use Rattle.std.specs.Prelude.{◌≡◌, ℕ, ◌+◌, ◌^◌, ◌<◌, bit_and, Bool, false, nat_lt, List, [], ◌∷◌, ◌++◌, length}
 use Rattle.std.specs.Prelude.{Option, Some, None}
 use Rattle.std.specs.List.{list_any}
-use Rattle.acct_calls.specs.Folding.{is_same}
+use Rattle.acct_calls.specs.Names.{is_same}
 use Rattle.acct_calls.specs.declared.calls.Args.{Args}
 use Rattle.acct_calls.specs.declared.lists.RidName.{RidName}
-use Rattle.acct_codes.specs.SystemAccess.{known_system_access}
+use Rattle.acct_codes.specs.Privileges.{known_system_access}
 use Rattle.acct_rows.specs.Rows.{Lists}
-use Rattle.acct_rows.specs.Sound.{IsKnown, IsGoodLsa}
-use Rattle.acct_rows.specs.declared.object.Object.{Object}
-use Rattle.acct_rows.specs.declared.row.Held.{Held}
-use Rattle.acct_rows.specs.declared.row.LsaRow.{LsaRow}
+use Rattle.acct_tables.specs.Good.{IsKnown, IsGoodLsa}
+use Rattle.acct_tables.specs.declared.object.Object.{Object}
+use Rattle.acct_tables.specs.declared.row.Held.{Held}
+use Rattle.acct_tables.specs.declared.row.LsaRow.{LsaRow}
 use Rattle.acct_rules.specs.Asked.{asked_context, asked_length}
-use Rattle.acct_rules.specs.Operations.{IsRight, KeepsRows, Operation}
-use Rattle.acct_rules.specs.Pages.{page}
-use Rattle.dtyp_sid.specs.Value.{SidValue}
-use Rattle.lsad_rights.specs.HeldRights.{held_name, names_held}
-use Rattle.acct_rules.specs.PageEntries.{entry_cost, last_rid}
-use Rattle.lsad_rights.specs.Listings.{given_status, sid_cost, privileges_left, accounts_left}
-use Rattle.lsad_rights.specs.Listings.{list_privileges, list_accounts}
-use Rattle.lsad_rights.specs.LogonRights.{bit_of, right_name, rights_of}
-use Rattle.lsad_rights.specs.Names.{low_in}
-use Rattle.lsad_rights.specs.Privileges.{low_of, name_of, privilege_of, privilege_named}
+use Rattle.acct_rules.specs.Operations.{IsRight, KeepsRows}
+use Rattle.acct_rules.specs.Profiles.{Operation}
+use Rattle.acct_rules.specs.Pages.{page, entry_cost, last_rid}
+use Rattle.dtyp_sid.specs.Sids.{SidValue}
+use Rattle.lsad_rights.specs.Listings.{held_name, names_held, given_status, sid_cost, privileges_left, accounts_left}
+use Rattle.lsad_rights.specs.Listings.{list_privileges, list_accounts, low_in}
+use Rattle.lsad_rights.specs.Rights.{bit_of, right_name, rights_of, low_of, name_of, privilege_of, privilege_named}
 use Rattle.lsad_rights.specs.Rights.{right_named, holds}
 use Rattle.lsad_rights.specs.declared.logon_rights.LogonRight.{LogonRight}
 use Rattle.lsad_rights.specs.declared.privileges.KnownPrivilege.{KnownPrivilege}

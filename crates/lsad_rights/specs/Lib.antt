@@ -1,17 +1,8 @@
-pub mod AccountObjects
 pub mod Accounts
 pub mod ChangeLaws
-pub mod Found
-pub mod Held
-pub mod HeldRights
-pub mod Holders
 pub mod Holdings
 pub mod Laws
 pub mod Listings
-pub mod LogonRights
-pub mod Names
-pub mod Policy
-pub mod Privileges
 pub mod Rights
 pub mod RightsChanges
 pub mod Table

@@ -9,20 +9,16 @@ use Rattle.acct_calls.specs.declared.calls.Args.TheVariants as args
 use Rattle.acct_codes.specs.Rights.{account_adjust_privileges, account_adjust_system_access}
 use Rattle.acct_codes.specs.Statuses.{status_object_name_not_found, status_no_such_privilege}
 use Rattle.acct_rows.specs.Rows.{Lists, lsa_at}
-use Rattle.acct_rows.specs.declared.object.Object.{Object}
-use Rattle.acct_rows.specs.declared.row.LsaRow.{LsaRow}
-use Rattle.acct_rows.specs.declared.row.Row.{Row}
-use Rattle.acct_rows.specs.declared.row.Row.TheVariants as rows
+use Rattle.acct_tables.specs.declared.object.Object.{Object}
+use Rattle.acct_tables.specs.declared.row.LsaRow.{LsaRow}
+use Rattle.acct_tables.specs.declared.row.Row.{Row}
+use Rattle.acct_tables.specs.declared.row.Row.TheVariants as rows
 use Rattle.acct_rules.specs.Planned.{Ruled, when, puts}
 use Rattle.acct_rules.specs.declared.planned.Planned.{Planned}
-use Rattle.dtyp_sid.specs.Value.{SidValue}
-use Rattle.lsad_rights.specs.AccountObjects.{new_account}
-use Rattle.lsad_rights.specs.Found.{account_of_sid, object_of_sid, guarded}
-use Rattle.lsad_rights.specs.Held.{with_missing, without_held}
-use Rattle.lsad_rights.specs.Holdings.{takes_all}
-use Rattle.lsad_rights.specs.LogonRights.{bit_of}
-use Rattle.lsad_rights.specs.Privileges.{low_of}
-use Rattle.lsad_rights.specs.Rights.{right_named}
+use Rattle.dtyp_sid.specs.Sids.{SidValue}
+use Rattle.lsad_rights.specs.Accounts.{new_account, account_of_sid, object_of_sid, guarded}
+use Rattle.lsad_rights.specs.Holdings.{with_missing, without_held, takes_all}
+use Rattle.lsad_rights.specs.Rights.{bit_of, low_of, right_named}
 use Rattle.lsad_rights.specs.declared.rights.AccountRight.{AccountRight}
 use Rattle.lsad_rights.specs.declared.rights.AccountRight.TheVariants.{Privilege, Logon}
 

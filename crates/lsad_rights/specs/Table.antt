@@ -6,27 +6,22 @@ use Rattle.acct_codes.specs.Opnums.{lsar_enumerate_privileges_account, lsar_get_
 use Rattle.acct_codes.specs.Opnums.{lsar_lookup_privilege_value, lsar_lookup_privilege_name}
 use Rattle.acct_codes.specs.Opnums.{lsar_enumerate_accounts_with_user_right, lsar_enumerate_account_rights}
 use Rattle.acct_codes.specs.Opnums.{lsar_query_information_policy2}
-use Rattle.acct_codes.specs.Rights.{policy_view_local_information, policy_lookup_names, account_view}
+use Rattle.acct_codes.specs.Rights.{policy_view_local_information, policy_lookup_names, account_view, delete}
+use Rattle.acct_codes.specs.Rights.{policy_create_account, account_adjust_privileges, account_adjust_system_access}
 use Rattle.acct_codes.specs.Opnums.{lsar_create_account, lsar_open_account, lsar_add_privileges_to_account}
 use Rattle.acct_codes.specs.Opnums.{lsar_remove_privileges_from_account, lsar_set_system_access_account}
 use Rattle.acct_codes.specs.Opnums.{lsar_delete_object, lsar_add_account_rights, lsar_remove_account_rights}
-use Rattle.acct_codes.specs.Rights.{delete, policy_create_account, account_adjust_privileges}
-use Rattle.acct_codes.specs.Rights.{account_adjust_system_access}
 use Rattle.acct_codes.specs.declared.kind.Kind.TheVariants as kind
-use Rattle.acct_rules.specs.Operations.{Operation, undescribed}
-use Rattle.acct_rules.specs.Profiles.{asking}
+use Rattle.acct_rules.specs.Profiles.{Operation, undescribed, asking}
 use Rattle.acct_rules.specs.declared.profile.Kinds.TheVariants as kinds
 use Rattle.acct_rules.specs.declared.profile.Memory.TheVariants as memory
 use Rattle.acct_rules.specs.declared.profile.Needs.TheVariants as needs
-use Rattle.lsad_rights.specs.AccountObjects.{create_account, open_account, delete_account}
+use Rattle.lsad_rights.specs.Accounts.{create_account, open_account, delete_account, account_privileges, system_access}
+use Rattle.lsad_rights.specs.Accounts.{query_policy}
 use Rattle.lsad_rights.specs.RightsChanges.{add_rights, remove_rights}
 use Rattle.lsad_rights.specs.Holdings.{add_privileges, remove_privileges, set_system_access}
-use Rattle.lsad_rights.specs.Accounts.{account_privileges, system_access}
-use Rattle.lsad_rights.specs.HeldRights.{account_rights}
-use Rattle.lsad_rights.specs.Holders.{accounts_with_right}
-use Rattle.lsad_rights.specs.Listings.{list_privileges, list_accounts}
-use Rattle.lsad_rights.specs.Names.{privilege_value, privilege_name}
-use Rattle.lsad_rights.specs.Policy.{query_policy}
+use Rattle.lsad_rights.specs.Listings.{account_rights, accounts_with_right, list_privileges, list_accounts}
+use Rattle.lsad_rights.specs.Listings.{privilege_value, privilege_name}
 
 -- ---- by a handle to the policy
 

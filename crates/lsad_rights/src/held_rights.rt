@@ -2,7 +2,7 @@
 ghost use Rattle.std.specs.Prelude.{◌≡◌, ◌++◌, true, IfOk, OnErr, OnOk};
 ghost use Rattle.std.specs.Option.{option_copied};
 ghost use Rattle.acct_rules.specs.Planned.{decision, none_fails};
-ghost use Rattle.lsad_rights.specs.HeldRights.{held_name, privilege_names, logon_names, names_held, account_rights};
+ghost use Rattle.lsad_rights.specs.Listings.{held_name, privilege_names, logon_names, names_held, account_rights};
 
 use crate::found::{account_of_sid, guarded, object_of_sid};
 use crate::logon_rights::LogonRight;

@@ -3,8 +3,8 @@ ghost use Rattle.std.specs.Prelude.{◌≡◌, IfOk, map, Some};
 ghost use Rattle.std.specs.List.{filter};
 ghost use Rattle.std.specs.Option.{option_copied};
 ghost use Rattle.acct_rules.specs.Planned.{decision};
-ghost use Rattle.lsad_rights.specs.Holders.{accounts_asked, is_wanted, accounts_wanted, holders_status};
-ghost use Rattle.lsad_rights.specs.Holders.{accounts_with_right};
+ghost use Rattle.lsad_rights.specs.Listings.{accounts_asked, is_wanted, accounts_wanted, holders_status};
+ghost use Rattle.lsad_rights.specs.Listings.{accounts_with_right};
 
 use crate::rights::AccountRight;
 use acct_base::Seq;

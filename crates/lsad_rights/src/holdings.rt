@@ -2,12 +2,11 @@
 ghost use Rattle.std.specs.Prelude.{◌≡◌, [], ◌∷◌, true, IfOk, IsOkAnd, OnErr};
 ghost use Rattle.std.specs.List.{list_any};
 ghost use Rattle.std.specs.Option.{option_copied};
-ghost use Rattle.acct_rows.specs.declared.row.Row.TheVariants as row;
+ghost use Rattle.acct_tables.specs.declared.row.Row.TheVariants as row;
 ghost use Rattle.acct_rules.specs.Planned.{decision, none_fails, puts};
-ghost use Rattle.lsad_rights.specs.Held.{is_unknown};
-ghost use Rattle.lsad_rights.specs.Holdings.{brought_set, brought_privileges, or_none, takes_all, brought_access};
-ghost use Rattle.lsad_rights.specs.Holdings.{with_privileges, without_privileges, with_access, has_unknown_bits};
-ghost use Rattle.lsad_rights.specs.Holdings.{add_privileges, remove_privileges, set_system_access};
+ghost use Rattle.lsad_rights.specs.Holdings.{is_unknown, brought_set, brought_privileges, or_none, takes_all};
+ghost use Rattle.lsad_rights.specs.Holdings.{brought_access, with_privileges, without_privileges, with_access};
+ghost use Rattle.lsad_rights.specs.Holdings.{has_unknown_bits, add_privileges, remove_privileges, set_system_access};
 
 use crate::found::account_of;
 use crate::held::{is_unknown, put_each, remove_each};

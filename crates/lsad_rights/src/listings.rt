@@ -1,11 +1,10 @@
 // The operations that list the privileges and the accounts of the policy page by page.
 ghost use Rattle.std.specs.Prelude.{◌≡◌, [], ◌∷◌, ◌++◌, IfOk, OnOk, if◌then◌else◌, map, drop, length};
 ghost use Rattle.std.specs.List.{filter};
-ghost use Rattle.acct_rules.specs.PageEntries.{entry_cost};
-ghost use Rattle.acct_rules.specs.Pages.{given_in, leaves_some, preferred_room, has_room, room_behind};
+ghost use Rattle.acct_rules.specs.Pages.{entry_cost, given_in, leaves_some, preferred_room, has_room, room_behind};
 ghost use Rattle.acct_rules.specs.Planned.{decision};
-ghost use Rattle.lsad_rights.specs.Listings.{entry_of, is_behind, sid_of_row, sid_cost};
-ghost use Rattle.lsad_rights.specs.Listings.{given_status, list_privileges, list_accounts};
+ghost use Rattle.lsad_rights.specs.Listings.{entry_of, is_behind, sid_of_row, sid_cost, given_status, list_privileges};
+ghost use Rattle.lsad_rights.specs.Listings.{list_accounts};
 
 use crate::privileges::KnownPrivilege;
 use acct_base::Seq;

@@ -1,7 +1,7 @@
 // The rights to log on, by their bits of system access and their names.
 ghost use Rattle.std.specs.Prelude.{◌≡◌, IfOk};
-ghost use Rattle.lsad_rights.specs.LogonRights.{bit_of, right_text, right_name, logon_rights, has_right};
-ghost use Rattle.lsad_rights.specs.LogonRights.{is_right_named, logon_right_named};
+ghost use Rattle.lsad_rights.specs.Rights.{bit_of, right_text, right_name, logon_rights, has_right, is_right_named};
+ghost use Rattle.lsad_rights.specs.Rights.{logon_right_named};
 
 use acct_calls::{Name, NoMemory};
 use acct_codes::system_access::{
@@ -39,7 +39,7 @@ pub enum LogonRight {
 
 impl LogonRight {
     /// The rights by ascending bit.
-    #[tactic(auto, unfolding(crate::specs::LogonRights::logon_rights))]
+    #[tactic(auto, unfolding(crate::specs::Rights::logon_rights))]
     pub fn all() -> &'static [LogonRight]
         ensures { result.now ≡ logon_rights }
     {
@@ -58,7 +58,7 @@ impl LogonRight {
     }
 
     /// Its bit of system access.
-    #[tactic(auto, unfolding(crate::specs::LogonRights::right_row))]
+    #[tactic(auto, unfolding(crate::specs::Rights::right_row))]
     pub fn bit(self) -> u32
         ensures { result ≡ bit_of self }
     {
@@ -77,7 +77,7 @@ impl LogonRight {
     }
 
     /// Its name as a text.
-    #[tactic(auto, unfolding(crate::specs::LogonRights::right_row))]
+    #[tactic(auto, unfolding(crate::specs::Rights::right_row))]
     pub fn text(self) -> &'static str
         ensures { result.now ≡ right_text self }
     {

@@ -2,8 +2,7 @@
 ghost use Rattle.std.specs.Prelude.{◌≡◌, true, IfOk, OnErr};
 ghost use Rattle.std.specs.Option.{option_copied};
 ghost use Rattle.acct_rules.specs.Planned.{decision, none_fails};
-ghost use Rattle.lsad_rights.specs.Names.{privilege_asked, privilege_of_luid};
-ghost use Rattle.lsad_rights.specs.Names.{privilege_value, privilege_name};
+ghost use Rattle.lsad_rights.specs.Listings.{privilege_asked, privilege_of_luid, privilege_value, privilege_name};
 
 use crate::privileges::KnownPrivilege;
 use acct_calls::{Args, Name, Outs};

@@ -2,7 +2,7 @@
 ghost use Rattle.std.specs.Prelude.{◌≡◌, true, IfOk, OnErr};
 ghost use Rattle.std.specs.Option.{option_copied, option_map};
 ghost use Rattle.acct_rules.specs.Planned.{decision, none_fails};
-ghost use Rattle.lsad_rights.specs.Policy.{is_shown, place_of, query_policy};
+ghost use Rattle.lsad_rights.specs.Accounts.{is_shown, place_of, query_policy};
 
 use acct_calls::{Args, Info, Outs};
 use acct_codes::info_class::{

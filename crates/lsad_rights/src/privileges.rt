@@ -1,7 +1,7 @@
 // The privileges, by their LUIDs and their names.
 ghost use Rattle.std.specs.Prelude.{◌≡◌, IfOk};
-ghost use Rattle.lsad_rights.specs.Privileges.{low_of, text_of, name_of, privileges, privilege_of};
-ghost use Rattle.lsad_rights.specs.Privileges.{is_named, privilege_named};
+ghost use Rattle.lsad_rights.specs.Rights.{low_of, text_of, name_of, privileges, privilege_of, is_named};
+ghost use Rattle.lsad_rights.specs.Rights.{privilege_named};
 
 use acct_calls::{Name, NoMemory};
 use acct_codes::privilege::SE_CREATE_TOKEN;
@@ -72,7 +72,7 @@ pub enum KnownPrivilege {
 
 impl KnownPrivilege {
     /// The privileges by ascending LUID.
-    #[tactic(auto, unfolding(crate::specs::Privileges::privileges))]
+    #[tactic(auto, unfolding(crate::specs::Rights::privileges))]
     pub fn all() -> &'static [KnownPrivilege]
         ensures { result.now ≡ privileges }
     {
@@ -110,7 +110,7 @@ impl KnownPrivilege {
     }
 
     /// The low part of its LUID.
-    #[tactic(auto, unfolding(crate::specs::Privileges::privilege_row))]
+    #[tactic(auto, unfolding(crate::specs::Rights::privilege_row))]
     pub fn low(self) -> u32
         ensures { result ≡ low_of self }
     {
@@ -118,7 +118,7 @@ impl KnownPrivilege {
     }
 
     /// Its name as a text.
-    #[tactic(auto, unfolding(crate::specs::Privileges::privilege_row))]
+    #[tactic(auto, unfolding(crate::specs::Rights::privilege_row))]
     pub fn text(self) -> &'static str
         ensures { result.now ≡ text_of self }
     {

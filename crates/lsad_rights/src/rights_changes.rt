@@ -6,7 +6,7 @@ ghost use Rattle.lsad_rights.specs.RightsChanges.{brought_sid, brought_names, is
 ghost use Rattle.lsad_rights.specs.RightsChanges.{without_right, without_rights, adjusts, account_or_new, added_rows};
 ghost use Rattle.acct_rows.specs.Rows.{lsa_at};
 ghost use Rattle.lsad_rights.specs.RightsChanges.{left_of, add_rights, remove_rights};
-ghost use Rattle.lsad_rights.specs.Held.{with_missing, without_held};
+ghost use Rattle.lsad_rights.specs.Holdings.{with_missing, without_held};
 
 use crate::account_objects::new_account;
 use crate::found::{account_of_sid, guarded, object_of_sid};

@@ -6,7 +6,7 @@ use Rattle.acct_calls.specs.declared.calls.Call.{Call}
 use Rattle.acct_calls.specs.declared.calls.Face.{Face}
 use Rattle.acct_layouts.specs.CallShapes.{CanBeSpelled, HasArguments, AreNamesAsked, AreSidsAsked}
 use Rattle.acct_layouts.specs.Table.{layout_of}
-use Rattle.dtyp_sid.specs.Value.{IsSid}
+use Rattle.dtyp_sid.specs.Sids.{IsSid}
 use Rattle.lsat_translate.specs.Translations.{asked_names, asked_sids}
 
 -- the arguments are those of the layout

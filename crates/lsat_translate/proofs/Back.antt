@@ -8,27 +8,26 @@ use Rattle.std.specs.Cmp.{first_so, second_so}
 use Rattle.std.specs.List.{find}
 use Rattle.std.specs.Option.{option_map, option_or, option_and_then}
 use Rattle.std.proofs.lemmas.Bool.Decides.{nat_tests}
-use Rattle.acct_calls.specs.Domains.{builtin_sid, is_domain_sid}
-use Rattle.acct_layouts.specs.Bounds.{IfThere}
+use Rattle.acct_calls.specs.Names.{builtin_sid, is_domain_sid}
+use Rattle.acct_layouts.specs.Values.{IfThere}
 use Rattle.acct_rows.specs.Laws.{EachIsGood}
-use Rattle.acct_rows.specs.Rows.{Lists, domain_at, account_at, find_name, has_name, same_kind}
-use Rattle.acct_rows.specs.Sound.{IsSoundRows, IsGoodAccount, good_place, next_rid_of}
-use Rattle.acct_rows.specs.declared.row.AccountRow.{AccountRow}
-use Rattle.acct_rows.specs.declared.row.DomainRow.{DomainRow}
+use Rattle.acct_rows.specs.Rows.{Lists, domain_at, account_at, find_name}
+use Rattle.acct_tables.specs.Selected.{has_name, same_kind}
+use Rattle.acct_rows.specs.Sound.{IsSoundRows, IsGoodAccount, next_rid_of}
+use Rattle.acct_tables.specs.Good.{good_place}
+use Rattle.acct_tables.specs.declared.row.AccountRow.{AccountRow}
+use Rattle.acct_tables.specs.declared.row.DomainRow.{DomainRow}
 use Rattle.acct_codes.specs.declared.kind.Kind.{Kind}
 use Rattle.acct_codes.specs.declared.kind.Kind.TheVariants as kind
-use Rattle.dtyp_sid.specs.Made.{with_last, authority_alone}
-use Rattle.dtyp_sid.specs.Order.{sid_eq, EqualSidsAreOne}
-use Rattle.dtyp_sid.specs.Value.{SidValue}
+use Rattle.dtyp_sid.specs.Sids.{with_last, authority_alone, sid_eq, EqualSidsAreOne, SidValue}
 use Rattle.lsat_translate.specs.Known.{all_well_known, well_known_sid, row_sid, domain_sid}
 use Rattle.lsat_translate.specs.Laws.{HidesNone}
 use Rattle.lsat_translate.specs.Matches.{account_match, sid_of}
-use Rattle.acct_rules.specs.Sids.{with_rid}
-use Rattle.lsat_translate.specs.Names.{is_never_mapped, is_backslash, is_domain_named, account_named, domain_named}
-use Rattle.lsat_translate.specs.Names.{well_known_named, is_authority_named, match_alone, match_in, match_behind}
-use Rattle.lsat_translate.specs.Names.{match_split, match_of_name}
-use Rattle.lsat_translate.specs.Sids.{well_known_of_sid, domain_of_sid, front_of, last_of, is_behind, account_of_sid}
-use Rattle.lsat_translate.specs.Sids.{match_of_sid}
+use Rattle.acct_rules.specs.Planned.{with_rid}
+use Rattle.lsat_translate.specs.Lookups.{is_never_mapped, is_backslash, is_domain_named, account_named, domain_named}
+use Rattle.lsat_translate.specs.Lookups.{well_known_named, is_authority_named, match_alone, match_in, match_behind}
+use Rattle.lsat_translate.specs.Lookups.{match_split, match_of_name, well_known_of_sid, domain_of_sid, front_of}
+use Rattle.lsat_translate.specs.Lookups.{last_of, is_behind, account_of_sid, match_of_sid}
 use Rattle.lsat_translate.specs.declared.known.Known.{Known}
 use Rattle.lsat_translate.specs.declared.known.Known.TheVariants as known
 use Rattle.lsat_translate.specs.declared.known.WellKnown.{WellKnown}

@@ -3,7 +3,7 @@ use Rattle.std.proofs.Common.{◌≡◌, ℕ, ◌+◌, ◌≤◌, Bool, true, fa
 use Rattle.std.proofs.Common.{Option, Some, None, refl, sym, ap, ◌∙◌, arith}
 use Rattle.std.specs.Prelude.{◌||◌, if◌then◌else◌}
 use Rattle.std.specs.List.{list_any}
-use Rattle.lsat_translate.specs.Entries.{each_first, known_in, referenced, with_domain}
+use Rattle.lsat_translate.specs.Translations.{each_first, known_in, referenced, with_domain}
 use Rattle.lsat_translate.specs.Known.{same_known}
 use Rattle.lsat_translate.specs.Matches.{known_of}
 use Rattle.lsat_translate.specs.declared.matches.Match.{Match}

@@ -15,19 +15,18 @@ use Rattle.std.proofs.lemmas.List.{length-append}
 use Rattle.std.proofs.lemmas.List.Elements.{All-nil, All-cons, All-head, All-tail, All-append, All-push}
 use Rattle.std.proofs.lemmas.Str.{chars-IsAscii}
 use Rattle.std.proofs.lemmas.Str.Ascii.{IsAscii-from_all, All-from_ascii}
-use Rattle.acct_calls.specs.CodePoints.{AreUnits, units_of}
-use Rattle.acct_calls.specs.Domains.{name_of_text, builtin_name, authority_name, is_domain_name}
-use Rattle.acct_calls.specs.Validity.{is_valid_name, has_length, most_units}
+use Rattle.acct_calls.specs.Names.{AreUnits, units_of, name_of_text, builtin_name, authority_name, is_domain_name}
+use Rattle.acct_calls.specs.Names.{is_valid_name, has_length, most_units}
 use Rattle.acct_codes.specs.declared.kind.Kind.{Kind}
 use Rattle.acct_codes.specs.declared.kind.Kind.TheVariants as kind
-use Rattle.acct_layouts.specs.Bounds.{IsText}
+use Rattle.acct_layouts.specs.Values.{IsText}
 use Rattle.acct_rows.specs.Laws.{EachIsGood}
 use Rattle.acct_rows.specs.Rows.{Lists, domain_at, account_at}
 use Rattle.acct_rows.specs.Sound.{IsSoundRows}
-use Rattle.acct_rows.specs.declared.row.AccountRow.{AccountRow}
-use Rattle.acct_rows.specs.declared.row.DomainRow.{DomainRow}
+use Rattle.acct_tables.specs.declared.row.AccountRow.{AccountRow}
+use Rattle.acct_tables.specs.declared.row.DomainRow.{DomainRow}
 use Rattle.dtyp_sid.specs.Text.{text_of, authority_text, subs_text, hexadecimal}
-use Rattle.dtyp_sid.specs.Value.{SidValue, IsSid}
+use Rattle.dtyp_sid.specs.Sids.{SidValue, IsSid}
 use Rattle.lsat_translate.specs.Known.{row_name, domain_name, well_known_name}
 use Rattle.lsat_translate.specs.Matches.{account_name, name_of}
 use Rattle.lsat_translate.specs.declared.known.Known.{Known}

@@ -7,7 +7,7 @@ use Rattle.std.specs.List.{list_any, position_or_len}
 use Rattle.std.proofs.lemmas.Bool.Decides.{nat_tests}
 use Rattle.std.proofs.lemmas.List.Quantifiers.{position-Some}
 use Rattle.std.proofs.lemmas.Option.{slice_get-get_or}
-use Rattle.lsat_translate.specs.Entries.{each_first, known_in, referenced, index_of}
+use Rattle.lsat_translate.specs.Translations.{each_first, known_in, referenced, index_of}
 use Rattle.lsat_translate.specs.Known.{same_known}
 use Rattle.lsat_translate.specs.Laws.{RefersRightly}
 use Rattle.lsat_translate.specs.Matches.{known_of}

@@ -13,28 +13,25 @@ use Rattle.std.proofs.lemmas.List.Quantifiers.{position-Some}
 use Rattle.acct_codes.specs.Statuses.{status_success, status_some_not_mapped, status_none_mapped}
 use Rattle.acct_codes.specs.declared.kind.Kind.{Kind}
 use Rattle.acct_codes.specs.declared.kind.Kind.TheVariants as kind
-use Rattle.acct_layouts.specs.Bounds.{IsLong, IsText, IsDomain, IsListed, IsTranslatedSid, IsTranslatedName, IsSidRef}
-use Rattle.acct_layouts.specs.Bounds.{IfThere}
+use Rattle.acct_layouts.specs.Values.{IsLong, IsText, IsDomain, IsListed, IsTranslatedSid, IsTranslatedName, IsSidRef}
+use Rattle.acct_layouts.specs.Values.{IfThere}
 use Rattle.acct_layouts.specs.Refusals.{is_refusal}
 use Rattle.acct_rows.specs.Laws.{EachIsGood}
-use Rattle.acct_rows.specs.Rows.{Lists, domain_at, find_name, has_name}
+use Rattle.acct_rows.specs.Rows.{Lists, domain_at, find_name}
+use Rattle.acct_tables.specs.Selected.{has_name}
 use Rattle.acct_rows.specs.Sound.{IsSoundRows, IsGoodAccount, next_rid_of}
-use Rattle.acct_rows.specs.declared.row.AccountRow.{AccountRow}
-use Rattle.acct_rows.specs.declared.row.DomainRow.{DomainRow}
-use Rattle.acct_rules.specs.Mapped.{is_mapped, mapped_status}
-use Rattle.dtyp_sid.specs.Made.{with_last}
-use Rattle.dtyp_sid.specs.Value.{SidValue, IsSid}
-use Rattle.acct_rules.specs.Mapped.{use_of_kind}
-use Rattle.lsat_translate.specs.Entries.{referenced, known_in, place_of, index_of, index_in, translated_sid}
-use Rattle.lsat_translate.specs.Entries.{sid_ref, named_entry}
-use Rattle.lsat_translate.specs.Entries.{shown_name, mapped_count}
+use Rattle.acct_tables.specs.declared.row.AccountRow.{AccountRow}
+use Rattle.acct_tables.specs.declared.row.DomainRow.{DomainRow}
+use Rattle.acct_rules.specs.Planned.{is_mapped, mapped_status, use_of_kind}
+use Rattle.dtyp_sid.specs.Sids.{with_last, SidValue, IsSid}
+use Rattle.lsat_translate.specs.Translations.{referenced, known_in, place_of, index_of, index_in, translated_sid}
+use Rattle.lsat_translate.specs.Translations.{sid_ref, named_entry, shown_name, mapped_count}
 use Rattle.lsat_translate.specs.Known.{row_sid, domain_sid, same_known, well_known_sid}
 use Rattle.lsat_translate.specs.Matches.{account_match, known_of_number, known_of, use_in, rid_in, sid_in}
-use Rattle.lsat_translate.specs.Names.{is_never_mapped, is_backslash, account_named, domain_named, well_known_named}
-use Rattle.lsat_translate.specs.Names.{is_authority_named, match_alone, match_in, match_behind, match_split}
-use Rattle.lsat_translate.specs.Names.{match_of_name}
+use Rattle.lsat_translate.specs.Lookups.{is_never_mapped, is_backslash, account_named, domain_named, well_known_named}
+use Rattle.lsat_translate.specs.Lookups.{is_authority_named, match_alone, match_in, match_behind, match_split}
+use Rattle.lsat_translate.specs.Lookups.{match_of_name, match_of_sid}
 use Rattle.lsat_translate.specs.Known.{all_well_known}
-use Rattle.lsat_translate.specs.Sids.{match_of_sid}
 use Rattle.lsat_translate.specs.declared.known.Known.{Known}
 use Rattle.lsat_translate.specs.declared.known.Known.TheVariants as known
 use Rattle.lsat_translate.specs.declared.known.WellKnown.{WellKnown}

@@ -6,15 +6,13 @@ use Rattle.std.proofs.lemmas.Option.{slice_get-map, get_or_from_slice_get}
 use Rattle.acct_calls.specs.declared.lists.SidRef.{SidRef}
 use Rattle.acct_rows.specs.Rows.{Lists}
 use Rattle.acct_rows.specs.Sound.{IsSoundRows}
-use Rattle.acct_rules.specs.Mapped.{is_mapped}
-use Rattle.dtyp_sid.specs.Value.{SidValue}
-use Rattle.lsat_translate.specs.Entries.{referenced, place_of, sid_ref}
+use Rattle.acct_rules.specs.Planned.{is_mapped}
+use Rattle.dtyp_sid.specs.Sids.{SidValue}
+use Rattle.lsat_translate.specs.Translations.{referenced, place_of, sid_ref, asked_names}
 use Rattle.lsat_translate.specs.Laws.{HidesNone, EntriesReferRightly, SidsTranslateBack, EntriesTranslateBack}
 use Rattle.lsat_translate.specs.Laws.{EntryTranslatesBack}
 use Rattle.lsat_translate.specs.Matches.{sid_of, use_in}
-use Rattle.lsat_translate.specs.Names.{match_of_name}
-use Rattle.lsat_translate.specs.Sids.{match_of_sid}
-use Rattle.lsat_translate.specs.Translations.{asked_names}
+use Rattle.lsat_translate.specs.Lookups.{match_of_name, match_of_sid}
 use Rattle.lsat_translate.specs.declared.matches.Match.{Match}
 
 abbrev Told : Lists → List (Option Match) → Option Match → Type 0

@@ -1,13 +1,13 @@
 -- The domains that a translation may refer to, and the well-known names (MS-LSAT 3.1.1.1, MS-DTYP 2.4.2.4).
 use Rattle.std.specs.Prelude.{ℕ, Bool, true, false, codes, List, [], ◌∷◌, Option, Some, None}
-use Rattle.acct_calls.specs.Domains.{name_of_text, builtin_name, builtin_sid, authority_name}
-use Rattle.acct_codes.specs.Rids.{security_world_authority, security_nt_authority, security_world_rid}
-use Rattle.acct_codes.specs.Rids.{security_anonymous_logon_rid, security_authenticated_user_rid}
-use Rattle.acct_codes.specs.Rids.{security_local_system_rid}
-use Rattle.acct_rows.specs.Rows.{Lists, account_domain, domain_at}
-use Rattle.acct_rows.specs.declared.row.DomainRow.{DomainRow}
-use Rattle.dtyp_sid.specs.Made.{authority_alone}
-use Rattle.dtyp_sid.specs.Value.{SidValue}
+use Rattle.acct_calls.specs.Names.{name_of_text, builtin_name, builtin_sid, authority_name}
+use Rattle.acct_codes.specs.Accounts.{security_world_authority, security_nt_authority, security_world_rid}
+use Rattle.acct_codes.specs.Accounts.{security_anonymous_logon_rid, security_authenticated_user_rid}
+use Rattle.acct_codes.specs.Accounts.{security_local_system_rid}
+use Rattle.acct_rows.specs.Rows.{Lists, domain_at}
+use Rattle.acct_tables.specs.Keys.{account_domain}
+use Rattle.acct_tables.specs.declared.row.DomainRow.{DomainRow}
+use Rattle.dtyp_sid.specs.Sids.{authority_alone, SidValue}
 use Rattle.lsat_translate.specs.declared.known.Known.{Known}
 use Rattle.lsat_translate.specs.declared.known.Known.TheVariants.{Account, Builtin, NtAuthority, World}
 use Rattle.lsat_translate.specs.declared.known.WellKnown.{WellKnown}

@@ -2,7 +2,7 @@
 -- translated back to.
 use Rattle.std.specs.Prelude.{◌≡◌, ◌≢◌, ◌≤◌, ℕ, pos, true, List, length, filter, get_or, slice_get, Option, Some, None}
 use Rattle.std.specs.Option.{option_and_then}
-use Rattle.acct_calls.specs.Domains.{builtin_sid}
+use Rattle.acct_calls.specs.Names.{builtin_sid}
 use Rattle.acct_calls.specs.declared.calls.Args.{Args}
 use Rattle.acct_calls.specs.declared.lists.ReferencedDomain.{ReferencedDomain}
 use Rattle.acct_calls.specs.declared.lists.SidRef.{SidRef}
@@ -10,18 +10,16 @@ use Rattle.acct_calls.specs.declared.replies.Outs.{Outs}
 use Rattle.acct_calls.specs.declared.replies.Outs.TheVariants as outs
 use Rattle.acct_rows.specs.Rows.{Lists}
 use Rattle.acct_rows.specs.Sound.{IsSoundRows}
-use Rattle.acct_rows.specs.declared.object.Object.{Object}
-use Rattle.acct_rules.specs.Mapped.{is_mapped}
-use Rattle.acct_rules.specs.Operations.{IsRight, KeepsRows, Operation}
-use Rattle.dtyp_sid.specs.Made.{with_last}
-use Rattle.dtyp_sid.specs.Value.{SidValue}
-use Rattle.lsat_translate.specs.Entries.{referenced, place_of, index_in}
+use Rattle.acct_tables.specs.declared.object.Object.{Object}
+use Rattle.acct_rules.specs.Planned.{is_mapped}
+use Rattle.acct_rules.specs.Operations.{IsRight, KeepsRows}
+use Rattle.acct_rules.specs.Profiles.{Operation}
+use Rattle.dtyp_sid.specs.Sids.{with_last, SidValue}
+use Rattle.lsat_translate.specs.Translations.{referenced, place_of, index_in, look_names3}
 use Rattle.lsat_translate.specs.Known.{domain_sid, same_known}
 use Rattle.lsat_translate.specs.Matches.{known_of, use_of, sid_of}
-use Rattle.lsat_translate.specs.Names.{match_of_name}
-use Rattle.lsat_translate.specs.Sids.{well_known_of_sid, match_of_sid}
+use Rattle.lsat_translate.specs.Lookups.{match_of_name, well_known_of_sid, match_of_sid}
 use Rattle.lsat_translate.specs.Table.{lookup_names, lookup_names2, lookup_names3, lookup_sids, lookup_sids2}
-use Rattle.lsat_translate.specs.Translations.{look_names3}
 use Rattle.lsat_translate.specs.declared.known.Known.{Known}
 use Rattle.lsat_translate.specs.declared.known.Known.TheVariants as known
 use Rattle.lsat_translate.specs.declared.matches.Match.{Match}

@@ -1,12 +1,12 @@
 -- What a name or a SID is translated to: what it is used for, its RID, its SID, its name, and the domain that it
 -- refers to.
 use Rattle.std.specs.Prelude.{ℕ, ◌==◌, List, [], Option, Some, None, if◌then◌else◌}
-use Rattle.acct_codes.specs.Uses.{sid_type_domain, sid_type_well_known_group, sid_type_unknown}
-use Rattle.acct_rows.specs.Rows.{Lists, account_domain, account_at}
-use Rattle.acct_rows.specs.declared.row.AccountRow.{AccountRow}
-use Rattle.acct_rules.specs.Mapped.{use_of_kind}
-use Rattle.acct_rules.specs.Sids.{with_rid}
-use Rattle.dtyp_sid.specs.Value.{SidValue}
+use Rattle.acct_codes.specs.Accounts.{sid_type_domain, sid_type_well_known_group, sid_type_unknown}
+use Rattle.acct_rows.specs.Rows.{Lists, account_at}
+use Rattle.acct_tables.specs.Keys.{account_domain}
+use Rattle.acct_tables.specs.declared.row.AccountRow.{AccountRow}
+use Rattle.acct_rules.specs.Planned.{use_of_kind, with_rid}
+use Rattle.dtyp_sid.specs.Sids.{SidValue}
 use Rattle.lsat_translate.specs.Known.{domain_name, domain_sid, home_of, well_known_name, well_known_rid}
 use Rattle.lsat_translate.specs.Known.{well_known_sid}
 use Rattle.lsat_translate.specs.declared.known.Known.{Known}

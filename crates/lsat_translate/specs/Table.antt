@@ -4,8 +4,7 @@ use Rattle.acct_codes.specs.Opnums.{lsar_lookup_names, lsar_lookup_names2, lsar_
 use Rattle.acct_codes.specs.Opnums.{lsar_lookup_sids2}
 use Rattle.acct_codes.specs.Rights.{policy_lookup_names}
 use Rattle.acct_codes.specs.declared.kind.Kind.TheVariants as kind
-use Rattle.acct_rules.specs.Operations.{Operation, undescribed}
-use Rattle.acct_rules.specs.Profiles.{asking}
+use Rattle.acct_rules.specs.Profiles.{Operation, undescribed, asking}
 use Rattle.acct_rules.specs.declared.profile.Kinds.TheVariants as kinds
 use Rattle.acct_rules.specs.declared.profile.Memory.TheVariants as memory
 use Rattle.lsat_translate.specs.Translations.{look_names, look_names2, look_names3, look_sids, look_sids2}

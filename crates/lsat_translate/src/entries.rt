@@ -1,9 +1,9 @@
 // What a translation answers: the domains that it refers to, and an entry for each name or SID.
 ghost use Rattle.std.specs.Prelude.{◌≡◌, ℕ, ◌≤◌, ◌<◌, ◌^◌, [], ◌∷◌, ◌++◌, IfOk, OnOk, map, length, take};
 ghost use Rattle.std.specs.Int.{w32};
-ghost use Rattle.lsat_translate.specs.Entries.{with_domain, referenced, place_of, index_in, translated_sid};
-ghost use Rattle.lsat_translate.specs.Entries.{sid_ref, shown_name, translated_name, named_entry, mapped_count};
-ghost use Rattle.lsat_translate.specs.Sids.{match_of_sid};
+ghost use Rattle.lsat_translate.specs.Translations.{with_domain, referenced, place_of, index_in, translated_sid};
+ghost use Rattle.lsat_translate.specs.Translations.{sid_ref, shown_name, translated_name, named_entry, mapped_count};
+ghost use Rattle.lsat_translate.specs.Lookups.{match_of_sid};
 ghost use Rattle.lsat_translate.specs.Matches.{use_in};
 
 use crate::known::Known;

@@ -2,8 +2,8 @@
 //! LsarLookupNames3, LsarLookupSids and LsarLookupSids2.
 //!
 //! It stands on the rows of `acct_rows` and on `acct_rules`, which says what an operation is; `indexmap` collects the
-//! domains that are referred to. In specs/ a name and a SID each have one match in the rows, or none (`Names`, `Sids`);
-//! the domains that are referred to and the entries are computed from the list of the matches (`Entries`). The later
+//! domains that are referred to. In specs/ a name and a SID each have one match in the rows, or none (`Lookups`); the
+//! domains that are referred to and the entries are computed from the list of the matches (`Translations`). The later
 //! operations show the same matches: LsarLookupNames3 by their SIDs, the others as the first ones do. The layer above
 //! uses that each function answers what its definition decides on the rows, the object of the handle that was brought,
 //! and the arguments, and that each operation is right and keeps the rows (`laws`).

@@ -2,9 +2,9 @@
 ghost use Rattle.std.specs.Prelude.{◌≡◌, ◌+◌, ◌<◌, IfOk, find, length, take, drop, position};
 ghost use Rattle.std.specs.List.{list_any};
 ghost use Rattle.std.specs.Option.{option_map, option_or};
-ghost use Rattle.lsat_translate.specs.Names.{is_well_known_named, well_known_named, is_domain_named, domain_named};
-ghost use Rattle.lsat_translate.specs.Names.{account_named, match_alone, is_authority_named, match_in, match_behind};
-ghost use Rattle.lsat_translate.specs.Names.{is_backslash, is_at_sign, is_never_mapped, match_split, match_of_name};
+ghost use Rattle.lsat_translate.specs.Lookups.{is_well_known_named, well_known_named, is_domain_named, domain_named};
+ghost use Rattle.lsat_translate.specs.Lookups.{account_named, match_alone, is_authority_named, match_in, match_behind};
+ghost use Rattle.lsat_translate.specs.Lookups.{is_backslash, is_at_sign, is_never_mapped, match_split, match_of_name};
 
 use crate::known::{Known, WellKnown, named, well_known};
 use crate::matches::{Match, account_match};

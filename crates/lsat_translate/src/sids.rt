@@ -2,7 +2,7 @@
 ghost use Rattle.std.specs.Prelude.{◌≡◌, find};
 ghost use Rattle.std.specs.Option.{option_or};
 ghost use Rattle.lsat_translate.specs.Known.{domain_sid};
-ghost use Rattle.lsat_translate.specs.Sids.{is_well_known_sid, has_domain_sid, account_of_sid, match_of_sid};
+ghost use Rattle.lsat_translate.specs.Lookups.{is_well_known_sid, has_domain_sid, account_of_sid, match_of_sid};
 
 use crate::known::{Known, WellKnown, named, well_known};
 use crate::matches::{Match, account_match};

@@ -1,15 +1,13 @@
 // The operations that translate names and SIDs.
 ghost use Rattle.std.specs.Prelude.{◌≡◌, ◌≤◌, true, IfOk, OnErr, length, map};
 ghost use Rattle.acct_calls.specs.declared.replies.Outs.TheVariants as outs;
-ghost use Rattle.acct_rules.specs.Mapped.{mapped_status};
-ghost use Rattle.acct_rules.specs.Planned.{answers, decision, none_fails};
-ghost use Rattle.lsat_translate.specs.Entries.{mapped_count, named_entry, place_of, sid_ref, translated_sid};
-ghost use Rattle.lsat_translate.specs.Matches.{use_in};
-ghost use Rattle.lsat_translate.specs.Names.{match_of_name};
-ghost use Rattle.lsat_translate.specs.Sids.{match_of_sid};
+ghost use Rattle.acct_rules.specs.Planned.{mapped_status, answers, decision, none_fails};
+ghost use Rattle.lsat_translate.specs.Translations.{mapped_count, named_entry, place_of, sid_ref, translated_sid};
 ghost use Rattle.lsat_translate.specs.Translations.{asked_level, asked_names, asked_sids, is_level, names_shown};
-ghost use Rattle.lsat_translate.specs.Translations.{names_translated, sids_shown, look_names, look_names2};
-ghost use Rattle.lsat_translate.specs.Translations.{look_names3, look_sids, look_sids2};
+ghost use Rattle.lsat_translate.specs.Translations.{names_translated, sids_shown, look_names, look_names2, look_names3};
+ghost use Rattle.lsat_translate.specs.Translations.{look_sids, look_sids2};
+ghost use Rattle.lsat_translate.specs.Matches.{use_in};
+ghost use Rattle.lsat_translate.specs.Lookups.{match_of_name, match_of_sid};
 
 use crate::entries::{
     mapped_count, places, referenced, sid_refs, translated_names, translated_sids, uses,

@@ -3,13 +3,11 @@ use Rattle.std.proofs.Common.{◌≡◌, ℕ, ◌==◌, Bool, true, false, ◌&&
 use Rattle.std.proofs.Common.{◌∙◌, arith}
 use Rattle.std.specs.List.{filter, list_any}
 use Rattle.std.proofs.lemmas.Bool.Decides.{nat_tests}
-use Rattle.acct_rows.specs.Rows.{is_in_group, is_of_user, is_in_alias, has_one, each_once_after, each_once}
-use Rattle.acct_rows.specs.declared.row.AliasRow.{AliasRow}
-use Rattle.acct_rows.specs.declared.row.MemberRow.{MemberRow}
-use Rattle.dtyp_sid.specs.Order.{sid_eq}
-use Rattle.dtyp_sid.specs.Value.{SidValue}
-use Rattle.samr_members.specs.Aliases.{member_of_row}
-use Rattle.samr_members.specs.Groups.{member_shown, group_shown}
+use Rattle.acct_tables.specs.Selected.{is_in_group, is_of_user, is_in_alias, has_one, each_once_after, each_once}
+use Rattle.acct_tables.specs.declared.row.AliasRow.{AliasRow}
+use Rattle.acct_tables.specs.declared.row.MemberRow.{MemberRow}
+use Rattle.dtyp_sid.specs.Sids.{sid_eq, SidValue}
+use Rattle.samr_members.specs.Members.{member_of_row, member_shown, group_shown}
 use Rattle.samr_members.specs.Laws.{is_pair, AllMembershipsAgree}
 
 -- a row that is listed, or isn't, beside the others

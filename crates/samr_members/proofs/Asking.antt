@@ -6,13 +6,13 @@ use Rattle.acct_calls.specs.declared.calls.Call.{Call}
 use Rattle.acct_calls.specs.declared.calls.Face.{Face}
 use Rattle.acct_calls.specs.declared.calls.Face.TheVariants.{Samr}
 use Rattle.acct_codes.specs.Opnums.{samr_add_member_to_group, samr_add_member_to_alias}
-use Rattle.acct_layouts.specs.Bounds.{IsLong, IfThere}
+use Rattle.acct_layouts.specs.Values.{IsLong, IfThere}
 use Rattle.acct_layouts.specs.CallShapes.{CanBeSpelled, HasArguments, ArePlainArgs}
 use Rattle.acct_layouts.specs.Table.{layout_of, samr_layout}
 use Rattle.acct_layouts.specs.declared.fields.ScalarFields.TheVariants as plain
 use Rattle.acct_rules.specs.Asked.{asked_sid}
-use Rattle.dtyp_sid.specs.Value.{IsSid}
-use Rattle.samr_members.specs.Groups.{added_attributes}
+use Rattle.dtyp_sid.specs.Sids.{IsSid}
+use Rattle.samr_members.specs.Members.{added_attributes}
 
 -- the arguments are those of the layout
 arguments : (call : Call) (face : Face) (opnum : ℕ) → call.face ≡ face → call.opnum ≡ opnum → CanBeSpelled call

@@ -4,21 +4,23 @@ use Rattle.std.specs.Prelude.{◌&&◌}
 use Rattle.std.proofs.lemmas.Bool.Decides.{nat_tests}
 use Rattle.acct_calls.specs.declared.replies.Outs.{Outs}
 use Rattle.acct_codes.specs.declared.kind.Kind.TheVariants as kind
-use Rattle.acct_layouts.specs.Bounds.{IfThere}
+use Rattle.acct_layouts.specs.Values.{IfThere}
 use Rattle.acct_rows.specs.Laws.{MembersStaySound, RemovedMembersStaySound, AliasRowsStaySound}
 use Rattle.acct_rows.specs.Laws.{RemovedAliasRowsStaySound}
-use Rattle.acct_rows.specs.Objects.{kind_of, domain_of, rid_of, exists}
-use Rattle.acct_rows.specs.Rows.{Lists, account_at, is_of, same_kind}
+use Rattle.acct_rows.specs.Rows.{exists}
+use Rattle.acct_tables.specs.Keys.{kind_of, domain_of, rid_of}
+use Rattle.acct_rows.specs.Rows.{Lists, account_at, is_of}
+use Rattle.acct_tables.specs.Selected.{same_kind}
 use Rattle.acct_rows.specs.Sound.{IsSoundRows}
-use Rattle.acct_rows.specs.declared.object.Object.{Object}
-use Rattle.acct_rows.specs.declared.object.Object.TheVariants as objects
-use Rattle.acct_rows.specs.declared.row.AccountRow.{AccountRow}
+use Rattle.acct_tables.specs.declared.object.Object.{Object}
+use Rattle.acct_tables.specs.declared.object.Object.TheVariants as objects
+use Rattle.acct_tables.specs.declared.row.AccountRow.{AccountRow}
 use Rattle.acct_rules.specs.Asked.{asked_rid, asked_sid}
 use Rattle.acct_rules.specs.Operations.{KeepsRows, Keeps}
 use Rattle.acct_rules.specs.Planned.{answers, puts, removes}
-use Rattle.dtyp_sid.specs.Value.{SidValue, IsSid}
-use Rattle.samr_members.specs.Aliases.{added_row, added_rows, removed_keys}
-use Rattle.samr_members.specs.Groups.{added_rid, added_member, is_user, is_member, is_primary, has_primary}
+use Rattle.dtyp_sid.specs.Sids.{SidValue, IsSid}
+use Rattle.samr_members.specs.Members.{added_row, added_rows, removed_keys, added_rid, added_member, is_user, is_member}
+use Rattle.samr_members.specs.Members.{is_primary, has_primary}
 use Rattle.samr_members.specs.Table.{add_member_to_group, remove_member_from_group, add_member_to_alias}
 use Rattle.samr_members.specs.Table.{remove_member_from_alias}
 use Rattle.samr_members.proofs.Asking.{long-attributes, whole-sid}

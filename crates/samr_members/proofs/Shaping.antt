@@ -6,21 +6,23 @@ use Rattle.std.proofs.lemmas.List.{length-map}
 use Rattle.std.proofs.lemmas.List.Elements.{All-nil, All-cons, All-head, All-tail, All-map, All-filter}
 use Rattle.acct_codes.specs.declared.kind.Kind.{Kind}
 use Rattle.acct_codes.specs.declared.kind.Kind.TheVariants as kind
-use Rattle.acct_layouts.specs.Bounds.{IsLong, IsMember, IsListed}
+use Rattle.acct_layouts.specs.Values.{IsLong, IsMember, IsListed}
 use Rattle.acct_rows.specs.Laws.{EachIsGood, EachMemberIsFound}
-use Rattle.acct_rows.specs.Objects.{domain_of, rid_of}
-use Rattle.acct_rows.specs.Rows.{Lists, HasRoom, domain_at, account_at, member_at, alias_row_at, is_of}
-use Rattle.acct_rows.specs.Rows.{members_of, groups_of, is_in_group, is_of_user, alias_members_of, is_in_alias}
-use Rattle.acct_rows.specs.Rows.{has_one, each_once_after, each_once, aliases_of}
+use Rattle.acct_tables.specs.Keys.{domain_of, rid_of}
+use Rattle.acct_rows.specs.Rows.{Lists, HasRoom, domain_at, account_at, member_at, alias_row_at, is_of, members_of}
+use Rattle.acct_rows.specs.Rows.{groups_of, alias_members_of}
+use Rattle.acct_tables.specs.Selected.{is_in_group, is_of_user, is_in_alias, has_one}
+use Rattle.acct_rows.specs.Rows.{aliases_of}
+use Rattle.acct_tables.specs.Selected.{each_once_after, each_once}
 use Rattle.acct_rows.specs.Sound.{IsSoundRows, IsGoodAccount, next_rid_of}
-use Rattle.acct_rows.specs.declared.object.Object.{Object}
-use Rattle.acct_rows.specs.declared.row.AccountRow.{AccountRow}
-use Rattle.acct_rows.specs.declared.row.AliasRow.{AliasRow}
-use Rattle.acct_rows.specs.declared.row.DomainRow.{DomainRow}
-use Rattle.acct_rows.specs.declared.row.MemberRow.{MemberRow}
-use Rattle.dtyp_sid.specs.Value.{SidValue, IsSid}
-use Rattle.samr_members.specs.Aliases.{member_of_row, sids_shown}
-use Rattle.samr_members.specs.Groups.{member_shown, group_shown, members_shown, groups_shown}
+use Rattle.acct_tables.specs.declared.object.Object.{Object}
+use Rattle.acct_tables.specs.declared.row.AccountRow.{AccountRow}
+use Rattle.acct_tables.specs.declared.row.AliasRow.{AliasRow}
+use Rattle.acct_tables.specs.declared.row.DomainRow.{DomainRow}
+use Rattle.acct_tables.specs.declared.row.MemberRow.{MemberRow}
+use Rattle.dtyp_sid.specs.Sids.{SidValue, IsSid}
+use Rattle.samr_members.specs.Members.{member_of_row, sids_shown, member_shown, group_shown, members_shown}
+use Rattle.samr_members.specs.Members.{groups_shown}
 
 -- ---- RIDs
 

@@ -6,19 +6,18 @@ use Rattle.std.proofs.lemmas.Bool.Decides.{nat_tests}
 use Rattle.acct_calls.specs.declared.calls.Args.{Args}
 use Rattle.acct_codes.specs.declared.kind.Kind.TheVariants as kind
 use Rattle.acct_rows.specs.Laws.{EachIsGood, PutsAreFound, PutsAreUndone}
-use Rattle.acct_rows.specs.Objects.{domain_of, rid_of}
+use Rattle.acct_tables.specs.Keys.{domain_of, rid_of}
 use Rattle.acct_rows.specs.Rows.{Lists, account_at, member_at, alias_row_at, is_of, after, remove_row}
 use Rattle.acct_rows.specs.Sound.{IsSoundRows}
-use Rattle.acct_rows.specs.declared.object.Object.{Object}
-use Rattle.acct_rows.specs.declared.row.AccountRow.{AccountRow}
-use Rattle.acct_rows.specs.declared.row.RowKey.TheVariants as keys
+use Rattle.acct_tables.specs.declared.object.Object.{Object}
+use Rattle.acct_tables.specs.declared.row.AccountRow.{AccountRow}
+use Rattle.acct_tables.specs.declared.row.RowKey.TheVariants as keys
 use Rattle.acct_rules.specs.Asked.{asked_rid, asked_sid}
 use Rattle.acct_rules.specs.Planned.{none_fails, puts, removes}
-use Rattle.dtyp_sid.specs.Value.{SidValue}
-use Rattle.samr_members.specs.Aliases.{is_alias_member, added_row, added_rows, removed_keys, add_alias_member}
-use Rattle.samr_members.specs.Aliases.{remove_alias_member}
-use Rattle.samr_members.specs.Groups.{added_rid, added_member, is_user, is_member, is_primary, has_primary}
-use Rattle.samr_members.specs.Groups.{add_group_member, remove_group_member}
+use Rattle.dtyp_sid.specs.Sids.{SidValue}
+use Rattle.samr_members.specs.Members.{is_alias_member, added_row, added_rows, removed_keys, add_alias_member}
+use Rattle.samr_members.specs.Members.{remove_alias_member, added_rid, added_member, is_user, is_member, is_primary}
+use Rattle.samr_members.specs.Members.{has_primary, add_group_member, remove_group_member}
 use Rattle.samr_members.specs.Laws.{with_member, with_alias_member}
 
 -- ---- conditions

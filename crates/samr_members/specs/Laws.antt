@@ -5,15 +5,15 @@ use Rattle.acct_calls.specs.declared.calls.Args.{Args}
 use Rattle.acct_calls.specs.declared.lists.RidBits.{RidBits}
 use Rattle.acct_rows.specs.Rows.{Lists, after, aliases_of}
 use Rattle.acct_rows.specs.Sound.{IsSoundRows}
-use Rattle.acct_rows.specs.declared.object.Object.{Object}
-use Rattle.acct_rows.specs.declared.object.Object.TheVariants.{Alias}
+use Rattle.acct_tables.specs.declared.object.Object.{Object}
+use Rattle.acct_tables.specs.declared.object.Object.TheVariants.{Alias}
 use Rattle.acct_rules.specs.Asked.{asked_rid, asked_sid}
-use Rattle.acct_rules.specs.Operations.{IsRight, KeepsRows, Operation}
+use Rattle.acct_rules.specs.Operations.{IsRight, KeepsRows}
+use Rattle.acct_rules.specs.Profiles.{Operation}
 use Rattle.acct_rules.specs.Planned.{none_fails}
-use Rattle.dtyp_sid.specs.Order.{sid_eq}
-use Rattle.dtyp_sid.specs.Value.{SidValue}
-use Rattle.samr_members.specs.Aliases.{sids_shown, add_alias_member, remove_alias_member}
-use Rattle.samr_members.specs.Groups.{added_rid, members_shown, groups_shown, add_group_member, remove_group_member}
+use Rattle.dtyp_sid.specs.Sids.{sid_eq, SidValue}
+use Rattle.samr_members.specs.Members.{sids_shown, add_alias_member, remove_alias_member, added_rid, members_shown}
+use Rattle.samr_members.specs.Members.{groups_shown, add_group_member, remove_group_member}
 use Rattle.samr_members.specs.Table.{add_member_to_group, remove_member_from_group, get_members_in_group}
 use Rattle.samr_members.specs.Table.{add_member_to_alias, remove_member_from_alias, get_members_in_alias}
 use Rattle.samr_members.specs.Table.{get_groups_for_user, get_alias_membership}

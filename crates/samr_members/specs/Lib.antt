@@ -1,4 +1,3 @@
-pub mod Aliases
-pub mod Groups
 pub mod Laws
+pub mod Members
 pub mod Table

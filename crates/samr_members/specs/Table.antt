@@ -7,12 +7,11 @@ use Rattle.acct_codes.specs.Rights.{domain_get_alias_membership, group_add_membe
 use Rattle.acct_codes.specs.Rights.{group_list_members, alias_add_member, alias_remove_member, alias_list_members}
 use Rattle.acct_codes.specs.Rights.{user_list_groups}
 use Rattle.acct_codes.specs.declared.kind.Kind.TheVariants as kind
-use Rattle.acct_rules.specs.Operations.{Operation, undescribed}
-use Rattle.acct_rules.specs.Profiles.{asking}
+use Rattle.acct_rules.specs.Profiles.{Operation, undescribed, asking}
 use Rattle.acct_rules.specs.declared.profile.Kinds.TheVariants as kinds
 use Rattle.acct_rules.specs.declared.profile.Memory.TheVariants as memory
-use Rattle.samr_members.specs.Aliases.{alias_membership, add_alias_member, remove_alias_member, alias_members}
-use Rattle.samr_members.specs.Groups.{add_group_member, remove_group_member, group_members, user_groups}
+use Rattle.samr_members.specs.Members.{alias_membership, add_alias_member, remove_alias_member, alias_members}
+use Rattle.samr_members.specs.Members.{add_group_member, remove_group_member, group_members, user_groups}
 
 -- ---- by a handle to a group
 

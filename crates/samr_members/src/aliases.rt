@@ -3,8 +3,8 @@ ghost use Rattle.std.specs.Prelude.{◌≡◌, true, IfOk, OnErr};
 ghost use Rattle.acct_rows.specs.Rows.{aliases_of};
 ghost use Rattle.acct_rules.specs.Asked.{asked_sid};
 ghost use Rattle.acct_rules.specs.Planned.{decision, none_fails};
-ghost use Rattle.samr_members.specs.Aliases.{is_alias_member, added_rows, removed_keys, sids_shown, asked_sids};
-ghost use Rattle.samr_members.specs.Aliases.{alias_membership, add_alias_member, remove_alias_member, alias_members};
+ghost use Rattle.samr_members.specs.Members.{is_alias_member, added_rows, removed_keys, sids_shown, asked_sids};
+ghost use Rattle.samr_members.specs.Members.{alias_membership, add_alias_member, remove_alias_member, alias_members};
 
 use acct_base::Seq;
 use acct_calls::{Args, Outs, Rids, Sids};
@@ -105,8 +105,7 @@ pub fn alias_members(
     alias: Object,
     args: &Args,
 ) -> Result<Planned, NoMemory>
-    ensures decided { IfOk result (λ p. p ≡ decision (alias_members rows.now.lists alias args.now)) }
-    ensures frugal { OnErr result (none_fails (alias_members rows.now.lists alias args.now).conditions ≡ true) }
+    ensures { IfOk result (λ p. p ≡ decision (alias_members rows.now.lists alias args.now)) }
 {
     let sids = sids_shown(alloc, rows, &alias)?;
     Ok(answers(alloc, STATUS_SUCCESS, Outs::SidList(sids)))
@@ -130,8 +129,7 @@ pub fn alias_membership(
     domain: Object,
     args: &Args,
 ) -> Result<Planned, NoMemory>
-    ensures decided { IfOk result (λ p. p ≡ decision (alias_membership rows.now.lists domain args.now)) }
-    ensures frugal { OnErr result (none_fails (alias_membership rows.now.lists domain args.now).conditions ≡ true) }
+    ensures { IfOk result (λ p. p ≡ decision (alias_membership rows.now.lists domain args.now)) }
 {
     let rids = aliases_asked(alloc, rows, domain.domain(), args)?;
     Ok(answers(alloc, STATUS_SUCCESS, Outs::RidList(rids)))

@@ -1,9 +1,9 @@
 // The operations on the members of groups.
 ghost use Rattle.std.specs.Prelude.{◌≡◌, true, IfOk, OnErr};
 ghost use Rattle.acct_rules.specs.Planned.{decision, none_fails};
-ghost use Rattle.samr_members.specs.Groups.{added_rid, added_attributes, is_user, is_member, is_primary};
-ghost use Rattle.samr_members.specs.Groups.{members_shown, groups_shown, add_group_member};
-ghost use Rattle.samr_members.specs.Groups.{remove_group_member, group_members, user_groups};
+ghost use Rattle.samr_members.specs.Members.{added_rid, added_attributes, is_user, is_member, is_primary};
+ghost use Rattle.samr_members.specs.Members.{members_shown, groups_shown, add_group_member, remove_group_member};
+ghost use Rattle.samr_members.specs.Members.{group_members, user_groups};
 
 use acct_base::Seq;
 use acct_calls::{Args, Outs, RidBits, RidBitsList};
@@ -153,8 +153,7 @@ pub fn group_members(
     group: Object,
     args: &Args,
 ) -> Result<Planned, NoMemory>
-    ensures decided { IfOk result (λ p. p ≡ decision (group_members rows.now.lists group args.now)) }
-    ensures frugal { OnErr result (none_fails (group_members rows.now.lists group args.now).conditions ≡ true) }
+    ensures { IfOk result (λ p. p ≡ decision (group_members rows.now.lists group args.now)) }
 {
     let shown = members_shown(alloc, rows, group.rid())?;
     Ok(answers(alloc, STATUS_SUCCESS, Outs::Pairs(Some(shown))))
@@ -167,8 +166,7 @@ pub fn user_groups(
     user: Object,
     args: &Args,
 ) -> Result<Planned, NoMemory>
-    ensures decided { IfOk result (λ p. p ≡ decision (user_groups rows.now.lists user args.now)) }
-    ensures frugal { OnErr result (none_fails (user_groups rows.now.lists user args.now).conditions ≡ true) }
+    ensures { IfOk result (λ p. p ≡ decision (user_groups rows.now.lists user args.now)) }
 {
     let shown = groups_shown(alloc, rows, user.rid())?;
     Ok(answers(alloc, STATUS_SUCCESS, Outs::Pairs(Some(shown))))

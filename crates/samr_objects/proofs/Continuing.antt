@@ -8,12 +8,12 @@ use Rattle.std.specs.Ordering.{is_lt}
 use Rattle.std.proofs.lemmas.Bool.Decides.{nat_tests}
 use Rattle.acct_calls.specs.declared.lists.RidName.{RidName}
 use Rattle.acct_codes.specs.Limits.{most_page}
-use Rattle.acct_rows.specs.Keyed.{compare, below_all, is_ascending}
-use Rattle.acct_rows.specs.Rows.{Lists, account_key}
+use Rattle.acct_tables.specs.KeyedRows.{compare, below_all, is_ascending}
+use Rattle.acct_rows.specs.Rows.{Lists}
+use Rattle.acct_tables.specs.Keys.{account_key}
 use Rattle.acct_rows.specs.Sound.{IsSoundRows}
-use Rattle.acct_rows.specs.declared.row.AccountRow.{AccountRow}
-use Rattle.acct_rules.specs.Pages.{within, page, page_status}
-use Rattle.acct_rules.specs.PageEntries.{entry_cost, last_rid}
+use Rattle.acct_tables.specs.declared.row.AccountRow.{AccountRow}
+use Rattle.acct_rules.specs.Pages.{within, page, page_status, entry_cost, last_rid}
 use Rattle.samr_objects.specs.Enumerations.{is_wanted, entry_of, left_of}
 use Rattle.samr_objects.specs.Laws.{given_of, later, given_of_all, later_than_all, GoesOn}
 use Rattle.samr_objects.specs.declared.enumerations.Wanted.{Wanted}

@@ -8,25 +8,21 @@ use Rattle.std.proofs.lemmas.List.Elements.{All-nil}
 use Rattle.std.specs.List.{find}
 use Rattle.std.specs.declared.cmp.Ordering.{Ordering}
 use Rattle.std.specs.declared.cmp.Ordering.TheVariants.{Less, Equal, Greater}
-use Rattle.acct_calls.specs.CodePoints.{AreUnits}
-use Rattle.acct_calls.specs.Folding.{IsEquivalence, is_same}
+use Rattle.acct_calls.specs.Names.{AreUnits, IsEquivalence, is_same, is_valid_name}
 use Rattle.acct_calls.specs.declared.replies.Outs.TheVariants as outs
-use Rattle.acct_rows.specs.Keyed.{compare, by_order, put}
-use Rattle.acct_calls.specs.Validity.{is_valid_name}
+use Rattle.acct_tables.specs.KeyedRows.{compare, by_order, put}
 use Rattle.acct_calls.specs.declared.calls.Args.{Args}
 use Rattle.acct_calls.specs.declared.calls.Args.TheVariants as args
 use Rattle.acct_calls.specs.declared.calls.Call.{Call}
 use Rattle.acct_calls.specs.declared.calls.Face.TheVariants.{Samr}
-use Rattle.acct_codes.specs.GroupAttributes.{new_group_attributes}
+use Rattle.acct_codes.specs.Accounts.{new_group_attributes, domain_group_rid_users, most_rid, user_normal_account}
+use Rattle.acct_codes.specs.Accounts.{user_workstation_trust_account, user_server_trust_account}
 use Rattle.acct_codes.specs.Opnums.{samr_create_group_in_domain, samr_create_alias_in_domain}
 use Rattle.acct_codes.specs.Opnums.{samr_create_user_in_domain, samr_create_user2_in_domain}
-use Rattle.acct_codes.specs.Rids.{domain_group_rid_users, most_rid}
 use Rattle.acct_codes.specs.Statuses.{status_not_supported, status_invalid_parameter}
-use Rattle.acct_codes.specs.UserControl.{user_normal_account, user_workstation_trust_account}
-use Rattle.acct_codes.specs.UserControl.{user_server_trust_account}
 use Rattle.acct_codes.specs.declared.kind.Kind.{Kind}
 use Rattle.acct_codes.specs.declared.kind.Kind.TheVariants as kind
-use Rattle.acct_layouts.specs.Bounds.{IsLong}
+use Rattle.acct_layouts.specs.Values.{IsLong}
 use Rattle.acct_layouts.specs.CallShapes.{CanBeSpelled, AreCreationArgs}
 use Rattle.acct_layouts.specs.ReplyShapes.{HasShape}
 use Rattle.acct_layouts.specs.Table.{samr_layout, lsa_layout}
@@ -35,27 +31,31 @@ use Rattle.acct_layouts.specs.declared.fields.Creation.TheVariants as creation
 use Rattle.acct_rows.specs.Laws.{EachIsGood, NextIsFree, DomainsStaySound, AddedAccountsStaySound, AddedUsersStaySound}
 use Rattle.acct_rows.specs.Laws.{PutsAreFound, IsNew, nothing}
 use Rattle.acct_rows.specs.Laws as laws
-use Rattle.acct_rows.specs.Objects.{kind_of, domain_of, exists}
-use Rattle.acct_rows.specs.Rows.{Lists, domain_at, account_at, find_name, same_kind, is_of, put_row, with_puts}
-use Rattle.acct_rows.specs.Rows.{builtin_domain, account_key, has_name}
-use Rattle.acct_rows.specs.Sound.{IsSoundRows, IsGoodDomain, IsGoodRow, is_user_type, control_is_good, next_rid_of}
-use Rattle.acct_rows.specs.Sound.{is_account_kind, good_place, good_bits, good_primary}
-use Rattle.acct_rows.specs.declared.object.Object.{Object}
-use Rattle.acct_rows.specs.declared.object.Object.TheVariants as objects
-use Rattle.acct_rows.specs.declared.row.AccountRow.{AccountRow}
-use Rattle.acct_rows.specs.declared.row.DomainRow.{DomainRow}
-use Rattle.acct_rows.specs.declared.row.MemberRow.{MemberRow}
-use Rattle.acct_rows.specs.declared.row.Row.{Row}
-use Rattle.acct_rows.specs.declared.row.Row.TheVariants as rows
-use Rattle.acct_rules.specs.Asked.{made_name, made_bits, or_empty}
+use Rattle.acct_rows.specs.Rows.{exists}
+use Rattle.acct_tables.specs.Keys.{kind_of, domain_of}
+use Rattle.acct_rows.specs.Rows.{Lists, domain_at, account_at, find_name, is_of, put_row, with_puts}
+use Rattle.acct_tables.specs.Selected.{same_kind}
+use Rattle.acct_tables.specs.Keys.{account_key}
+use Rattle.acct_tables.specs.Selected.{has_name}
+use Rattle.acct_tables.specs.Keys.{builtin_domain}
+use Rattle.acct_rows.specs.Sound.{IsSoundRows, next_rid_of}
+use Rattle.acct_tables.specs.Good.{IsGoodDomain, IsGoodRow, is_user_type, control_is_good}
+use Rattle.acct_tables.specs.Good.{is_account_kind, good_place, good_bits, good_primary}
+use Rattle.acct_tables.specs.declared.object.Object.{Object}
+use Rattle.acct_tables.specs.declared.object.Object.TheVariants as objects
+use Rattle.acct_tables.specs.declared.row.AccountRow.{AccountRow}
+use Rattle.acct_tables.specs.declared.row.DomainRow.{DomainRow}
+use Rattle.acct_tables.specs.declared.row.MemberRow.{MemberRow}
+use Rattle.acct_tables.specs.declared.row.Row.{Row}
+use Rattle.acct_tables.specs.declared.row.Row.TheVariants as rows
+use Rattle.acct_rules.specs.Asked.{made_name, made_type, or_empty}
 use Rattle.acct_rules.specs.Operations.{Keeps, IsRight, KeepsRows, is_condition_status}
 use Rattle.acct_calls.specs.Calls.{zero_handle}
 use Rattle.acct_rules.specs.Planned.{creates, none_fails, when}
-use Rattle.samr_objects.specs.Creations.{new_conditions, new_rid, risen, risen_row, new_account, new_rows}
-use Rattle.samr_objects.specs.Creations.{new_group, new_user, new_control, new_member}
+use Rattle.samr_objects.specs.Accounts.{new_conditions, new_rid, risen, risen_row, new_account, new_rows, new_group}
+use Rattle.samr_objects.specs.Accounts.{new_user, new_control, new_member, is_invalid_name, holder, is_another}
+use Rattle.samr_objects.specs.Accounts.{exists_as, exists_status, gives_no_rid}
 use Rattle.samr_objects.specs.Laws.{IsCreated, Creates}
-use Rattle.samr_objects.specs.Naming.{is_invalid_name, holder, is_another, exists_as, exists_status}
-use Rattle.samr_objects.specs.Naming.{gives_no_rid}
 use Rattle.samr_objects.specs.Table.{create_group_in_domain, create_alias_in_domain, create_user_in_domain}
 use Rattle.samr_objects.specs.Table.{create_user2_in_domain}
 use Rattle.samr_objects.proofs.Asking.{arguments}
@@ -423,7 +423,7 @@ abbrev user-rows : Lists → ℕ → Args → List Row
 user-rows r n asked = new_rows r (new_user r n asked) ++ rows.Member (new_member (new_rid r n)) ∷ []
 
 new-user-made : RowLaws → (r : Lists) (n : ℕ) (d : DomainRow) (asked : Args) → IsSoundRows r → domain_at r n ≡ Some d
-    → n ≡ 0 → is_user_type (made_bits asked) ≡ true → AreUnits (or_empty (made_name asked))
+    → n ≡ 0 → is_user_type (made_type asked) ≡ true → AreUnits (or_empty (made_name asked))
     → MayBe r kind.User n (made_name asked)
     → Made r (with_puts (user-rows r n asked) r) (objects.User (new_rid r n))
 new-user-made l r n d asked sound there zero is units may =
@@ -433,8 +433,8 @@ new-user-made l r n d asked sound there zero is units may =
     subst (λ later. Made r later (objects.User (new_rid r n)))
     (sym (user-puts-are r d a (new_member a.rid) there))
     (user-made l r d a (new_member a.rid) (objects.User (new_rid r n))
-    (takes r kind.User n d asked (new_control (made_bits asked)) domain_group_rid_users sound there
-    (user-fits n (made_bits asked) zero is) units may) refl refl refl (ap (is_of kind.User) found))
+    (takes r kind.User n d asked (new_control (made_type asked)) domain_group_rid_users sound there
+    (user-fits n (made_type asked) zero is) units may) refl refl refl (ap (is_of kind.User) found))
 
 -- ---- what the operations owe
 
@@ -523,7 +523,7 @@ group-in l r n d asked sound there units none =
 user-in : RowLaws → (r : Lists) (n : ℕ) (d : DomainRow) (asked : Args) → IsSoundRows r → domain_at r n ≡ Some d
     → AreUnits (or_empty (made_name asked))
     → none_fails (when (n == builtin_domain) status_not_supported
-    ∷ when (not (is_user_type (made_bits asked))) status_invalid_parameter
+    ∷ when (not (is_user_type (made_type asked))) status_invalid_parameter
     ∷ new_conditions r kind.User n asked) ≡ true
     → Made r (with_puts (user-rows r n asked) r) (objects.User (new_rid r n))
 user-in l r n d asked sound there units none =
@@ -649,7 +649,7 @@ alias-created l r n d asked sound there units none =
 user-created : FoundLaws → (r : Lists) (n : ℕ) (d : DomainRow) (asked : Args) → IsSoundRows r
     → domain_at r n ≡ Some d → AreUnits (or_empty (made_name asked))
     → none_fails (when (n == builtin_domain) status_not_supported
-    ∷ when (not (is_user_type (made_bits asked))) status_invalid_parameter
+    ∷ when (not (is_user_type (made_type asked))) status_invalid_parameter
     ∷ new_conditions r kind.User n asked) ≡ true
     → IsCreated kind.User r (with_puts (user-rows r n asked) r) n (or_empty (made_name asked))
     (outs.Created zero_handle 0 (new_rid r n))
@@ -659,8 +659,8 @@ user-created l r n d asked sound there units none =
     subst (λ later. IsCreated a.kind r later n a.name (outs.Created zero_handle 0 a.rid))
     (sym (user-puts-are r d a (new_member a.rid) there))
     (with-member r d a (new_member a.rid) (created l r d a
-    (takes r kind.User n d asked (new_control (made_bits asked)) domain_group_rid_users sound there
-    (user-fits n (made_bits asked) (in-account-domain n most (first-of _ _ none))
+    (takes r kind.User n d asked (new_control (made_type asked)) domain_group_rid_users sound there
+    (user-fits n (made_type asked) (in-account-domain n most (first-of _ _ none))
     (is-on _ (first-of _ _ (second-of _ _ none)))) units
     (may-be r kind.User n (made_name asked) (second-of _ _ (second-of _ _ none))))))
 

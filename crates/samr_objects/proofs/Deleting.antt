@@ -6,35 +6,39 @@ use Rattle.std.specs.Cmp.{first_so, second_so}
 use Rattle.std.specs.List.{list_any}
 use Rattle.std.specs.Prelude.{zero, suc}
 use Rattle.std.proofs.lemmas.Bool.Decides.{nat_tests}
-use Rattle.acct_calls.specs.Domains.{is_domain_sid}
+use Rattle.acct_calls.specs.Names.{is_domain_sid}
 use Rattle.acct_calls.specs.declared.replies.Outs.TheVariants as outs
 use Rattle.acct_codes.specs.Limits.{most_domain_subs}
-use Rattle.acct_codes.specs.Rids.{domain_group_rid_users, first_created_rid}
+use Rattle.acct_codes.specs.Accounts.{domain_group_rid_users, first_created_rid}
 use Rattle.acct_codes.specs.Statuses.{status_success}
 use Rattle.acct_codes.specs.declared.kind.Kind.{Kind}
 use Rattle.acct_codes.specs.declared.kind.Kind.TheVariants as kind
 use Rattle.acct_layouts.specs.ReplyShapes.{HasShape}
 use Rattle.acct_layouts.specs.Table.{samr_layout, lsa_layout}
-use Rattle.acct_rows.specs.Keyed.{same_key, at}
+use Rattle.acct_tables.specs.KeyedRows.{same_key, at}
 use Rattle.acct_rows.specs.Laws.{EachIsGood, IsNoPrimary, OthersAreNoPrimary, RemovedAccountsStaySound, NamingIsRemoved}
 use Rattle.acct_rows.specs.Laws.{IsWithout, RemovedDescriptorsStaySound}
-use Rattle.acct_rows.specs.Objects.{kind_of, domain_of, rid_of, exists, same_object}
-use Rattle.acct_rows.specs.Rows.{Lists, domain_key, account_key, domain_at, account_at, is_of, same_kind, after}
-use Rattle.acct_rows.specs.Rows.{has_primary, is_primary, remove_row}
-use Rattle.acct_rows.specs.Sound.{IsSoundRows, IsGoodDomain, is_account_kind, next_rid_of}
-use Rattle.acct_rows.specs.declared.object.Object.{Object}
-use Rattle.acct_rows.specs.declared.object.Object.TheVariants as objects
-use Rattle.acct_rows.specs.declared.row.AccountRow.{AccountRow}
-use Rattle.acct_rows.specs.declared.row.DomainRow.{DomainRow}
-use Rattle.acct_rows.specs.declared.row.RowKey.TheVariants as keys
+use Rattle.acct_rows.specs.Rows.{exists}
+use Rattle.acct_tables.specs.Keys.{kind_of, domain_of, rid_of, same_object}
+use Rattle.acct_rows.specs.Rows.{Lists, domain_at, account_at, is_of, after}
+use Rattle.acct_tables.specs.Keys.{domain_key, account_key}
+use Rattle.acct_tables.specs.Selected.{same_kind}
+use Rattle.acct_rows.specs.Rows.{is_primary, remove_row}
+use Rattle.acct_tables.specs.Selected.{has_primary}
+use Rattle.acct_rows.specs.Sound.{IsSoundRows, next_rid_of}
+use Rattle.acct_tables.specs.Good.{IsGoodDomain, is_account_kind}
+use Rattle.acct_tables.specs.declared.object.Object.{Object}
+use Rattle.acct_tables.specs.declared.object.Object.TheVariants as objects
+use Rattle.acct_tables.specs.declared.row.AccountRow.{AccountRow}
+use Rattle.acct_tables.specs.declared.row.DomainRow.{DomainRow}
+use Rattle.acct_tables.specs.declared.row.RowKey.TheVariants as keys
 use Rattle.acct_rules.specs.Operations.{IsRight, KeepsRows, Keeps}
 use Rattle.acct_calls.specs.Calls.{zero_handle}
 use Rattle.acct_rules.specs.Planned.{answers}
 use Rattle.acct_rules.specs.declared.planned.Effect.TheVariants as effects
 use Rattle.acct_rules.specs.declared.planned.Planned.{Planned}
-use Rattle.dtyp_sid.specs.Made.{with_last}
-use Rattle.dtyp_sid.specs.Value.{SidValue}
-use Rattle.samr_objects.specs.Deletions.{is_special, account_sid, keys_of, deletes}
+use Rattle.dtyp_sid.specs.Sids.{with_last, SidValue}
+use Rattle.samr_objects.specs.Accounts.{is_special, account_sid, keys_of, deletes}
 use Rattle.samr_objects.specs.Domains.{sid_of_rid}
 use Rattle.samr_objects.specs.Laws.{IsGone, Deletes}
 use Rattle.samr_objects.specs.Table.{delete_group_in_domain, delete_alias_in_domain, delete_user_in_domain}

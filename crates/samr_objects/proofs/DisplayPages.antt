@@ -6,7 +6,7 @@ use Rattle.std.proofs.lemmas.List.{drop-drop}
 use Rattle.acct_calls.specs.declared.lists.DisplayRow.{DisplayRow}
 use Rattle.acct_codes.specs.Limits.{most_page}
 use Rattle.acct_rules.specs.Pages.{within, page}
-use Rattle.samr_objects.specs.Displays.{display_cost}
+use Rattle.samr_objects.specs.Enumerations.{display_cost}
 use Rattle.samr_objects.specs.Laws.{display_page, DisplayGoesOn}
 
 abbrev lefts : ℕ → ℕ → List DisplayRow → List DisplayRow

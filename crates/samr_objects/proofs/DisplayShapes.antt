@@ -14,24 +14,24 @@ use Rattle.acct_calls.specs.declared.lists.DisplayRow.{DisplayRow}
 use Rattle.acct_codes.specs.Opnums.{samr_query_display_information}
 use Rattle.acct_codes.specs.declared.kind.Kind.{Kind}
 use Rattle.acct_codes.specs.declared.kind.Kind.TheVariants as kind
-use Rattle.acct_layouts.specs.Bounds.{IsLong, IsText, IsListed, IsDisplayedUser, IsDisplayedGroup}
+use Rattle.acct_layouts.specs.Values.{IsLong, IsText, IsListed, IsDisplayedUser, IsDisplayedGroup, display_arm}
 use Rattle.acct_layouts.specs.CallShapes.{AreSearchArgs}
-use Rattle.acct_layouts.specs.Classes.{display_arm}
 use Rattle.acct_layouts.specs.ReplyShapes.{HasShape, AreDisplayed}
 use Rattle.acct_layouts.specs.Table.{samr_layout, lsa_layout}
 use Rattle.acct_layouts.specs.declared.classes.DisplayArm.{DisplayArm}
 use Rattle.acct_layouts.specs.declared.classes.DisplayArm.TheVariants as display
 use Rattle.acct_layouts.specs.declared.fields.Search.TheVariants as search
 use Rattle.acct_rows.specs.Laws.{EachIsGood}
-use Rattle.acct_rows.specs.Objects.{domain_of}
-use Rattle.acct_rows.specs.Rows.{Lists, HasRoom, same_kind}
+use Rattle.acct_tables.specs.Keys.{domain_of}
+use Rattle.acct_rows.specs.Rows.{Lists, HasRoom}
+use Rattle.acct_tables.specs.Selected.{same_kind}
 use Rattle.acct_rows.specs.Sound.{IsSoundRows, IsGoodAccount}
-use Rattle.acct_rows.specs.declared.object.Object.{Object}
-use Rattle.acct_rows.specs.declared.row.AccountRow.{AccountRow}
+use Rattle.acct_tables.specs.declared.object.Object.{Object}
+use Rattle.acct_tables.specs.declared.row.AccountRow.{AccountRow}
 use Rattle.acct_rules.specs.Asked.{class_of, asked_index, asked_count, asked_length}
 use Rattle.acct_rules.specs.Operations.{IsRight}
 use Rattle.acct_rules.specs.Pages.{page, leaves_some}
-use Rattle.samr_objects.specs.Displays.{is_displayed, displayed, displayed_from, display_of, display_cost, as_count}
+use Rattle.samr_objects.specs.Enumerations.{is_displayed, displayed, displayed_from, display_of, display_cost, as_count}
 use Rattle.samr_objects.specs.Table.{query_display_information}
 use Rattle.samr_objects.proofs.Asking.{arguments}
 use Rattle.samr_objects.proofs.Listing.{filter-few}

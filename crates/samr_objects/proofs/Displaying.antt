@@ -15,14 +15,14 @@ use Rattle.acct_calls.specs.declared.replies.Outs.TheVariants as outs
 use Rattle.acct_codes.specs.Limits.{most_page}
 use Rattle.acct_layouts.specs.declared.classes.DisplayArm.{DisplayArm}
 use Rattle.acct_rows.specs.Rows.{Lists}
-use Rattle.acct_rows.specs.declared.row.AccountRow.{AccountRow}
+use Rattle.acct_tables.specs.declared.row.AccountRow.{AccountRow}
 use Rattle.acct_rules.specs.Asked.{class_of, asked_index, asked_count, asked_length}
 use Rattle.acct_rules.specs.Pages.{page, page_status, leaves_some, has_room, room_behind, preferred_room, given_in}
 use Rattle.acct_rules.specs.Planned.{answers, decision}
 use Rattle.acct_rules.specs.declared.pages.PageRoom.{PageRoom}
-use Rattle.samr_objects.specs.Displays.{is_displayed, displayed, displayed_from, display_of, display_cost}
-use Rattle.samr_objects.specs.Displays.{account_cost, as_count, costs_of, displays, takes_account, with_account}
-use Rattle.samr_objects.specs.Displays.{left_for, given_on}
+use Rattle.samr_objects.specs.Enumerations.{is_displayed, displayed, displayed_from, display_of, display_cost}
+use Rattle.samr_objects.specs.Enumerations.{account_cost, as_count, costs_of, displays, takes_account, with_account}
+use Rattle.samr_objects.specs.Enumerations.{left_for, given_on}
 use Rattle.samr_objects.specs.declared.displays.DisplayPage.{DisplayPage}
 use Rattle.samr_objects.proofs.Listing.{filter-few}
 

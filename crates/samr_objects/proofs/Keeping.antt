@@ -9,17 +9,18 @@ use Rattle.acct_calls.specs.declared.replies.Outs.{Outs}
 use Rattle.acct_codes.specs.declared.kind.Kind.{Kind}
 use Rattle.acct_codes.specs.declared.kind.Kind.TheVariants as kind
 use Rattle.acct_rows.specs.Laws.{EachIsGood}
-use Rattle.acct_rows.specs.Objects.{exists}
-use Rattle.acct_rows.specs.Rows.{Lists, domain_at, account_at, is_of, same_kind}
-use Rattle.acct_rows.specs.Sound.{IsSoundRows, good_place}
-use Rattle.acct_rows.specs.declared.object.Object.{Object}
-use Rattle.acct_rows.specs.declared.object.Object.TheVariants.{Domain, Group, User}
-use Rattle.acct_rows.specs.declared.row.AccountRow.{AccountRow}
-use Rattle.acct_rows.specs.declared.row.DomainRow.{DomainRow}
+use Rattle.acct_rows.specs.Rows.{exists, Lists, domain_at, account_at, is_of}
+use Rattle.acct_tables.specs.Selected.{same_kind}
+use Rattle.acct_rows.specs.Sound.{IsSoundRows}
+use Rattle.acct_tables.specs.Good.{good_place}
+use Rattle.acct_tables.specs.declared.object.Object.{Object}
+use Rattle.acct_tables.specs.declared.object.Object.TheVariants.{Domain, Group, User}
+use Rattle.acct_tables.specs.declared.row.AccountRow.{AccountRow}
+use Rattle.acct_tables.specs.declared.row.DomainRow.{DomainRow}
 use Rattle.acct_rules.specs.Operations.{Keeps}
 use Rattle.acct_rules.specs.Planned.{answers, opens}
-use Rattle.dtyp_sid.specs.Value.{SidValue}
-use Rattle.samr_objects.specs.Found.{domain_of_sid, has_sid, number_of}
+use Rattle.dtyp_sid.specs.Sids.{SidValue}
+use Rattle.samr_objects.specs.Domains.{domain_of_sid, has_sid, number_of}
 
 -- ---- plans
 

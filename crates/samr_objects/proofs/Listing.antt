@@ -12,7 +12,7 @@ use Rattle.acct_calls.specs.declared.lists.RidName.{RidName}
 use Rattle.acct_codes.specs.Opnums.{samr_enumerate_groups_in_domain, samr_enumerate_users_in_domain}
 use Rattle.acct_codes.specs.Opnums.{samr_enumerate_aliases_in_domain}
 use Rattle.acct_codes.specs.declared.kind.Kind.TheVariants as kind
-use Rattle.acct_layouts.specs.Bounds.{IsLong, IsAccount, IsListed}
+use Rattle.acct_layouts.specs.Values.{IsLong, IsAccount, IsListed}
 use Rattle.acct_layouts.specs.CallShapes.{AreSearchArgs}
 use Rattle.acct_layouts.specs.ReplyShapes.{HasShape}
 use Rattle.acct_layouts.specs.Table.{samr_layout, lsa_layout}
@@ -20,11 +20,10 @@ use Rattle.acct_layouts.specs.declared.fields.Search.TheVariants as search
 use Rattle.acct_rows.specs.Laws.{EachIsGood}
 use Rattle.acct_rows.specs.Rows.{Lists, HasRoom}
 use Rattle.acct_rows.specs.Sound.{IsSoundRows, IsGoodAccount}
-use Rattle.acct_rows.specs.declared.row.AccountRow.{AccountRow}
+use Rattle.acct_tables.specs.declared.row.AccountRow.{AccountRow}
 use Rattle.acct_rules.specs.Asked.{asked_context, asked_filter, asked_length}
 use Rattle.acct_rules.specs.Operations.{IsRight}
-use Rattle.acct_rules.specs.PageEntries.{entry_cost, last_rid}
-use Rattle.acct_rules.specs.Pages.{page, leaves_some}
+use Rattle.acct_rules.specs.Pages.{entry_cost, last_rid, page, leaves_some}
 use Rattle.samr_objects.specs.Enumerations.{is_wanted, entry_of, left_of, wanted}
 use Rattle.samr_objects.specs.Table.{enumerate_groups_in_domain, enumerate_aliases_in_domain, enumerate_users_in_domain}
 use Rattle.samr_objects.specs.declared.enumerations.Wanted.{Wanted}

@@ -3,21 +3,20 @@ use Rattle.std.proofs.Common.{◌≡◌, ℕ, true, false, List, [], ◌∷◌, 
 use Rattle.std.proofs.Common.{◌∙◌, append_assoc}
 use Rattle.std.specs.List.{filter, list_any}
 use Rattle.acct_calls.specs.declared.calls.Args.{Args}
-use Rattle.acct_rows.specs.Laws.{key_of_member, key_of_alias, is_member_of, is_alias_row_of}
-use Rattle.acct_rows.specs.Objects.{domain_of, rid_of}
 use Rattle.acct_rows.specs.Rows.{Lists}
-use Rattle.acct_rows.specs.declared.object.Object.{Object}
-use Rattle.acct_rows.specs.declared.row.AccountRow.{AccountRow}
-use Rattle.acct_rows.specs.declared.row.AliasRow.{AliasRow}
-use Rattle.acct_rows.specs.declared.row.DomainRow.{DomainRow}
-use Rattle.acct_rows.specs.declared.row.MemberRow.{MemberRow}
-use Rattle.acct_rows.specs.declared.row.Row.TheVariants as rows
-use Rattle.acct_rows.specs.declared.row.RowKey.{RowKey}
-use Rattle.acct_rows.specs.declared.row.RowKey.TheVariants as keys
+use Rattle.acct_tables.specs.Selected.{key_of_member, key_of_alias, is_member_of, is_alias_row_of}
+use Rattle.acct_tables.specs.Keys.{domain_of, rid_of}
+use Rattle.acct_tables.specs.declared.object.Object.{Object}
+use Rattle.acct_tables.specs.declared.row.AccountRow.{AccountRow}
+use Rattle.acct_tables.specs.declared.row.AliasRow.{AliasRow}
+use Rattle.acct_tables.specs.declared.row.DomainRow.{DomainRow}
+use Rattle.acct_tables.specs.declared.row.MemberRow.{MemberRow}
+use Rattle.acct_tables.specs.declared.row.Row.TheVariants as rows
+use Rattle.acct_tables.specs.declared.row.RowKey.{RowKey}
+use Rattle.acct_tables.specs.declared.row.RowKey.TheVariants as keys
 use Rattle.acct_rules.specs.Touched.{is_account_key, is_out_key, is_modest}
-use Rattle.dtyp_sid.specs.Value.{SidValue}
-use Rattle.samr_objects.specs.Creations.{risen_row}
-use Rattle.samr_objects.specs.Deletions.{keys_of}
+use Rattle.dtyp_sid.specs.Sids.{SidValue}
+use Rattle.samr_objects.specs.Accounts.{risen_row, keys_of}
 use Rattle.samr_objects.specs.Settings.{account_puts, domain_puts}
 use Rattle.samr_objects.specs.declared.settings.Field.{Field}
 

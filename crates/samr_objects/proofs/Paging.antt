@@ -5,11 +5,10 @@ use Rattle.std.specs.Prelude.{min, nat_le}
 use Rattle.std.proofs.lemmas.List.{length-drop, length-map}
 use Rattle.acct_calls.specs.declared.lists.RidName.{RidName}
 use Rattle.acct_codes.specs.Limits.{most_page}
-use Rattle.acct_rows.specs.declared.row.DomainRow.{DomainRow}
-use Rattle.acct_rules.specs.Pages.{within, page, preferred_room, given_in}
+use Rattle.acct_tables.specs.declared.row.DomainRow.{DomainRow}
+use Rattle.acct_rules.specs.Pages.{within, page, preferred_room, given_in, entry_cost}
 use Rattle.acct_rules.specs.declared.pages.PageRoom.{PageRoom}
 use Rattle.samr_objects.specs.Domains.{listed}
-use Rattle.acct_rules.specs.PageEntries.{entry_cost}
 
 either-few : {A : Type 0} (b : Bool) (x : A) (given xs : List A) → length given ≤ length xs
     → length (cond b (x ∷ given) []) ≤ length (x ∷ xs)

@@ -8,26 +8,26 @@ use Rattle.acct_calls.specs.declared.calls.Args.{Args}
 use Rattle.acct_calls.specs.declared.info.Info.{Info}
 use Rattle.acct_codes.specs.declared.kind.Kind.{Kind}
 use Rattle.acct_codes.specs.declared.kind.Kind.TheVariants as kind
-use Rattle.acct_layouts.specs.Bounds.{IsLong, IsText, IfThere}
-use Rattle.acct_layouts.specs.Classes.{shown_arm}
-use Rattle.acct_layouts.specs.InfoShapes.{IsOfArm}
+use Rattle.acct_layouts.specs.Values.{IsLong, IsText, IfThere, shown_arm, IsOfArm}
 use Rattle.acct_layouts.specs.ReplyShapes.{HasShape, IsShown}
 use Rattle.acct_layouts.specs.Table.{samr_layout, lsa_layout}
 use Rattle.acct_layouts.specs.declared.classes.Arm.TheVariants as arm
 use Rattle.acct_layouts.specs.declared.classes.Subject.{Subject}
 use Rattle.acct_layouts.specs.declared.classes.Subject.TheVariants as subject
 use Rattle.acct_rows.specs.Laws.{EachIsGood}
-use Rattle.acct_rows.specs.Objects.{domain_of, rid_of}
-use Rattle.acct_rows.specs.Rows.{Lists, HasRoom, domain_at, account_at, is_of, same_kind, is_in_group, is_in_alias}
-use Rattle.acct_rows.specs.Sound.{IsSoundRows, IsGoodDomain, IsGoodAccount, good_primary}
-use Rattle.acct_rows.specs.declared.object.Object.{Object}
-use Rattle.acct_rows.specs.declared.row.AccountRow.{AccountRow}
-use Rattle.acct_rows.specs.declared.row.DomainRow.{DomainRow}
+use Rattle.acct_tables.specs.Keys.{domain_of, rid_of}
+use Rattle.acct_rows.specs.Rows.{Lists, HasRoom, domain_at, account_at, is_of}
+use Rattle.acct_tables.specs.Selected.{same_kind, is_in_group, is_in_alias}
+use Rattle.acct_rows.specs.Sound.{IsSoundRows, IsGoodAccount}
+use Rattle.acct_tables.specs.Good.{IsGoodDomain, good_primary}
+use Rattle.acct_tables.specs.declared.object.Object.{Object}
+use Rattle.acct_tables.specs.declared.row.AccountRow.{AccountRow}
+use Rattle.acct_tables.specs.declared.row.DomainRow.{DomainRow}
 use Rattle.acct_rules.specs.Asked.{class_of}
 use Rattle.acct_rules.specs.Operations.{IsRight}
 use Rattle.samr_objects.specs.Laws.{ShowsItsClasses}
-use Rattle.samr_objects.specs.Queries.{Classes, domain_classes, group_classes, alias_classes, user_classes}
-use Rattle.samr_objects.specs.Queries.{member_count, alias_member_count, value_of, shown_by, account_of}
+use Rattle.samr_objects.specs.Settings.{Classes, domain_classes, group_classes, alias_classes, user_classes}
+use Rattle.samr_objects.specs.Settings.{member_count, alias_member_count, value_of, shown_by, account_of}
 use Rattle.samr_objects.specs.Table.{query_information_domain, query_information_domain2, query_information_group}
 use Rattle.samr_objects.specs.Table.{query_information_alias, query_information_user, query_information_user2}
 use Rattle.samr_objects.proofs.Keeping.{holds}

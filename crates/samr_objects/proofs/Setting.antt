@@ -5,8 +5,7 @@ use Rattle.std.specs.List.{list_all}
 use Rattle.std.specs.Option.{option_map}
 use Rattle.std.proofs.lemmas.Bool.Decides.{nat_tests}
 use Rattle.std.proofs.lemmas.List.Elements.{All-nil}
-use Rattle.acct_calls.specs.CodePoints.{AreUnits}
-use Rattle.acct_calls.specs.Validity.{is_valid_name}
+use Rattle.acct_calls.specs.Names.{AreUnits, is_valid_name}
 use Rattle.acct_calls.specs.declared.calls.Args.{Args}
 use Rattle.acct_calls.specs.declared.calls.Args.TheVariants as args
 use Rattle.acct_calls.specs.declared.calls.Call.{Call}
@@ -18,9 +17,8 @@ use Rattle.acct_codes.specs.Opnums.{samr_set_information_domain, samr_set_inform
 use Rattle.acct_codes.specs.Opnums.{samr_set_information_alias, samr_set_information_user, samr_set_information_user2}
 use Rattle.acct_codes.specs.declared.kind.Kind.{Kind}
 use Rattle.acct_codes.specs.declared.kind.Kind.TheVariants as kind
-use Rattle.acct_layouts.specs.Bounds.{IsLong, IsText, IfThere}
+use Rattle.acct_layouts.specs.Values.{IsLong, IsText, IfThere, set_arm}
 use Rattle.acct_layouts.specs.CallShapes.{CanBeSpelled, AreArguments, IsPut}
-use Rattle.acct_layouts.specs.Classes.{set_arm}
 use Rattle.acct_layouts.specs.ReplyShapes.{HasShape}
 use Rattle.acct_layouts.specs.Table.{samr_layout, lsa_layout}
 use Rattle.acct_layouts.specs.declared.classes.Arm.{Arm}
@@ -29,24 +27,25 @@ use Rattle.acct_layouts.specs.declared.classes.Subject.{Subject}
 use Rattle.acct_layouts.specs.declared.classes.Subject.TheVariants as subject
 use Rattle.acct_layouts.specs.declared.fields.Fields.TheVariants as fields
 use Rattle.acct_rows.specs.Laws.{EachIsGood, DomainsStaySound, ReplacedAccountsStaySound, OwnNameIsFree}
-use Rattle.acct_rows.specs.Laws.{UnusedNameIsFree}
-use Rattle.acct_rows.specs.Laws.{NameFoundIsFree, PutsAreFound, PutsLeaveOthers, Replaces, IsFree}
-use Rattle.acct_rows.specs.Objects.{kind_of, domain_of, rid_of, exists}
-use Rattle.acct_rows.specs.Rows.{Lists, domain_at, account_at, member_at, find_name, is_of, same_kind, put_row, after}
-use Rattle.acct_rows.specs.Sound.{IsSoundRows, IsGoodDomain, IsGoodAccount, control_is_good, good_bits}
-use Rattle.acct_rows.specs.Sound.{good_primary, is_account_kind}
-use Rattle.acct_rows.specs.declared.object.Object.{Object}
-use Rattle.acct_rows.specs.declared.object.Object.TheVariants as objects
-use Rattle.acct_rows.specs.declared.row.AccountRow.{AccountRow}
-use Rattle.acct_rows.specs.declared.row.DomainRow.{DomainRow}
-use Rattle.acct_rows.specs.declared.row.Row.TheVariants as rows
+use Rattle.acct_rows.specs.Laws.{UnusedNameIsFree, NameFoundIsFree, PutsAreFound, PutsLeaveOthers, Replaces, IsFree}
+use Rattle.acct_rows.specs.Rows.{exists}
+use Rattle.acct_tables.specs.Keys.{kind_of, domain_of, rid_of}
+use Rattle.acct_rows.specs.Rows.{Lists, domain_at, account_at, member_at, find_name, is_of, put_row, after}
+use Rattle.acct_tables.specs.Selected.{same_kind}
+use Rattle.acct_rows.specs.Sound.{IsSoundRows, IsGoodAccount}
+use Rattle.acct_tables.specs.Good.{IsGoodDomain, control_is_good, good_bits, good_primary, is_account_kind}
+use Rattle.acct_tables.specs.declared.object.Object.{Object}
+use Rattle.acct_tables.specs.declared.object.Object.TheVariants as objects
+use Rattle.acct_tables.specs.declared.row.AccountRow.{AccountRow}
+use Rattle.acct_tables.specs.declared.row.DomainRow.{DomainRow}
+use Rattle.acct_tables.specs.declared.row.Row.TheVariants as rows
 use Rattle.acct_rules.specs.Asked.{class_of, put_text, put_number, or_empty}
 use Rattle.acct_rules.specs.Operations.{IsRight, KeepsRows, Keeps, is_condition_status}
 use Rattle.acct_rules.specs.Planned.{Condition, none_fails, puts}
 use Rattle.samr_objects.specs.Laws.{AccountIsSet, DomainIsSet, SetsAccount, SetsDomain}
-use Rattle.samr_objects.specs.Naming.{is_invalid_name, holder, is_another, exists_as, exists_status, is_too_long}
-use Rattle.samr_objects.specs.Settings.{set_field, sets_oem, field_conditions, with_field, with_oem}
-use Rattle.samr_objects.specs.Settings.{account_puts, domain_puts}
+use Rattle.samr_objects.specs.Accounts.{is_invalid_name, holder, is_another, exists_as, exists_status, is_too_long}
+use Rattle.samr_objects.specs.Settings.{set_field, sets_oem, field_conditions, with_field, with_oem, account_puts}
+use Rattle.samr_objects.specs.Settings.{domain_puts}
 use Rattle.samr_objects.specs.Table.{set_information_domain, set_information_group, set_information_alias}
 use Rattle.samr_objects.specs.Table.{set_information_user, set_information_user2}
 use Rattle.samr_objects.specs.declared.settings.Field.{Field}

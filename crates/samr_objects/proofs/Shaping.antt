@@ -8,28 +8,24 @@ use Rattle.std.specs.List.{find, list_all, list_any}
 use Rattle.std.proofs.lemmas.Bool.Decides.{nat_tests}
 use Rattle.std.proofs.lemmas.List.{length-map}
 use Rattle.std.proofs.lemmas.List.Elements.{All-nil, All-cons, All-head, All-tail, All-push, All-map, All-drop}
-use Rattle.acct_calls.specs.CodePoints.{units_of}
-use Rattle.acct_calls.specs.Domains.{is_domain_name, builtin_name}
-use Rattle.acct_calls.specs.Validity.{is_valid_name, most_units}
+use Rattle.acct_calls.specs.Names.{units_of, is_domain_name, builtin_name, is_valid_name, most_units}
 use Rattle.acct_codes.specs.Limits.{most_page, most_domain_subs}
 use Rattle.acct_codes.specs.Statuses.{status_success, status_some_not_mapped, status_none_mapped, status_more_entries}
 use Rattle.acct_codes.specs.declared.kind.Kind.{Kind}
 use Rattle.acct_codes.specs.declared.kind.Kind.TheVariants as kind
-use Rattle.acct_layouts.specs.Bounds.{IsLong, IsText, IsAccount, IfThere, IsListed}
+use Rattle.acct_layouts.specs.Values.{IsLong, IsText, IsAccount, IfThere, IsListed}
 use Rattle.acct_layouts.specs.Refusals.{is_refusal}
 use Rattle.acct_rows.specs.Laws.{EachIsGood}
-use Rattle.acct_rows.specs.Rows.{Lists, domain_at, account_at, find_name, has_name}
-use Rattle.acct_rows.specs.Sound.{IsSoundRows, IsGoodDomain, IsGoodAccount, next_rid_of}
-use Rattle.acct_rows.specs.declared.row.AccountRow.{AccountRow}
-use Rattle.acct_rows.specs.declared.row.DomainRow.{DomainRow}
-use Rattle.acct_rules.specs.Mapped.{is_mapped, mapped_status}
-use Rattle.acct_rules.specs.Pages.{within, page, page_status}
-use Rattle.dtyp_sid.specs.Made.{with_last}
-use Rattle.dtyp_sid.specs.Value.{SidValue, IsSid}
-use Rattle.samr_objects.specs.Domains.{listed, sid_in, sid_of_rid}
-use Rattle.acct_rules.specs.PageEntries.{entry_cost}
-use Rattle.acct_rules.specs.Mapped.{use_of_kind}
-use Rattle.samr_objects.specs.Found.{is_named, domain_named, use_in, rid_in, name_in}
+use Rattle.acct_rows.specs.Rows.{Lists, domain_at, account_at, find_name}
+use Rattle.acct_tables.specs.Selected.{has_name}
+use Rattle.acct_rows.specs.Sound.{IsSoundRows, IsGoodAccount, next_rid_of}
+use Rattle.acct_tables.specs.Good.{IsGoodDomain}
+use Rattle.acct_tables.specs.declared.row.AccountRow.{AccountRow}
+use Rattle.acct_tables.specs.declared.row.DomainRow.{DomainRow}
+use Rattle.acct_rules.specs.Planned.{is_mapped, mapped_status, use_of_kind}
+use Rattle.acct_rules.specs.Pages.{within, page, page_status, entry_cost}
+use Rattle.dtyp_sid.specs.Sids.{with_last, SidValue, IsSid}
+use Rattle.samr_objects.specs.Domains.{listed, sid_in, sid_of_rid, is_named, domain_named, use_in, rid_in, name_in}
 
 -- ---- statuses
 

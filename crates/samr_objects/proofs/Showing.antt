@@ -20,23 +20,25 @@ use Rattle.acct_codes.specs.Statuses.{status_success}
 use Rattle.acct_codes.specs.declared.kind.Kind.{Kind}
 use Rattle.acct_codes.specs.declared.kind.Kind.TheVariants as kind
 use Rattle.acct_layouts.specs.CallShapes.{AreArguments, IsPut}
-use Rattle.acct_layouts.specs.Classes.{set_arm}
+use Rattle.acct_layouts.specs.Values.{set_arm}
 use Rattle.acct_layouts.specs.Table.{samr_layout}
 use Rattle.acct_layouts.specs.declared.classes.Arm.TheVariants as arm
 use Rattle.acct_layouts.specs.declared.classes.Subject.{Subject}
 use Rattle.acct_layouts.specs.declared.classes.Subject.TheVariants as subject
 use Rattle.acct_layouts.specs.declared.fields.Fields.TheVariants as fields
-use Rattle.acct_rows.specs.Objects.{kind_of, domain_of, exists}
-use Rattle.acct_rows.specs.Rows.{Lists, domain_at, is_of, same_kind, after}
-use Rattle.acct_rows.specs.declared.object.Object.{Object}
-use Rattle.acct_rows.specs.declared.object.Object.TheVariants as objects
-use Rattle.acct_rows.specs.declared.row.AccountRow.{AccountRow}
-use Rattle.acct_rows.specs.declared.row.DomainRow.{DomainRow}
+use Rattle.acct_rows.specs.Rows.{exists}
+use Rattle.acct_tables.specs.Keys.{kind_of, domain_of}
+use Rattle.acct_rows.specs.Rows.{Lists, domain_at, is_of, after}
+use Rattle.acct_tables.specs.Selected.{same_kind}
+use Rattle.acct_tables.specs.declared.object.Object.{Object}
+use Rattle.acct_tables.specs.declared.object.Object.TheVariants as objects
+use Rattle.acct_tables.specs.declared.row.AccountRow.{AccountRow}
+use Rattle.acct_tables.specs.declared.row.DomainRow.{DomainRow}
 use Rattle.acct_rules.specs.Asked.{class_of}
 use Rattle.acct_rules.specs.Planned.{decision, answers}
 use Rattle.samr_objects.specs.Laws.{FieldsAreSet, ShowsWhatIsSet}
-use Rattle.samr_objects.specs.Queries.{Classes, domain_classes, group_classes, alias_classes, user_classes, value_of}
-use Rattle.samr_objects.specs.Queries.{shown_by, shows, account_of, query_domain, query_group, query_alias, query_user}
+use Rattle.samr_objects.specs.Settings.{Classes, domain_classes, group_classes, alias_classes, user_classes, value_of}
+use Rattle.samr_objects.specs.Settings.{shown_by, shows, account_of, query_domain, query_group, query_alias, query_user}
 use Rattle.samr_objects.specs.Settings.{set_field, sets_oem, with_field, with_oem}
 use Rattle.samr_objects.specs.Table.{set_information_domain, set_information_group, set_information_alias}
 use Rattle.samr_objects.specs.Table.{set_information_user, set_information_user2}

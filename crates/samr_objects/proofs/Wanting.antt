@@ -1,9 +1,9 @@
 -- The accounts that are wanted stand after the RID.
 use Rattle.std.proofs.Common.{◌≡◌, ◌==◌, nat_lt, Bool, true, false, ◌&&◌, cond, List, [], ◌∷◌, refl, sym, ap, ◌∙◌}
 use Rattle.std.specs.List.{filter}
-use Rattle.acct_rows.specs.Ranges.{is_behind}
-use Rattle.acct_rows.specs.Rows.{same_kind}
-use Rattle.acct_rows.specs.declared.row.AccountRow.{AccountRow}
+use Rattle.acct_tables.specs.Ranges.{is_behind}
+use Rattle.acct_tables.specs.Selected.{same_kind}
+use Rattle.acct_tables.specs.declared.row.AccountRow.{AccountRow}
 use Rattle.samr_objects.specs.Enumerations.{has_one_of, is_wanted}
 use Rattle.samr_objects.specs.declared.enumerations.Wanted.{Wanted}
 

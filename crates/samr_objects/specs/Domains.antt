@@ -1,22 +1,67 @@
--- The operations on domains: to look for one by its name, to list them, to open one, and the SID of a RID.
-use Rattle.std.specs.Prelude.{ℕ, ◌+◌, not, [], ◌∷◌, length, map, drop, Option, Some, None, is_some}
+-- The operations that look for something: domains, and accounts of a domain.
+use Rattle.std.specs.Prelude.{ℕ, Bool, List, [], Option, Some, None, ◌+◌, not, ◌∷◌, length, map, drop, is_some}
+use Rattle.std.specs.List.{find}
 use Rattle.std.specs.Option.{option_map}
+use Rattle.acct_codes.specs.Statuses.{status_success, status_no_such_domain}
+use Rattle.acct_codes.specs.Accounts.{sid_type_unknown}
+use Rattle.dtyp_sid.specs.Sids.{sid_eq, SidValue}
+use Rattle.acct_calls.specs.Names.{is_same}
 use Rattle.acct_calls.specs.declared.calls.Args.{Args}
 use Rattle.acct_calls.specs.declared.lists.RidName.{RidName}
 use Rattle.acct_calls.specs.declared.replies.Outs.TheVariants as outs
-use Rattle.acct_codes.specs.Statuses.{status_success, status_no_such_domain}
-use Rattle.acct_rows.specs.Objects.{domain_of}
-use Rattle.acct_rows.specs.Rows.{Lists, domain_at}
-use Rattle.acct_rows.specs.declared.object.Object.{Object}
-use Rattle.acct_rows.specs.declared.object.Object.TheVariants.{Domain}
-use Rattle.acct_rows.specs.declared.row.DomainRow.{DomainRow}
+use Rattle.acct_tables.specs.Keys.{domain_of}
+use Rattle.acct_rows.specs.Rows.{Lists, domain_at, find_name, account_at}
+use Rattle.acct_tables.specs.declared.object.Object.{Object}
+use Rattle.acct_tables.specs.declared.object.Object.TheVariants.{Domain}
+use Rattle.acct_tables.specs.declared.row.AccountRow.{AccountRow}
+use Rattle.acct_tables.specs.declared.row.DomainRow.{DomainRow}
 use Rattle.acct_rules.specs.Asked.{asked_name, asked_sid, asked_rid, asked_context, asked_length, desired_access}
-use Rattle.acct_rules.specs.PageEntries.{entry, entry_cost}
-use Rattle.acct_rules.specs.Pages.{page, page_status, leaves_some}
-use Rattle.acct_rules.specs.Planned.{Ruled, when, answers, opens}
-use Rattle.acct_rules.specs.Sids.{with_rid}
-use Rattle.dtyp_sid.specs.Value.{SidValue}
-use Rattle.samr_objects.specs.Found.{domain_named, domain_of_sid, number_of}
+use Rattle.acct_rules.specs.Asked.{asked_names, asked_rids}
+use Rattle.acct_rules.specs.Planned.{use_of_kind, mapped_status, Ruled, when, answers, opens, with_rid}
+use Rattle.acct_rules.specs.Pages.{entry, entry_cost, page, page_status, leaves_some}
+
+-- ======== what is found in the rows: a domain by its name or its SID, and what an account that was looked for shows
+
+-- ---- domains
+
+-- Names are one where they are so after simple case folding.
+abbrev pub is_named : List ℕ → DomainRow → Bool
+is_named name d = is_same d.name name
+
+abbrev pub domain_named : Lists → Option (List ℕ) → Option DomainRow
+domain_named r None = None
+domain_named r (Some name) = find (is_named name) r.domains
+
+abbrev pub has_sid : SidValue → DomainRow → Bool
+has_sid sid d = sid_eq d.sid sid
+
+abbrev pub domain_of_sid : Lists → Option SidValue → Option DomainRow
+domain_of_sid r None = None
+domain_of_sid r (Some sid) = find (has_sid sid) r.domains
+
+-- the number of a domain that was found; 0 where none was
+abbrev pub number_of : Option DomainRow → ℕ
+number_of None = 0
+number_of (Some d) = d.number
+
+-- ---- accounts
+
+-- what an account that was looked for is used for; one that isn't there is unknown
+abbrev pub use_in : Option AccountRow → ℕ
+use_in None = sid_type_unknown
+use_in (Some a) = use_of_kind a.kind
+
+-- its RID, or 0
+abbrev pub rid_in : Option AccountRow → ℕ
+rid_in None = 0
+rid_in (Some a) = a.rid
+
+-- its name, or the empty one
+abbrev pub name_in : Option AccountRow → List ℕ
+name_in None = []
+name_in (Some a) = a.name
+
+-- ======== the operations on domains: to look for one by its name, to list them, to open one, and the SID of a RID
 
 abbrev pub sid_in : Option DomainRow → Option SidValue
 sid_in d = option_map (λ (row : DomainRow). row.sid) d
@@ -67,3 +112,25 @@ rid_to_sid r object asked = record {
   planned =
       answers status_success (outs.OneSid (sid_of_rid (domain_at r (domain_of object)) (asked_rid asked)));
 }
+
+-- ======== the operations that look for accounts of a domain: by names, and by RIDs
+
+-- SamrLookupNamesInDomain (MS-SAMR 3.1.5.11.2)
+abbrev pub look_names : Lists → Object → Args → Ruled
+look_names r object asked =
+    let found = map (find_name r (domain_of object)) (asked_names asked) in
+    let uses = map use_in found in
+    record {
+      conditions = [];
+      planned = answers (mapped_status uses) (outs.RidUses (map rid_in found) uses);
+    }
+
+-- SamrLookupIdsInDomain (MS-SAMR 3.1.5.11.3)
+abbrev pub look_ids : Lists → Object → Args → Ruled
+look_ids r object asked =
+    let found = map (account_at r (domain_of object)) (asked_rids asked) in
+    let uses = map use_in found in
+    record {
+      conditions = [];
+      planned = answers (mapped_status uses) (outs.NameUses (map name_in found) uses);
+    }

@@ -5,25 +5,26 @@ use Rattle.std.specs.Prelude.{take, drop}
 use Rattle.acct_calls.specs.declared.lists.DisplayRow.{DisplayRow}
 use Rattle.acct_calls.specs.declared.lists.RidName.{RidName}
 use Rattle.acct_rows.specs.Rows.{Lists, domain_at, account_at, after, find_name, remove_row}
-use Rattle.acct_rows.specs.declared.row.RowKey.TheVariants as keys
+use Rattle.acct_tables.specs.declared.row.RowKey.TheVariants as keys
 use Rattle.acct_rows.specs.Sound.{IsSoundRows, next_rid_of}
-use Rattle.acct_rules.specs.Operations.{IsRight, KeepsRows, Operation, IsAsked}
+use Rattle.acct_rules.specs.Operations.{IsRight, KeepsRows, IsAsked}
+use Rattle.acct_rules.specs.Profiles.{Operation}
 use Rattle.acct_calls.specs.declared.calls.Args.{Args}
 use Rattle.acct_calls.specs.declared.calls.Args.TheVariants as args
 use Rattle.acct_calls.specs.declared.info.Info.{Info}
 use Rattle.acct_codes.specs.Statuses.{status_success}
-use Rattle.acct_layouts.specs.Classes.{shown_arm}
+use Rattle.acct_layouts.specs.Values.{shown_arm}
 use Rattle.acct_layouts.specs.declared.classes.Subject.TheVariants as subject
-use Rattle.acct_rows.specs.Objects.{exists, domain_of, rid_of}
-use Rattle.acct_rows.specs.declared.object.Object.TheVariants as object
+use Rattle.acct_rows.specs.Rows.{exists}
+use Rattle.acct_tables.specs.Keys.{domain_of, rid_of}
+use Rattle.acct_tables.specs.declared.object.Object.TheVariants as object
 use Rattle.acct_rules.specs.Asked.{class_of, made_name, or_empty}
-use Rattle.acct_rules.specs.Pages.{page, page_status}
+use Rattle.acct_rules.specs.Pages.{page, page_status, entry_cost, last_rid}
 use Rattle.acct_calls.specs.Calls.{zero_handle}
 use Rattle.acct_rules.specs.Planned.{Ruled, none_fails, decision, answers}
-use Rattle.samr_objects.specs.Displays.{display_cost}
-use Rattle.acct_rules.specs.PageEntries.{entry_cost, last_rid}
-use Rattle.samr_objects.specs.Enumerations.{left_of, list_accounts}
-use Rattle.samr_objects.specs.Queries.{query_domain, query_group, query_alias, query_user}
+use Rattle.samr_objects.specs.Enumerations.{display_cost, left_of, list_accounts}
+use Rattle.samr_objects.specs.Settings.{query_domain, query_group, query_alias, query_user, set_field, with_field}
+use Rattle.samr_objects.specs.Settings.{with_oem}
 use Rattle.samr_objects.specs.Table.{query_information_domain, query_information_domain2, query_information_group}
 use Rattle.samr_objects.specs.Table.{query_information_alias, query_information_user, query_information_user2}
 use Rattle.samr_objects.specs.Table.{lookup_domain_in_sam_server, enumerate_domains_in_sam_server}
@@ -41,13 +42,12 @@ use Rattle.acct_calls.specs.declared.calls.Call.{Call}
 use Rattle.acct_codes.specs.declared.kind.Kind.{Kind}
 use Rattle.acct_codes.specs.declared.kind.Kind.TheVariants as kind
 use Rattle.acct_rows.specs.Laws.{IsWithout}
-use Rattle.acct_rows.specs.declared.object.Object.{Object}
-use Rattle.acct_rows.specs.declared.row.AccountRow.{AccountRow}
-use Rattle.acct_rows.specs.declared.row.DomainRow.{DomainRow}
+use Rattle.acct_tables.specs.declared.object.Object.{Object}
+use Rattle.acct_tables.specs.declared.row.AccountRow.{AccountRow}
+use Rattle.acct_tables.specs.declared.row.DomainRow.{DomainRow}
 use Rattle.dtyp_access.specs.declared.descriptor.Descriptor.{Descriptor}
-use Rattle.dtyp_sid.specs.Value.{SidValue}
-use Rattle.samr_objects.specs.Deletions.{account_sid}
-use Rattle.samr_objects.specs.Settings.{set_field, with_field, with_oem}
+use Rattle.dtyp_sid.specs.Sids.{SidValue}
+use Rattle.samr_objects.specs.Accounts.{account_sid}
 use Rattle.acct_calls.specs.declared.replies.Outs.{Outs}
 use Rattle.acct_calls.specs.declared.replies.Outs.TheVariants as outs
 

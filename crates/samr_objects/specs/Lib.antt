@@ -1,13 +1,6 @@
 pub mod Accounts
-pub mod Creations
-pub mod Deletions
-pub mod Displays
 pub mod Domains
 pub mod Enumerations
-pub mod Found
 pub mod Laws
-pub mod Lookups
-pub mod Naming
-pub mod Queries
 pub mod Settings
 pub mod Table

@@ -21,21 +21,17 @@ use Rattle.acct_codes.specs.Rights.{domain_lookup, domain_list_accounts, domain_
 use Rattle.acct_codes.specs.Rights.{group_read_information, alias_read_information, user_read_account}
 use Rattle.acct_codes.specs.Rights.{user_read_general, domain_create_group, domain_create_alias, domain_create_user}
 use Rattle.acct_codes.specs.declared.kind.Kind.TheVariants as kind
-use Rattle.acct_rules.specs.Operations.{Operation, undescribed}
-use Rattle.acct_rules.specs.Profiles.{asking}
+use Rattle.acct_rules.specs.Profiles.{Operation, undescribed, asking}
 use Rattle.acct_rules.specs.declared.profile.Needs.TheVariants as needs
 use Rattle.acct_rules.specs.declared.profile.Profile.{Profile}
 use Rattle.acct_rules.specs.declared.profile.Kinds.TheVariants as kinds
 use Rattle.acct_rules.specs.declared.profile.Memory.TheVariants as memory
-use Rattle.samr_objects.specs.Accounts.{open_group, open_alias, open_user}
-use Rattle.samr_objects.specs.Deletions.{delete_group, delete_alias, delete_user}
-use Rattle.samr_objects.specs.Displays.{query_display}
-use Rattle.samr_objects.specs.Creations.{create_group, create_alias, create_user}
-use Rattle.samr_objects.specs.Domains.{look_domain, list_domains, open_domain, rid_to_sid}
-use Rattle.samr_objects.specs.Enumerations.{list_groups, list_aliases, list_users}
-use Rattle.samr_objects.specs.Settings.{set_domain, set_group, set_alias, set_user}
-use Rattle.samr_objects.specs.Lookups.{look_names, look_ids}
-use Rattle.samr_objects.specs.Queries.{query_domain, query_group, query_alias, query_user}
+use Rattle.samr_objects.specs.Accounts.{open_group, open_alias, open_user, delete_group, delete_alias, delete_user}
+use Rattle.samr_objects.specs.Accounts.{create_group, create_alias, create_user}
+use Rattle.samr_objects.specs.Enumerations.{query_display, list_groups, list_aliases, list_users}
+use Rattle.samr_objects.specs.Domains.{look_domain, list_domains, open_domain, rid_to_sid, look_names, look_ids}
+use Rattle.samr_objects.specs.Settings.{set_domain, set_group, set_alias, set_user, query_domain, query_group}
+use Rattle.samr_objects.specs.Settings.{query_alias, query_user}
 
 -- ---- by a handle to the server
 

@@ -1,15 +1,15 @@
 // The operations that create an account of a domain.
 ghost use Rattle.std.specs.Prelude.{◌≡◌, ◌==◌, [], ◌∷◌, ◌++◌, true, false, IfOk, OnErr, Some};
 ghost use Rattle.std.specs.Option.{option_copied};
-ghost use Rattle.acct_rows.specs.Rows.{builtin_domain, domain_at};
-ghost use Rattle.acct_rows.specs.Sound.{is_user_type};
-ghost use Rattle.acct_rows.specs.declared.row.Row.TheVariants as row;
+ghost use Rattle.acct_tables.specs.Keys.{builtin_domain};
+ghost use Rattle.acct_rows.specs.Rows.{domain_at};
+ghost use Rattle.acct_tables.specs.Good.{is_user_type};
+ghost use Rattle.acct_tables.specs.declared.row.Row.TheVariants as row;
 ghost use Rattle.acct_rules.specs.Asked.{made_name};
 ghost use Rattle.acct_rules.specs.Planned.{decision, first_failed, none_fails};
-ghost use Rattle.samr_objects.specs.Naming.{gives_no_rid};
-ghost use Rattle.samr_objects.specs.Creations.{new_conditions, new_rid, risen, risen_row, new_account};
-ghost use Rattle.samr_objects.specs.Creations.{new_rows, new_control, new_member};
-ghost use Rattle.samr_objects.specs.Creations.{create_group, create_alias, create_user};
+ghost use Rattle.samr_objects.specs.Accounts.{gives_no_rid, new_conditions, new_rid, risen, risen_row, new_account};
+ghost use Rattle.samr_objects.specs.Accounts.{new_rows, new_control, new_member, create_group, create_alias};
+ghost use Rattle.samr_objects.specs.Accounts.{create_user};
 
 use crate::naming::{gives_no_rid, refused_name};
 use crate::plans::one_row;
@@ -27,7 +27,7 @@ use acct_codes::user_control::{
 };
 use acct_rows::{AccountRow, BUILTIN_DOMAIN, DomainRow, MemberRow, Object, Row, Rows};
 use acct_rules::{
-    NoMemory, Planned, creates, desired_access, made_bits, made_name, refusal, text_or_empty,
+    NoMemory, Planned, creates, desired_access, made_name, made_type, refusal, text_or_empty,
 };
 use std::alloc::Global;
 
@@ -224,7 +224,7 @@ pub fn create_user(
     if has_aliases_alone(number) {
         return Ok(refusal(alloc, STATUS_NOT_SUPPORTED));
     }
-    let bits = made_bits(args);
+    let bits = made_type(args);
     if !is_user_type(bits) {
         return Ok(refusal(alloc, STATUS_INVALID_PARAMETER));
     }

@@ -1,9 +1,9 @@
 // The operations that delete an account of a domain.
 ghost use Rattle.std.specs.Prelude.{◌≡◌, true, Some, IfOk, OnErr};
-ghost use Rattle.acct_rows.specs.Objects.{rid_of};
+ghost use Rattle.acct_tables.specs.Keys.{rid_of};
 ghost use Rattle.acct_rules.specs.Planned.{decision, none_fails};
-ghost use Rattle.samr_objects.specs.Deletions.{is_special, account_sid, keys_of, deletes};
-ghost use Rattle.samr_objects.specs.Deletions.{delete_group, delete_alias, delete_user};
+ghost use Rattle.samr_objects.specs.Accounts.{is_special, account_sid, keys_of, deletes, delete_group, delete_alias};
+ghost use Rattle.samr_objects.specs.Accounts.{delete_user};
 
 use acct_base::Seq;
 use acct_calls::{Args, Outs, ZERO_HANDLE};
@@ -29,8 +29,8 @@ fn naming(alloc: Global, rows: &Rows, object: &Object, sid: Sid) -> Result<Seq<R
     let rid = object.rid();
     let mut keys = Seq::new(alloc);
     keys.push(RowKey::Desc(*object))?;
-    rows.push_member_keys(&mut keys, domain, rid)?;
-    rows.push_alias_keys(&mut keys, domain, rid, &sid)?;
+    let keys = rows.with_member_keys(keys, domain, rid)?;
+    let mut keys = rows.with_alias_keys(keys, domain, rid, &sid)?;
     keys.push(RowKey::Account { domain, rid })?;
     Ok(keys)
 }

@@ -6,9 +6,9 @@ ghost use Rattle.acct_codes.specs.Limits.{most_page, page_entry_cost};
 ghost use Rattle.acct_rules.specs.Asked.{asked_index, asked_count, asked_length};
 ghost use Rattle.acct_rules.specs.Pages.{preferred_room, leaves_some};
 ghost use Rattle.acct_rules.specs.Planned.{decision, none_fails};
-ghost use Rattle.samr_objects.specs.Displays.{is_normal, is_displayed, displayed, display_cost, as_count};
-ghost use Rattle.samr_objects.specs.Displays.{query_display, account_cost, takes_account, with_account, left_for};
-ghost use Rattle.samr_objects.specs.Displays.{given_on};
+ghost use Rattle.samr_objects.specs.Enumerations.{is_normal, is_displayed, displayed, display_cost, as_count};
+ghost use Rattle.samr_objects.specs.Enumerations.{query_display, account_cost, takes_account, with_account, left_for};
+ghost use Rattle.samr_objects.specs.Enumerations.{given_on};
 
 use acct_base::Seq;
 use acct_calls::{Args, DisplayRow, DisplayRows, Name, Outs};

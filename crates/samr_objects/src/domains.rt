@@ -1,7 +1,6 @@
 // The operations on domains.
 ghost use Rattle.std.specs.Prelude.{◌≡◌, ◌+◌, ◌<◌, ◌++◌, IfOk, OnOk, OnErr, length, map, drop, min};
-ghost use Rattle.acct_rules.specs.PageEntries.{entry_cost};
-ghost use Rattle.acct_rules.specs.Pages.{given_in, leaves_some};
+ghost use Rattle.acct_rules.specs.Pages.{entry_cost, given_in, leaves_some};
 ghost use Rattle.acct_rules.specs.Planned.{decision};
 ghost use Rattle.samr_objects.specs.Domains.{look_domain, list_domains, open_domain, rid_to_sid, listed};
 

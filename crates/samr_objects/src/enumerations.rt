@@ -1,11 +1,10 @@
 // The operations that list the accounts of a domain.
 ghost use Rattle.std.specs.Prelude.{◌≡◌, ◌++◌, IfOk, OnOk, map};
 ghost use Rattle.std.specs.List.{filter};
-ghost use Rattle.acct_rules.specs.PageEntries.{entry_cost};
-ghost use Rattle.acct_rules.specs.Pages.{given_in, leaves_some};
+ghost use Rattle.acct_rules.specs.Pages.{entry_cost, given_in, leaves_some};
 ghost use Rattle.acct_rules.specs.Planned.{decision};
-ghost use Rattle.samr_objects.specs.Enumerations.{has_one_of, is_wanted, entry_of, list_accounts};
-ghost use Rattle.samr_objects.specs.Enumerations.{list_groups, list_aliases, list_users};
+ghost use Rattle.samr_objects.specs.Enumerations.{has_one_of, is_wanted, entry_of, list_accounts, list_groups};
+ghost use Rattle.samr_objects.specs.Enumerations.{list_aliases, list_users};
 
 use acct_calls::{Args, Outs};
 use acct_codes::Kind;

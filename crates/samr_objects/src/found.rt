@@ -1,7 +1,7 @@
 // What is found in the rows.
 ghost use Rattle.std.specs.Prelude.{◌≡◌, find};
 ghost use Rattle.std.specs.Option.{option_copied};
-ghost use Rattle.samr_objects.specs.Found.{is_named, domain_named, has_sid, domain_of_sid, use_in, rid_in};
+ghost use Rattle.samr_objects.specs.Domains.{is_named, domain_named, has_sid, domain_of_sid, use_in, rid_in};
 
 use acct_calls::Name;
 use acct_codes::sid_use::SID_TYPE_UNKNOWN;

@@ -3,8 +3,7 @@ ghost use Rattle.std.specs.Prelude.{◌≡◌, [], ◌∷◌, ◌++◌, IfOk, On
 ghost use Rattle.std.specs.Option.{option_copied};
 ghost use Rattle.acct_rows.specs.Rows.{find_name, account_at};
 ghost use Rattle.acct_rules.specs.Planned.{decision};
-ghost use Rattle.samr_objects.specs.Found.{use_in, rid_in, name_in};
-ghost use Rattle.samr_objects.specs.Lookups.{look_names, look_ids};
+ghost use Rattle.samr_objects.specs.Domains.{use_in, rid_in, name_in, look_names, look_ids};
 
 use crate::found::{rid_in, use_in};
 use acct_base::Seq;

@@ -2,7 +2,7 @@
 ghost use Rattle.std.specs.Prelude.{◌≡◌, Some};
 ghost use Rattle.std.specs.Option.{option_copied};
 ghost use Rattle.acct_rules.specs.Planned.{first_failed};
-ghost use Rattle.samr_objects.specs.Naming.{is_another, exists_as, name_conditions, gives_no_rid, is_too_long};
+ghost use Rattle.samr_objects.specs.Accounts.{is_another, exists_as, name_conditions, gives_no_rid, is_too_long};
 
 use acct_calls::Name;
 use acct_codes::Kind;

@@ -3,9 +3,9 @@ ghost use Rattle.std.specs.Prelude.{◌≡◌, true, IfOk, OnErr, length, is_som
 ghost use Rattle.std.specs.Option.{option_copied};
 ghost use Rattle.acct_calls.specs.declared.info.Info.TheVariants as info;
 ghost use Rattle.acct_rules.specs.Planned.{decision, none_fails};
-ghost use Rattle.samr_objects.specs.Queries.{member_count, alias_member_count, value_of, domain_classes};
-ghost use Rattle.samr_objects.specs.Queries.{group_classes, alias_classes, user_classes, shown_by, shows, account_of};
-ghost use Rattle.samr_objects.specs.Queries.{query_domain, query_group, query_alias, query_user};
+ghost use Rattle.samr_objects.specs.Settings.{member_count, alias_member_count, value_of, domain_classes};
+ghost use Rattle.samr_objects.specs.Settings.{group_classes, alias_classes, user_classes, shown_by, shows, account_of};
+ghost use Rattle.samr_objects.specs.Settings.{query_domain, query_group, query_alias, query_user};
 
 use acct_calls::{Args, Info, Name, Outs};
 use acct_codes::info_class::{

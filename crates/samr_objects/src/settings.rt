@@ -4,12 +4,12 @@ ghost use Rattle.std.specs.Option.{option_copied};
 ghost use Rattle.acct_codes.specs.declared.kind.Kind.TheVariants as kinds;
 ghost use Rattle.acct_codes.specs.Statuses.{status_invalid_parameter};
 ghost use Rattle.acct_rows.specs.Rows.{is_of};
-ghost use Rattle.acct_rows.specs.Sound.{control_is_good};
+ghost use Rattle.acct_tables.specs.Good.{control_is_good};
 ghost use Rattle.acct_rules.specs.Asked.{or_empty, put_text};
 ghost use Rattle.acct_rules.specs.Planned.{decision, first_failed, none_fails, when};
-ghost use Rattle.samr_objects.specs.Settings.{set_field, sets_oem, primary_conditions, field_conditions};
-ghost use Rattle.samr_objects.specs.Settings.{with_field, with_oem, account_puts, domain_puts};
-ghost use Rattle.samr_objects.specs.Settings.{set_domain, set_account, set_group, set_alias, set_user};
+ghost use Rattle.samr_objects.specs.Settings.{set_field, sets_oem, primary_conditions, field_conditions, with_field};
+ghost use Rattle.samr_objects.specs.Settings.{with_oem, account_puts, domain_puts, set_domain, set_account, set_group};
+ghost use Rattle.samr_objects.specs.Settings.{set_alias, set_user};
 
 use crate::naming::{is_too_long, refused_name};
 use crate::plans::one_row;

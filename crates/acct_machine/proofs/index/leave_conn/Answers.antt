@@ -4,7 +4,7 @@ use Rattle.std.specs.List.{filter}
 use Rattle.acct_tables.specs.Keyed.{is_within, is_ascending, sorted, without_all}
 use Rattle.acct_machine.specs.declared.arrivals.Arrival.{Arrival}
 use Rattle.acct_machine.specs.declared.arrivals.Numbered.TheVariants as numbers
-use Rattle.acct_machine.specs.Arrivals.{number_key, number_front, object_key}
+use Rattle.acct_machine.specs.steps.Arrivals.{number_key, number_front, object_key}
 use Rattle.acct_machine.proofs.Indexes.{objects_gone, others_alike, conn_within}
 use Rattle.acct_machine.proofs.index.leave_conn.Goals as goal
 

@@ -1,10 +1,10 @@
 -- The handles to an object, taken by key from the index by number, leave those to other objects there.
 use Rattle.std.proofs.Common.{◌≡◌, Bool, true, List, ap, ◌∙◌, rules}
 use Rattle.std.specs.List.{filter}
-use Rattle.acct_rows.specs.Objects.{same_object}
+use Rattle.acct_tables.specs.Keys.{same_object}
 use Rattle.acct_tables.specs.Keyed.{is_within, is_ascending, without_all}
 use Rattle.acct_machine.specs.declared.arrivals.Arrival.{Arrival}
-use Rattle.acct_machine.specs.Arrivals.{number_key, object_key, object_front}
+use Rattle.acct_machine.specs.steps.Arrivals.{number_key, object_key, object_front}
 use Rattle.acct_machine.proofs.Indexes.{numbers_gone, others_alike, object_within}
 use Rattle.acct_machine.proofs.index.leave_object.Goals as goal
 

@@ -1,12 +1,13 @@
 -- A call that ran is answered STATUS_ACCESS_DENIED exactly where its grant lacks a bit or its opening is refused.
 use Rattle.std.proofs.Common.{Option, refl, sym, subst, ◌↔◌}
 use Rattle.acct_codes.specs.Statuses.{status_access_denied}
-use Rattle.acct_rules.specs.Operations.{Operation, IsRight}
+use Rattle.acct_rules.specs.Profiles.{Operation}
+use Rattle.acct_rules.specs.Operations.{IsRight}
 use Rattle.acct_operations.specs.Table.{work_of}
 use Rattle.acct_machine.specs.declared.entry.Verdict.TheVariants.{Ran}
 use Rattle.acct_machine.specs.Access.{access}
 use Rattle.acct_machine.specs.Step.{by_operation}
-use Rattle.acct_machine.specs.Denial.{HasStatus, IsDenied}
+use Rattle.acct_machine.specs.Legal.{HasStatus, IsDenied}
 use Rattle.acct_machine.proofs.Deciding.{of-work}
 use Rattle.acct_machine.proofs.Denying.{denied-is, is-denied}
 use Rattle.acct_machine.proofs.laws.access_is_denied_exactly.Goals as goal

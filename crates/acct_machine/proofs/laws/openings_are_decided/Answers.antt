@@ -5,18 +5,18 @@ use Rattle.std.specs.List.{All, slice_get}
 use Rattle.std.specs.Option.{option_or}
 use Rattle.acct_codes.specs.declared.kind.Kind.{Kind}
 use Rattle.dtyp_access.specs.declared.descriptor.Descriptor.{Descriptor}
-use Rattle.dtyp_access.specs.Opening.{opened}
+use Rattle.dtyp_access.specs.Granted.{opened}
 use Rattle.acct_config.specs.declared.config.Config.{Config}
 use Rattle.acct_config.specs.declared.config.Listener.{Listener}
 use Rattle.acct_config.specs.Kinds.{kind_place}
-use Rattle.acct_config.specs.Right.{IsRight}
+use Rattle.acct_config.specs.Spelled.{IsRightConfig}
 use Rattle.acct_machine.specs.declared.state.Conn.{Conn}
-use Rattle.acct_rows.specs.declared.object.Object.{Object}
-use Rattle.acct_rows.specs.Objects.{kind_of}
+use Rattle.acct_tables.specs.declared.object.Object.{Object}
+use Rattle.acct_tables.specs.Keys.{kind_of}
 use Rattle.acct_rows.specs.Rows.{descriptor_of}
 use Rattle.acct_codes.specs.declared.kind.Kind.TheVariants as kind
 use Rattle.acct_machine.specs.State.{State, find_conn}
-use Rattle.acct_machine.specs.Opening.{configured, described, listener_of, checked}
+use Rattle.acct_machine.specs.Access.{configured, described, listener_of, checked}
 use Rattle.acct_machine.specs.Step.{state_at}
 use Rattle.acct_machine.specs.Sound.{AreConnected}
 use Rattle.acct_machine.specs.Decided.{IsDecided}
@@ -50,7 +50,8 @@ place-small kind.User = omega arith
 place-small kind.Policy = omega arith
 place-small kind.Account = omega arith
 
-placed : (config : Config) (object : Object) → IsRight config → kind_place (kind_of object) < length config.descriptors
+placed : (config : Config) (object : Object) → IsRightConfig config
+    → kind_place (kind_of object) < length config.descriptors
 placed config object right = omega (arith, place-small (kind_of object), right.descriptor_count)
 
 checked-at : (k : Kind) (o : Option Descriptor) (p : Option Listener) (descriptor : Descriptor) (listener : Listener)
@@ -65,7 +66,8 @@ either : (row : Option Descriptor) (others : Option Descriptor) (d : Descriptor)
 either None others d is = (d, is)
 either (Some e) others d is = (e, refl)
 
-decided : (config : Config) (s : State) (conn : ℕ) (object : Object) (c : Conn) → IsRight config → AreConnected config s
+decided : (config : Config) (s : State) (conn : ℕ) (object : Object) (c : Conn) → IsRightConfig config
+    → AreConnected config s
     → find_conn conn s.conns ≡ Some c
     → IsDecided config s conn object c
 decided config s conn object c right sound found =

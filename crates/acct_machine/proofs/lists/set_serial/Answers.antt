@@ -2,7 +2,7 @@
 use Rattle.std.proofs.Common.{◌-◌, set, sym, ◌∙◌, ap, arith}
 use Rattle.std.proofs.lemmas.Bool.Decides.{nat_tests}
 use Rattle.acct_machine.specs.declared.state.Conn.{Conn}
-use Rattle.acct_machine.specs.Outcome.{serial_set}
+use Rattle.acct_machine.specs.Step.{serial_set}
 use Rattle.acct_machine.proofs.Places.{map-at, map-none, set-one}
 use Rattle.acct_machine.proofs.lists.set_serial.Goals as goal
 

@@ -2,9 +2,9 @@
 use Rattle.std.proofs.Common.{rules, ◌≡◌, Option, Some, None, ◌∙◌, ap}
 use Rattle.std.specs.Option.{option_or}
 use Rattle.dtyp_access.specs.declared.descriptor.Descriptor.{Descriptor}
-use Rattle.acct_rows.specs.Objects.{kind_of}
+use Rattle.acct_tables.specs.Keys.{kind_of}
 use Rattle.acct_rows.specs.Rows.{descriptor_of}
-use Rattle.acct_machine.specs.Opening.{configured}
+use Rattle.acct_machine.specs.Access.{configured}
 use Rattle.acct_machine.proofs.opening.described.Goals as goal
 
 pub returns-in-Some : goal.returns-in-Some

@@ -1,9 +1,9 @@
 -- An account row that is put tells before one that is removed.
 use Rattle.std.proofs.Common.{rules, ◌≡◌, ℕ, List, Option, Some, None, ◌∙◌, ap}
 use Rattle.acct_rows.specs.Rows.{Lists}
-use Rattle.acct_rows.specs.declared.row.AccountRow.{AccountRow}
-use Rattle.acct_rows.specs.declared.row.RowKey.{RowKey}
-use Rattle.acct_rules.specs.Touched.{put_account, removed_account}
+use Rattle.acct_tables.specs.declared.row.AccountRow.{AccountRow}
+use Rattle.acct_tables.specs.declared.row.RowKey.{RowKey}
+use Rattle.acct_rules.specs.Planned.{put_account, removed_account}
 use Rattle.acct_machine.specs.Outbox.{told_by, told_of_put}
 use Rattle.acct_machine.proofs.outbox.change_of.Goals as goal
 

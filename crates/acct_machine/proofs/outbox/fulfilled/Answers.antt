@@ -1,7 +1,7 @@
 -- What is needed is done: nothing, a row more, or a refusal.
 use Rattle.std.proofs.Common.{◌≡◌, true, Result, Ok, Err, Option, is_some, sym, ap, subst, ◌∙◌, IfOk, OnErr}
 use Rattle.acct_codes.specs.Statuses.{status_insufficient_resources}
-use Rattle.acct_rows.specs.declared.row.OutRow.{OutRow}
+use Rattle.acct_tables.specs.declared.row.OutRow.{OutRow}
 use Rattle.acct_rules.specs.Planned.{refusal}
 use Rattle.acct_rules.specs.declared.planned.Planned.{Planned}
 use Rattle.acct_machine.specs.declared.outbox.Need.{Need}

@@ -1,6 +1,6 @@
 -- A plan needs the row of the account that it changes, and memory for it only where it changes one.
 use Rattle.std.proofs.Common.{rules, ◌≡◌, Result, Ok, Err, Option, Some, sym, subst, refl, IfOk, OnErr}
-use Rattle.acct_rows.specs.declared.row.OutRow.{OutRow}
+use Rattle.acct_tables.specs.declared.row.OutRow.{OutRow}
 use Rattle.acct_machine.specs.declared.outbox.Need.{Need}
 use Rattle.acct_machine.specs.Outbox.{out_row, needs_out, IsNeed}
 use Rattle.acct_machine.proofs.Telling.{needs-change}

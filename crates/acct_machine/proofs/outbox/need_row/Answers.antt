@@ -1,7 +1,7 @@
 -- Where there is a number below the end, the row is needed, and else the plan is refused.
 use Rattle.std.proofs.Common.{◌≡◌, true, false, Some, refl, sym, ap, subst, arith}
 use Rattle.std.proofs.lemmas.Bool.Decides.{nat_tests}
-use Rattle.acct_rows.specs.declared.row.OutRow.{OutRow}
+use Rattle.acct_tables.specs.declared.row.OutRow.{OutRow}
 use Rattle.acct_machine.specs.Outbox.{out_row, is_full}
 use Rattle.acct_machine.proofs.outbox.need_row.Goals as goal
 

@@ -1,6 +1,6 @@
 -- None of the rows passed is an account's: those left decide.
 use Rattle.std.proofs.Common.{◌≡◌, drop}
-use Rattle.acct_rules.specs.Touched.{put_account}
+use Rattle.acct_rules.specs.Planned.{put_account}
 use Rattle.acct_machine.proofs.outbox.put_account.Given as goal
 
 abbrev pub invariant-loop-row : goal.invariant-loop-row

@@ -1,8 +1,8 @@
 -- The row at the key that is removed is told of, where there is one.
 use Rattle.std.proofs.Common.{rules, ◌≡◌, ℕ, Option, Some, None, ◌∙◌, ap}
 use Rattle.acct_rows.specs.Rows.{Lists}
-use Rattle.acct_rows.specs.declared.row.AccountRow.{AccountRow}
-use Rattle.acct_rules.specs.Touched.{removed_account}
+use Rattle.acct_tables.specs.declared.row.AccountRow.{AccountRow}
+use Rattle.acct_rules.specs.Planned.{removed_account}
 use Rattle.acct_machine.specs.Outbox.{told_by, told_of_removed}
 use Rattle.acct_machine.proofs.outbox.removal_of.Goals as goal
 

@@ -1,15 +1,15 @@
 -- What takes no memory, or some for a handle alone, plans accordingly.
-use Rattle.std.proofs.Common.{◌≡◌, true, false, not, Option, refl}
+use Rattle.std.proofs.Common.{◌≡◌, true, false, Option, refl}
 use Rattle.std.specs.Prelude.{◌&&◌}
 use Rattle.acct_calls.specs.declared.calls.Args.{Args}
 use Rattle.acct_rows.specs.Rows.{Lists}
-use Rattle.acct_rows.specs.declared.object.Object.{Object}
+use Rattle.acct_tables.specs.declared.object.Object.{Object}
 use Rattle.acct_rules.specs.Planned.{has_change, takes_room}
-use Rattle.acct_rules.specs.Profiles.{is_anywhere, is_never}
+use Rattle.acct_rules.specs.Profiles.{is_never}
 use Rattle.dtyp_access.specs.declared.descriptor.Descriptor.{Descriptor}
 use Rattle.acct_operations.specs.declared.table.Work.{Work}
 use Rattle.acct_operations.specs.declared.table.Work.TheVariants as works
-use Rattle.acct_operations.specs.Frugal.{taken_by, is_no_more}
+use Rattle.acct_operations.specs.Frugal.{taken_by, is_for_handle, is_no_more}
 use Rattle.acct_operations.specs.Table.{operation}
 use Rattle.acct_operations.proofs.laws.operations_are_frugal.Goals as goal
 
@@ -26,7 +26,7 @@ never works.SamrCloseHandle r described object asked = refl
 never _ r described object asked = refl
 
 changes : (work : Work) (r : Lists) (described : Option Descriptor) (object : Object) (asked : Args)
-    → (not (is_anywhere (taken_by work)) && has_change ((operation work).rule r described object asked).planned.plan)
+    → (is_for_handle (taken_by work) && has_change ((operation work).rule r described object asked).planned.plan)
     ≡ false
 unfolding operation
 changes works.SamrConnect2 r described object asked = refl

@@ -1,6 +1,6 @@
 -- The privileges so far are put, and those to come with them are all.
 use Rattle.std.proofs.Common.{◌≡◌, drop}
-use Rattle.lsad_rights.specs.Held.{with_each}
+use Rattle.lsad_rights.specs.Holdings.{with_each}
 use Rattle.lsad_rights.proofs.held.put_each.Given as goal
 
 abbrev pub invariant-loop-privilege : goal.invariant-loop-privilege

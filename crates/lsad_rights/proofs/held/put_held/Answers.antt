@@ -1,7 +1,7 @@
 -- A privilege is put where it stands, or before the first with a higher number.
 use Rattle.std.proofs.Common.{◌∙◌, arith}
 use Rattle.std.proofs.lemmas.List.Sums.{prefix_len-le-length}
-use Rattle.lsad_rights.specs.Held.{is_below}
+use Rattle.lsad_rights.specs.Holdings.{is_below}
 use Rattle.lsad_rights.proofs.Placing.{put-here, put-apart, put-last}
 use Rattle.lsad_rights.proofs.held.put_held.Goals.{else-place-len-via-then-place-len+else-index-privilege}
 use Rattle.lsad_rights.proofs.held.put_held.Goals.{else-place-len-via-else-place-len}

@@ -1,8 +1,8 @@
 -- The names so far, and those of the rights to come, are those of all.
 use Rattle.std.proofs.Common.{◌≡◌, ◌++◌, map, drop}
 use Rattle.std.specs.List.{filter}
-use Rattle.lsad_rights.specs.HeldRights.{logon_names}
-use Rattle.lsad_rights.specs.LogonRights.{has_right, right_name}
+use Rattle.lsad_rights.specs.Listings.{logon_names}
+use Rattle.lsad_rights.specs.Rights.{has_right, right_name}
 use Rattle.lsad_rights.proofs.held_rights.push_logon_rights.Given as goal
 
 abbrev pub invariant-loop-right : goal.invariant-loop-right

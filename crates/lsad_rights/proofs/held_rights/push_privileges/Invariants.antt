@@ -1,6 +1,6 @@
 -- The names of the privileges so far are pushed.
 use Rattle.std.proofs.Common.{◌≡◌, ◌++◌, map, take}
-use Rattle.lsad_rights.specs.HeldRights.{held_name}
+use Rattle.lsad_rights.specs.Listings.{held_name}
 use Rattle.lsad_rights.proofs.held_rights.push_privileges.Given as goal
 
 abbrev pub invariant-loop-held : goal.invariant-loop-held

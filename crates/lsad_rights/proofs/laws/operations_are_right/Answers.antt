@@ -10,14 +10,11 @@ use Rattle.acct_rows.specs.Laws.{EachIsGood, EachLsaIsGood}
 use Rattle.acct_rows.specs.Rows.{Lists}
 use Rattle.acct_rules.specs.Asked.{asked_context, asked_length, asked_name, asked_sid, class_of}
 use Rattle.acct_rules.specs.Operations.{IsRight}
-use Rattle.acct_rules.specs.Pages.{page}
-use Rattle.dtyp_sid.specs.Value.{SidValue}
-use Rattle.lsad_rights.specs.Found.{account_of, account_of_sid}
-use Rattle.lsad_rights.specs.Holders.{accounts_asked, accounts_wanted}
-use Rattle.acct_rules.specs.PageEntries.{entry_cost}
-use Rattle.lsad_rights.specs.Listings.{sid_cost, privileges_left, accounts_left}
-use Rattle.lsad_rights.specs.Names.{privilege_asked, privilege_of_luid}
-use Rattle.lsad_rights.specs.Policy.{is_shown}
+use Rattle.acct_rules.specs.Pages.{page, entry_cost}
+use Rattle.dtyp_sid.specs.Sids.{SidValue}
+use Rattle.lsad_rights.specs.Accounts.{account_of, account_of_sid, is_shown}
+use Rattle.lsad_rights.specs.Listings.{accounts_asked, accounts_wanted, sid_cost, privileges_left, accounts_left}
+use Rattle.lsad_rights.specs.Listings.{privilege_asked, privilege_of_luid}
 use Rattle.lsad_rights.specs.Table.{enumerate_privileges, query_information_policy, query_information_policy2}
 use Rattle.lsad_rights.specs.Table.{enumerate_accounts, lookup_privilege_value, lookup_privilege_name}
 use Rattle.lsad_rights.specs.Table.{enumerate_accounts_with_user_right, enumerate_account_rights}

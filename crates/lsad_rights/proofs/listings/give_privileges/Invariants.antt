@@ -1,8 +1,7 @@
 -- What was given, and what is given of the privileges to come, is what is given of all; and so with what is left.
 use Rattle.std.proofs.Common.{◌≡◌, ◌++◌, drop, map}
 use Rattle.std.specs.List.{filter}
-use Rattle.acct_rules.specs.Pages.{given_in, leaves_some}
-use Rattle.acct_rules.specs.PageEntries.{entry_cost}
+use Rattle.acct_rules.specs.Pages.{given_in, leaves_some, entry_cost}
 use Rattle.lsad_rights.specs.Listings.{entry_of, is_behind}
 use Rattle.lsad_rights.proofs.listings.give_privileges.Given as goal
 

@@ -1,6 +1,6 @@
 -- The domains so far, by their names and SIDs.
 use Rattle.std.proofs.Common.{◌≡◌, take, map}
-use Rattle.lsat_translate.specs.Entries.{place_of}
+use Rattle.lsat_translate.specs.Translations.{place_of}
 use Rattle.lsat_translate.proofs.entries.places.Given as goal
 
 abbrev pub invariant-loop-domain : goal.invariant-loop-domain

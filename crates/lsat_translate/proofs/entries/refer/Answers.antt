@@ -2,7 +2,7 @@
 use Rattle.std.proofs.Common.{◌≡◌, List, ◌∷◌, [], ◌++◌, refl, sym, ap, subst, ◌∙◌}
 use Rattle.std.specs.Prelude.{if◌then◌else◌}
 use Rattle.std.specs.List.{list_any}
-use Rattle.lsat_translate.specs.Entries.{with_domain}
+use Rattle.lsat_translate.specs.Translations.{with_domain}
 use Rattle.lsat_translate.specs.Known.{same_known}
 use Rattle.lsat_translate.specs.contracts.known.KnownPartialEq.TheImpl.{eq-value}
 use Rattle.lsat_translate.specs.declared.known.Known.{Known}

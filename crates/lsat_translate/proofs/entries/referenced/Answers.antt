@@ -2,7 +2,7 @@
 use Rattle.std.proofs.Common.{◌≡◌, ℕ, ◌+◌, ◌<◌, ◌≤◌, List, length, take, get_or, Option, None, ap, sym, ◌∙◌}
 use Rattle.std.proofs.Common.{subst}
 use Rattle.std.proofs.lemmas.List.{take_more}
-use Rattle.lsat_translate.specs.Entries.{with_domain, referenced, known_in}
+use Rattle.lsat_translate.specs.Translations.{with_domain, referenced, known_in}
 use Rattle.lsat_translate.specs.declared.known.Known.{Known}
 use Rattle.lsat_translate.specs.declared.matches.Match.{Match}
 use Rattle.lsat_translate.proofs.Firsts.{referenced-push, four-at-most}

@@ -1,6 +1,6 @@
 -- The domains of the matches so far.
 use Rattle.std.proofs.Common.{◌≡◌, take}
-use Rattle.lsat_translate.specs.Entries.{referenced}
+use Rattle.lsat_translate.specs.Translations.{referenced}
 use Rattle.lsat_translate.proofs.entries.referenced.Given as goal
 
 abbrev pub invariant-loop-one : goal.invariant-loop-one

@@ -1,6 +1,6 @@
 -- The entries of the matches so far.
 use Rattle.std.proofs.Common.{◌≡◌, take, map}
-use Rattle.lsat_translate.specs.Entries.{sid_ref}
+use Rattle.lsat_translate.specs.Translations.{sid_ref}
 use Rattle.lsat_translate.proofs.entries.sid_refs.Given as goal
 
 abbrev pub invariant-loop-one : goal.invariant-loop-one

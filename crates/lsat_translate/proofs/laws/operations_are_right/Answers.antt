@@ -3,21 +3,19 @@ use Rattle.std.proofs.Common.{◌≡◌, Bool, true, false, List, [], map, Optio
 use Rattle.acct_calls.specs.declared.calls.Face.TheVariants.{Lsa}
 use Rattle.acct_codes.specs.Opnums.{lsar_lookup_names, lsar_lookup_names2, lsar_lookup_names3, lsar_lookup_sids}
 use Rattle.acct_codes.specs.Opnums.{lsar_lookup_sids2}
-use Rattle.acct_layouts.specs.Bounds.{IsDomain, IsListed, IsLong}
+use Rattle.acct_layouts.specs.Values.{IsDomain, IsListed, IsLong}
 use Rattle.acct_layouts.specs.Refusals.{is_refusal}
 use Rattle.acct_layouts.specs.ReplyShapes.{HasShape}
 use Rattle.acct_layouts.specs.Table.{samr_layout, lsa_layout}
 use Rattle.acct_rows.specs.Laws.{EachIsGood}
 use Rattle.acct_rows.specs.Rows.{Lists}
 use Rattle.acct_rows.specs.Sound.{IsSoundRows}
-use Rattle.acct_rules.specs.Mapped.{mapped_status}
+use Rattle.acct_rules.specs.Planned.{mapped_status}
 use Rattle.acct_rules.specs.Operations.{IsRight}
-use Rattle.lsat_translate.specs.Entries.{referenced, place_of, mapped_count}
+use Rattle.lsat_translate.specs.Translations.{referenced, place_of, mapped_count, asked_names, asked_sids}
 use Rattle.lsat_translate.specs.Matches.{use_in}
-use Rattle.lsat_translate.specs.Names.{match_of_name}
-use Rattle.lsat_translate.specs.Sids.{match_of_sid}
+use Rattle.lsat_translate.specs.Lookups.{match_of_name, match_of_sid}
 use Rattle.lsat_translate.specs.Table.{lookup_names, lookup_names2, lookup_names3, lookup_sids, lookup_sids2}
-use Rattle.lsat_translate.specs.Translations.{asked_names, asked_sids}
 use Rattle.lsat_translate.specs.declared.matches.Match.{Match}
 use Rattle.lsat_translate.proofs.Asking.{arguments, few-names, few-sids}
 use Rattle.lsat_translate.proofs.Shaping.{mapped-full, mapped-long, count-long, places-shaped, sids-shaped}

@@ -1,7 +1,7 @@
 -- No well-known name before is the name.
 use Rattle.std.proofs.Common.{◌≡◌, drop}
 use Rattle.std.specs.List.{find}
-use Rattle.lsat_translate.specs.Names.{is_well_known_named}
+use Rattle.lsat_translate.specs.Lookups.{is_well_known_named}
 use Rattle.lsat_translate.proofs.names.find_well_known.Given as goal
 
 abbrev pub invariant-loop-known : goal.invariant-loop-known

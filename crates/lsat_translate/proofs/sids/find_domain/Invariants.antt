@@ -1,7 +1,7 @@
 -- No domain before has the SID.
 use Rattle.std.proofs.Common.{◌≡◌, drop}
 use Rattle.std.specs.List.{find}
-use Rattle.lsat_translate.specs.Sids.{has_domain_sid}
+use Rattle.lsat_translate.specs.Lookups.{has_domain_sid}
 use Rattle.lsat_translate.proofs.sids.find_domain.Given as goal
 
 abbrev pub invariant-loop-domain : goal.invariant-loop-domain

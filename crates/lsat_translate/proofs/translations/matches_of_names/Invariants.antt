@@ -1,6 +1,6 @@
 -- The names so far have their matches.
 use Rattle.std.proofs.Common.{◌≡◌, take, map}
-use Rattle.lsat_translate.specs.Names.{match_of_name}
+use Rattle.lsat_translate.specs.Lookups.{match_of_name}
 use Rattle.lsat_translate.proofs.translations.matches_of_names.Given as goal
 
 abbrev pub invariant-loop-name : goal.invariant-loop-name

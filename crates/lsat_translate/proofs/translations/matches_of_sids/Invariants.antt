@@ -1,6 +1,6 @@
 -- The SIDs so far have their matches.
 use Rattle.std.proofs.Common.{◌≡◌, take, map}
-use Rattle.lsat_translate.specs.Sids.{match_of_sid}
+use Rattle.lsat_translate.specs.Lookups.{match_of_sid}
 use Rattle.lsat_translate.proofs.translations.matches_of_sids.Given as goal
 
 abbrev pub invariant-loop-sid : goal.invariant-loop-sid

@@ -1,6 +1,6 @@
 -- The members so far are shown.
 use Rattle.std.proofs.Common.{◌≡◌, take, map}
-use Rattle.samr_members.specs.Groups.{member_shown}
+use Rattle.samr_members.specs.Members.{member_shown}
 use Rattle.samr_members.proofs.groups.members_shown.Given as goal
 
 abbrev pub invariant-loop-member : goal.invariant-loop-member

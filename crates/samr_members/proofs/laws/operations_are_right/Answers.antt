@@ -3,10 +3,10 @@ use Rattle.std.proofs.Common.{refl, lit<}
 use Rattle.acct_layouts.specs.ReplyShapes.{HasShape}
 use Rattle.acct_layouts.specs.Table.{samr_layout, lsa_layout}
 use Rattle.acct_rows.specs.Laws.{EachIsGood, EachMemberIsFound}
-use Rattle.acct_rows.specs.Objects.{domain_of, rid_of}
+use Rattle.acct_tables.specs.Keys.{domain_of, rid_of}
 use Rattle.acct_rules.specs.Asked.{asked_sid}
 use Rattle.acct_rules.specs.Operations.{IsRight}
-use Rattle.samr_members.specs.Aliases.{asked_sids}
+use Rattle.samr_members.specs.Members.{asked_sids}
 use Rattle.samr_members.specs.Table.{add_member_to_group, remove_member_from_group, get_members_in_group}
 use Rattle.samr_members.specs.Table.{add_member_to_alias, remove_member_from_alias, get_members_in_alias}
 use Rattle.samr_members.specs.Table.{get_groups_for_user, get_alias_membership}

@@ -1,7 +1,7 @@
 -- An account that is displayed is passed over, and another isn't counted.
 use Rattle.std.proofs.Common.{◌≡◌, ◌+◌, drop, subst, sym, ap, ◌∙◌, arith}
 use Rattle.std.specs.List.{filter}
-use Rattle.samr_objects.specs.Displays.{is_displayed}
+use Rattle.samr_objects.specs.Enumerations.{is_displayed}
 use Rattle.samr_objects.proofs.Displaying.{passes-shown, shown-next, hidden-next}
 use Rattle.samr_objects.proofs.displays.accounts_behind.Goals.{then-is_displayed, else-is_displayed}
 use Rattle.samr_objects.proofs.displays.accounts_behind.Goals as goal

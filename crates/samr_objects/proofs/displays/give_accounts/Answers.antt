@@ -1,6 +1,6 @@
 -- A page goes on with an account that it takes, and ends at one that it doesn't.
 use Rattle.std.proofs.Common.{sym, ◌∙◌, arith}
-use Rattle.samr_objects.specs.Displays.{is_displayed}
+use Rattle.samr_objects.specs.Enumerations.{is_displayed}
 use Rattle.samr_objects.proofs.Displaying.{begins, has-place, gives, stops, passes, ends-behind}
 use Rattle.samr_objects.proofs.displays.give_accounts.Goals as goal
 use Rattle.samr_objects.proofs.displays.give_accounts.Goals.{else-is_displayed-via-else-is_displayed}

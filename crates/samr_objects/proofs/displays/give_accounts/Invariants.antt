@@ -2,7 +2,7 @@
 -- with what is left.
 use Rattle.std.proofs.Common.{drop}
 use Rattle.std.specs.List.{filter}
-use Rattle.samr_objects.specs.Displays.{is_displayed}
+use Rattle.samr_objects.specs.Enumerations.{is_displayed}
 use Rattle.samr_objects.proofs.Displaying.{Goes}
 use Rattle.samr_objects.proofs.displays.give_accounts.Given as goal
 

@@ -2,12 +2,12 @@
 use Rattle.std.proofs.Common.{◌≡◌, drop, Some, sym, ap, ◌∙◌}
 use Rattle.std.specs.List.{filter}
 use Rattle.acct_calls.specs.declared.replies.Outs.TheVariants as outs
-use Rattle.acct_layouts.specs.Classes.{display_arm}
-use Rattle.acct_rows.specs.Objects.{domain_of}
+use Rattle.acct_layouts.specs.Values.{display_arm}
+use Rattle.acct_tables.specs.Keys.{domain_of}
 use Rattle.acct_rules.specs.Asked.{class_of, asked_index}
 use Rattle.acct_rules.specs.Pages.{page_status}
 use Rattle.acct_rules.specs.Planned.{answers, decision}
-use Rattle.samr_objects.specs.Displays.{is_displayed, displays}
+use Rattle.samr_objects.specs.Enumerations.{is_displayed, displays}
 use Rattle.samr_objects.proofs.Displaying.{Ends, fills}
 use Rattle.samr_objects.proofs.displays.query_display.Goals as goal
 

@@ -1,7 +1,7 @@
 -- After the last account nothing is left to count.
 use Rattle.std.proofs.Common.{◌≡◌, ◌+◌, subst, ◌∙◌}
 use Rattle.std.specs.List.{filter, sum_by}
-use Rattle.samr_objects.specs.Displays.{is_displayed, account_cost, as_count}
+use Rattle.samr_objects.specs.Enumerations.{is_displayed, account_cost, as_count}
 use Rattle.samr_objects.proofs.Displaying.{none-next, still}
 use Rattle.samr_objects.proofs.displays.total_cost.Goals as goal
 

@@ -1,7 +1,7 @@
 -- The accounts so far and those to come cost what all cost.
 use Rattle.std.proofs.Common.{◌≡◌, ◌+◌, ◌^◌, ◌<◌, drop}
 use Rattle.std.specs.List.{filter, sum_by}
-use Rattle.samr_objects.specs.Displays.{is_displayed, account_cost, as_count}
+use Rattle.samr_objects.specs.Enumerations.{is_displayed, account_cost, as_count}
 use Rattle.samr_objects.proofs.displays.total_cost.Given as goal
 
 abbrev pub invariant-loop-account : goal.invariant-loop-account

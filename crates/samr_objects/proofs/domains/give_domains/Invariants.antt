@@ -1,8 +1,7 @@
 -- What was given, and what is given of the domains to come, is what is given of all; and so with what is left.
 use Rattle.std.proofs.Common.{◌≡◌, ◌++◌, drop, map}
-use Rattle.acct_rules.specs.Pages.{given_in, leaves_some}
+use Rattle.acct_rules.specs.Pages.{given_in, leaves_some, entry_cost}
 use Rattle.samr_objects.specs.Domains.{listed}
-use Rattle.acct_rules.specs.PageEntries.{entry_cost}
 use Rattle.samr_objects.proofs.domains.give_domains.Given as goal
 
 abbrev pub invariant-loop-domain : goal.invariant-loop-domain

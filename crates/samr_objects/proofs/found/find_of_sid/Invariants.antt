@@ -1,7 +1,7 @@
 -- No domain before has the SID.
 use Rattle.std.proofs.Common.{◌≡◌, drop}
 use Rattle.std.specs.List.{find}
-use Rattle.samr_objects.specs.Found.{has_sid}
+use Rattle.samr_objects.specs.Domains.{has_sid}
 use Rattle.samr_objects.proofs.found.find_of_sid.Given as goal
 
 abbrev pub invariant-loop-domain : goal.invariant-loop-domain

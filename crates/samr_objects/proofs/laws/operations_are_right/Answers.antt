@@ -6,19 +6,17 @@ use Rattle.acct_calls.specs.declared.calls.Face.TheVariants.{Samr}
 use Rattle.acct_calls.specs.declared.lists.RidName.{RidName}
 use Rattle.acct_codes.specs.Opnums.{samr_lookup_names_in_domain, samr_lookup_ids_in_domain, samr_rid_to_sid}
 use Rattle.acct_codes.specs.Opnums.{samr_enumerate_domains_in_sam_server}
-use Rattle.acct_layouts.specs.Bounds.{IsLong}
+use Rattle.acct_layouts.specs.Values.{IsLong}
 use Rattle.acct_layouts.specs.CallShapes.{CanBeSpelled}
 use Rattle.acct_layouts.specs.ReplyShapes.{HasShape}
 use Rattle.acct_layouts.specs.Table.{samr_layout, lsa_layout}
 use Rattle.acct_rows.specs.Laws.{EachIsGood}
-use Rattle.acct_rows.specs.Objects.{domain_of}
+use Rattle.acct_tables.specs.Keys.{domain_of}
 use Rattle.acct_rows.specs.Rows.{Lists, find_name, account_at}
 use Rattle.acct_rules.specs.Asked.{asked_name, asked_names, asked_rids, asked_rid, asked_context, asked_length}
 use Rattle.acct_rules.specs.Operations.{IsRight}
-use Rattle.acct_rules.specs.Pages.{page, leaves_some}
-use Rattle.samr_objects.specs.Domains.{listed}
-use Rattle.acct_rules.specs.PageEntries.{entry_cost}
-use Rattle.samr_objects.specs.Found.{use_in}
+use Rattle.acct_rules.specs.Pages.{page, leaves_some, entry_cost}
+use Rattle.samr_objects.specs.Domains.{listed, use_in}
 use Rattle.samr_objects.specs.Table.{lookup_domain_in_sam_server, enumerate_domains_in_sam_server}
 use Rattle.samr_objects.specs.Table.{open_domain_in_sam_server, lookup_names_in_domain, lookup_ids_in_domain}
 use Rattle.samr_objects.specs.Table.{open_group_in_domain, open_alias_in_domain, open_user_in_domain}

@@ -1,6 +1,6 @@
 -- Look-ups and queries change nothing, openings open what is there, and creations, sets and deletions keep the rows
 -- sound.
-use Rattle.acct_rows.specs.Objects.{domain_of}
+use Rattle.acct_tables.specs.Keys.{domain_of}
 use Rattle.acct_rules.specs.Asked.{asked_rid, asked_sid}
 use Rattle.samr_objects.proofs.Deleting.{delete_group-keeps, delete_alias-keeps, delete_user-keeps}
 use Rattle.samr_objects.proofs.Creating.{RowLaws, create_group-keeps, create_alias-keeps, create_user-keeps}

@@ -2,7 +2,7 @@
 use Rattle.std.proofs.Common.{◌≡◌, take, map}
 use Rattle.acct_rows.specs.Rows.{account_at}
 use Rattle.acct_rules.specs.Asked.{asked_rids}
-use Rattle.samr_objects.specs.Found.{name_in, use_in}
+use Rattle.samr_objects.specs.Domains.{name_in, use_in}
 use Rattle.samr_objects.proofs.lookups.look_ids.Given as goal
 
 abbrev pub invariant-loop-rid : goal.invariant-loop-rid

@@ -2,7 +2,7 @@
 use Rattle.std.proofs.Common.{◌≡◌, take, map}
 use Rattle.acct_rows.specs.Rows.{find_name}
 use Rattle.acct_rules.specs.Asked.{asked_names}
-use Rattle.samr_objects.specs.Found.{rid_in, use_in}
+use Rattle.samr_objects.specs.Domains.{rid_in, use_in}
 use Rattle.samr_objects.proofs.lookups.look_names.Given as goal
 
 abbrev pub invariant-loop-name : goal.invariant-loop-name

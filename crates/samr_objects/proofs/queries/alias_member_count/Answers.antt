@@ -1,7 +1,7 @@
 -- An alias has no more members than there are alias rows, so their number fits 32 bits.
 use Rattle.std.proofs.Common.{◌≡◌, length, ap, arith}
 use Rattle.std.specs.List.{filter}
-use Rattle.acct_rows.specs.Rows.{is_in_alias}
+use Rattle.acct_tables.specs.Selected.{is_in_alias}
 use Rattle.samr_objects.proofs.Listing.{filter-few}
 use Rattle.samr_objects.proofs.queries.alias_member_count.Goals as goal
 

@@ -1,7 +1,7 @@
 -- A group has no more members than there are member rows, so their number fits 32 bits.
 use Rattle.std.proofs.Common.{◌≡◌, length, ap, arith}
 use Rattle.std.specs.List.{filter}
-use Rattle.acct_rows.specs.Rows.{is_in_group}
+use Rattle.acct_tables.specs.Selected.{is_in_group}
 use Rattle.samr_objects.proofs.Listing.{filter-few}
 use Rattle.samr_objects.proofs.queries.member_count.Goals as goal
 

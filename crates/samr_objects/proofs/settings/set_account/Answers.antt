@@ -2,10 +2,10 @@
 use Rattle.std.proofs.Common.{◌≡◌, ℕ, true, List, Option, Some, None, sym, ap, subst, ◌∙◌}
 use Rattle.acct_calls.specs.declared.calls.Args.{Args}
 use Rattle.acct_codes.specs.declared.kind.Kind.{Kind}
-use Rattle.acct_rows.specs.Objects.{domain_of, rid_of}
+use Rattle.acct_tables.specs.Keys.{domain_of, rid_of}
 use Rattle.acct_rows.specs.Rows.{Lists, account_at}
-use Rattle.acct_rows.specs.declared.object.Object.{Object}
-use Rattle.acct_rows.specs.declared.row.Row.{Row}
+use Rattle.acct_tables.specs.declared.object.Object.{Object}
+use Rattle.acct_tables.specs.declared.row.Row.{Row}
 use Rattle.acct_rules.specs.Asked.{class_of}
 use Rattle.acct_rules.specs.Planned.{first_failed, none_fails, decided, decision, refusal, puts}
 use Rattle.acct_rules.specs.declared.planned.Planned.{Planned}

@@ -2,7 +2,7 @@
 use Rattle.std.proofs.Common.{◌≡◌, ◌∙◌, rules}
 use Rattle.std.specs.Ordering.{ordering_then}
 use Rattle.acct_tables.specs.Keyed.{compare}
-use Rattle.acct_machine.specs.Arrivals.{number_key, object_order}
+use Rattle.acct_machine.specs.steps.Arrivals.{number_key, object_order}
 use Rattle.acct_machine.proofs.Indexes.{objects_ordered}
 use Rattle.acct_machine.proofs.arrivals.ByObjectOrderArrival.order.Goals as goal
 

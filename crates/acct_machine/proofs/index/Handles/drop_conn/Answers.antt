@@ -6,8 +6,8 @@ use Rattle.acct_machine.specs.declared.arrivals.Arrival.{Arrival}
 use Rattle.acct_machine.specs.declared.arrivals.Numbered.TheVariants as numbers
 use Rattle.acct_machine.specs.declared.state.Held.{Held}
 use Rattle.acct_machine.specs.State.{without_conn}
-use Rattle.acct_machine.specs.Arrivals.{number_key, number_front, object_key}
-use Rattle.acct_machine.specs.Indexed.{arrived, CameBefore}
+use Rattle.acct_machine.specs.steps.Arrivals.{number_key, number_front, object_key}
+use Rattle.acct_machine.specs.steps.Indexed.{arrived, CameBefore}
 use Rattle.acct_machine.proofs.Indexes.{objects_left, others_alike, arrived_without, before_filter, conn_within}
 use Rattle.acct_machine.proofs.index.Handles.drop_conn.Goals as goal
 

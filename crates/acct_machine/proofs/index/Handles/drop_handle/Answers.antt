@@ -5,8 +5,8 @@ use Rattle.acct_tables.specs.Keyed.{is_within, is_ascending, sorted, without_all
 use Rattle.acct_machine.specs.declared.arrivals.Arrival.{Arrival}
 use Rattle.acct_machine.specs.declared.arrivals.Numbered.TheVariants as numbers
 use Rattle.acct_machine.specs.State.{is_handle, without_handle}
-use Rattle.acct_machine.specs.Arrivals.{number_key, number_front, object_key}
-use Rattle.acct_machine.specs.Indexed.{arrived, CameBefore}
+use Rattle.acct_machine.specs.steps.Arrivals.{number_key, number_front, object_key}
+use Rattle.acct_machine.specs.steps.Indexed.{arrived, CameBefore}
 use Rattle.acct_machine.proofs.Indexes.{objects_gone, objects_left, arrived_without, before_filter, handle_within}
 use Rattle.acct_machine.proofs.index.Handles.drop_handle.Goals as goal
 

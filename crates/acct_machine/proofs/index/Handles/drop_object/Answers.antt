@@ -1,13 +1,13 @@
 -- After `drop_object` both indices hold the same handles: those to other objects, in the order they came in.
 use Rattle.std.proofs.Common.{◌≡◌, Bool, true, not, List, sym, ap, subst, ◌∙◌, rules, arith}
 use Rattle.std.specs.List.{filter}
-use Rattle.acct_rows.specs.Objects.{same_object}
+use Rattle.acct_tables.specs.Keys.{same_object}
 use Rattle.acct_tables.specs.Keyed.{is_within, is_ascending, sorted}
 use Rattle.acct_machine.specs.declared.arrivals.Arrival.{Arrival}
 use Rattle.acct_machine.specs.declared.state.Held.{Held}
 use Rattle.acct_machine.specs.State.{without_object}
-use Rattle.acct_machine.specs.Arrivals.{number_key, object_key, object_front}
-use Rattle.acct_machine.specs.Indexed.{arrived, CameBefore}
+use Rattle.acct_machine.specs.steps.Arrivals.{number_key, object_key, object_front}
+use Rattle.acct_machine.specs.steps.Indexed.{arrived, CameBefore}
 use Rattle.acct_machine.proofs.Indexes.{objects_left, others_alike, arrived_without, before_filter, object_within}
 use Rattle.acct_machine.proofs.index.Handles.drop_object.Goals as goal
 

@@ -5,8 +5,8 @@ use Rattle.acct_tables.specs.Keyed.{is_within, is_ascending}
 use Rattle.acct_machine.specs.declared.arrivals.Arrival.{Arrival}
 use Rattle.acct_machine.specs.declared.arrivals.Numbered.TheVariants as numbers
 use Rattle.acct_machine.specs.State.{find_handle}
-use Rattle.acct_machine.specs.Arrivals.{number_key, number_front}
-use Rattle.acct_machine.specs.Indexed.{held_of}
+use Rattle.acct_machine.specs.steps.Arrivals.{number_key, number_front}
+use Rattle.acct_machine.specs.steps.Indexed.{held_of}
 use Rattle.acct_machine.proofs.Indexes.{found}
 use Rattle.acct_machine.proofs.index.Handles.find.Goals as goal
 

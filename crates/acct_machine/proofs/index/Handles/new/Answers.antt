@@ -2,8 +2,8 @@
 use Rattle.std.proofs.Common.{List, sym, ap, subst, ◌∙◌, arith}
 use Rattle.acct_tables.specs.Keyed.{sorted}
 use Rattle.acct_machine.specs.declared.arrivals.Arrival.{Arrival}
-use Rattle.acct_machine.specs.Arrivals.{object_key}
-use Rattle.acct_machine.specs.Indexed.{arrived, CameBefore}
+use Rattle.acct_machine.specs.steps.Arrivals.{object_key}
+use Rattle.acct_machine.specs.steps.Indexed.{arrived, CameBefore}
 use Rattle.acct_machine.proofs.Indexes.{none_arrived}
 use Rattle.acct_machine.proofs.index.Handles.new.Goals as goal
 

@@ -2,8 +2,8 @@
 use Rattle.std.proofs.Common.{◌≡◌, ◌+◌, true, List, [], ◌∷◌, ◌++◌, refl, sym, ap, subst, ◌∙◌, rules, arith}
 use Rattle.acct_tables.specs.Keyed.{is_ascending, sorted, put}
 use Rattle.acct_machine.specs.declared.arrivals.Arrival.{Arrival}
-use Rattle.acct_machine.specs.Arrivals.{number_key, object_key}
-use Rattle.acct_machine.specs.Indexed.{arrived, CameBefore}
+use Rattle.acct_machine.specs.steps.Arrivals.{number_key, object_key}
+use Rattle.acct_machine.specs.steps.Indexed.{arrived, CameBefore}
 use Rattle.acct_machine.proofs.Indexes.{objects_put, arrived_put, before_put}
 use Rattle.acct_machine.proofs.index.Handles.push.Goals as goal
 

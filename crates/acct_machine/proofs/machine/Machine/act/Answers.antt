@@ -13,14 +13,13 @@ use Rattle.acct_machine.specs.declared.entry.Entry.TheVariants.{Called}
 use Rattle.acct_machine.specs.State.{State, Start, is_live, last_serial}
 use Rattle.acct_machine.proofs.Serials.{serial-at}
 use Rattle.acct_machine.specs.Step.{acted, state_at}
-use Rattle.acct_machine.specs.Calls.{IsCall}
-use Rattle.acct_machine.specs.Legal.{MayHave, Rises, May}
+use Rattle.acct_machine.specs.Access.{IsCall}
+use Rattle.acct_machine.specs.Legal.{MayHave, Rises, May, TakesCall}
 use Rattle.acct_machine.specs.Shapes.{IsAnswer}
-use Rattle.acct_machine.specs.Room.{TakesCall}
 use Rattle.acct_machine.specs.Shown.{Keeping, Past, Shown, IsKept, begins}
 use Rattle.acct_machine.specs.Machine.{state_of, with_entry, SameLive, OneMoreCall}
 use Rattle.acct_machine.specs.Sound.{IsSound}
-use Rattle.acct_machine.specs.Storing.{HoldsRows, Counts}
+use Rattle.acct_machine.specs.Outbox.{HoldsRows, Counts}
 use Rattle.acct_machine.specs.Wants.{IsFrugal}
 use Rattle.acct_machine.proofs.Kept.{may-called, shown, same_live-push, one_more_call, shown-more, kept-more}
 use Rattle.acct_machine.proofs.Kept.{state-shown, takes-call, room-to-call, begins-same}

@@ -9,7 +9,7 @@ use Rattle.acct_machine.specs.State.{State, is_live}
 use Rattle.acct_machine.specs.Step.{state_at}
 use Rattle.acct_machine.specs.Shown.{Past, Shown, begins, IsKept}
 use Rattle.acct_machine.specs.Machine.{state_of, OneLessLive, SameCalls}
-use Rattle.acct_machine.specs.Storing.{HoldsRows}
+use Rattle.acct_machine.specs.Outbox.{HoldsRows}
 use Rattle.acct_machine.proofs.Kept.{shown, one_less-push, same_calls-gone, shown-more, kept-more, state-shown}
 use Rattle.acct_machine.proofs.Kept.{room-to-end, begins-same}
 use Rattle.acct_machine.proofs.Storing.{stored-quiet}

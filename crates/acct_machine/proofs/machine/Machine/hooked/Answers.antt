@@ -4,16 +4,15 @@ use Rattle.std.proofs.Common.{arith, length, rules}
 use Rattle.std.specs.Vec.{vec_capacity}
 use Rattle.std.proofs.lemmas.Grind.{common_steps}
 use Rattle.acct_config.specs.declared.config.Config.{Config}
-use Rattle.acct_keeper.specs.Counts.{one_more}
+use Rattle.acct_keeper.specs.Faults.{one_more}
 use Rattle.acct_machine.specs.declared.entry.Entry.{Entry}
 use Rattle.acct_machine.specs.declared.entry.Entry.TheVariants.{Hooked}
 use Rattle.acct_machine.specs.State.{State, Start}
 use Rattle.acct_machine.specs.Step.{step}
-use Rattle.acct_machine.specs.Room.{most_entries}
-use Rattle.acct_machine.specs.Outbox.{has_hook, least_in}
+use Rattle.acct_machine.specs.Legal.{most_entries}
+use Rattle.acct_machine.specs.Outbox.{has_hook, least_in, HoldsRows, IsStored}
 use Rattle.acct_machine.specs.Shown.{Past, Shown, begins, IsKept}
 use Rattle.acct_machine.specs.Machine.{state_of, SameLive, SameCalls}
-use Rattle.acct_machine.specs.Storing.{HoldsRows, IsStored}
 use Rattle.acct_machine.proofs.Kept.{shown, shown-more, opened-kept, begins-same}
 use Rattle.acct_machine.proofs.Leaving.{left-kept, kept-wider, same_live-hooked, same_calls-hooked}
 use Rattle.acct_machine.proofs.Storing.{stored-hooked, stored-missed}

@@ -6,12 +6,11 @@ use Rattle.std.proofs.lemmas.Grind.{common_steps}
 use Rattle.acct_machine.specs.declared.entry.Entry.TheVariants.{Opened}
 use Rattle.acct_machine.specs.State.{State, Start}
 use Rattle.acct_machine.specs.Step.{step}
-use Rattle.acct_machine.specs.Legal.{May, Legal}
-use Rattle.acct_machine.specs.Room.{conns_full}
+use Rattle.acct_machine.specs.Legal.{May, Legal, conns_full}
 use Rattle.acct_machine.specs.Shown.{Past, Shown, begins}
 use Rattle.acct_machine.specs.Machine.{state_of, with_entry, OneMoreLive, SameCalls}
 use Rattle.acct_machine.proofs.Counting.{takes-conn, no-conn, most-conns}
-use Rattle.acct_machine.specs.Storing.{HoldsRows}
+use Rattle.acct_machine.specs.Outbox.{HoldsRows}
 use Rattle.acct_machine.proofs.Kept.{begins-same}
 use Rattle.acct_machine.proofs.Kept.{shown, may-opened, one_more-push, same_calls-opened, shown-more, kept-more}
 use Rattle.acct_machine.proofs.Kept.{state-shown, opened-kept, room-to-open}

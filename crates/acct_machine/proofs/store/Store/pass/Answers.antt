@@ -1,18 +1,18 @@
 -- A plan leaves sound rows and takes the numbers of the outbox; `Store::pass` runs out of memory only where it may.
 use Rattle.std.proofs.Common.{rules, ◌≡◌, subst, sym}
 use Rattle.acct_rules.specs.declared.planned.Planned.{Planned}
-use Rattle.acct_rules.specs.Operations.{Operation}
+use Rattle.acct_rules.specs.Profiles.{Operation}
 use Rattle.acct_operations.specs.Frugal.{taken_by}
 use Rattle.acct_operations.specs.Table.{operation}
 use Rattle.acct_machine.specs.declared.entry.Verdict.TheVariants.{NoMemory}
 use Rattle.acct_machine.specs.State.{State}
 use Rattle.acct_machine.specs.Committing.{MayCommit}
-use Rattle.acct_machine.specs.Concluding.{Concludes}
-use Rattle.acct_machine.specs.Outcome.{concluded_by, planned_of}
+use Rattle.acct_machine.specs.steps.Concluding.{Concludes}
+use Rattle.acct_machine.specs.Step.{concluded_by, planned_of}
 use Rattle.acct_machine.specs.Wants.{MayEndWith, WantsRoom}
 use Rattle.acct_machine.proofs.Handles.{keeps}
 use Rattle.acct_machine.proofs.Ruling.{planned-takes}
-use Rattle.acct_machine.proofs.Wanting.{wants-room, wants-anywhere, may-have, is-frugal, Wants}
+use Rattle.acct_machine.proofs.Wanting.{wants-room, may-have, is-frugal, Wants}
 use Rattle.acct_machine.proofs.store.Store.pass.Goals as goal
 
 pub plan-requires-clause-sound : goal.plan-requires-clause-sound
@@ -62,8 +62,7 @@ returns-in-Err g c =
     let a = c.args in
     let s : State = a.self.now in
     let o : Operation = operation a.work in
-    let wants : Wants (taken_by a.work) o s a.conn a.call.now NoMemory =
-    wants-anywhere (taken_by a.work) o s a.conn a.call.now c.in-Err.ensures.frugal in
+    let wants : Wants (taken_by a.work) o s a.conn a.call.now NoMemory = c.in-Err.ensures.frugal in
     record {
       state = search rules;
       reply = search rules;

@@ -2,15 +2,16 @@
 use Rattle.std.proofs.Common.{rules, ◌≡◌, Result, Ok, Err, Some, ap, subst, OnErr, IfOk}
 use Rattle.acct_rows.specs.Rows.{Lists}
 use Rattle.acct_rules.specs.declared.planned.Planned.{Planned}
-use Rattle.acct_rules.specs.Operations.{Operation}
+use Rattle.acct_rules.specs.Profiles.{Operation}
 use Rattle.acct_rules.specs.Planned.{decision}
+use Rattle.acct_operations.specs.Frugal.{MayWantToDecide}
 use Rattle.acct_operations.specs.Table.{operation}
 use Rattle.acct_machine.specs.State.{State}
-use Rattle.acct_machine.specs.Opening.{described, described_in}
+use Rattle.acct_machine.specs.Access.{described, described_in}
 use Rattle.acct_machine.specs.Outbox.{needs_out, told_planned}
-use Rattle.acct_machine.specs.Outcome.{decided_of}
+use Rattle.acct_machine.specs.Step.{decided_of}
 use Rattle.acct_machine.proofs.Describing.{limits-of}
-use Rattle.acct_machine.proofs.Ruling.{planned-told, changes-anywhere}
+use Rattle.acct_machine.proofs.Ruling.{planned-told, wants-deciding, wants-changing}
 use Rattle.acct_machine.proofs.store.Store.plan.Goals as goal
 
 pub decide-requires : goal.decide-requires
@@ -46,5 +47,13 @@ returns-in-Ok-clause-frugal c =
     let is : decision (decided_of (operation c.args.work) s c.args.object c.args.call.now) ≡ c.in-Ok.decided =
     search rules in
     on-err c.outboxed.result _ _
-    (changes-anywhere c.operations_are_frugal.ensures c.args.work s.rows (described s c.args.object) c.args.object
-    c.args.call.now.args c.in-Ok.decided is) c.outboxed.ensures.frugal
+    (wants-changing c.operations_are_frugal.ensures c.args.work s c.args.conn c.args.call.now c.args.object
+    c.in-Ok.decided c.requires.object is) c.outboxed.ensures.frugal
+
+-- memory ran out while the operation was decided
+pub returns-in-Err-clause-frugal : goal.returns-in-Err-clause-frugal
+returns-in-Err-clause-frugal c =
+    let s : State = c.args.self.now in
+    let wants : MayWantToDecide c.args.work s.rows (described s c.args.object) c.args.object c.args.call.now.args =
+    search rules in
+    wants-deciding c.args.work s c.args.conn c.args.call.now c.args.object c.requires.object wants

@@ -1,7 +1,7 @@
 -- The last entry's number is the last one.
 use Rattle.std.proofs.Common.{◌≡◌, ℕ, ◌-◌, List, [], ◌∷◌, length, Some, slice_get, suc, zero, sym, ap, ◌∙◌, arith}
 use Rattle.acct_calls.specs.declared.lists.RidName.{RidName}
-use Rattle.acct_rules.specs.PageEntries.{last_rid}
+use Rattle.acct_rules.specs.Pages.{last_rid}
 use Rattle.acct_rules.proofs.page_entries.NamePage.last_rid.Goals as goal
 
 last-at : (before n : ℕ) (entries : List RidName) (last : RidName) → length entries ≡ suc n

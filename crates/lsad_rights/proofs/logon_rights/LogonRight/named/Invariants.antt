@@ -1,7 +1,7 @@
 -- None of the rights so far has the name.
 use Rattle.std.proofs.Common.{◌≡◌, drop}
 use Rattle.std.specs.List.{find}
-use Rattle.lsad_rights.specs.LogonRights.{is_right_named, logon_rights}
+use Rattle.lsad_rights.specs.Rights.{is_right_named, logon_rights}
 use Rattle.lsad_rights.proofs.logon_rights.LogonRight.named.Given as goal
 
 abbrev pub invariant-loop-right : goal.invariant-loop-right

@@ -1,6 +1,6 @@
 -- The place in the table finds the privilege.
 use Rattle.std.proofs.Common.{sym, ◌∙◌, ap, slice_get, arith}
-use Rattle.lsad_rights.specs.Privileges.{privileges}
+use Rattle.lsad_rights.specs.Rights.{privileges}
 use Rattle.lsad_rights.proofs.Finding.{low-found, low-missing, got}
 use Rattle.lsad_rights.proofs.privileges.KnownPrivilege.of_low.Goals as goal
 

@@ -3,7 +3,7 @@ use Rattle.std.specs.Prelude.{◌≡◌, ℕ, ◌+◌, ◌^◌, ◌<◌, ◌≤�
 use Rattle.acct_tables.specs.Keyed.{sorted}
 use Rattle.acct_machine.specs.declared.state.Held.{Held}
 use Rattle.acct_machine.specs.declared.arrivals.Arrival.{Arrival}
-use Rattle.acct_machine.specs.Arrivals.{object_key, turn_key}
+use Rattle.acct_machine.specs.steps.Arrivals.{object_key, turn_key}
 
 abbrev pub held_of : Arrival → Held
 held_of a = a.held

@@ -5,7 +5,7 @@ use Rattle.acct_keeper.specs.declared.pairs.Pair.{Pair}
 use Rattle.acct_machine.specs.declared.entry.Verdict.{Verdict}
 use Rattle.acct_machine.specs.declared.entry.Verdict.TheVariants.{Ran}
 use Rattle.acct_machine.specs.State.{State}
-use Rattle.acct_machine.specs.Storing.{HoldsRows, Counts}
+use Rattle.acct_machine.specs.Outbox.{HoldsRows, Counts}
 
 -- The state and the reply are what the call comes to with its verdict, and this verdict may be. A keeper that held the
 -- rows holds those that are left, its count tells of a commit that failed, and where no row is to change nothing is

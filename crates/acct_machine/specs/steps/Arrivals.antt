@@ -3,9 +3,9 @@ use Rattle.std.specs.Prelude.{ℕ, List, [], ◌∷◌}
 use Rattle.std.specs.Ordering.{nat_cmp, ordering_then}
 use Rattle.std.specs.declared.cmp.Ordering.{Ordering}
 use Rattle.acct_tables.specs.Keyed.{Key, compare, ended}
-use Rattle.acct_rows.specs.declared.object.Object.{Object}
-use Rattle.acct_rows.specs.declared.object.Object.TheVariants.{Server, Domain, Group, Alias, User, Policy, Account}
-use Rattle.acct_rows.specs.Objects.{domain_of, rid_of}
+use Rattle.acct_tables.specs.declared.object.Object.{Object}
+use Rattle.acct_tables.specs.declared.object.Object.TheVariants.{Server, Domain, Group, Alias, User, Policy, Account}
+use Rattle.acct_tables.specs.Keys.{domain_of, rid_of}
 use Rattle.acct_machine.specs.declared.arrivals.Arrival.{Arrival}
 use Rattle.acct_machine.specs.declared.arrivals.Numbered.{Numbered}
 use Rattle.acct_machine.specs.declared.arrivals.Numbered.TheVariants as numbers

@@ -1,0 +1,5 @@
+-- What private calls do on the way, and terms of proofs: no reader of a contract needs them.
+pub mod Arrivals
+pub mod Concluding
+pub mod Indexed
+pub mod Moving
