@@ -5,14 +5,14 @@ use Rattle.std.proofs.lemmas.Bool.{true≢false}
 use Rattle.acct_calls.specs.declared.replies.Reply.{Reply}
 use Rattle.acct_stubs.specs.declared.errors.WireError.{WireError}
 use Rattle.rpc_pdu.specs.declared.pdus.Side.TheVariants.{Client}
-use Rattle.rpc_pdu.specs.Front.{Front, Whole, Rest, Refused, front}
+use Rattle.rpc_pdu.specs.Bodies.{Front, Whole, Rest, Refused, front}
 use Rattle.rpc_pdu.specs.Laws.{Stays, IsStable}
 use Rattle.client_commands.specs.declared.outcomes.Outcome.{Outcome}
 use Rattle.client_commands.specs.declared.outcomes.Outcome.TheVariants.{Goes, Ends, Refuses, Unfit}
 use Rattle.client_commands.specs.declared.steps.Step.{Step}
 use Rattle.client_commands.specs.declared.steps.Step.TheVariants.{Opening}
 use Rattle.client_commands.specs.Outcomes.{after, refused_line}
-use Rattle.client_commands.specs.Steps.{call_of}
+use Rattle.client_commands.specs.Words.{call_of}
 use Rattle.acct_client.specs.declared.answers.Answer.{Answer}
 use Rattle.acct_client.specs.declared.answers.Answer.TheVariants as answer
 use Rattle.acct_client.specs.declared.answers.Awaited.{Awaited}
@@ -28,10 +28,9 @@ use Rattle.acct_client.specs.declared.errors.AskError.TheVariants as error
 use Rattle.acct_client.specs.declared.hearing.Listening.{Listening}
 use Rattle.acct_client.specs.declared.hearing.Next.{Next}
 use Rattle.acct_client.specs.declared.hearing.Next.TheVariants as next
-use Rattle.acct_client.specs.Answers.{turned as turn_of}
+use Rattle.acct_client.specs.Hearings.{turned as turn_of, heard_next, next_of, stepped}
 use Rattle.acct_client.specs.Dialogues.{answered, awaits, goes_to, is_failed, next_id, replied, reply_in, silence}
 use Rattle.acct_client.specs.Dialogues.{turned}
-use Rattle.acct_client.specs.Hearings.{heard_next, next_of, stepped}
 use Rattle.rpc_session.specs.Answers.{size_for}
 use Rattle.acct_client.specs.Runs.{more}
 

@@ -9,7 +9,8 @@ use Rattle.acct_client.specs.declared.dialogue.Talk.{Talk}
 use Rattle.acct_client.specs.declared.errors.AskError.{AskError}
 use Rattle.acct_client.specs.declared.errors.AskError.TheVariants.{Memory}
 use Rattle.acct_client.specs.Dialogues.{awaits, sent}
-use Rattle.acct_client.specs.Runs.{run, Comes, IsKept}
+use Rattle.acct_client.specs.Talks.{run}
+use Rattle.acct_client.specs.Runs.{Comes, IsKept}
 use Rattle.acct_client.proofs.Running.{run_step, stands}
 
 -- a run looks at the state alone for whether an answer is awaited

@@ -5,7 +5,7 @@ use Rattle.std.proofs.Common.{refl, sym, ap, subst, ◌∙◌, arith, length-app
 use Rattle.std.proofs.lemmas.Bool.{cases_Bool, true≢false}
 use Rattle.std.proofs.lemmas.List.{append-nil}
 use Rattle.std.specs.Io.KnownBytes.{Consumes, IsAtEnd}
-use Rattle.acct_keeper.specs.Causes.{NotRisen, Rose}
+use Rattle.acct_keeper.specs.Faults.{NotRisen, Rose}
 use Rattle.acct_links.specs.Links.{Told}
 use Rattle.client_commands.specs.declared.command.Command.{Command}
 use Rattle.acct_client.specs.declared.dialogue.Progress.{Progress}
@@ -17,8 +17,8 @@ use Rattle.acct_client.specs.declared.errors.AskError.TheVariants as error
 use Rattle.acct_client.specs.declared.hearing.Listening.{Listening}
 use Rattle.acct_client.specs.Dialogues.{awaited_of, awaits, begun, is_failed, joined, progress}
 use Rattle.acct_client.specs.Hearings.{listening, on}
-use Rattle.acct_client.specs.Runs.{more, run, run_in, run_on, spoken, IsSpokenInPieces}
-use Rattle.acct_client.specs.Talks.{BringsAll, ComesToItsEnd, Talks, most_read}
+use Rattle.acct_client.specs.Runs.{more, IsSpokenInPieces}
+use Rattle.acct_client.specs.Talks.{run, run_in, run_on, spoken, BringsAll, ComesToItsEnd, Talks, most_read}
 use Rattle.acct_client.specs.declared.ends.TalkEnd.{TalkEnd}
 use Rattle.acct_client.specs.declared.ends.TalkEnd.TheVariants as ends
 use Rattle.acct_client.proofs.Answering.{heard_on}

@@ -4,7 +4,7 @@ use Rattle.std.proofs.Common.{ap}
 use Rattle.std.proofs.Common.{subst, ◌∙◌, arith, append_assoc, length-drop}
 use Rattle.std.proofs.lemmas.List.{drop-append-le}
 use Rattle.rpc_pdu.specs.declared.pdus.Side.TheVariants.{Client}
-use Rattle.rpc_pdu.specs.Front.{Front, Whole, Rest, Refused, front}
+use Rattle.rpc_pdu.specs.Bodies.{Front, Whole, Rest, Refused, front}
 use Rattle.rpc_pdu.specs.Laws.{Stays, IsStable}
 use Rattle.acct_client.specs.declared.answers.Awaited.{Awaited}
 use Rattle.acct_client.specs.declared.answers.PartialReply.{PartialReply}
@@ -15,9 +15,8 @@ use Rattle.acct_client.specs.declared.hearing.Next.{Next}
 use Rattle.acct_client.specs.declared.hearing.Next.TheVariants as next
 use Rattle.acct_client.specs.declared.hearing.Heard.{Heard}
 use Rattle.acct_client.specs.declared.hearing.Heard.TheVariants.{Waits, Answered, NoAnswer}
-use Rattle.acct_client.specs.Answers.{turned}
-use Rattle.acct_client.specs.Hearings.{stepped, next_of, heard_next, listening, on_next, hear_in, hear, with_more}
-use Rattle.acct_client.specs.Hearings.{IsCutAnywhere}
+use Rattle.acct_client.specs.Hearings.{turned, stepped, next_of, heard_next, listening, on_next, hear_in, hear}
+use Rattle.acct_client.specs.Hearings.{with_more, IsCutAnywhere}
 
 abbrev Gathered : Type 0
 Gathered = Option PartialReply

@@ -4,7 +4,7 @@ use Rattle.std.proofs.Common.{refl, sym, ap, subst, ◌∙◌, append_assoc, ari
 use Rattle.std.proofs.lemmas.Bool.{true≢false}
 use Rattle.std.proofs.lemmas.List.{append-nil}
 use Rattle.rpc_pdu.specs.Laws.{IsStable}
-use Rattle.acct_keeper.specs.Causes.{Rose}
+use Rattle.acct_keeper.specs.Faults.{Rose}
 use Rattle.acct_links.specs.Links.{Told}
 use Rattle.client_commands.specs.declared.command.Command.{Command}
 use Rattle.acct_client.specs.declared.dialogue.State.{State}
@@ -15,12 +15,10 @@ use Rattle.acct_client.specs.declared.errors.AskError.TheVariants as error
 use Rattle.acct_client.specs.Askers.{IsFailed, IsTaken}
 use Rattle.acct_client.specs.Dialogues.{asked, awaits, is_failed, progress, sent, took}
 use Rattle.acct_client.specs.Hearings.{IsCutAnywhere}
-use Rattle.acct_client.specs.Runs.{Comes, IsHeard, IsKept, more, spoken}
-use Rattle.acct_client.specs.Asks.{requested}
-use Rattle.acct_client.specs.Parts.{AsksBy, HeardEnd, IsPieceRead, IsUnread, LinkSoFar, Moves, NoPiece, SentSoFar}
-use Rattle.acct_client.specs.Parts.{Stands}
-use Rattle.acct_client.specs.Parts.{TalkEnds, TalkSoFar, Waits, end_of, steps_left, to_send}
-use Rattle.acct_client.specs.Talks.{EndsBy, IsBegun, LinesBy, Talks, most_read}
+use Rattle.acct_client.specs.Runs.{Comes, IsHeard, IsKept, more}
+use Rattle.acct_client.specs.Talks.{spoken, requested, EndsBy, IsBegun, LinesBy, Talks, most_read}
+use Rattle.acct_client.specs.steps.Parts.{AsksBy, HeardEnd, IsPieceRead, IsUnread, LinkSoFar, Moves, NoPiece, SentSoFar}
+use Rattle.acct_client.specs.steps.Parts.{Stands, TalkEnds, TalkSoFar, Waits, end_of_error, steps_left, to_send}
 use Rattle.acct_client.specs.declared.ends.TalkEnd.{TalkEnd}
 use Rattle.acct_client.specs.declared.ends.TalkEnd.TheVariants as ends
 use Rattle.acct_client.proofs.Listened.{next_sends, none_sends, sends_none, sends_some, took_awaits, took_sends}
@@ -106,7 +104,7 @@ state-is command new received e same state = ap (λ (u : Talk). u.state) (sym sa
 
 pub heard-ends : IsCutAnywhere → (command : Command) (t new : Talk) (b received bytes : List ℕ) (e : AskError)
     → t.is_awaiting ≡ true → TalkSoFar command t received bytes → IsFailed e t new b
-    → (e ≢ error.Memory → Comes t new b) → TalkEnds command (end_of e) (received ++ b) bytes new.lines
+    → (e ≢ error.Memory → Comes t new b) → TalkEnds command (end_of_error e) (received ++ b) bytes new.lines
 heard-ends cut command t new b received bytes error.Usage waiting s failed comes = record {
   ends = tt;
   asks = (to_send (more t b), s.asks b);

@@ -1,5 +1,6 @@
 mod Answering
 mod Asking
+mod Bringing
 mod Completing
 mod Cutting
 mod Ending
@@ -11,5 +12,6 @@ mod Requesting
 mod Running
 mod Sending
 mod Serving
+mod Spoken
 mod Taken
 mod Taking

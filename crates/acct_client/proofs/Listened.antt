@@ -16,8 +16,8 @@ use Rattle.acct_client.specs.Dialogues.{told, took}
 use Rattle.acct_client.specs.Hearings.{hear, on, with_more, IsCutAnywhere}
 use Rattle.acct_client.specs.Runs.{more}
 use Rattle.acct_client.proofs.Answering.{answered_done, answered_on, heard_on, more_heard, more_is, progress_on}
-use Rattle.acct_client.specs.Asks.{asks, asks_on, bytes_of}
-use Rattle.acct_client.specs.Parts.{to_send}
+use Rattle.acct_client.specs.Talks.{asks, asks_on, bytes_of}
+use Rattle.acct_client.specs.steps.Parts.{to_send}
 use Rattle.acct_client.proofs.Requesting.{asks_none, asks_step}
 use Rattle.acct_client.proofs.Moving.{took_is}
 

@@ -2,9 +2,9 @@
 use Rattle.std.proofs.Common.{◌≡◌, ℕ, ◌+◌, ◌≤◌, Bool, true, leb, List, [], ◌∷◌, ◌++◌, length, min, refl, ap, ◌∙◌, arith}
 use Rattle.std.proofs.Math.Nat.{min-eq_left}
 use Rattle.std.proofs.lemmas.Bool.{le-leb}
-use Rattle.rpc_pdu.specs.Numbers.{u16_bytes, u32_bytes}
+use Rattle.rpc_pdu.specs.Headers.{u16_bytes, u32_bytes}
 use Rattle.rpc_pdu.specs.Written.{header_bytes, written, body_bytes}
-use Rattle.rpc_session.specs.Fragments.{cut_in, cut_stub, first_flag, fragment, most_of}
+use Rattle.rpc_session.specs.Answers.{cut_in, cut_stub, first_flag, fragment, most_of}
 use Rattle.acct_client.specs.Requests.{request_head, AreOnePdu}
 
 one_fragment : (one : ℕ → ℕ → List ℕ → List ℕ) (most : ℕ) (first : Bool) (stub : List ℕ) → length stub ≤ most

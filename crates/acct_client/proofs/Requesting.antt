@@ -9,7 +9,7 @@ use Rattle.acct_client.specs.declared.dialogue.State.{State}
 use Rattle.acct_client.specs.declared.dialogue.State.TheVariants.{Binding, Calling, Ended, Failed}
 use Rattle.acct_client.specs.declared.dialogue.Talk.{Talk}
 use Rattle.acct_client.specs.Dialogues.{awaits, joined, progress}
-use Rattle.acct_client.specs.Asks.{asks, asks_in, asks_on, request}
+use Rattle.acct_client.specs.Talks.{asks, asks_in, asks_on, request}
 use Rattle.acct_client.proofs.Moving.{shrinks}
 
 request_none : (s : State) → awaits s ≡ false → request s ≡ []

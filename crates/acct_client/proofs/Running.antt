@@ -28,8 +28,9 @@ use Rattle.acct_client.specs.Dialogues.{told, awaited_of, progress, joined, sile
 use Rattle.acct_client.specs.Hearings.{heard_next, on_next, hear_in, hear, on, with_more, IsCutAnywhere}
 use Rattle.acct_client.proofs.Cutting.{NextStays, next_stays, whole_next}
 use Rattle.client_commands.specs.Outcomes.{after}
-use Rattle.client_commands.specs.Steps.{call_of}
-use Rattle.acct_client.specs.Runs.{more, run_on, run_in, run, IsSpokenInPieces}
+use Rattle.client_commands.specs.Words.{call_of}
+use Rattle.acct_client.specs.Runs.{more, IsSpokenInPieces}
+use Rattle.acct_client.specs.Talks.{run_on, run_in, run}
 
 -- more bytes to hear
 abbrev pub heard_on : Listening → List ℕ → Listening

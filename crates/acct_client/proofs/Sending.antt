@@ -5,9 +5,9 @@ use Rattle.std.proofs.Common.{min, inl, inr}
 use Rattle.std.proofs.lemmas.Bool.{true≢false}
 use Rattle.std.proofs.lemmas.List.{append-nil, take-append-le, take_all}
 use Rattle.std.specs.Io.KnownBytes.{Appends, Consumes}
-use Rattle.acct_keeper.specs.Causes.{Rose}
+use Rattle.acct_keeper.specs.Faults.{Rose}
 use Rattle.acct_links.specs.Links.{Told, Sends, SendsFront}
-use Rattle.acct_client.specs.Parts.{AsksBy, IsPieceRead, IsUnread, LinkSoFar, SentSoFar}
+use Rattle.acct_client.specs.steps.Parts.{AsksBy, IsPieceRead, IsUnread, LinkSoFar, SentSoFar}
 use Rattle.acct_client.specs.Talks.{SendsBy}
 use Rattle.acct_client.specs.declared.ends.TalkEnd.{TalkEnd}
 use Rattle.acct_client.specs.declared.ends.TalkEnd.TheVariants.{Done, NoMemory, PeerBytes, PeerFault, InputTooLong}

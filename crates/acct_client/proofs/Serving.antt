@@ -19,8 +19,8 @@ use Rattle.rpc_pdu.specs.declared.pdus.Outcome.{Outcome}
 use Rattle.rpc_pdu.specs.declared.pdus.Pdu.TheVariants as pdu
 use Rattle.rpc_pdu.specs.Laws.{IsStable, AreReadBack}
 use Rattle.rpc_pdu.specs.Written.{written, IsWholeOutcome}
-use Rattle.rpc_session.specs.Fragments.{first_flag}
-use Rattle.rpc_session.specs.Replies.{fault_bytes, reply_bytes, response, responses, RepliesBringStubs}
+use Rattle.rpc_session.specs.Answers.{first_flag, fault_bytes, reply_bytes, response, responses, RepliesBringStubs}
+use Rattle.rpc_session.specs.Answers.{size_for}
 use Rattle.samr_wire.specs.Interface.{samr}
 use Rattle.lsa_wire.specs.Interface.{lsa}
 use Rattle.client_commands.specs.declared.outcomes.Outcome.{Outcome as Brought}
@@ -28,7 +28,7 @@ use Rattle.client_commands.specs.declared.outcomes.Outcome.TheVariants.{Goes as 
 use Rattle.client_commands.specs.declared.steps.Step.{Step}
 use Rattle.client_commands.specs.declared.steps.Step.TheVariants.{Opening}
 use Rattle.client_commands.specs.Outcomes.{after}
-use Rattle.client_commands.specs.Steps.{call_of}
+use Rattle.client_commands.specs.Words.{call_of}
 use Rattle.acct_client.specs.declared.answers.Answer.{Answer}
 use Rattle.acct_client.specs.declared.answers.Answer.TheVariants as answer
 use Rattle.acct_client.specs.declared.answers.Awaited.TheVariants.{Binding as TheBind, Reply as TheReply}
@@ -40,15 +40,13 @@ use Rattle.acct_client.specs.declared.dialogue.Talk.{Talk}
 use Rattle.acct_client.specs.declared.hearing.Heard.{Heard}
 use Rattle.acct_client.specs.declared.hearing.Heard.TheVariants.{Waits, Answered}
 use Rattle.acct_client.specs.declared.hearing.Listening.{Listening}
-use Rattle.acct_client.specs.Answers.{gathers, responds}
+use Rattle.acct_client.specs.Hearings.{gathers, responds, hear, hear_in, heard_next, listening, next_of, stepped}
 use Rattle.acct_client.specs.Dialogues.{answered, awaited_of, awaits, begun, joined, next_id, progress, replied}
 use Rattle.acct_client.specs.Dialogues.{reply_in, told, turned, wire_of}
-use Rattle.acct_client.specs.Hearings.{hear, hear_in, heard_next, listening, next_of, stepped}
 use Rattle.acct_client.specs.Requests.{context_of}
-use Rattle.rpc_session.specs.Answers.{size_for}
-use Rattle.acct_client.specs.Runs.{run, run_on}
-use Rattle.acct_client.specs.Served.{accepted, bytes_of, bytes_on, lines_of, lines_on, stub_of, AreAnswers, AreOn}
-use Rattle.acct_client.specs.Served.{PrintsReplies}
+use Rattle.acct_client.specs.Talks.{run, run_on}
+use Rattle.acct_client.specs.Answered.{bytes_on, lines_of, lines_on}
+use Rattle.acct_client.specs.Served.{accepted, bytes_of, stub_of, AreAnswers, AreOn, PrintsReplies}
 use Rattle.acct_client.proofs.Cutting.{on_gives, on_goes}
 use Rattle.acct_client.proofs.Running.{answered_done, on_done, run_step, stands}
 

@@ -12,7 +12,8 @@ use Rattle.acct_client.specs.declared.errors.AskError.TheVariants.{Memory}
 use Rattle.acct_client.specs.Askers.{answer_of, bytes_taken, lost, IsFailed, IsFitTalk, IsTaken, MayTake}
 use Rattle.acct_client.specs.Dialogues.{awaits, is_failed, joined, progress, took, IsFitState}
 use Rattle.acct_client.specs.Hearings.{IsCutAnywhere}
-use Rattle.acct_client.specs.Runs.{run, Comes, IsHeard}
+use Rattle.acct_client.specs.Talks.{run}
+use Rattle.acct_client.specs.Runs.{Comes, IsHeard}
 use Rattle.acct_client.proofs.Running.{goes_unfailed}
 use Rattle.acct_client.proofs.Taking.{comes_by, count_piece, failed_comes, goes_on_by, piece_awaits, piece_ends}
 use Rattle.acct_client.proofs.Taking.{piece_known, piece_runs, piece_waits}

@@ -27,12 +27,13 @@ use Rattle.client_commands.specs.declared.outcomes.Outcome.TheVariants.{Goes, En
 use Rattle.client_commands.specs.declared.steps.Step.{Step}
 use Rattle.acct_client.specs.Dialogues.{replied, reply_in, turned}
 use Rattle.client_commands.specs.Outcomes.{after}
-use Rattle.client_commands.specs.Steps.{call_of}
+use Rattle.client_commands.specs.Words.{call_of}
 use Rattle.acct_client.specs.Dialogues.{answered, awaited_of, awaits, begun, is_failed, joined, progress}
 use Rattle.acct_client.specs.Askers.{bytes_taken}
 use Rattle.acct_client.specs.Dialogues.{told}
 use Rattle.acct_client.specs.Hearings.{hear, hear_in, heard_next, listening, on, on_next, IsCutAnywhere}
-use Rattle.acct_client.specs.Runs.{more, run_on, run, spoken, IsSoFar, GoesOn, Comes}
+use Rattle.acct_client.specs.Runs.{more, IsSoFar, GoesOn, Comes}
+use Rattle.acct_client.specs.Talks.{run_on, run, spoken}
 use Rattle.acct_client.proofs.Cutting.{NextStays, next_stays, whole_next}
 use Rattle.acct_client.proofs.Running.{answered_done, answered_leaves, more_heard, more_is, on_done, run_step}
 use Rattle.acct_client.proofs.Running.{same_lines, spoken_in_pieces_is, stands}

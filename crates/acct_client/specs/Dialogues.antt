@@ -8,7 +8,7 @@ use Rattle.acct_calls.specs.declared.calls.Face.TheVariants.{Samr, Lsa}
 use Rattle.acct_calls.specs.declared.replies.Reply.{Reply}
 use Rattle.acct_stubs.specs.Calls.{spell}
 use Rattle.acct_stubs.specs.Replies.{reply_at}
-use Rattle.acct_stubs.specs.Wire.{Wire}
+use Rattle.acct_stubs.specs.Arguments.{Wire}
 use Rattle.acct_stubs.specs.declared.errors.WireError.{WireError}
 use Rattle.samr_wire.specs.Interface.{samr}
 use Rattle.lsa_wire.specs.Interface.{lsa}
@@ -35,7 +35,7 @@ use Rattle.acct_client.specs.Hearings.{on, listening}
 use Rattle.client_commands.specs.Outcomes.{after, refused_line}
 use Rattle.acct_client.specs.Requests.{bind_bytes, context_of, request_bytes}
 use Rattle.rpc_session.specs.Answers.{size_for}
-use Rattle.client_commands.specs.Steps.{call_of}
+use Rattle.client_commands.specs.Words.{call_of}
 
 -- ---- what is sent
 

@@ -1,11 +1,9 @@
-pub mod Answers
+pub mod Answered
+pub mod Askers
+pub mod Dialogues
 pub mod Hearings
 pub mod Requests
-pub mod Dialogues
-pub mod Askers
 pub mod Runs
 pub mod Served
-pub mod Asks
 pub mod Talks
-pub mod Parts
-pub mod Calls
+pub mod steps

@@ -2,16 +2,16 @@
 -- replies are into responses (C706, sections 12.6.3 and 12.6.4).
 use Rattle.std.specs.Prelude.{◌≡◌, ℕ, ◌≤◌, true, List, [], ◌∷◌, length}
 use Rattle.acct_codes.specs.Limits.{most_fragment}
-use Rattle.acct_codes.specs.PduTypes.{ptype_request}
+use Rattle.acct_codes.specs.Pdus.{ptype_request}
 use Rattle.acct_calls.specs.declared.calls.Face.{Face}
 use Rattle.acct_calls.specs.declared.calls.Face.TheVariants.{Samr, Lsa}
 use Rattle.rpc_pdu.specs.declared.pdus.Element.{Element}
 use Rattle.rpc_pdu.specs.declared.pdus.Pdu.TheVariants.{Bind, Request}
 use Rattle.rpc_pdu.specs.declared.syntaxes.Syntax.{Syntax}
-use Rattle.rpc_pdu.specs.Syntaxes.{samr, lsarpc, ndr}
+use Rattle.rpc_pdu.specs.Headers.{samr, lsarpc, ndr}
 use Rattle.rpc_pdu.specs.Written.{whole_flags, written}
 use Rattle.rpc_session.specs.declared.fragments.FragmentHead.{FragmentHead}
-use Rattle.rpc_session.specs.Fragments.{cut_stub, fragment, most_of}
+use Rattle.rpc_session.specs.Answers.{cut_stub, fragment, most_of}
 
 -- the context of each interface
 abbrev pub context_of : Face → ℕ

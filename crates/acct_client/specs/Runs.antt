@@ -1,34 +1,13 @@
--- A dialogue over the whole stream of the peer: it goes on as far as the bytes go, the next call being made whenever an
--- answer is whole.
-use Rattle.std.specs.Prelude.{◌≡◌, ℕ, zero, suc, Bool, false, List, [], ◌++◌, length, Option, Some, None}
-use Rattle.std.specs.Prelude.{if◌then◌else◌}
+-- That the stream of a peer may be cut anywhere.
+use Rattle.std.specs.Prelude.{◌≡◌, ℕ, Bool, false, List, ◌++◌, Option, Some, None, if◌then◌else◌}
 use Rattle.client_commands.specs.declared.command.Command.{Command}
-use Rattle.acct_client.specs.declared.dialogue.Progress.{Progress}
 use Rattle.acct_client.specs.declared.dialogue.Talk.{Talk}
-use Rattle.acct_client.specs.Hearings.{listening}
-use Rattle.acct_client.specs.Dialogues.{awaits, is_failed, progress, joined, begun}
+use Rattle.acct_client.specs.Dialogues.{is_failed}
+use Rattle.acct_client.specs.Talks.{run, spoken}
 
 -- the dialogue with more bytes to hear; after an error none is heard
 abbrev pub more : Talk → List ℕ → Talk
 more t piece = if is_failed t.state then t else record t { left = record t.left { rest = t.left.rest ++ piece } }
-
-abbrev pub run_on : Talk → Progress → (Talk → Talk) → Talk
-run_on t p later = if p.is_awaiting then joined t p else later (joined t p)
-
--- with at most so many answers
-unfoldable pub run_in : ℕ → Talk → Talk
-run_in zero t = t
-run_in (suc answers) t =
-    if awaits t.state then run_on t (progress t.state t.left []) (λ next. run_in answers next) else t
-
--- each answer takes a byte and more
-unfoldable pub run : Talk → Talk
-run t = run_in (suc (length t.left.rest)) t
-
--- The dialogue of a command after the whole stream so far: its lines are those that are printed of the answers that the
--- stream spells, and an error is that of the first place with no answer, or of the first refusal.
-abbrev pub spoken : Command → List ℕ → Talk
-spoken command stream = run (record (begun command) { left = listening 0 None stream })
 
 -- a dialogue has taken this stream, of which some bytes may still wait to be heard
 abbrev pub IsSoFar : Command → List ℕ → Talk → Type 0

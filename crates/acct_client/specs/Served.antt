@@ -1,7 +1,7 @@
--- What a server's replies come to: the bytes that bring them, and the lines that are printed of them.
+-- What a server's replies come to: the bytes that bring them, of which their lines are printed.
 use Rattle.std.specs.Prelude.{◌≡◌, ℕ, ◌≤◌, List, [], ◌∷◌, ◌++◌, length}
 use Rattle.acct_codes.specs.Limits.{least_fragment, most_stub}
-use Rattle.acct_codes.specs.Negotiation.{result_acceptance}
+use Rattle.acct_codes.specs.Pdus.{result_acceptance}
 use Rattle.acct_calls.specs.declared.calls.Call.{Call}
 use Rattle.acct_calls.specs.declared.replies.Reply.{Reply}
 use Rattle.acct_calls.specs.declared.replies.Reply.TheVariants as reply
@@ -10,34 +10,18 @@ use Rattle.acct_stubs.specs.Replies.{spell_reply}
 use Rattle.rpc_pdu.specs.declared.pdus.Outcome.{Outcome}
 use Rattle.rpc_pdu.specs.declared.pdus.Pdu.TheVariants.{BindAck}
 use Rattle.rpc_pdu.specs.Written.{written, IsWholeOutcome}
-use Rattle.rpc_session.specs.Replies.{fault_bytes, reply_bytes}
+use Rattle.rpc_session.specs.Answers.{fault_bytes, reply_bytes}
 use Rattle.client_commands.specs.declared.command.Command.{Command}
 use Rattle.client_commands.specs.declared.outcomes.Outcome.{Outcome as Brought}
 use Rattle.client_commands.specs.declared.outcomes.Outcome.TheVariants.{Goes, Ends, Refuses, Unfit}
 use Rattle.client_commands.specs.declared.steps.Step.{Step}
 use Rattle.client_commands.specs.declared.steps.Step.TheVariants.{Opening}
-use Rattle.client_commands.specs.Outcomes.{after, refused_line}
-use Rattle.client_commands.specs.Steps.{call_of}
+use Rattle.client_commands.specs.Outcomes.{after}
+use Rattle.client_commands.specs.Words.{call_of}
+use Rattle.acct_client.specs.Answered.{bytes_on, lines_of}
 use Rattle.acct_client.specs.Dialogues.{next_id, wire_of}
 use Rattle.acct_client.specs.Requests.{context_of}
-use Rattle.acct_client.specs.Runs.{spoken}
-
--- ---- the lines
-
--- of what a reply brought, and of those after it
-abbrev pub lines_on : Brought → (Step → List ℕ) → List ℕ
-lines_on (Goes lines next) later = lines ++ later next
-lines_on (Ends lines) later = lines
-lines_on (Refuses status) later = refused_line status
-lines_on Unfit later = []
-
--- Of a step's reply and those after it, each to the call of the step that the one before brought: up to the last, or
--- to the first refusal or fault with its line.
-unfoldable pub lines_of : List Reply → Step → List ℕ
-lines_of [] step = []
-lines_of (reply.Fault status ∷ replies) step = refused_line status
-lines_of (reply.Done status outs ∷ replies) step =
-    lines_on (after step (reply.Done status outs)) (λ next. lines_of replies next)
+use Rattle.acct_client.specs.Talks.{spoken}
 
 -- ---- the bytes
 
@@ -49,12 +33,6 @@ abbrev pub answer_bytes : ℕ → ℕ → Call → Reply → List ℕ
 answer_bytes size id call (reply.Fault status) = fault_bytes id (context_of call.face) status
 answer_bytes size id call (reply.Done status outs) =
     reply_bytes id (context_of call.face) size (stub_of call (reply.Done status outs))
-
-abbrev pub bytes_on : Brought → (Step → List ℕ) → List ℕ
-bytes_on (Goes lines next) later = later next
-bytes_on (Ends lines) later = []
-bytes_on (Refuses status) later = []
-bytes_on Unfit later = []
 
 -- a step's reply and those after it, with call ids from this one on
 unfoldable pub bytes_of : ℕ → List Reply → ℕ → Step → List ℕ

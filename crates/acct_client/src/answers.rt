@@ -1,7 +1,7 @@
 // The answers of a peer, by the PDUs of its stream.
 ghost use Rattle.std.specs.Prelude.{◌≡◌, ◌++◌, IfOk, Some, None};
 ghost use Rattle.acct_codes.specs.Limits.{most_stub};
-ghost use Rattle.acct_client.specs.Answers.{both_accepted, gathers, begins, goes_on, responds, turned};
+ghost use Rattle.acct_client.specs.Hearings.{both_accepted, gathers, begins, goes_on, responds, turned};
 
 use crate::NoMemory;
 use acct_base::{Seq, extended};

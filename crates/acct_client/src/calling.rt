@@ -2,8 +2,7 @@
 ghost use Rattle.std.specs.Prelude.{◌≡◌, ◌≤◌, IfSome, IfNone};
 ghost use Rattle.acct_links.specs.Links.{IsNew};
 ghost use Rattle.client_commands.specs.declared.command.Command.{Command};
-ghost use Rattle.acct_client.specs.Calls.{called_with, IsSilent, IsUncalled, PrintsBy, TalksOver};
-ghost use Rattle.acct_client.specs.Talks.{IsBegun};
+ghost use Rattle.acct_client.specs.Talks.{called_with, IsSilent, IsUncalled, PrintsBy, TalksOver, IsBegun};
 
 use crate::asker::Asker;
 use crate::conversing::converse;

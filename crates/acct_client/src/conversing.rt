@@ -4,14 +4,15 @@ ghost use Rattle.std.specs.Prelude.{IfOk, IfErr, OnOk};
 ghost use Rattle.acct_links.specs.Links.{Told};
 ghost use Rattle.client_commands.specs.declared.command.Command.{Command};
 ghost use Rattle.acct_client.specs.Askers.{bytes_taken};
-ghost use Rattle.acct_client.specs.Parts.{SentSoFar, IsUnread, IsPieceRead, NoPiece, TalkSoFar, Waits, TalkEnds};
-ghost use Rattle.acct_client.specs.Parts.{Moves, Stands, end_of, steps_left};
-ghost use Rattle.acct_client.specs.Talks.{Talks, IsBegun, most_read};
+ghost use Rattle.acct_client.specs.steps.Parts.{SentSoFar, IsUnread, IsPieceRead, NoPiece, TalkSoFar, Waits, TalkEnds};
+ghost use Rattle.acct_client.specs.steps.Parts.{Moves, Stands, end_of_error, steps_left};
+ghost use Rattle.acct_client.specs.Talks.{Talks, TalksByAnswers, IsBegun, most_read};
 
 use crate::asker::Asker;
 use crate::ends::TalkEnd;
 use crate::errors::AskError;
 use crate::hearing::streams_are_cut_anywhere;
+use crate::laws::dialogues_are_of_answers;
 use acct_links::{Link, send};
 use rpc_pdu::front_is_stable;
 use std::alloc::Global;
@@ -67,7 +68,7 @@ fn piece<L: Link>(link: &mut L, line: &mut Line, buffer: &mut [u8; 4096]) -> Res
 }
 
 fn end_of(error: AskError) -> TalkEnd
-    ensures { result ≡ end_of error }
+    ensures { result ≡ end_of_error error }
 {
     match error {
         AskError::PeerBytes(place) => TalkEnd::PeerBytes(place),
@@ -195,8 +196,7 @@ fn advance<L: Link>(
     }
 }
 
-/// Makes all requests of a command, one after the other, and hears their answers. It reads 67,108,864 bytes at most.
-pub fn converse<L: Link>(alloc: Global, asker: &mut Asker, link: &mut L) -> TalkEnd
+fn exchange<L: Link>(alloc: Global, asker: &mut Asker, link: &mut L) -> TalkEnd
     requires { (command : Command) × IsBegun command asker.old }
     ensures { (command : Command) → IsBegun command asker.old
         → Talks command result (L.told link.old) (L.told link.new) asker.new.lines }
@@ -212,4 +212,14 @@ pub fn converse<L: Link>(alloc: Global, asker: &mut Asker, link: &mut L) -> Talk
             Err(end) => return end,
         }
     }
+}
+
+/// Makes all requests of a command, one after the other, and hears their answers. It reads 67,108,864 bytes at most.
+pub fn converse<L: Link>(alloc: Global, asker: &mut Asker, link: &mut L) -> TalkEnd
+    requires { (command : Command) × IsBegun command asker.old }
+    ensures { (command : Command) → IsBegun command asker.old
+        → TalksByAnswers command result (L.told link.old) (L.told link.new) asker.new.lines }
+{
+    dialogues_are_of_answers();
+    exchange(alloc, asker, link)
 }

@@ -12,7 +12,7 @@ ghost use Rattle.acct_client.specs.Dialogues.{is_failed, progress, IsFitState};
 ghost use Rattle.client_commands.specs.Fit.{IsFitStep, IsFitOutcome};
 ghost use Rattle.acct_client.specs.Runs.{IsSpokenInPieces};
 ghost use Rattle.acct_client.specs.Served.{PrintsReplies};
-ghost use Rattle.client_commands.specs.Steps.{call_of};
+ghost use Rattle.client_commands.specs.Words.{call_of};
 
 use crate::NoMemory;
 use crate::answers::{Answer, Awaited};

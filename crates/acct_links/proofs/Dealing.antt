@@ -3,7 +3,7 @@ use Rattle.std.proofs.Common.{◌≡◌, ℕ, zero, suc, arith, ◌∷◌, ◌+�
 use Rattle.std.proofs.Common.{refl, sym, ◌∙◌, ap, append_assoc, subst, false, Result, Ok, Err, IfOk, IfErr}
 use Rattle.std.proofs.lemmas.List.Elements.{All-nil, All-cons, All-head}
 use Rattle.std.proofs.lemmas.Bool.{false≢true}
-use Rattle.acct_keeper.specs.Causes.{KeepCause}
+use Rattle.acct_keeper.specs.Faults.{KeepCause}
 use Rattle.acct_keeper.specs.Memory.{is_fault}
 use Rattle.acct_keeper.specs.declared.keeper.KeepError.{KeepError}
 use Rattle.acct_keeper.specs.declared.keeper.KeepError.TheVariants.{Failed, NoMemory}

@@ -1,4 +1,3 @@
-pub mod Callers
 pub mod Doors
 pub mod Links
 pub mod Memory

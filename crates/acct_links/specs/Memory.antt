@@ -1,11 +1,10 @@
 -- What links and callers in memory show, and which of their calls fail.
 use Rattle.std.specs.Prelude.{◌≡◌, ℕ, ◌-◌, ◌==◌, ◌||◌, Bool, false, List, [], ◌∷◌, length, nat_lt, is_err}
 use Rattle.std.specs.Prelude.{Some, None, Result, IfOk, OnErr}
-use Rattle.acct_keeper.specs.Counts.{one_more, faults_after}
+use Rattle.acct_keeper.specs.Faults.{one_more, faults_after}
 use Rattle.acct_keeper.specs.Memory.{is_among}
 use Rattle.acct_links.specs.declared.callers.TakeError.{TakeError}
-use Rattle.acct_links.specs.Callers.{is_fault}
-use Rattle.acct_links.specs.Links.{Told}
+use Rattle.acct_links.specs.Links.{is_fault, Told}
 
 -- ---- links
 

@@ -3,7 +3,7 @@ use Rattle.std.specs.Prelude.{◌≡◌, ℕ, zero, suc, ◌+◌, ◌==◌, ◌&
 use Rattle.std.specs.Prelude.{Result, drop}
 use Rattle.acct_keeper.specs.declared.keeper.KeepError.{KeepError}
 use Rattle.acct_keeper.specs.Memory.{is_fault}
-use Rattle.acct_keeper.specs.Counts.{one_more, faults_after}
+use Rattle.acct_keeper.specs.Faults.{one_more, faults_after}
 use Rattle.acct_links.specs.declared.asking.Asking.{Asking}
 use Rattle.acct_links.specs.declared.doors.Next.{Next}
 use Rattle.acct_links.specs.declared.memory_entrances.DoorPlan.{DoorPlan}

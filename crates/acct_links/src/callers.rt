@@ -1,8 +1,7 @@
 // What gives links by their addresses.
 ghost use Rattle.std.specs.Prelude.{◌≡◌, ◌≤◌, ℕ, List, Option, IfOk, IfErr};
-ghost use Rattle.acct_keeper.specs.Counts.{faults_after};
-ghost use Rattle.acct_links.specs.Callers.{TakeCause, called_after, is_fault};
-ghost use Rattle.acct_links.specs.Links.{IsNew};
+ghost use Rattle.acct_keeper.specs.Faults.{faults_after};
+ghost use Rattle.acct_links.specs.Links.{TakeCause, called_after, is_fault, IsNew};
 ghost use Rattle.acct_links.specs.declared.callers.TakeError.TheVariants.{NoMemory};
 
 use crate::links::Link;

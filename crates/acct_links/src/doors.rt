@@ -1,7 +1,6 @@
 // What gives links one after another.
 ghost use Rattle.std.specs.Prelude.{◌≡◌, ◌≤◌, ◌||◌, ℕ, Bool, true, List, Option, All, IfSome};
-ghost use Rattle.acct_keeper.specs.Causes.{Rose};
-ghost use Rattle.acct_keeper.specs.Counts.{faults_after};
+ghost use Rattle.acct_keeper.specs.Faults.{Rose, faults_after};
 ghost use Rattle.acct_links.specs.Doors.{IfLink, GivesNext, is_closed, is_failed, with_finished};
 ghost use Rattle.acct_links.specs.Links.{IsNew};
 

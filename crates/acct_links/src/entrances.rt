@@ -1,7 +1,6 @@
 // What gives the doors of a listener.
 ghost use Rattle.std.specs.Prelude.{◌≡◌, ◌≤◌, ℕ, [], false, List, Option, All, IfOk, IfErr, IfSome, length};
-ghost use Rattle.acct_keeper.specs.Causes.{KeepCause};
-ghost use Rattle.acct_keeper.specs.Counts.{faults_after};
+ghost use Rattle.acct_keeper.specs.Faults.{KeepCause, faults_after};
 ghost use Rattle.acct_keeper.specs.Memory.{is_fault};
 ghost use Rattle.acct_links.specs.Doors.{asked_after};
 ghost use Rattle.acct_links.specs.declared.asking.Asking.{Asking};

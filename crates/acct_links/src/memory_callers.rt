@@ -2,9 +2,8 @@
 ghost use Rattle.std.specs.Prelude.{◌≡◌, ◌<◌, ◌≤◌, ◌||◌, ◌==◌, [], ◌∷◌, ◌++◌, All, length};
 ghost use Rattle.std.specs.Prelude.{Some, IfOk, IfErr, OnOk, OnErr};
 ghost use Rattle.acct_keeper.specs.Memory.{is_among};
-ghost use Rattle.acct_links.specs.Callers.{TakeCause, called_after};
+ghost use Rattle.acct_links.specs.Links.{TakeCause, called_after, IsNew};
 ghost use Rattle.acct_links.specs.declared.callers.TakeError.TheVariants.{NoMemory};
-ghost use Rattle.acct_links.specs.Links.{IsNew};
 ghost use Rattle.acct_links.specs.Memory.{CallsInMemory, fresh, told_by_steady};
 
 use crate::callers::{Caller, TakeError};

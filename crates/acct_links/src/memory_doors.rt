@@ -1,7 +1,7 @@
 // Doors in memory.
 ghost use Rattle.std.specs.Prelude.{◌≡◌, ◌+◌, ◌<◌, ◌≤◌, ◌||◌, ◌==◌, ◌∷◌, ◌++◌};
 ghost use Rattle.std.specs.Prelude.{[], All, Some, true, false, length, IfOk};
-ghost use Rattle.acct_keeper.specs.Causes.{Rose};
+ghost use Rattle.acct_keeper.specs.Faults.{Rose};
 ghost use Rattle.acct_links.specs.Doors.{IfLink, GivesFirst, is_closed, is_failed};
 ghost use Rattle.acct_links.specs.Links.{IsNew};
 ghost use Rattle.acct_links.specs.MemoryDoors.{Lends, NextInMemory, opened};

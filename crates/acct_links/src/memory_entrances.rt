@@ -1,6 +1,6 @@
 // Entrances in memory.
 ghost use Rattle.std.specs.Prelude.{◌≡◌, ◌<◌, ◌≤◌, [], ◌∷◌, All, Some, false, length, drop, IfOk, IfErr, OnErr};
-ghost use Rattle.acct_keeper.specs.Causes.{KeepCause};
+ghost use Rattle.acct_keeper.specs.Faults.{KeepCause};
 ghost use Rattle.acct_keeper.specs.Memory.{is_fault};
 ghost use Rattle.acct_keeper.specs.declared.keeper.KeepError.TheVariants.{NoMemory};
 ghost use Rattle.acct_links.specs.Doors.{asked_after};

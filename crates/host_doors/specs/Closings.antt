@@ -3,8 +3,7 @@
 use Rattle.std.specs.Prelude.{ℕ, Bool, true, false, ◌&&◌, ◌==◌, List, length, drop, Option, Some, None}
 use Rattle.std.specs.Prelude.{if◌then◌else◌, slice_get}
 use Rattle.std.specs.Int.{w32, from_le_bytes}
-use Rattle.acct_codes.specs.Faults.{fault_protocol_error, fault_server_too_busy}
-use Rattle.acct_codes.specs.PduTypes.{ptype_bind_nak, ptype_fault}
+use Rattle.acct_codes.specs.Pdus.{fault_protocol_error, fault_server_too_busy, ptype_bind_nak, ptype_fault}
 use Rattle.host_doors.specs.declared.closings.LastPdu.{LastPdu}
 use Rattle.host_doors.specs.declared.closings.LastPdu.TheVariants.{Refusal, Busy, Other}
 use Rattle.host_doors.specs.declared.closings.CloseCause.{CloseCause}

@@ -2,7 +2,7 @@
 -- keeps for later.
 use Rattle.std.specs.Prelude.{ℕ, ◌+◌, ◌-◌, ◌^◌, ◌==◌, min, Bool, true, false, not, ◌&&◌, Option, Some, None, option_map}
 use Rattle.std.specs.Prelude.{if◌then◌else◌, is_none, Result, Ok, Err}
-use Rattle.acct_keeper.specs.Counts.{one_more}
+use Rattle.acct_keeper.specs.Faults.{one_more}
 use Rattle.acct_keeper.specs.declared.streams.Failed.{Failed as CallFailed}
 use Rattle.acct_links.specs.Links.{Told}
 use Rattle.acct_links.specs.declared.doors.Next.{Next}

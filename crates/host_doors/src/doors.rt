@@ -3,7 +3,7 @@ ghost use Rattle.std.specs.Prelude.{◌≡◌, ◌-◌, ◌≤◌, ◌||◌, Non
 ghost use Rattle.std.specs.Prelude.{IfErr, MatchResult, option_map, if◌then◌else◌, ◌&&◌, not};
 ghost use Rattle.std.specs.IoError.{raw_os_error};
 ghost use Rattle.std.proofs.Props.{props};
-ghost use Rattle.acct_keeper.specs.Counts.{faults_after};
+ghost use Rattle.acct_keeper.specs.Faults.{faults_after};
 ghost use Rattle.acct_links.specs.Doors.{IfLink, is_closed, is_failed};
 ghost use Rattle.acct_links.specs.declared.doors.Next.TheVariants as next;
 ghost use Rattle.host_doors.specs.Counts.{is_spent, left_after, left_of, is_unused, is_over, left_with};

@@ -2,8 +2,7 @@
 ghost use Rattle.std.specs.Prelude.{◌≡◌, ◌≤◌, None, true, All, IsSome, IfSome, IfOk, IfErr, is_some, length};
 ghost use Rattle.std.specs.Prelude.{string_bytes};
 ghost use Rattle.std.specs.IoError.{error_kind, raw_os_error};
-ghost use Rattle.acct_keeper.specs.Causes.{KeepCause};
-ghost use Rattle.acct_keeper.specs.Counts.{faults_after};
+ghost use Rattle.acct_keeper.specs.Faults.{KeepCause, faults_after};
 ghost use Rattle.acct_keeper.specs.Memory.{is_fault};
 ghost use Rattle.host_doors.specs.Doors.{IsDoor};
 ghost use Rattle.host_doors.specs.Troubles.{advice_of, is_refused, listened};

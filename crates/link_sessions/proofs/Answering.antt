@@ -14,11 +14,9 @@ use Rattle.acct_machine.specs.Passing.{KeepsConnection}
 use Rattle.acct_stubs.specs.declared.errors.WireError.{WireError}
 use Rattle.rpc_session.specs.declared.sessions.Act.TheVariants as act
 use Rattle.rpc_session.specs.declared.sessions.Request.{Request}
-use Rattle.link_sessions.specs.Requests.{call_on}
-use Rattle.link_sessions.specs.Transcript.{answer_bytes, undecoded_bytes}
-use Rattle.link_sessions.specs.Turns.{IsFrontOf}
-use Rattle.link_sessions.specs.Answering.{Enters, AnswersBy, BeginsRequest, FindsFull}
-use Rattle.link_sessions.specs.Talking.{Answers, IsWanting, MeetsFull}
+use Rattle.link_sessions.specs.Transcript.{call_on, answer_bytes, undecoded_bytes, IsFrontOf}
+use Rattle.link_sessions.specs.Answering.{EntersCall, AnswersBy, BeginsRequest, FindsFull}
+use Rattle.link_sessions.specs.steps.Talking.{Answers, IsWanting, MeetsFull}
 use Rattle.link_sessions.proofs.Fronts.{front-same, front-then}
 use Rattle.link_sessions.proofs.Transcripts.{request-decoded, request-answered, request-none}
 use Rattle.link_sessions.proofs.Transcripts.{request-undecoded}
@@ -49,7 +47,7 @@ module _ (start : Start) (k : ℕ) where
   pub answers-entered : (finds : List Entry → Type 0) (known left : List Entry) (asked : Request)
       (call : Call) → ((found : List Entry) → finds found → IsFrontOf known found × KeepsConnection start k known found)
       → call_on asked.face asked.opnum asked.stub ≡ Ok call
-      → (enters : Enters start k finds left call (length asked.stub))
+      → (enters : EntersCall start k finds left call (length asked.stub))
       → Answers start k (act.Call asked ∷ []) known left
       (answer_bytes asked call.face call.opnum (acted (state_at start enters.found) k call enters.verdict).1)
   answers-entered finds known left asked call passes is enters =

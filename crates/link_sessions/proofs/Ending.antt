@@ -15,11 +15,10 @@ use Rattle.rpc_session.specs.declared.sessions.Act.{Act}
 use Rattle.rpc_session.specs.declared.hearing.Hearing.{Hearing}
 use Rattle.acct_keeper.specs.Ends.{answers_end}
 use Rattle.acct_links.specs.Links.{Told, Reads}
-use Rattle.link_sessions.specs.Transcribed.{IsTranscribed}
-use Rattle.link_sessions.specs.Turns.{HasNoCall, IsFrontOf, Turn, MachineEnds}
-use Rattle.link_sessions.specs.Refusals.{refusal_of, closing_of}
-use Rattle.link_sessions.specs.Sessions.{Transcript, Cause, IsConversation, Ended}
-use Rattle.link_sessions.specs.SoFar.{SoFar}
+use Rattle.link_sessions.specs.Transcript.{IsTranscribed, IsFrontOf}
+use Rattle.link_sessions.specs.Turns.{HasNoCall, Turn, MachineEnds}
+use Rattle.link_sessions.specs.Sessions.{refusal_of, closing_of, Transcript, Cause, IsConversation, Ended}
+use Rattle.link_sessions.specs.steps.SoFar.{SoFar}
 use Rattle.link_sessions.specs.declared.ends.SessionEnd.{SessionEnd}
 use Rattle.link_sessions.specs.declared.ends.SessionEnd.TheVariants as end
 use Rattle.link_sessions.proofs.Fronts.{front-then}

@@ -1,9 +1,9 @@
 -- The calls of a link that failed, after some of which none did.
 use Rattle.std.proofs.Common.{ℕ, Bool, true, false, inl, inr, List, refl, ap, ◌∙◌, Result, Ok, Err, OnOk, OnErr}
 use Rattle.std.specs.Prelude.{is_err, MatchResult}
-use Rattle.acct_keeper.specs.Counts.{faults_after}
+use Rattle.acct_keeper.specs.Faults.{faults_after}
 use Rattle.acct_links.specs.Links.{Told, Sends, SendsFront, FaultsAre}
-use Rattle.link_sessions.specs.Faults.{Faults}
+use Rattle.link_sessions.specs.Sessions.{Faults}
 use Rattle.link_sessions.specs.Taking.{IsSent, IsSentInPart}
 use Rattle.link_sessions.specs.declared.ends.SessionEnd.{SessionEnd}
 use Rattle.link_sessions.specs.declared.ends.SessionEnd.TheVariants as end

@@ -2,7 +2,7 @@
 use Rattle.std.proofs.Common.{List, [], ◌++◌, sym, ◌∙◌, ap, append_assoc}
 use Rattle.std.proofs.lemmas.List.{append-nil}
 use Rattle.acct_machine.specs.declared.entry.Entry.{Entry}
-use Rattle.link_sessions.specs.Turns.{IsFrontOf}
+use Rattle.link_sessions.specs.Transcript.{IsFrontOf}
 
 pub front-same : (h : List Entry) → IsFrontOf h h
 front-same h = ([], sym (append-nil h))

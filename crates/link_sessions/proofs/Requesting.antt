@@ -6,12 +6,12 @@ use Rattle.acct_calls.specs.declared.replies.Reply.{Reply}
 use Rattle.acct_machine.specs.declared.entry.Entry.{Entry}
 use Rattle.acct_machine.specs.declared.machine.Acted.TheVariants as acts
 use Rattle.acct_machine.specs.Machine.{OneMoreCall}
-use Rattle.acct_machine.specs.Room.{calls_full, bytes_full, call_full, TakesCall}
+use Rattle.acct_machine.specs.Legal.{calls_full, bytes_full, call_full, TakesCall}
 use Rattle.acct_machine.specs.Shown.{Past}
 use Rattle.rpc_session.specs.declared.sessions.Request.{Request}
 use Rattle.link_sessions.specs.Transcript.{answer_bytes}
 use Rattle.link_sessions.specs.Turns.{shown, Turn, MachineActs}
-use Rattle.link_sessions.specs.Answering.{Enters, AnswersCall, FindsFull}
+use Rattle.link_sessions.specs.Answering.{EntersCall, AnswersCall, FindsFull}
 
 taken : (start : Start) (history : List Entry) (size : ℕ) → TakesCall start history size
     → call_full start history size ≡ None
@@ -20,7 +20,7 @@ taken start history size takes = rw (takes.few, takes.short) refl
 -- a turn entered the call
 pub call-entered : (start : Start) (k : ℕ) (finds : List Entry → Type 0) (left : List Entry) (size : ℕ) (call : Call)
     (reply : Reply)
-    → Turn finds (MachineActs start k call size (acts.Reply reply)) left → Enters start k finds left call size
+    → Turn finds (MachineActs start k call size (acts.Reply reply)) left → EntersCall start k finds left call size
 call-entered start k finds left size call reply turn =
     let enters = turn.does_it.acts in record {
       found = turn.found;

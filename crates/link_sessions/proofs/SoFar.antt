@@ -13,14 +13,13 @@ use Rattle.rpc_session.specs.declared.sessions.Act.{Act}
 use Rattle.rpc_session.specs.declared.sessions.Session.TheVariants.{Unbound}
 use Rattle.rpc_session.specs.declared.hearing.Hearing.{Hearing}
 use Rattle.rpc_session.specs.declared.hearing.Hearing.TheVariants.{Going}
-use Rattle.rpc_session.specs.Hearings.{Heard, hear, on, joined, HasRoom}
-use Rattle.rpc_session.specs.Acts.{acts, IsCutAnywhere, IsSoFar, IsFit, AllFit, IsRoomByLength}
+use Rattle.rpc_session.specs.Sessions.{Heard, hear, on, joined, HasRoom, acts}
+use Rattle.rpc_session.specs.Acts.{IsCutAnywhere, IsSoFar, IsFit, AllFit, IsRoomByLength}
 use Rattle.acct_links.specs.Links.{Told, Reads, Sends}
 use Rattle.link_sessions.specs.Turns.{HasNoCall}
-use Rattle.link_sessions.specs.Refusals.{closing_of}
-use Rattle.link_sessions.specs.Talking.{Answers, Talks, Stops}
-use Rattle.link_sessions.specs.Sessions.{Cause, IsConversation}
-use Rattle.link_sessions.specs.SoFar.{SoFar, PieceEnds, end_of}
+use Rattle.link_sessions.specs.Sessions.{closing_of, Cause, IsConversation}
+use Rattle.link_sessions.specs.steps.Talking.{Answers, Talks, StopsTalk}
+use Rattle.link_sessions.specs.steps.SoFar.{SoFar, PieceEnds, end_of_stop}
 use Rattle.link_sessions.specs.declared.ends.Stop.{Stop}
 use Rattle.link_sessions.specs.declared.ends.Stop.TheVariants as stop
 use Rattle.link_sessions.specs.declared.ends.SessionEnd.{SessionEnd}
@@ -167,8 +166,8 @@ module _ (cut : IsCutAnywhere) (start : Start) (k : ℕ) (before now : List Entr
     earlier : old.write_faults ≤ mid.write_faults
     earlier = let one = s.write_faults in let two = c.write_faults in omega arith
 
-    stop-cause : (why : Stop) → (h : Stops start k (on hearing piece).acts now next mid new why)
-        → Cause (end_of why) k most (came ++ piece) old new
+    stop-cause : (why : Stop) → (h : StopsTalk start k (on hearing piece).acts now next mid new why)
+        → Cause (end_of_stop why) k most (came ++ piece) old new
     stop-cause stop.WriteFault h = (
       going-still new (h.bytes ++ h.last) h.sends,
       rose-later old.write_faults mid.write_faults new.write_faults earlier h.halts.failed,
@@ -176,8 +175,8 @@ module _ (cut : IsCutAnywhere) (start : Start) (k : ℕ) (before now : List Entr
     stop-cause stop.NoMemory h = going-still new (h.bytes ++ h.last) h.sends
     stop-cause (stop.Full n) h = going-still new (h.bytes ++ h.last) h.sends
 
-    pub piece-stops : (why : Stop) → Stops start k (on hearing piece).acts now next mid new why
-        → IsConversation start k most (end_of why) old new before next
+    pub piece-stops : (why : Stop) → StopsTalk start k (on hearing piece).acts now next mid new why
+        → IsConversation start k most (end_of_stop why) old new before next
     piece-stops why h =
         let done = acts k came ++ h.done in
         let sent_is : s.sent ++ (h.bytes ++ h.last) ≡ (s.sent ++ h.bytes) ++ h.last =
@@ -233,7 +232,7 @@ module _ (cut : IsCutAnywhere) (start : Start) (k : ℕ) (before now : List Entr
 -- ---- the acts of a piece
 
 pub stops-piece : (start : Start) (k : ℕ) (as' : List Act) (before after : List Entry) (old new : Told) (why : Stop)
-    → Stops start k as' before after old new why → PieceEnds start k as' before after old new (end_of why)
+    → StopsTalk start k as' before after old new why → PieceEnds start k as' before after old new (end_of_stop why)
 stops-piece start k as' before after old new stop.WriteFault stops = stops
 stops-piece start k as' before after old new (stop.Full n) stops = stops
 stops-piece start k as' before after old new stop.NoMemory stops = stops

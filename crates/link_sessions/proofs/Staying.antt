@@ -7,12 +7,10 @@ use Rattle.acct_machine.specs.State.{Start}
 use Rattle.acct_machine.specs.declared.entry.Entry.{Entry}
 use Rattle.acct_machine.specs.Legal.{calls_of, replies}
 use Rattle.rpc_session.specs.declared.sessions.Act.{Act}
-use Rattle.rpc_session.specs.Acts.{acts}
-use Rattle.acct_keeper.specs.Causes.{Rose}
+use Rattle.rpc_session.specs.Sessions.{acts}
+use Rattle.acct_keeper.specs.Faults.{Rose}
 use Rattle.acct_links.specs.Links.{Told}
-use Rattle.link_sessions.specs.Transcript.{written, transcript, busy_bytes}
-use Rattle.link_sessions.specs.Transcribed.{IsTranscribed, last_bytes}
-use Rattle.link_sessions.specs.Turns.{IsFrontOf}
+use Rattle.link_sessions.specs.Transcript.{written, transcript, busy_bytes, IsTranscribed, last_bytes, IsFrontOf}
 use Rattle.link_sessions.specs.Sessions.{Transcript, IsConversation, IsCutShort, IsLeftOff, IsTurnedAway}
 use Rattle.link_sessions.specs.declared.ends.SessionEnd.{SessionEnd}
 use Rattle.link_sessions.specs.declared.ends.SessionEnd.TheVariants as end

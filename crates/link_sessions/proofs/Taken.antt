@@ -13,14 +13,12 @@ use Rattle.rpc_session.specs.declared.sessions.Request.{Request}
 use Rattle.link_sessions.specs.declared.ends.Stop.{Stop}
 use Rattle.link_sessions.specs.declared.ends.Stop.TheVariants as stop
 use Rattle.link_sessions.specs.Answering.{MeetsFullBy}
-use Rattle.link_sessions.specs.Requests.{call_on}
-use Rattle.link_sessions.specs.Faults.{Faults}
-use Rattle.link_sessions.specs.SoFar.{end_of}
+use Rattle.link_sessions.specs.Transcript.{call_on, busy_bytes, IsFrontOf}
+use Rattle.link_sessions.specs.Sessions.{Faults}
+use Rattle.link_sessions.specs.steps.SoFar.{end_of_stop}
 use Rattle.link_sessions.specs.Taking.{AnswersAct, TakesAct, TakesActs, HaltsAct, HaltsActs, FullRequest}
 use Rattle.link_sessions.specs.Taking.{IsSent, IsSentInPart}
-use Rattle.link_sessions.specs.Talking.{Answers, Talks, Stops, SendsSome}
-use Rattle.link_sessions.specs.Transcript.{busy_bytes}
-use Rattle.link_sessions.specs.Turns.{IsFrontOf}
+use Rattle.link_sessions.specs.steps.Talking.{Answers, Talks, StopsTalk, SendsSome}
 use Rattle.link_sessions.proofs.Answering.{answers-bytes, answers-closed, request-is-answered, request-meets-full}
 use Rattle.link_sessions.proofs.Answering.{request-is-wanting}
 use Rattle.link_sessions.proofs.Faults.{faults-none, faults-then, ends-then}
@@ -115,12 +113,13 @@ module _ {V U : Type 0} (told : V → Told) (start : U → Start) (known : U →
   act-stops : (why : Stop) (x : Act) (t : V) (g : U) (t' : V) (g' : U) → serves g k
       → HaltsAct (λ s bytes s'. IsSent (told s) (told s') bytes) (λ s bytes s'. IsSentInPart (told s) (told s') bytes)
       start known finds k x t g t' g' why
-      → Stops (start g) k (x ∷ []) (known g) (known g') (told t) (told t') why
+      → StopsTalk (start g) k (x ∷ []) (known g) (known g') (told t) (told t') why
   act-stops stop.WriteFault x t g t' g' served h =
       stops-cut (start g) k x (known g) (known g') (told t) (told t') h.bytes
       (act-answers x g g' h.bytes served h.answers) h.failed.front
   act-stops stop.NoMemory (act.Call asked) t g t' g' served h =
-      subst (λ (s : V). Stops (start g) k (act.Call asked ∷ []) (known g) (known g') (told t) (told s) stop.NoMemory)
+      subst (λ (s : V). StopsTalk (start g) k (act.Call asked ∷ []) (known g) (known g') (told t) (told s)
+      stop.NoMemory)
       (sym h.1)
       (stops-wanting (start g) k (act.Call asked ∷ []) (known g) (known g') (told t)
       (request-is-wanting (start g) k (finds g) (known g) (known g') asked
@@ -139,12 +138,12 @@ module _ {V U : Type 0} (told : V → Told) (start : U → Start) (known : U →
   pub acts-stop : (acts : List Act) (t : V) (g : U) (t' : V) (g' : U) (why : Stop)
       → HaltsActs (λ s bytes s'. IsSent (told s) (told s') bytes) (λ s bytes s'. IsSentInPart (told s) (told s') bytes)
       start known finds serves k acts t g t' g' why
-      → Stops (start g) k acts (known g) (known g') (told t) (told t') why
+      → StopsTalk (start g) k acts (known g) (known g') (told t) (told t') why
   acts-stop acts t g t' g' why h =
-      subst (λ (xs : List Act). Stops (start g) k xs (known g) (known g') (told t) (told t') why) (sym h.splits)
+      subst (λ (xs : List Act). StopsTalk (start g) k xs (known g) (known g') (told t) (told t') why) (sym h.splits)
       (stops-then (start g) k h.done (h.begun ∷ h.others) (known g) (known h.there) (known g') (told t) (told h.mid)
       (told t') why (acts-talk h.done t g h.mid h.there h.answered)
-      (subst (λ (s : Start). Stops s k (h.begun ∷ h.others) (known h.there) (known g') (told h.mid) (told t') why)
+      (subst (λ (s : Start). StopsTalk s k (h.begun ∷ h.others) (known h.there) (known g') (told h.mid) (told t') why)
       (starts h.done t g h.mid h.there h.answered)
       (stops-before (start h.there) k (h.begun ∷ []) h.others (known h.there) (known g') (told h.mid) (told t') why
       (act-stops why h.begun h.mid h.there t' g' h.served h.halts))))
@@ -164,7 +163,7 @@ module _ {V U : Type 0} (told : V → Told) (start : U → Start) (known : U →
   act-faults : (why : Stop) (x : Act) (t : V) (g : U) (t' : V) (g' : U)
       → HaltsAct (λ s bytes s'. IsSent (told s) (told s') bytes) (λ s bytes s'. IsSentInPart (told s) (told s') bytes)
       start known finds k x t g t' g' why
-      → Faults (end_of why) (told t) (told t')
+      → Faults (end_of_stop why) (told t) (told t')
   act-faults stop.WriteFault x t g t' g' h = h.failed.faults
   act-faults stop.NoMemory x t g t' g' h =
       subst (λ (s : V). FaultsAre false false (told t) (told s)) (sym h.1) (faults-none (told t))
@@ -176,7 +175,7 @@ module _ {V U : Type 0} (told : V → Told) (start : U → Start) (known : U →
   pub acts-fault : (acts : List Act) (t : V) (g : U) (t' : V) (g' : U) (why : Stop)
       → HaltsActs (λ s bytes s'. IsSent (told s) (told s') bytes) (λ s bytes s'. IsSentInPart (told s) (told s') bytes)
       start known finds serves k acts t g t' g' why
-      → Faults (end_of why) (told t) (told t')
+      → Faults (end_of_stop why) (told t) (told t')
   acts-fault acts t g t' g' why h =
-      ends-then (end_of why) (told t) (told h.mid) (told t') (acts-quiet h.done t g h.mid h.there h.answered)
+      ends-then (end_of_stop why) (told t) (told h.mid) (told t') (acts-quiet h.done t g h.mid h.there h.answered)
       (act-faults why h.begun h.mid h.there t' g' h.halts)

@@ -8,14 +8,13 @@ use Rattle.acct_machine.specs.State.{Start}
 use Rattle.acct_machine.specs.declared.entry.Entry.{Entry}
 use Rattle.acct_machine.specs.Legal.{replies, calls_of}
 use Rattle.rpc_session.specs.declared.sessions.Act.{Act}
-use Rattle.rpc_session.specs.Hearings.{listed}
-use Rattle.acct_keeper.specs.Causes.{Rose}
+use Rattle.rpc_session.specs.Sessions.{listed}
+use Rattle.acct_keeper.specs.Faults.{Rose}
 use Rattle.acct_links.specs.Links.{Told, Sends, SendsFront}
 use Rattle.rpc_session.specs.declared.sessions.Request.{Request}
-use Rattle.link_sessions.specs.Transcript.{transcript, decoded_calls, no_bytes, busy_bytes}
-use Rattle.link_sessions.specs.Talking.{Answers, Talks, Stops, Halts, IsWanting, MeetsFull, SendsSome}
+use Rattle.link_sessions.specs.Transcript.{transcript, decoded_calls, no_bytes, busy_bytes, IsFrontOf}
+use Rattle.link_sessions.specs.steps.Talking.{Answers, Talks, StopsTalk, Halts, IsWanting, MeetsFull, SendsSome}
 use Rattle.rpc_session.specs.declared.sessions.Act.TheVariants as act
-use Rattle.link_sessions.specs.Turns.{IsFrontOf}
 use Rattle.link_sessions.specs.declared.ends.Stop.{Stop}
 use Rattle.link_sessions.specs.declared.ends.Stop.TheVariants as stop
 use Rattle.link_sessions.proofs.Fronts.{front-then}
@@ -98,7 +97,7 @@ module _ (start : Start) (k : ℕ) where
 
   -- where no act was answered before it
   stops-first : (why : Stop) (rest : List Act) (a b : List Entry) (last : List ℕ) (s t : Told) → Sends s t last
-      → Halts why start k rest a b last s t → Stops start k rest a b s t why
+      → Halts why start k rest a b last s t → StopsTalk start k rest a b s t why
   stops-first why rest a b last s t sends halts = record {
     done = [];
     rest = rest;
@@ -112,7 +111,7 @@ module _ (start : Start) (k : ℕ) where
   }
 
   pub stops-cut : (x : Act) (a b : List Entry) (s t : Told) (bytes : List ℕ) → Answers start k (x ∷ []) a b bytes
-      → SendsFront s t bytes → Stops start k (x ∷ []) a b s t stop.WriteFault
+      → SendsFront s t bytes → StopsTalk start k (x ∷ []) a b s t stop.WriteFault
   stops-cut x a b s t bytes answers front =
       stops-first stop.WriteFault (x ∷ []) a b (take front.count bytes) s t front.sends (record {
         begun = x;
@@ -126,7 +125,7 @@ module _ (start : Start) (k : ℕ) where
       })
 
   pub stops-wanting : (rest : List Act) (a b : List Entry) (t : Told) → IsWanting start k rest a b []
-      → Stops start k rest a b t t stop.NoMemory
+      → StopsTalk start k rest a b t t stop.NoMemory
   stops-wanting rest a b t wants = stops-first stop.NoMemory rest a b [] t t (sends-none t) wants
 
   -- none of the acts was come to
@@ -142,7 +141,7 @@ module _ (start : Start) (k : ℕ) where
 
   pub stops-full : (n : ℕ) (asked : Request) (a b : List Entry) (s t : Told)
       → MeetsFull start k n asked a b → SendsSome s t (busy_bytes asked)
-      → Stops start k (act.Call asked ∷ []) a b s t (stop.Full n)
+      → StopsTalk start k (act.Call asked ∷ []) a b s t (stop.Full n)
   stops-full n asked a b s t meets some =
       stops-first (stop.Full n) (act.Call asked ∷ []) a b some.last s t some.sends (record {
         asked = asked;
@@ -184,7 +183,7 @@ module _ (start : Start) (k : ℕ) where
   }
 
   pub stops-then : (xs ys : List Act) (a b c : List Entry) (s t u : Told) (why : Stop) → Talks start k xs a b s t
-      → Stops start k ys b c t u why → Stops start k (xs ++ ys) a c s u why
+      → StopsTalk start k ys b c t u why → StopsTalk start k (xs ++ ys) a c s u why
   stops-then xs ys a b c s t u why first second = record {
     done = xs ++ second.done;
     rest = second.rest;
@@ -237,8 +236,8 @@ module _ (start : Start) (k : ℕ) where
     all = h.all;
   }
 
-  pub stops-before : (xs ys : List Act) (a b : List Entry) (s t : Told) (why : Stop) → Stops start k xs a b s t why
-      → Stops start k (xs ++ ys) a b s t why
+  pub stops-before : (xs ys : List Act) (a b : List Entry) (s t : Told) (why : Stop) → StopsTalk start k xs a b s t why
+      → StopsTalk start k (xs ++ ys) a b s t why
   stops-before xs ys a b s t why h = record {
     done = h.done;
     rest = h.rest ++ ys;

@@ -8,17 +8,15 @@ use Rattle.acct_machine.specs.State.{Start}
 use Rattle.acct_machine.specs.declared.entry.Entry.{Entry}
 use Rattle.acct_machine.specs.Legal.{replies, calls_of}
 use Rattle.rpc_session.specs.declared.sessions.Act.{Act}
-use Rattle.rpc_session.specs.Hearings.{listed}
-use Rattle.rpc_session.specs.Acts.{acts}
-use Rattle.acct_keeper.specs.Causes.{Rose}
+use Rattle.rpc_session.specs.Sessions.{listed, acts}
+use Rattle.acct_keeper.specs.Faults.{Rose}
 use Rattle.acct_links.specs.Links.{Told}
-use Rattle.link_sessions.specs.Transcript.{written, transcript, decoded_calls, no_bytes, busy_bytes}
-use Rattle.link_sessions.specs.Transcribed.{IsTranscribed}
+use Rattle.link_sessions.specs.Transcript.{written, transcript, decoded_calls, no_bytes, busy_bytes, IsTranscribed}
 use Rattle.link_sessions.specs.Turns.{HasNoCall}
 use Rattle.rpc_session.specs.declared.sessions.Act.TheVariants as act
-use Rattle.link_sessions.specs.Talking.{Answers, Halts, IsCut, IsWanting, IsFull}
+use Rattle.link_sessions.specs.steps.Talking.{Answers, Halts, IsCut, IsWanting, IsFull}
 use Rattle.link_sessions.specs.Sessions.{IsCutShort, IsLeftOff, IsTurnedAway, Transcript}
-use Rattle.link_sessions.specs.SoFar.{end_of}
+use Rattle.link_sessions.specs.steps.SoFar.{end_of_stop}
 use Rattle.link_sessions.specs.declared.ends.Stop.{Stop}
 use Rattle.link_sessions.specs.declared.ends.Stop.TheVariants as stop
 use Rattle.link_sessions.proofs.Transcripts.{decoded-then, written-then, transcript-more, request-last}
@@ -171,7 +169,7 @@ module _ (start : Start) (k : ℕ) (before : List Entry) (silent : HasNoCall sta
       fault-or (inr rose) = inr rose
 
     pub halts-told : (why : Stop) (old new : Told) → Halts why start k rest middle after last old new
-        → Transcript (end_of why) start after k came (x ++ last) old new
+        → Transcript (end_of_stop why) start after k came (x ++ last) old new
     halts-told stop.WriteFault old new h = is-cut-short old new h
     halts-told stop.NoMemory old new h = is-left-off h
     halts-told (stop.Full n) old new h = (is-turned-away n old new h, fault-or n old new h h.all)

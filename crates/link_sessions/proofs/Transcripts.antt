@@ -8,8 +8,7 @@ use Rattle.acct_stubs.specs.declared.errors.WireError.{WireError}
 use Rattle.rpc_session.specs.declared.sessions.Act.{Act}
 use Rattle.rpc_session.specs.declared.sessions.Act.TheVariants as act
 use Rattle.rpc_session.specs.declared.sessions.Request.{Request}
-use Rattle.link_sessions.specs.Requests.{call_on}
-use Rattle.link_sessions.specs.Transcript.{written, answered, transcript, no_bytes, decoded_calls, with_call}
+use Rattle.link_sessions.specs.Transcript.{call_on, written, answered, transcript, no_bytes, decoded_calls, with_call}
 use Rattle.link_sessions.specs.Transcript.{answer_bytes, undecoded_bytes}
 
 with_call-then : (r : Result Call WireError) (n : ℕ) (xs ys zs : List (Call × ℕ)) → zs ≡ xs ++ ys

@@ -10,7 +10,7 @@ use Rattle.acct_machine.specs.declared.entry.Entry.{Entry}
 use Rattle.acct_machine.specs.declared.entry.Entry.TheVariants.{Called}
 use Rattle.acct_machine.specs.declared.entry.Verdict.{Verdict}
 use Rattle.acct_machine.specs.Step.{state_at, acted}
-use Rattle.acct_machine.specs.Room.{call_full}
+use Rattle.acct_machine.specs.Legal.{call_full}
 use Rattle.acct_machine.specs.Machine.{SameLive, OneMoreCall}
 use Rattle.acct_stubs.specs.declared.errors.WireError.{WireError}
 use Rattle.rpc_session.specs.declared.sessions.Request.{Request}
@@ -21,7 +21,7 @@ use Rattle.link_sessions.specs.Turns.{shown}
 
 -- A call was entered in a history that a turn found, and that took it; the same connections are live, and the
 -- connection has this call and its reply more.
-pub record Enters (start : Start) (k : ℕ) (finds : List Entry → Type 0) (left : List Entry) (call : Call)
+pub record EntersCall (start : Start) (k : ℕ) (finds : List Entry → Type 0) (left : List Entry) (call : Call)
     (size : ℕ) : Type 0 where
   pub found : List Entry
   pub finds_it : finds found
@@ -35,7 +35,7 @@ pub record Enters (start : Start) (k : ℕ) (finds : List Entry → Type 0) (lef
 -- A decoded call was entered, and its answer has the reply of the state before it.
 pub record AnswersCall (start : Start) (k : ℕ) (finds : List Entry → Type 0) (left : List Entry) (asked : Request)
     (size : ℕ) (call : Call) (bytes : List ℕ) : Type 0 where
-  pub enters : Enters start k finds left call size
+  pub enters : EntersCall start k finds left call size
   pub bytes_are :
       bytes ≡ answer_bytes asked call.face call.opnum (acted (state_at start enters.found) k call enters.verdict).1
 
@@ -67,7 +67,7 @@ AnswersRequest start k finds known left asked size r (answer.Full count) = Meets
 abbrev pub BeginsRequest : Start → ℕ → (List Entry → Type 0) → List Entry → List Entry → ℕ → Result Call WireError
     → Type 0
 BeginsRequest start k finds known left size (Err e) = left ≡ known
-BeginsRequest start k finds known left size (Ok call) = (left ≡ known) ⊎ Enters start k finds left call size
+BeginsRequest start k finds known left size (Ok call) = (left ≡ known) ⊎ EntersCall start k finds left call size
 
 -- a reply that is no fault has the shape of the operation of the interface and opnum
 abbrev pub IsAnswerOf : Face → ℕ → Reply → Type 0

@@ -3,7 +3,7 @@ use Rattle.std.specs.Prelude.{ℕ, Bool, false, [], Option, Some, None}
 use Rattle.rpc_session.specs.declared.sessions.Session.TheVariants.{Unbound}
 use Rattle.rpc_session.specs.declared.hearing.Hearing.{Hearing}
 use Rattle.rpc_session.specs.declared.hearing.Hearing.TheVariants.{Going}
-use Rattle.rpc_session.specs.Hearings.{is_going}
+use Rattle.rpc_session.specs.Sessions.{is_going}
 use Rattle.link_sessions.specs.declared.connections.Peer.{Peer}
 use Rattle.link_sessions.specs.declared.connections.Peer.TheVariants.{Open, Ended}
 

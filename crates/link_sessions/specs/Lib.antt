@@ -1,13 +1,7 @@
-pub mod Requests
-pub mod Transcript
-pub mod Transcribed
-pub mod Connections
-pub mod Turns
-pub mod Turning
 pub mod Answering
-pub mod Refusals
-pub mod Talking
-pub mod Faults
+pub mod Connections
 pub mod Sessions
-pub mod SoFar
 pub mod Taking
+pub mod Transcript
+pub mod Turns
+pub mod steps

@@ -1,28 +1,47 @@
 -- What a session leaves on its link and in the history.
-use Rattle.std.specs.Prelude.{◌≡◌, ℕ, ◌≤◌, true, false, List, [], ◌∷◌, ◌++◌, ◌⊎◌, length, take, Option, Some, None}
-use Rattle.std.specs.Prelude.{Ok}
+use Rattle.std.specs.Prelude.{◌⊎◌, true, false, ℕ, List, [], ◌∷◌, Option, Some, None, ◌≡◌, ◌≤◌, ◌++◌, length, take, Ok}
 use Rattle.std.specs.Io.KnownBytes.{Appends, Consumes, IsAtEnd}
 use Rattle.acct_calls.specs.declared.calls.Call.{Call}
+use Rattle.rpc_session.specs.Sessions.{acts, listed}
+use Rattle.rpc_session.specs.declared.sessions.Act.{Act}
+use Rattle.rpc_session.specs.declared.sessions.Act.TheVariants as act
+use Rattle.rpc_session.specs.declared.sessions.Request.{Request}
+use Rattle.acct_keeper.specs.Faults.{Rose}
+use Rattle.acct_machine.specs.Legal.{Legal, replies, calls_of, call_full}
 use Rattle.acct_machine.specs.State.{Start}
 use Rattle.acct_machine.specs.declared.entry.Entry.{Entry}
 use Rattle.acct_machine.specs.declared.entry.Entry.TheVariants.{Gone}
-use Rattle.acct_machine.specs.Legal.{Legal, replies, calls_of}
-use Rattle.acct_machine.specs.Room.{call_full}
-use Rattle.rpc_session.specs.declared.sessions.Act.{Act}
-use Rattle.rpc_session.specs.declared.sessions.Request.{Request}
-use Rattle.rpc_session.specs.declared.sessions.Act.TheVariants as act
-use Rattle.rpc_session.specs.Hearings.{listed}
-use Rattle.rpc_session.specs.Acts.{acts}
-use Rattle.acct_keeper.specs.Causes.{Rose}
-use Rattle.acct_links.specs.Links.{Told}
-use Rattle.link_sessions.specs.Requests.{call_on}
-use Rattle.link_sessions.specs.Transcript.{transcript, decoded_calls, busy_bytes}
-use Rattle.link_sessions.specs.Transcribed.{IsTranscribed}
-use Rattle.link_sessions.specs.Faults.{Faults}
-use Rattle.link_sessions.specs.Turns.{IsFrontOf}
-use Rattle.link_sessions.specs.Refusals.{closing_of}
+use Rattle.acct_links.specs.Links.{Told, FaultsAre}
+use Rattle.link_sessions.specs.Transcript.{call_on, IsTranscribed, transcript, decoded_calls, busy_bytes, IsFrontOf}
 use Rattle.link_sessions.specs.declared.ends.SessionEnd.{SessionEnd}
 use Rattle.link_sessions.specs.declared.ends.SessionEnd.TheVariants as end
+
+-- ======== which calls of its link failed in a session, by why it ended
+
+-- The one that is why it ended, and no other. Where the history was full, a write of the fault that says so may have
+-- failed besides.
+abbrev pub Faults : SessionEnd → Told → Told → Type 0
+Faults end.ReadFault old new = FaultsAre true false old new
+Faults end.WriteFault old new = FaultsAre false true old new
+Faults (end.Full n) old new = FaultsAre false false old new ⊎ FaultsAre false true old new
+Faults _ old new = FaultsAre false false old new
+
+-- ======== the refusal that acts end in: its place in the stream and its cause
+
+abbrev pub refusal_of : Act → Option (ℕ × ℕ)
+refusal_of (act.Answered bytes) = None
+refusal_of (act.Call asked) = None
+refusal_of (act.Closed place cause bytes) = Some (place, cause)
+
+abbrev pub later_refusal : Act → List Act → Option (ℕ × ℕ) → Option (ℕ × ℕ)
+later_refusal a [] later = refusal_of a
+later_refusal a (b ∷ acts) later = later
+
+abbrev pub closing_of : List Act → Option (ℕ × ℕ)
+closing_of [] = None
+closing_of (a ∷ acts) = later_refusal a acts (closing_of acts)
+
+-- ======== what a session leaves on its link and in the history
 
 -- A write failed: the answers to the acts up to one were written whole, and of the answer to that one a prefix. The
 -- connection's calls are the decoded calls of these acts, with that one.

@@ -10,8 +10,7 @@ use Rattle.acct_links.specs.Links.{Told, Sends, SendsFront, FaultsAre}
 use Rattle.link_sessions.specs.declared.ends.Stop.{Stop}
 use Rattle.link_sessions.specs.declared.ends.Stop.TheVariants as stop
 use Rattle.link_sessions.specs.Answering.{AnswersBy, BeginsRequest, FindsFull}
-use Rattle.link_sessions.specs.Requests.{call_on}
-use Rattle.link_sessions.specs.Transcript.{busy_bytes}
+use Rattle.link_sessions.specs.Transcript.{call_on, busy_bytes}
 
 -- An act has these bytes as its answer: a request as the history that its turn found has it, and any other its own, by
 -- which nothing happens.

@@ -1,17 +1,46 @@
--- What is written on a connection: the answers to its acts in order, with the replies of its calls.
-use Rattle.std.specs.Prelude.{ℕ, List, [], ◌∷◌, ◌++◌, length, Result, Ok, Err}
-use Rattle.acct_codes.specs.Faults.{fault_server_too_busy}
+-- What is written on a connection: the transcript of what came on it.
+use Rattle.std.specs.Prelude.{ℕ, List, Result, [], ◌∷◌, ◌++◌, length, Ok, Err, ◌≡◌, Bool, false, if◌then◌else◌}
+use Rattle.acct_codes.specs.Pdus.{fault_operation_range, fault_bad_stub_data, fault_server_too_busy}
 use Rattle.acct_calls.specs.declared.calls.Call.{Call}
 use Rattle.acct_calls.specs.declared.calls.Face.{Face}
+use Rattle.acct_calls.specs.declared.calls.Face.TheVariants.{Samr, Lsa}
 use Rattle.acct_calls.specs.declared.replies.Reply.{Reply}
 use Rattle.acct_calls.specs.declared.replies.Reply.TheVariants.{Fault, Done}
+use Rattle.rpc_session.specs.Sessions.{acts}
+use Rattle.rpc_session.specs.Answers.{fault_bytes, reply_bytes}
 use Rattle.rpc_session.specs.declared.sessions.Act.{Act}
 use Rattle.rpc_session.specs.declared.sessions.Act.TheVariants as act
 use Rattle.rpc_session.specs.declared.sessions.Request.{Request}
-use Rattle.rpc_session.specs.Replies.{fault_bytes, reply_bytes}
-use Rattle.acct_stubs.specs.declared.errors.WireError.{WireError}
+use Rattle.acct_stubs.specs.Calls.{call_at}
 use Rattle.acct_stubs.specs.Replies.{spell_reply}
-use Rattle.link_sessions.specs.Requests.{wire_of, call_on, undecoded_status}
+use Rattle.acct_stubs.specs.Arguments.{Wire}
+use Rattle.acct_stubs.specs.declared.errors.WireError.{WireError}
+use Rattle.acct_stubs.specs.declared.errors.WireError.TheVariants.{NotServed, BadStub, Memory}
+use Rattle.samr_wire.specs.Interface.{samr}
+use Rattle.lsa_wire.specs.Interface.{lsa}
+use Rattle.acct_machine.specs.Legal.{replies, calls_of}
+use Rattle.acct_machine.specs.State.{Start}
+use Rattle.acct_machine.specs.declared.entry.Entry.{Entry}
+
+-- ======== which call a request is, and which fault answers one that is none
+
+-- how an interface encodes its calls and replies
+abbrev pub wire_of : Face → Wire
+wire_of Samr = samr
+wire_of Lsa = lsa
+
+-- the call that the stub encodes on an interface
+abbrev pub call_on : Face → ℕ → List ℕ → Result Call WireError
+call_on face opnum stub = call_at (wire_of face) opnum stub
+
+-- operation range (C706 appendix E, nca_s_op_rng_error), or bad stub data (MS-ERREF 2.2, RPC_X_BAD_STUB_DATA); by its
+-- definition no reading runs out of memory
+abbrev pub undecoded_status : WireError → ℕ
+undecoded_status (NotServed opnum) = fault_operation_range
+undecoded_status (BadStub place) = fault_bad_stub_data
+undecoded_status Memory = fault_bad_stub_data
+
+-- ======== what is written on a connection: the answers to its acts in order, with the replies of its calls
 
 -- the answer to a decoded call of an interface and an opnum, by its reply
 unfoldable pub answer_bytes : Request → Face → ℕ → Reply → List ℕ
@@ -63,3 +92,26 @@ decoded_calls (act.Answered bytes ∷ acts) = decoded_calls acts
 decoded_calls (act.Call asked ∷ acts) =
     with_call (call_on asked.face asked.opnum asked.stub) (length asked.stub) (decoded_calls acts)
 decoded_calls (act.Closed place cause bytes ∷ acts) = decoded_calls acts
+
+-- ======== that what was written on a connection is the transcript of what came on it
+
+-- what is written last: where the history was found full, that the server is too busy
+abbrev pub last_bytes : Bool → Request → List ℕ
+last_bytes full asked = if full then busy_bytes asked else no_bytes asked
+
+-- What was written on a connection on which these bytes came: it is the transcript of their acts with the replies of
+-- the connection's calls in the history; where it found the history full, with the answer that the server is too busy
+-- after it. The decoded calls of the acts, in order, each with the length of its stub, are the connection's calls, and
+-- where it found the history full those that stand outside it.
+pub record IsTranscribed (start : Start) (history : List Entry) (k : ℕ) (full : Bool) (came sent : List ℕ) : Type 0
+  where
+    pub is : sent ≡ written (last_bytes full) (acts k came) (replies start k history)
+    pub outside : List (Call × ℕ)
+    pub calls : decoded_calls (acts k came) ≡ calls_of k history ++ outside
+    pub all : full ≡ false → outside ≡ []
+
+-- ======== prefixes of a history
+
+-- what is known of a history is a prefix of it
+abbrev pub IsFrontOf : List Entry → List Entry → Type 0
+IsFrontOf known history = (rest : List Entry) × (history ≡ known ++ rest)

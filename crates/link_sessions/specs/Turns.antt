@@ -1,5 +1,5 @@
 -- What a turn of a gate finds and leaves: the machine's own clauses, at the history that the turn itself finds.
-use Rattle.std.specs.Prelude.{◌≡◌, ℕ, List, [], ◌++◌}
+use Rattle.std.specs.Prelude.{◌≡◌, ℕ, List, []}
 use Rattle.acct_calls.specs.declared.calls.Call.{Call}
 use Rattle.acct_machine.specs.declared.entry.Entry.{Entry}
 use Rattle.acct_machine.specs.declared.machine.Acted.{Acted}
@@ -14,10 +14,6 @@ use Rattle.acct_machine.specs.Machine.{OneLessLive}
 
 abbrev pub shown : Start → List Entry → Past
 shown start history = record { start = start; history = history }
-
--- what is known of a history is a prefix of it
-abbrev pub IsFrontOf : List Entry → List Entry → Type 0
-IsFrontOf known history = (rest : List Entry) × (history ≡ known ++ rest)
 
 -- A turn found one of the histories that it may find, and did this to it.
 pub record Turn (finds : List Entry → Type 0) (does : List Entry → List Entry → Type 0) (left : List Entry) : Type 0

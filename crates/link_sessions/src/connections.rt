@@ -1,6 +1,6 @@
 // The connections: each peer's stream and phase.
 ghost use Rattle.std.specs.Prelude.{◌≡◌, false, Some, OnOk, OnErr, IfOk};
-ghost use Rattle.rpc_session.specs.Hearings.{HasRoom, on, is_going};
+ghost use Rattle.rpc_session.specs.Sessions.{HasRoom, on, is_going};
 ghost use Rattle.link_sessions.specs.declared.connections.Peer.TheVariants as peer;
 ghost use Rattle.link_sessions.specs.Connections.{nothing_heard, is_served};
 
@@ -27,7 +27,7 @@ pub fn is_served(peer: &Peer) -> bool
 }
 
 /// A connection of which nothing has come.
-#[tactic(auto, unfolding(rpc_session::specs::Hearings::hear, rpc_session::specs::Hearings::hear_in))]
+#[tactic(auto, unfolding(rpc_session::specs::Sessions::hear, rpc_session::specs::Sessions::hear_in))]
 pub fn new_peer(alloc: Global, conn: u32) -> Peer
     ensures { result ≡ peer.Open (nothing_heard conn) }
 {

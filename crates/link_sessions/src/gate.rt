@@ -3,10 +3,11 @@ ghost use Rattle.std.specs.Prelude.{◌≡◌, ◌<◌, ℕ, List, length};
 ghost use Rattle.acct_machine.specs.State.{Start};
 ghost use Rattle.acct_machine.specs.declared.entry.Entry.{Entry};
 ghost use Rattle.acct_machine.specs.declared.machine.Opened.{Opened};
-ghost use Rattle.acct_machine.specs.Calls.{IsCall};
+ghost use Rattle.acct_machine.specs.Access.{IsCall};
 ghost use Rattle.acct_machine.specs.Machine.{Shaped};
 ghost use Rattle.acct_machine.specs.Passing.{KeepsConnection};
-ghost use Rattle.link_sessions.specs.Turns.{Turn, MachineOpens, MachineActs, MachineEnds, HasNoCall, IfConn, IsFrontOf};
+ghost use Rattle.link_sessions.specs.Turns.{Turn, MachineOpens, MachineActs, MachineEnds, HasNoCall, IfConn};
+ghost use Rattle.link_sessions.specs.Transcript.{IsFrontOf};
 
 use acct_machine::{Acted, Call, Opened};
 

@@ -10,10 +10,10 @@
 //! and its answer has the reply of the state there, unless that history is full; another one is answered by a fault,
 //! and nothing else happens. And [`session`], for a connection that the gate serves and that has made no call: by the
 //! session's end ([`SessionEnd`]), each with its cause, what was written is the transcript of the acts of what was read
-//! (`Transcript`, `Transcribed`), with the replies that the connection's calls have in the history; these calls are the
-//! decoded calls of the acts, in order. After a failed write, a full history and running out of memory they are those
-//! of the first acts, and what was written are the whole answers to these and a prefix of the next. In every case the
-//! connection's end is entered last.
+//! (`Transcript`), with the replies that the connection's calls have in the history; these calls are the decoded calls
+//! of the acts, in order. After a failed write, a full history and running out of memory they are those of the first
+//! acts, and what was written are the whole answers to these and a prefix of the next. In every case the connection's
+//! end is entered last.
 //!
 //! [`answer_all`] answers acts one after the other, up to one that isn't answered, and says why. Whatever takes the
 //! answers is a [`Taker`]; those of a session are taken by its link.

@@ -7,7 +7,7 @@ use acct_machine::{Acted, Call, Keeper, Machine, Opened, others_change_nothing};
 impl<K: Keeper + Drop> Gate for Machine<K> {
     ghost use Rattle.acct_machine.specs.State.{is_live};
     ghost use Rattle.acct_machine.specs.Machine.{state_of};
-    ghost use Rattle.link_sessions.specs.Turning.{fronts-same, passes-same};
+    ghost use Rattle.link_sessions.specs.steps.Turning.{fronts-same, passes-same};
 
     ghost start = { λ m. m.past.start };
 

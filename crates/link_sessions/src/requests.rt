@@ -4,12 +4,11 @@ ghost use Rattle.acct_calls.specs.declared.calls.Call.{Call};
 ghost use Rattle.acct_codes.specs.Limits.{least_fragment, most_fragment};
 ghost use Rattle.rpc_session.specs.Acts.{IsFitRequest};
 ghost use Rattle.acct_layouts.specs.ReplyShapes.{HasShape};
-ghost use Rattle.acct_machine.specs.Calls.{IsCall};
+ghost use Rattle.acct_machine.specs.Access.{IsCall};
 ghost use Rattle.acct_stubs.specs.declared.errors.WireError.{WireError};
 ghost use Rattle.acct_stubs.specs.Calls.{ReadsAllIfRoom};
 ghost use Rattle.acct_stubs.specs.Replies.{spell_reply};
-ghost use Rattle.link_sessions.specs.Requests.{wire_of, call_on, undecoded_status};
-ghost use Rattle.link_sessions.specs.Transcript.{answer_bytes, undecoded_bytes};
+ghost use Rattle.link_sessions.specs.Transcript.{wire_of, call_on, undecoded_status, answer_bytes, undecoded_bytes};
 ghost use Rattle.link_sessions.specs.Answering.{AnswersRequest, BeginsRequest, IsAnswerOf};
 
 use crate::gate::Gate;

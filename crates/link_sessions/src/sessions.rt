@@ -2,15 +2,13 @@
 ghost use Rattle.std.specs.Prelude.{◌≡◌, ◌≤◌, ◌<◌, ◌+◌, ◌-◌, ◌^◌, ◌++◌, ℕ, List, length, All, false, None, OnOk};
 ghost use Rattle.std.specs.Prelude.{IfOk, IfErr, MatchResult};
 ghost use Rattle.acct_machine.specs.declared.entry.Entry.{Entry};
-ghost use Rattle.rpc_session.specs.Hearings.{HasRoom, on};
+ghost use Rattle.rpc_session.specs.Sessions.{HasRoom, on};
 ghost use Rattle.rpc_session.specs.Acts.{IsFit};
 ghost use Rattle.acct_links.specs.Links.{Told, FaultsAre};
 ghost use Rattle.link_sessions.specs.Turns.{HasNoCall};
-ghost use Rattle.link_sessions.specs.Refusals.{refusal_of, closing_of};
-ghost use Rattle.link_sessions.specs.Faults.{Faults};
-ghost use Rattle.link_sessions.specs.Talking.{Talks, Stops};
-ghost use Rattle.link_sessions.specs.SoFar.{SoFar, HasHeard, PieceEnds, end_of};
-ghost use Rattle.link_sessions.specs.Sessions.{IsConversation, IsSession, Ended};
+ghost use Rattle.link_sessions.specs.Sessions.{refusal_of, closing_of, Faults, IsConversation, IsSession, Ended};
+ghost use Rattle.link_sessions.specs.steps.Talking.{Talks, StopsTalk};
+ghost use Rattle.link_sessions.specs.steps.SoFar.{SoFar, HeardBytes, PieceEnds, end_of_stop};
 
 use crate::answers::answer_all;
 use crate::connections::heard;
@@ -41,7 +39,7 @@ pub fn closing(acts: &[Act]) -> Option<(u64, u8)>
 }
 
 fn end_of(stop: Stop) -> SessionEnd
-    ensures { result ≡ end_of stop }
+    ensures { result ≡ end_of_stop stop }
 {
     match stop {
         Stop::WriteFault => SessionEnd::WriteFault,
@@ -62,13 +60,13 @@ fn answer_on<L: Link, G: Gate>(
     requires fits { All IsFit acts.now }
     ensures ok { OnOk result (Talks (G.start gate.old) conn acts.now (G.known gate.old) (G.known gate.new)
         (L.told link.old) (L.told link.new)) }
-    ensures err { IfErr result (Stops (G.start gate.old) conn acts.now (G.known gate.old) (G.known gate.new)
+    ensures err { IfErr result (StopsTalk (G.start gate.old) conn acts.now (G.known gate.old) (G.known gate.new)
         (L.told link.old) (L.told link.new)) }
     ensures serves { G.serves gate.new conn }
     ensures moves { G.moves gate.old conn gate.new }
     ensures start { G.start gate.new ≡ G.start gate.old }
     ensures faults { MatchResult result (λ _. FaultsAre false false (L.told link.old) (L.told link.new))
-        (λ why. Faults (end_of why) (L.told link.old) (L.told link.new)) }
+        (λ why. Faults (end_of_stop why) (L.told link.old) (L.told link.new)) }
 {
     answer_all(alloc, link, gate, conn, acts)
 }
@@ -147,7 +145,7 @@ fn step<L: Link, G: Gate>(
 ) -> Result<usize, SessionEnd>
     requires serves { G.serves gate.old conn }
     requires some { 0 < length front.old }
-    requires heard { HasHeard conn stream.old (2 ^ 64 - 1 - length front.old) }
+    requires heard { HeardBytes conn stream.old (2 ^ 64 - 1 - length front.old) }
     ensures within { IfOk result (λ count. (0 < count) × (count ≤ length front.old)) }
     ensures ok { (before : List Entry) (old : Told) (came : List ℕ)
         → SoFar (G.start gate.old) conn before (G.known gate.old) old (L.told link.old) stream.old came

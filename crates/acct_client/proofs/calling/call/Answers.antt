@@ -2,7 +2,7 @@
 use Rattle.std.proofs.Common.{IfSome, Option, Some, None}
 use Rattle.acct_links.specs.Links.{IsNew}
 use Rattle.acct_keeper.specs.declared.streams.Failed.{Failed}
-use Rattle.acct_client.specs.Calls.{Sunk, TalksOver}
+use Rattle.acct_client.specs.Talks.{Sunk, TalksOver}
 use Rattle.acct_client.proofs.calling.call.Goals as goal
 
 some-more : {A : Type 0} (P Q : A → Type 0) (o : Option A) → ((a : A) → P a → Q a) → IfSome o P → IfSome o Q

@@ -1,6 +1,6 @@
 -- Asking after a whole answer, and listening for one that isn't, each leave fewer steps to make.
 use Rattle.std.proofs.Common.{◌<◌, Bool, IfOk, subst, sym}
-use Rattle.acct_client.specs.Parts.{Stands, steps_left}
+use Rattle.acct_client.specs.steps.Parts.{Stands, steps_left}
 use Rattle.acct_client.proofs.conversing.advance.Goals as goal
 
 pub returns-then-is_whole-clause-less : goal.returns-then-is_whole-clause-less

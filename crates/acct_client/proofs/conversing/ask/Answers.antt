@@ -1,6 +1,6 @@
 -- The next request goes after those sent so far and fewer steps are left, or the talk ends as its dialogue does.
 use Rattle.std.proofs.Common.{◌<◌, ◌++◌, ℕ, List, true, arith, subst, sym}
-use Rattle.acct_client.specs.Parts.{SentSoFar, Stands, steps_left}
+use Rattle.acct_client.specs.steps.Parts.{SentSoFar, Stands, steps_left}
 use Rattle.acct_client.proofs.Ending.{Asked, ask-less, asked-dialogue, asked-stands, asked-talks, talks-done}
 use Rattle.acct_client.proofs.Ending.{talks-lost}
 use Rattle.acct_client.proofs.conversing.ask.Goals as goal

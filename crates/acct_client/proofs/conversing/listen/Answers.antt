@@ -1,6 +1,6 @@
 -- A piece read and heard goes on the dialogue and leaves fewer steps to make; else the talk ends over all that came.
 use Rattle.std.proofs.Common.{◌≡◌, Bool, arith, length, length-take, refl, subst, sym, take}
-use Rattle.acct_client.specs.Parts.{Stands}
+use Rattle.acct_client.specs.steps.Parts.{Stands}
 use Rattle.acct_client.proofs.Ending.{heard-stands, heard-talks, listen-less, talks-unheard}
 use Rattle.acct_client.proofs.conversing.listen.Goals as goal
 

@@ -1,7 +1,7 @@
 -- A request is answered, or it stops at an answer that isn't taken, at a full history or where memory runs out.
 use Rattle.std.proofs.Common.{ℕ, List, refl, sym, subst}
 use Rattle.rpc_session.specs.declared.sessions.Act.TheVariants as act
-use Rattle.link_sessions.specs.Requests.{call_on}
+use Rattle.link_sessions.specs.Transcript.{call_on}
 use Rattle.link_sessions.specs.Taking.{HaltsAct}
 use Rattle.link_sessions.specs.declared.ends.Stop.{Stop}
 use Rattle.link_sessions.proofs.Results.{on-ok, if-err}

@@ -1,7 +1,7 @@
 -- Where answering the acts of a piece stops, the session ends for that reason.
 use Rattle.std.proofs.Common.{sym, subst}
-use Rattle.link_sessions.specs.Faults.{Faults}
-use Rattle.link_sessions.specs.SoFar.{PieceEnds}
+use Rattle.link_sessions.specs.Sessions.{Faults}
+use Rattle.link_sessions.specs.steps.SoFar.{PieceEnds}
 use Rattle.link_sessions.specs.declared.ends.SessionEnd.{SessionEnd}
 use Rattle.link_sessions.proofs.SoFar.{stops-piece}
 use Rattle.link_sessions.proofs.sessions.answer_piece.Goals as goal

@@ -4,7 +4,7 @@ use Rattle.std.proofs.Common.{arith, take, false}
 use Rattle.std.proofs.lemmas.List.{length-take}
 use Rattle.acct_machine.specs.State.{Start}
 use Rattle.link_sessions.specs.Turns.{HasNoCall}
-use Rattle.link_sessions.specs.SoFar.{SoFar}
+use Rattle.link_sessions.specs.steps.SoFar.{SoFar}
 use Rattle.link_sessions.specs.Sessions.{IsConversation}
 use Rattle.link_sessions.proofs.Faults.{faults-none, faults-then, ends-then}
 use Rattle.link_sessions.proofs.SoFar.{so-far-start}

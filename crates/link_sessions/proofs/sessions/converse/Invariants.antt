@@ -2,7 +2,7 @@
 -- the link failed.
 use Rattle.std.proofs.Common.{◌≡◌, ◌+◌, ℕ, List, length, false}
 use Rattle.acct_links.specs.Links.{FaultsAre}
-use Rattle.link_sessions.specs.SoFar.{SoFar}
+use Rattle.link_sessions.specs.steps.SoFar.{SoFar}
 use Rattle.link_sessions.proofs.sessions.converse.Given as goal
 
 abbrev pub invariant-loop-room : goal.invariant-loop-room

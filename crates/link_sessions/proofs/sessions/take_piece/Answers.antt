@@ -1,5 +1,5 @@
 -- Where memory runs out as a piece is heard, none of its acts was entered and nothing was sent.
-use Rattle.rpc_session.specs.Hearings.{on}
+use Rattle.rpc_session.specs.Sessions.{on}
 use Rattle.link_sessions.proofs.Faults.{faults-none}
 use Rattle.link_sessions.proofs.Talks.{stops-wanting, wanting-none}
 use Rattle.link_sessions.proofs.sessions.take_piece.Goals as goal

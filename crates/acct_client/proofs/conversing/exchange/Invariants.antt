@@ -2,9 +2,9 @@
 use Rattle.std.proofs.Common.{◌≡◌, ◌+◌, ◌≤◌, not}
 use Rattle.acct_client.specs.Askers.{bytes_taken}
 use Rattle.client_commands.specs.declared.command.Command.{Command}
-use Rattle.acct_client.specs.Parts.{Stands, steps_left}
+use Rattle.acct_client.specs.steps.Parts.{Stands, steps_left}
 use Rattle.acct_client.specs.Talks.{IsBegun, most_read}
-use Rattle.acct_client.proofs.conversing.converse.Given as goal
+use Rattle.acct_client.proofs.conversing.exchange.Given as goal
 
 abbrev pub invariant-loop-whole : goal.invariant-loop-whole
 invariant-loop-whole g l = record {

@@ -2,7 +2,7 @@
 use Rattle.std.specs.Prelude.{◌≡◌, ℕ, ◌+◌, ◌-◌, ◌*◌, ◌≤◌, ◌<◌, ◌⊎◌, Bool, true, false, List, [], ◌++◌, length, take}
 use Rattle.std.specs.Prelude.{if◌then◌else◌}
 use Rattle.std.specs.Io.KnownBytes.{Appends, Consumes}
-use Rattle.acct_keeper.specs.Causes.{Rose}
+use Rattle.acct_keeper.specs.Faults.{Rose}
 use Rattle.acct_links.specs.Links.{Told}
 use Rattle.client_commands.specs.declared.command.Command.{Command}
 use Rattle.acct_client.specs.declared.dialogue.State.TheVariants.{Failed}
@@ -10,9 +10,8 @@ use Rattle.acct_client.specs.declared.dialogue.Talk.{Talk}
 use Rattle.acct_client.specs.declared.errors.AskError.{AskError}
 use Rattle.acct_client.specs.declared.errors.AskError.TheVariants as error
 use Rattle.acct_client.specs.Dialogues.{awaits, is_failed, progress}
-use Rattle.acct_client.specs.Runs.{more, spoken, IsSoFar}
-use Rattle.acct_client.specs.Asks.{asks, asks_on, requested}
-use Rattle.acct_client.specs.Talks.{HasEnded, LinesBy, most_read}
+use Rattle.acct_client.specs.Runs.{more, IsSoFar}
+use Rattle.acct_client.specs.Talks.{spoken, asks, asks_on, requested, HasEnded, LinesBy, most_read}
 use Rattle.acct_client.specs.declared.ends.TalkEnd.{TalkEnd}
 use Rattle.acct_client.specs.declared.ends.TalkEnd.TheVariants.{NoMemory, PeerBytes, PeerFault, InputTooLong, Refused}
 
@@ -76,12 +75,12 @@ pub record Waits (command : Command) (t : Talk) (received bytes : List ℕ) : Ty
   pub all : requested command received ≡ bytes
 
 -- the end that an error is
-abbrev pub end_of : AskError → TalkEnd
-end_of error.Usage = NoMemory
-end_of (error.PeerBytes place) = PeerBytes place
-end_of (error.PeerFault status) = Refused status
-end_of (error.Refused status) = Refused status
-end_of error.Memory = NoMemory
+abbrev pub end_of_error : AskError → TalkEnd
+end_of_error error.Usage = NoMemory
+end_of_error (error.PeerBytes place) = PeerBytes place
+end_of_error (error.PeerFault status) = Refused status
+end_of_error (error.Refused status) = Refused status
+end_of_error error.Memory = NoMemory
 
 -- the cause of an end that the peer's bytes bring
 abbrev pub HeardEnd : TalkEnd → Talk → Type 0

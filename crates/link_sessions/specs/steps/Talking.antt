@@ -4,17 +4,14 @@ use Rattle.acct_calls.specs.declared.calls.Call.{Call}
 use Rattle.acct_calls.specs.declared.replies.Reply.{Reply}
 use Rattle.acct_machine.specs.State.{Start}
 use Rattle.acct_machine.specs.declared.entry.Entry.{Entry}
-use Rattle.acct_machine.specs.Legal.{replies, calls_of}
-use Rattle.acct_machine.specs.Room.{call_full}
+use Rattle.acct_machine.specs.Legal.{replies, calls_of, call_full}
 use Rattle.rpc_session.specs.declared.sessions.Act.{Act}
 use Rattle.rpc_session.specs.declared.sessions.Act.TheVariants as act
 use Rattle.rpc_session.specs.declared.sessions.Request.{Request}
-use Rattle.rpc_session.specs.Hearings.{listed}
-use Rattle.acct_keeper.specs.Causes.{Rose}
+use Rattle.rpc_session.specs.Sessions.{listed}
+use Rattle.acct_keeper.specs.Faults.{Rose}
 use Rattle.acct_links.specs.Links.{Told, Sends}
-use Rattle.link_sessions.specs.Requests.{call_on}
-use Rattle.link_sessions.specs.Transcript.{transcript, decoded_calls, busy_bytes}
-use Rattle.link_sessions.specs.Turns.{IsFrontOf}
+use Rattle.link_sessions.specs.Transcript.{call_on, transcript, decoded_calls, busy_bytes, IsFrontOf}
 use Rattle.link_sessions.specs.declared.ends.Stop.{Stop}
 use Rattle.link_sessions.specs.declared.ends.Stop.TheVariants as stop
 
@@ -91,7 +88,7 @@ Halts stop.NoMemory start k rest before after last old new = IsWanting start k r
 Halts (stop.Full n) start k rest before after last old new = IsFull start k n rest before after last old new
 
 -- Acts were answered on a link up to one that wasn't.
-pub record Stops (start : Start) (k : ℕ) (acts : List Act) (before after : List Entry) (old new : Told) (why : Stop)
+pub record StopsTalk (start : Start) (k : ℕ) (acts : List Act) (before after : List Entry) (old new : Told) (why : Stop)
     : Type 0 where
   pub done : List Act
   pub rest : List Act
