@@ -16,13 +16,12 @@ use Rattle.rpc_session.specs.declared.sessions.Act.TheVariants as act
 use Rattle.rpc_session.specs.Acts.{is_refusal}
 use Rattle.link_sessions.specs.declared.ends.Stop.{Stop}
 use Rattle.link_sessions.specs.declared.ends.Stop.TheVariants as stop
-use Rattle.link_sessions.specs.Refusals.{closing_of}
-use Rattle.link_sessions.specs.Requests.{call_on}
+use Rattle.link_sessions.specs.Sessions.{closing_of}
+use Rattle.link_sessions.specs.Transcript.{call_on, busy_bytes}
 use Rattle.link_sessions.specs.Taking.{AnswersAct, TakesActs, HaltsAct, HaltsActs}
-use Rattle.link_sessions.specs.Transcript.{busy_bytes}
 use Rattle.acct_server.specs.declared.out_lines.OutLines.{OutLines}
 use Rattle.acct_server.specs.Replayed.{Out, IsClosed, FoundFull, line_bytes, on_act, on_acts, on_request}
-use Rattle.acct_server.specs.Running.{Acts, Began, Answered, AnsweredToFull, IsClosing}
+use Rattle.acct_server.specs.steps.Running.{DoesActs, Began, Answered, AnsweredToFull, IsClosing}
 use Rattle.acct_server.proofs.Bytes.{on-ok, if-err}
 use Rattle.acct_server.proofs.Moves.{Only, prints-act, request-acts, request-fills, request-began, answered-began}
 use Rattle.acct_server.proofs.Moves.{request-live, same-live, acts-before, acts-full, began-before, began-at}
@@ -42,7 +41,7 @@ Fails old bytes new = new.is_cut ≡ true
 act-done : (start : Start) (k : ℕ) (x : Act) → is_refusal x ≡ false → (before now : List Entry)
     (bytes old_lines new_lines : List ℕ) → AnswersAct start k (Only before) before now x bytes
     → new_lines ≡ old_lines ++ line_bytes (Out k bytes)
-    → Acts (λ verdicts. on_act start verdicts before k x) before now old_lines new_lines None
+    → DoesActs (λ verdicts. on_act start verdicts before k x) before now old_lines new_lines None
 act-done start k (act.Answered given) still before now bytes old_lines new_lines is printed =
     prints-act (λ verdicts. on_act start verdicts before k (act.Answered given)) before now (Out k given ∷ [])
     old_lines new_lines (λ verdicts. refl) is.0
@@ -58,7 +57,7 @@ closed-done : (start : Start) (k place cause : ℕ) (given : List ℕ) (before n
     (bytes old_lines new_lines : List ℕ)
     → AnswersAct start k (Only before) before now (act.Closed place cause given) bytes
     → new_lines ≡ old_lines ++ line_bytes (Out k bytes)
-    → Acts (λ verdicts. on_act start verdicts before k (act.Closed place cause given)) before (now ++ Gone k ∷ [])
+    → DoesActs (λ verdicts. on_act start verdicts before k (act.Closed place cause given)) before (now ++ Gone k ∷ [])
     old_lines (new_lines ++ line_bytes (IsClosed k place cause)) None
 closed-done start k place cause given before now bytes old_lines new_lines is printed =
     let out = line_bytes (Out k given) in
@@ -136,7 +135,7 @@ closed-served served (x ∷ y ∷ ys) at closing is =
 
 answered-before : (start : Start) (k : ℕ) (x : Act) (xs : List Act) (before mid now : List Entry)
     (old_lines mid_lines new_lines : List ℕ) (o : Option (ℕ × ℕ))
-    → Acts (λ verdicts. on_act start verdicts before k x) before mid old_lines mid_lines None
+    → DoesActs (λ verdicts. on_act start verdicts before k x) before mid old_lines mid_lines None
     → Answered k start xs mid now mid_lines new_lines o → Answered k start (x ∷ xs) before now old_lines new_lines o
 answered-before start k x xs before mid now old_lines mid_lines new_lines None one others =
     acts-before start k x xs before mid now old_lines mid_lines new_lines None one others
@@ -145,7 +144,8 @@ answered-before start k x xs before mid now old_lines mid_lines new_lines (Some 
     (new_lines ++ line_bytes (IsClosed k at.0 at.1)) None one others
 
 none-answered : (start : Start) (k : ℕ) (before now : List Entry) (old_lines new_lines : List ℕ) → now ≡ before
-    → new_lines ≡ old_lines → Acts (λ verdicts. on_acts start verdicts before k []) before now old_lines new_lines None
+    → new_lines ≡ old_lines
+    → DoesActs (λ verdicts. on_acts start verdicts before k []) before now old_lines new_lines None
 none-answered start k before now old_lines new_lines same lines =
     prints-act (λ verdicts. on_acts start verdicts before k []) before now [] old_lines new_lines (λ verdicts. refl)
     same (lines ∙ sym (append-nil old_lines))
@@ -244,15 +244,16 @@ module _ {U : Type 0} (past : U → Past) (serves : U → ℕ → Type 0) (k : �
       → ((i : ℕ) → IsClosing served i (length (acts ++ x ∷ rest)) (slice_get (acts ++ x ∷ rest) i)) → t.conn ≡ k
       → TakesActs Takes (λ m. (past m).start) (λ m. (past m).history) (λ m found. found ≡ (past m).history) serves k
       acts t g mid there
-      → Acts (λ verdicts. on_act (past there).start verdicts (past there).history k x) (past there).history now
+      → DoesActs (λ verdicts. on_act (past there).start verdicts (past there).history k x) (past there).history now
       mid.lines.items lines (Some count)
-      → Acts (λ verdicts. on_acts (past g).start verdicts (past g).history k (acts ++ x ∷ rest)) (past g).history now
+      → DoesActs (λ verdicts. on_acts (past g).start verdicts (past g).history k (acts ++ x ∷ rest)) (past g).history
+      now
       t.lines.items lines (Some count)
   full-behind served [] x rest t g mid there now lines count closing of same met =
       acts-full (past g).start k x rest (past g).history now t.lines.items lines count
-      (subst (λ (m : U). Acts (λ verdicts. on_act (past m).start verdicts (past m).history k x) (past m).history now
+      (subst (λ (m : U). DoesActs (λ verdicts. on_act (past m).start verdicts (past m).history k x) (past m).history now
       t.lines.items lines (Some count)) same.1
-      (subst (λ (o : OutLines). Acts (λ verdicts. on_act (past there).start verdicts (past there).history k x)
+      (subst (λ (o : OutLines). DoesActs (λ verdicts. on_act (past there).start verdicts (past there).history k x)
       (past there).history now o.lines.items lines (Some count)) same.0 met))
   full-behind served (y ∷ ys) x rest t g mid there now lines count closing of done met =
       let next = past done.there in
@@ -261,7 +262,7 @@ module _ {U : Type 0} (past : U → Past) (serves : U → ℕ → Type 0) (k : �
       (act-done (past g).start k y (open-before served y ys x rest (closing 0)) (past g).history next.history
       done.one.bytes t.lines.items done.mid.lines.items done.one.answers
       (printed-by t done.mid done.one.bytes of done.one.taken))
-      (subst (λ (s : Start). Acts (λ verdicts. on_acts s verdicts next.history k (ys ++ x ∷ rest)) next.history now
+      (subst (λ (s : Start). DoesActs (λ verdicts. on_acts s verdicts next.history k (ys ++ x ∷ rest)) next.history now
       done.mid.lines.items lines (Some count)) done.one.same
       (full-behind served ys x rest done.mid done.there mid there now lines count
       (λ i. closing-behind served i y (ys ++ x ∷ rest) (slice_get (ys ++ x ∷ rest) i) (closing (suc i)))
@@ -375,7 +376,7 @@ module _ {U : Type 0} (past : U → Past) (serves : U → ℕ → Type 0) (k : �
       told (inl taken) =
           full-behind served acts (act.Call asked) rest t g mid there ((past g').history ++ Gone k ∷ [])
           (t'.lines.items ++ line_bytes (FoundFull k)) n closing of done
-          (subst (λ (r : Result Call WireError). Acts (λ verdicts. on_request (past there).start verdicts
+          (subst (λ (r : Result Call WireError). DoesActs (λ verdicts. on_request (past there).start verdicts
           (past there).history k asked (length asked.stub) r) (past there).history ((past g').history ++ Gone k ∷ [])
           mid.lines.items (t'.lines.items ++ line_bytes (FoundFull k)) (Some n)) (sym h.decoded)
           (request-fills (past there).start (past there).history (past g').history k asked (length asked.stub) h.call n

@@ -19,20 +19,19 @@ use Rattle.acct_server.specs.declared.status.Status.TheVariants.{PeerFault}
 use Rattle.acct_server.specs.declared.status.Status.TheVariants.{InputTooLong, Refused, HookHeld, HookStore, SpawnFault}
 use Rattle.acct_keeper.specs.declared.whole.WholeError.{WholeError}
 use Rattle.acct_keeper.specs.declared.whole.WholeError.TheVariants.{Fault, TooLong, Memory}
-use Rattle.acct_keeper.specs.Causes.{Rose, NotRisen}
-use Rattle.acct_keeper.specs.Whole.{most_bytes, WholeCause, IsWhole}
+use Rattle.acct_keeper.specs.Faults.{Rose, NotRisen, most_bytes, WholeCause, IsWhole}
 use Rattle.acct_keeper.specs.declared.pairs.Pair.{Pair}
 use Rattle.acct_machine.specs.declared.opened.OpenError.{OpenError}
 use Rattle.acct_machine.specs.declared.opened.OpenError.TheVariants as unopened
 use Rattle.acct_machine.specs.Opened.{OpensRows, OpenCause, IsMigrated}
 use Rattle.acct_machine.specs.State.{Start}
-use Rattle.acct_machine.specs.Storing.{HoldsRows, AreCounted}
+use Rattle.acct_machine.specs.Outbox.{HoldsRows, AreCounted}
 use Rattle.acct_rows.specs.Rows.{Lists}
 use Rattle.acct_server.specs.Begun.{IsBegun}
-use Rattle.acct_server.specs.Configured.{BreaksNone, IsConfigured, refused_status, spelled}
-use Rattle.acct_server.specs.Leaves.{IsRunThrough, IsOfRun, ConfigCause, EventsCause, unread_status, unless_broken}
-use Rattle.acct_server.specs.Leaves.{StoreCause, StoreKept, asked_before, IsAsked, unopened_status}
-use Rattle.acct_server.specs.Replaying.{Telling, Parts, RunsLines, HasRunLines, StopsAtStore, AsksFor, IsReplay}
+use Rattle.acct_server.specs.Leaves.{BreaksNone, IsConfigured, refused_status, spelled, IsRunThrough, IsOfRun}
+use Rattle.acct_server.specs.Leaves.{ConfigCause, EventsCause, unread_status, unless_broken, StoreCause, StoreKept}
+use Rattle.acct_server.specs.Leaves.{asked_before, IsAsked, unopened_status}
+use Rattle.acct_server.specs.Replaying.{TellingReplay, Parts, RunsLines, HasRunLines, StopsAtStore, AsksFor, IsReplay}
 use Rattle.acct_server.specs.Replayed.{replayed}
 use Rattle.acct_server.specs.declared.replays.Replayed.{Replayed}
 
@@ -316,7 +315,7 @@ pub made-none : {K : Type 0} (left : Replayed K) → left.opening ≡ None → l
     → MadeNone left
 made-none left opening nothing rows = record { opening = opening; nothing = nothing; rows = rows }
 
-pub config-not-taken : {S T K : Type 0} (told : Telling S T K) (old new : Parts S T K) (left : Replayed K)
+pub config-not-taken : {S T K : Type 0} (told : TellingReplay S T K) (old new : Parts S T K) (left : Replayed K)
     → MadeNone left → new.out ≡ old.out → new.events ≡ old.events → new.keeper ≡ old.keeper
     → ConfigCause (told.left old.config) (told.read_faults old.config) (told.read_faults new.config) left.status
     → told.read_faults old.config ≤ told.read_faults new.config → IsReplay told old new left
@@ -337,7 +336,7 @@ config-not-taken told old new left none out events keeper cause later = record {
       same-later (told.store_faults old.keeper) (told.store_faults new.keeper) (ap told.store_faults keeper);
 }
 
-pub events-not-taken : {S T K : Type 0} (told : Telling S T K) (old new : Parts S T K) (left : Replayed K)
+pub events-not-taken : {S T K : Type 0} (told : TellingReplay S T K) (old new : Parts S T K) (left : Replayed K)
     → MadeNone left → new.out ≡ old.out → new.keeper ≡ old.keeper → BreaksNone (told.left old.config)
     → IfSome (told.left old.config) (λ document. length document ≤ most_bytes)
     → EventsCause (told.left old.events) (told.read_faults old.events) (told.read_faults new.events) left.status
@@ -361,7 +360,7 @@ events-not-taken told old new left none out keeper breaks short cause config_lat
       same-later (told.store_faults old.keeper) (told.store_faults new.keeper) (ap told.store_faults keeper);
 }
 
-pub store-not-opened : {S T K : Type 0} (told : Telling S T K) (old new : Parts S T K) (left : Replayed K)
+pub store-not-opened : {S T K : Type 0} (told : TellingReplay S T K) (old new : Parts S T K) (left : Replayed K)
     → MadeNone left → new.out ≡ old.out → StopsAtStore told old new left.status
     → told.read_faults old.config ≤ told.read_faults new.config
     → told.read_faults old.events ≤ told.read_faults new.events
@@ -388,7 +387,7 @@ pub counted-later : (now : ℕ) (start : Start) (history : List Entry) (faults :
     → start.faults ≡ faults → faults ≤ now
 counted-later now start history faults counts is = omega (arith, counts.later, is)
 
-pub lines-run : {S T K : Type 0} (told : Telling S T K) (old new : Parts S T K) (left : Replayed K)
+pub lines-run : {S T K : Type 0} (told : TellingReplay S T K) (old new : Parts S T K) (left : Replayed K)
     → HasRunLines told old new left → told.read_faults old.config ≤ told.read_faults new.config
     → told.read_faults old.events ≤ told.read_faults new.events → told.write_faults old.out ≤ told.write_faults new.out
     → IsReplay told old new left

@@ -5,9 +5,8 @@ use Rattle.acct_machine.specs.State.{Start}
 use Rattle.acct_machine.specs.declared.entry.Entry.{Entry}
 use Rattle.acct_machine.specs.declared.entry.Entry.TheVariants.{Called}
 use Rattle.acct_machine.specs.Step.{state_at}
-use Rattle.acct_machine.specs.Legal.{May, LegalAfter, Legal}
-use Rattle.acct_machine.specs.Denial.{DeniesExactly, DeniesRan}
-use Rattle.acct_server.specs.Denied.{DeniesExactlyIn}
+use Rattle.acct_machine.specs.Legal.{May, LegalAfter, Legal, DeniesExactly, DeniesRan}
+use Rattle.acct_server.specs.Begun.{DeniesExactlyIn}
 
 -- an entry of a legal history may come after those before it
 pub may-after : (start : Start) (behind front after : List Entry) (e : Entry)

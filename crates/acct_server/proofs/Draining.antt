@@ -4,31 +4,28 @@ use Rattle.std.proofs.Common.{◌≡◌, ◌≢◌, ℕ, ◌≤◌, inl, inr, Bo
 use Rattle.std.proofs.Common.{IfSome, ◌∙◌, ap, subst, arith}
 use Rattle.std.specs.Prelude.{if◌then◌else◌}
 use Rattle.std.proofs.lemmas.List.{append-nil}
-use Rattle.account_hooks.specs.Drains.{Drains, IfHeld, IfStoreFault}
-use Rattle.account_hooks.specs.Gates.{left}
-use Rattle.account_hooks.specs.Runs.{Job, Run, Adds}
+use Rattle.account_hooks.specs.Drains.{Drains, IfHeld, IfStoreFault, left, Job, Run, Adds}
 use Rattle.account_hooks.specs.declared.drains.Drained.{Drained}
 use Rattle.account_hooks.specs.declared.drains.Drained.TheVariants as drained
 use Rattle.acct_config.specs.declared.config.Config.{Config}
 use Rattle.acct_config.specs.declared.config.Hook.{Hook}
-use Rattle.acct_keeper.specs.Causes.{Rose, NotRisen}
+use Rattle.acct_keeper.specs.Faults.{Rose, NotRisen}
 use Rattle.acct_keeper.specs.declared.pairs.Pair.{Pair}
 use Rattle.acct_machine.specs.declared.entry.Entry.{Entry}
 use Rattle.acct_machine.specs.declared.entry.Entry.TheVariants.{Hooked}
 use Rattle.acct_machine.specs.Gates.{IsGood, Moves, JobsAreLeft, RoseTo}
 use Rattle.acct_machine.specs.Machine.{state_of}
 use Rattle.acct_machine.specs.Jobs.{jobs_at, jobs_of}
-use Rattle.acct_machine.specs.Outbox.{has_hook}
+use Rattle.acct_machine.specs.Outbox.{has_hook, HoldsRows}
 use Rattle.acct_machine.specs.Outs.{account_changes, added, hooks_of}
 use Rattle.acct_machine.specs.Shown.{Shown}
 use Rattle.acct_machine.specs.State.{State, Start, first}
 use Rattle.acct_machine.specs.Step.{step, state_after, state_at}
-use Rattle.acct_machine.specs.Storing.{HoldsRows}
 use Rattle.acct_rows.specs.PairRules.{AreUnbroken, IsSmallestBroken}
 use Rattle.acct_rows.specs.Rows.{Lists, remove_row}
 use Rattle.acct_rows.specs.Sound.{IsSoundRows}
-use Rattle.acct_rows.specs.declared.row.OutRow.{OutRow}
-use Rattle.acct_rows.specs.declared.row.RowKey.TheVariants as keys
+use Rattle.acct_tables.specs.declared.row.OutRow.{OutRow}
+use Rattle.acct_tables.specs.declared.row.RowKey.TheVariants as keys
 use Rattle.acct_server.specs.Hooked.{TellingHooks, HookParts, RunsHooks, DrainsQuietly, IsDrainsEnd, hook_status}
 use Rattle.acct_machine.proofs.Changing.{no-changes}
 use Rattle.acct_server.specs.Begun.{IsBegun}

@@ -8,23 +8,21 @@ use Rattle.acct_config.specs.declared.config.Config.{Config}
 use Rattle.acct_keeper.specs.declared.pairs.Pair.{Pair}
 use Rattle.acct_machine.specs.Legal.{May, LegalAfter, Legal, Rises, faults_of, counts_of}
 use Rattle.acct_machine.specs.State.{Start}
-use Rattle.acct_machine.specs.Storing.{AreCounted}
+use Rattle.acct_machine.specs.Outbox.{AreCounted}
 use Rattle.acct_machine.specs.declared.entry.Entry.{Entry}
 use Rattle.acct_machine.specs.declared.entry.Entry.TheVariants.{Opened, Called, Gone, Hooked}
 use Rattle.acct_machine.specs.declared.entry.Verdict.{Verdict}
 use Rattle.acct_machine.specs.declared.entry.Verdict.TheVariants.{Ran, StoreFault, NoMemory as NoMemoryFor}
 use Rattle.acct_rows.specs.PairRules.{AreUnbroken, IsSmallestBroken}
-use Rattle.acct_keeper.specs.Causes.{Rose, NotRisen}
-use Rattle.door_workers.specs.Doors.{DoorRun, ServesDoors, stops, ComesTo}
-use Rattle.door_workers.specs.Outcomes.{behind, behind_all, outcome_of}
-use Rattle.door_workers.specs.Serving.{StopsAt}
+use Rattle.acct_keeper.specs.Faults.{Rose, NotRisen}
+use Rattle.door_workers.specs.Doors.{DoorRun, ServesDoors, stops, ComesTo, behind, behind_all, outcome_of, StopsAt}
 use Rattle.door_workers.specs.Services.{Service}
 use Rattle.door_workers.specs.declared.ends.DoorEnd.{DoorEnd}
 use Rattle.door_workers.specs.declared.ends.DoorEnd.TheVariants as stop
 use Rattle.link_sessions.specs.declared.ends.Ended.{Ended}
-use Rattle.acct_server.specs.Completing.{ServesQuietly, IsServingsEnd, CommitsAll, IsComplete}
+use Rattle.acct_server.specs.Serving.{ServesQuietly, IsServingsEnd, CommitsAll, IsComplete, TellingDoors, IsServe}
+use Rattle.acct_server.specs.Serving.{served_status}
 use Rattle.acct_server.specs.Leaves.{StoreCause}
-use Rattle.acct_server.specs.Serving.{Telling, IsServe, served_status}
 use Rattle.acct_server.specs.declared.serving.Served.{Served}
 use Rattle.acct_server.specs.declared.status.Status.{Status}
 use Rattle.acct_server.specs.declared.status.Status.TheVariants as status
@@ -152,7 +150,7 @@ comes-to-an-end runs (stop.Full n) ends comes none = tt
 comes-to-an-end runs stop.Failed ends comes none =
     subst (λ (o : DoorEnd). NoneFailed o) (sym comes.0) none
 
-module _ {D L K : Type 0} (telling : Telling D L K) (before now : List D) (keeper : K) (left : Served K) where
+module _ {D L K : Type 0} (telling : TellingDoors D L K) (before now : List D) (keeper : K) (left : Served K) where
   stop-is : (d e : D) (ss : List (Service L)) (why : DoorEnd) → NotRisen (telling.door.faults d) (telling.door.faults e)
       → StopsAt telling.door telling.told (Some why) d e ss → HasntFailed why
   stop-is d e ss stop.Failed still stops' =

@@ -13,8 +13,8 @@ use Rattle.acct_server.specs.Events.{lines_of}
 use Rattle.acct_server.specs.Replayed.{Effect, Move, Standing, Trace, Verdicts, on_line, moved, behind, follow}
 use Rattle.acct_server.specs.Replayed.{unless_full, ends, ending, trace_from, at_start, verdict_in, replayed}
 use Rattle.acct_server.specs.Replayed.{entries_of, output_of, line_bytes}
-use Rattle.acct_server.specs.Running.{Running, standing, Does, Refuses, MayStop}
-use Rattle.acct_server.specs.Leaves.{Leaves, Breaks, Stops, Finishes, FinishBreaks}
+use Rattle.acct_server.specs.steps.Running.{Running, standing, DoesLine, Refuses, MayStop}
+use Rattle.acct_server.specs.Leaves.{Leaves, Breaks, RunsOut, Finishes, FinishBreaks}
 use Rattle.acct_server.proofs.Bytes.{Appends-then, Appends-none}
 
 behind-behind : (xs ys : List Effect) (t : Trace) → behind xs (behind ys t) ≡ behind (xs ++ ys) t
@@ -108,7 +108,7 @@ OfLine run line verdicts = on_line verdicts (standing run) line
 pub going-on : (start : Start) (held now then : Option (List ℕ)) (events : List ℕ) (old new : Running) (number : ℕ)
     (ahead line after output : List ℕ)
     → Going start held now events old number ahead → lines_of ahead ≡ line ∷ lines_of after
-    → Does (λ verdicts. on_line verdicts (standing old) line) old output None new → Appends now then output
+    → DoesLine (λ verdicts. on_line verdicts (standing old) line) old output None new → Appends now then output
     → Going start held then events new (number + 1) after
 going-on start held now then events old new number ahead line after output going lines does appends =
     let e = does.move.effect in
@@ -138,7 +138,7 @@ whole start events history = ap (λ (h : List Entry). trace_from (verdict_in h) 
 pub going-breaks : (start : Start) (held now then : Option (List ℕ)) (events : List ℕ) (old new : Running) (number : ℕ)
     (ahead line after output : List ℕ) (found : Option ℕ) (written : ℕ)
     → Going start held now events old number ahead → lines_of ahead ≡ line ∷ lines_of after
-    → Does (λ verdicts. on_line verdicts (standing old) line) old output found new
+    → DoesLine (λ verdicts. on_line verdicts (standing old) line) old output found new
     → Appends now then (take written output)
     → Breaks start held then events new.machine.history
 going-breaks start held now then events old new number ahead line after output found written going lines does appends =
@@ -183,7 +183,7 @@ record Filled (start : Start) (held now : Option (List ℕ)) (events : List ℕ)
 filled : (start : Start) (held now then : Option (List ℕ)) (events : List ℕ) (old new : Running) (number : ℕ)
     (ahead line after output : List ℕ) (count : ℕ)
     → Going start held now events old number ahead → lines_of ahead ≡ line ∷ lines_of after
-    → Does (λ verdicts. on_line verdicts (standing old) line) old output (Some count) new → Appends now then output
+    → DoesLine (λ verdicts. on_line verdicts (standing old) line) old output (Some count) new → Appends now then output
     → Filled start held then events new (HistoryFull count)
 filled start held now then events old new number ahead line after output count going lines does appends =
     let e = does.move.effect in
@@ -212,7 +212,7 @@ filled-whole start held now events old new status f history =
 pub going-fills : (start : Start) (held now then last : Option (List ℕ)) (events : List ℕ) (old mid new : Running)
     (number : ℕ) (ahead line after output : List ℕ) (count : ℕ) (answer : Status)
     → Going start held now events old number ahead → lines_of ahead ≡ line ∷ lines_of after
-    → Does (λ verdicts. on_line verdicts (standing old) line) old output (Some count) mid → Appends now then output
+    → DoesLine (λ verdicts. on_line verdicts (standing old) line) old output (Some count) mid → Appends now then output
     → Finishes then last mid new (HistoryFull count) answer
     → Leaves start held last events new.machine.history answer
 going-fills start held now then last events old mid new number ahead line after output count answer going lines does
@@ -232,7 +232,7 @@ going-fills start held now then last events old mid new number ahead line after 
 pub going-fill-breaks : (start : Start) (held now then last : Option (List ℕ)) (events : List ℕ)
     (old mid new : Running) (number : ℕ) (ahead line after output : List ℕ) (count : ℕ)
     → Going start held now events old number ahead → lines_of ahead ≡ line ∷ lines_of after
-    → Does (λ verdicts. on_line verdicts (standing old) line) old output (Some count) mid → Appends now then output
+    → DoesLine (λ verdicts. on_line verdicts (standing old) line) old output (Some count) mid → Appends now then output
     → FinishBreaks then last mid new → Breaks start held last events new.machine.history
 going-fill-breaks start held now then last events old mid new number ahead line after output count going lines does
     appends broken =
@@ -253,9 +253,9 @@ going-fill-breaks start held now then last events old mid new number ahead line 
 pub going-fill-stops : (start : Start) (held now then : Option (List ℕ)) (events : List ℕ) (old mid new : Running)
     (number : ℕ) (ahead line after output : List ℕ) (count : ℕ)
     → Going start held now events old number ahead → lines_of ahead ≡ line ∷ lines_of after
-    → Does (λ verdicts. on_line verdicts (standing old) line) old output (Some count) mid → Appends now then output
+    → DoesLine (λ verdicts. on_line verdicts (standing old) line) old output (Some count) mid → Appends now then output
     → new.machine.history ≡ mid.machine.history
-    → Stops start held then events new.machine.history
+    → RunsOut start held then events new.machine.history
 going-fill-stops start held now then events old mid new number ahead line after output count going lines does appends
     same =
     let f = filled start held now then events old mid number ahead line after output count going lines does appends in
@@ -374,7 +374,7 @@ going-refused-breaks start held now then events old same new number ahead line a
 -- memory runs out where the entries that stand are those of the effects done
 pub going-stops : (start : Start) (held now : Option (List ℕ)) (events : List ℕ) (old new : Running) (number : ℕ)
     (ahead : List ℕ) → Going start held now events old number ahead → new.machine.history ≡ old.machine.history
-    → Stops start held now events new.machine.history
+    → RunsOut start held now events new.machine.history
 going-stops start held now events old new number ahead going same =
     let others = trace_from (verdict_in (old.machine.history ++ [])) (standing old) (number + 1) (lines_of ahead) in
     let is : replayed start events new.machine.history ≡ behind going.done others =
@@ -394,7 +394,7 @@ pub going-may-stop : (start : Start) (held now : Option (List ℕ)) (events : Li
     (ahead line after : List ℕ)
     → Going start held now events old number ahead → lines_of ahead ≡ line ∷ lines_of after
     → MayStop (λ verdicts. on_line verdicts (standing old) line) old new
-    → Stops start held now events new.machine.history
+    → RunsOut start held now events new.machine.history
 going-may-stop start held now events old new number ahead line after going lines (inl same) =
     going-stops start held now events old new number ahead going same
 going-may-stop start held now events old new number ahead line after going lines (inr enters) =
@@ -439,7 +439,7 @@ going-may-stop start held now events old new number ahead line after going lines
 
 -- memory runs out before a line was run
 stops-none : (start : Start) (held : Option (List ℕ)) (events : List ℕ) (history : List Entry) → history ≡ []
-    → Stops start held held events history
+    → RunsOut start held held events history
 stops-none start held events history none = record {
   later = entries_of (replayed start events history).effects;
   written = 0;
@@ -448,6 +448,6 @@ stops-none start held events history none = record {
 }
 
 pub stops-early : (start : Start) (held left : Option (List ℕ)) (history : List Entry) → history ≡ []
-    → IfSome left (λ bytes. Stops start held held bytes history)
+    → IfSome left (λ bytes. RunsOut start held held bytes history)
 stops-early start held None history none = tt
 stops-early start held (Some bytes) history none = stops-none start held bytes history none

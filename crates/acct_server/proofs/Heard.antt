@@ -9,20 +9,20 @@ use Rattle.rpc_session.specs.declared.sessions.Act.{Act}
 use Rattle.rpc_session.specs.declared.sessions.Session.TheVariants.{Unbound}
 use Rattle.rpc_session.specs.declared.hearing.Hearing.{Hearing}
 use Rattle.rpc_session.specs.declared.hearing.Hearing.TheVariants.{Going}
-use Rattle.rpc_session.specs.Hearings.{Heard, hear, hear_in, on, joined, is_going, HasRoom}
-use Rattle.rpc_session.specs.Acts.{acts, IsCutAnywhere, IsRoomByLength, IsFit, AllFit, IsLastOf, AreRefusalsLast}
+use Rattle.rpc_session.specs.Sessions.{Heard, hear, hear_in, on, joined, is_going, HasRoom, acts}
+use Rattle.rpc_session.specs.Acts.{IsCutAnywhere, IsRoomByLength, IsFit, AllFit, IsLastOf, AreRefusalsLast}
 use Rattle.link_sessions.specs.declared.connections.Peer.{Peer}
 use Rattle.link_sessions.specs.declared.connections.Peer.TheVariants.{Open, Ended as EndedPeer}
 use Rattle.link_sessions.specs.Connections.{nothing_heard}
 use Rattle.acct_server.specs.Replayed.{peer_of, with_peer}
-use Rattle.acct_server.specs.Running.{Running, Hears, HasHeard, AllHeard, IsClosing, peers_behind}
+use Rattle.acct_server.specs.steps.Running.{Running, Hears, HeardPeer, AllHeard, IsClosing, peers_behind}
 use Rattle.acct_server.proofs.Placing.{peer-here, peer-there, some-is, some-there}
 use Rattle.std.specs.Prelude.{IsSome}
 
 -- what a connection has heard that is open
 heard-open : (most conn : ℕ) (hearing : Hearing) (peer : Option Peer) → peer ≡ Some (Open hearing)
-    → HasHeard most conn peer → HasHeard most conn (Some (Open hearing))
-heard-open most conn hearing peer is heard = subst (λ (p : Option Peer). HasHeard most conn p) is heard
+    → HeardPeer most conn peer → HeardPeer most conn (Some (Open hearing))
+heard-open most conn hearing peer is heard = subst (λ (p : Option Peer). HeardPeer most conn p) is heard
 
 -- the whole stream with the piece
 with-piece : IsCutAnywhere → (conn : ℕ) (stream piece : List ℕ) (hearing : Hearing)
@@ -34,14 +34,14 @@ with-piece cut conn stream piece hearing stands =
 
 -- there is room for the piece
 pub piece-fits : IsRoomByLength → (conn : ℕ) (hearing : Hearing) (piece : List ℕ)
-    → HasHeard (2 ^ 32) conn (Some (Open hearing)) → length piece ≤ 2 ^ 32 → HasRoom hearing piece
+    → HeardPeer (2 ^ 32) conn (Some (Open hearing)) → length piece ≤ 2 ^ 32 → HasRoom hearing piece
 piece-fits room conn hearing piece heard short =
     let le = heard.2 in
     room conn heard.0 hearing (acts conn heard.0) piece heard.1 (omega (arith, le, short))
 
 pub piece-heard : IsCutAnywhere → (most conn : ℕ) (hearing : Hearing) (piece : List ℕ)
-    → HasHeard most conn (Some (Open hearing))
-    → HasHeard (most + length piece) conn (Some (Open (on hearing piece).leaves))
+    → HeardPeer most conn (Some (Open hearing))
+    → HeardPeer (most + length piece) conn (Some (Open (on hearing piece).leaves))
 piece-heard cut most conn hearing piece heard =
     let stream = heard.0 in
     let le = heard.2 in
@@ -59,7 +59,7 @@ acts-behind cut conn stream piece hearing stands =
     ap (λ (x : Heard). x.acts) (with-piece cut conn stream piece hearing stands)
 
 pub piece-acts-fit : IsCutAnywhere → AllFit → (most conn : ℕ) (hearing : Hearing) (piece : List ℕ)
-    → HasHeard most conn (Some (Open hearing)) → All IsFit (on hearing piece).acts
+    → HeardPeer most conn (Some (Open hearing)) → All IsFit (on hearing piece).acts
 piece-acts-fit cut fit most conn hearing piece heard =
     let stream = heard.0 in
     let before = acts conn stream in
@@ -80,7 +80,7 @@ closing-by count n i j whole leaves (Some a) at all same last = λ is.
     k.0 in (omega (arith, place, at, all), ap (λ (h : Hearing). is_going h) (sym same ∙ k.1))
 
 pub piece-closes : IsCutAnywhere → AreRefusalsLast → (most conn : ℕ) (hearing : Hearing) (piece : List ℕ)
-    → HasHeard most conn (Some (Open hearing))
+    → HeardPeer most conn (Some (Open hearing))
     → (i : ℕ) → IsClosing (is_going (on hearing piece).leaves) i (length (on hearing piece).acts)
     (slice_get (on hearing piece).acts i)
 piece-closes cut last most conn hearing piece heard i =
@@ -97,7 +97,7 @@ piece-closes cut last most conn hearing piece heard i =
     (ap (λ (as' : List Act). length as') behind ∙ length-append before new) (ap (λ (x : Heard). x.leaves) is)
     (subst (λ (o : Option Act). IsLastOf whole at.0 o) here (last conn (stream ++ piece) at.0))
 
-more-heard : (most more conn : ℕ) (peer : Option Peer) → HasHeard most conn peer → HasHeard (most + more) conn peer
+more-heard : (most more conn : ℕ) (peer : Option Peer) → HeardPeer most conn peer → HeardPeer (most + more) conn peer
 more-heard most more conn None heard = tt
 more-heard most more conn (Some (Open hearing)) heard = let le = heard.2 in (heard.0, heard.1, omega (arith, le))
 more-heard most more conn (Some EndedPeer) heard = tt
@@ -145,12 +145,12 @@ pub all-heard : IsCutAnywhere → (most conn : ℕ) (hearing : Hearing) (piece :
 all-heard cut most conn hearing piece peers stands heard k =
     let new = Open (on hearing piece).leaves in
     elim (cases_eq conn k) [
-      | inl same ↦ subst (λ (n : ℕ). HasHeard (most + length piece) n (peer_of n (with_peer conn new peers))) same
-          (subst (λ (o : Option Peer). HasHeard (most + length piece) conn o)
+      | inl same ↦ subst (λ (n : ℕ). HeardPeer (most + length piece) n (peer_of n (with_peer conn new peers))) same
+          (subst (λ (o : Option Peer). HeardPeer (most + length piece) conn o)
           (sym (peer-here conn peers new (Open hearing) stands))
           (piece-heard cut most conn hearing piece
-          (subst (λ (o : Option Peer). HasHeard most conn o) stands (heard conn))))
-      | inr other ↦ subst (λ (o : Option Peer). HasHeard (most + length piece) k o)
+          (subst (λ (o : Option Peer). HeardPeer most conn o) stands (heard conn))))
+      | inr other ↦ subst (λ (o : Option Peer). HeardPeer (most + length piece) k o)
           (sym (peer-there conn k peers new other)) (more-heard most (length piece) k (peer_of k peers) (heard k))
     ]
 
@@ -185,20 +185,20 @@ pub all-heard-ended : (most conn : ℕ) (peers : List Peer) (p : Peer) → peer_
     → AllHeard most (with_peer conn EndedPeer peers)
 all-heard-ended most conn peers p stands heard k =
     elim (cases_eq conn k) [
-      | inl same ↦ subst (λ (n : ℕ). HasHeard most n (peer_of n (with_peer conn EndedPeer peers))) same
-          (subst (λ (o : Option Peer). HasHeard most conn o) (sym (peer-here conn peers EndedPeer p stands)) tt)
-      | inr other ↦ subst (λ (o : Option Peer). HasHeard most k o) (sym (peer-there conn k peers EndedPeer other))
+      | inl same ↦ subst (λ (n : ℕ). HeardPeer most n (peer_of n (with_peer conn EndedPeer peers))) same
+          (subst (λ (o : Option Peer). HeardPeer most conn o) (sym (peer-here conn peers EndedPeer p stands)) tt)
+      | inr other ↦ subst (λ (o : Option Peer). HeardPeer most k o) (sym (peer-there conn k peers EndedPeer other))
           (heard k)
     ]
 
-fresh-heard : (most conn : ℕ) → HasHeard most conn (Some (Open (nothing_heard conn)))
+fresh-heard : (most conn : ℕ) → HeardPeer most conn (Some (Open (nothing_heard conn)))
 unfolding hear hear_in
 fresh-heard most conn = ([], record { told = refl; stands = refl }, omega arith)
 
-pushed-heard : (most k c i : ℕ) (peers : List Peer) → (i ≡ length peers → c ≡ k) → HasHeard most k (slice_get peers i)
-    → HasHeard most k (slice_get (peers ++ Open (nothing_heard c) ∷ []) i)
+pushed-heard : (most k c i : ℕ) (peers : List Peer) → (i ≡ length peers → c ≡ k) → HeardPeer most k (slice_get peers i)
+    → HeardPeer most k (slice_get (peers ++ Open (nothing_heard c) ∷ []) i)
 pushed-heard most k c zero [] same heard =
-    subst (λ (n : ℕ). HasHeard most k (Some (Open (nothing_heard n)))) (sym (same refl)) (fresh-heard most k)
+    subst (λ (n : ℕ). HeardPeer most k (Some (Open (nothing_heard n)))) (sym (same refl)) (fresh-heard most k)
 pushed-heard most k c (suc i) [] same heard = tt
 pushed-heard most k c zero (p ∷ peers) same heard = heard
 pushed-heard most k c (suc i) (p ∷ peers) same heard = pushed-heard most k c i peers (λ e. same (ap suc e)) heard
@@ -209,7 +209,7 @@ all-heard-pushed most conn peers is heard zero = tt
 all-heard-pushed most conn peers is heard (suc i) =
     pushed-heard most (suc i) conn i peers (λ e. omega (arith, e, is)) (heard (suc i))
 
-has-within : (n most conn : ℕ) (peer : Option Peer) → n ≤ most → HasHeard n conn peer → HasHeard most conn peer
+has-within : (n most conn : ℕ) (peer : Option Peer) → n ≤ most → HeardPeer n conn peer → HeardPeer most conn peer
 has-within n most conn None le heard = tt
 has-within n most conn (Some (Open hearing)) le heard = let within =
     heard.2 in (heard.0, heard.1, omega (arith, within, le))
@@ -220,7 +220,7 @@ all-within n most peers le heard conn = has-within n most conn (peer_of conn pee
 
 pub none-heard : (n : ℕ) (peers : List Peer) → peers ≡ [] → AllHeard n peers
 none-heard n peers none zero = tt
-none-heard n peers none (suc i) = subst (λ (ps : List Peer). HasHeard n (suc i) (slice_get ps i)) (sym none) tt
+none-heard n peers none (suc i) = subst (λ (ps : List Peer). HeardPeer n (suc i) (slice_get ps i)) (sym none) tt
 
 -- the connection that heard a piece is there
 pub heard-there : (old mid : Running) (conn : ℕ) (bytes : List ℕ) (as' : List Act) → Hears conn bytes old as' mid

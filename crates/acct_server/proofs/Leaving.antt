@@ -7,7 +7,7 @@ use Rattle.std.proofs.lemmas.Bool.Decides.{nat_tests}
 use Rattle.std.specs.List.{list_any}
 use Rattle.rpc_pdu.specs.declared.pdus.Pdu.{Pdu}
 use Rattle.rpc_pdu.specs.declared.pdus.Side.TheVariants.{Server}
-use Rattle.rpc_pdu.specs.Front.{Front, Whole, Rest, Refused, front}
+use Rattle.rpc_pdu.specs.Bodies.{Front, Whole, Rest, Refused, front}
 use Rattle.rpc_session.specs.declared.sessions.Act.{Act}
 use Rattle.rpc_session.specs.declared.sessions.Act.TheVariants as act
 use Rattle.rpc_session.specs.declared.sessions.Request.{Request}
@@ -17,17 +17,16 @@ use Rattle.rpc_session.specs.declared.sessions.Step.TheVariants.{Refuses, Goes}
 use Rattle.rpc_session.specs.declared.hearing.Hearing.{Hearing}
 use Rattle.rpc_session.specs.declared.hearing.Hearing.TheVariants as hearing
 use Rattle.rpc_session.specs.Acts.{is_refusal}
-use Rattle.rpc_session.specs.Hearings.{Heard, hear, hear_in, heard_next, next_of, stepped, on_next, listed, on}
-use Rattle.rpc_session.specs.Hearings.{is_going}
-use Rattle.rpc_session.specs.Sessions.{taken}
+use Rattle.rpc_session.specs.Sessions.{Heard, hear, hear_in, heard_next, next_of, stepped, on_next, listed, on}
+use Rattle.rpc_session.specs.Sessions.{is_going, taken}
 use Rattle.acct_calls.specs.declared.calls.Call.{Call}
 use Rattle.acct_machine.specs.declared.entry.Entry.{Entry}
 use Rattle.acct_machine.specs.declared.entry.Entry.TheVariants.{Opened, Called, Gone}
-use Rattle.acct_machine.specs.Room.{conns_full, call_full}
+use Rattle.acct_machine.specs.Legal.{conns_full, call_full}
 use Rattle.acct_machine.specs.State.{Start}
 use Rattle.acct_stubs.specs.declared.errors.WireError.{WireError}
 use Rattle.link_sessions.specs.Connections.{nothing_heard, is_served}
-use Rattle.link_sessions.specs.Requests.{call_on}
+use Rattle.link_sessions.specs.Transcript.{call_on}
 use Rattle.link_sessions.specs.declared.connections.Peer.{Peer}
 use Rattle.link_sessions.specs.declared.connections.Peer.TheVariants.{Open, Ended}
 use Rattle.acct_server.specs.Events.{event_of, lines_of}

@@ -15,11 +15,11 @@ use Rattle.acct_machine.specs.Machine.{with_entry, SameLive}
 use Rattle.acct_machine.specs.State.{State}
 use Rattle.acct_machine.specs.Shown.{Past}
 use Rattle.acct_machine.specs.Step.{acted, state_at}
-use Rattle.acct_machine.specs.Room.{conns_full, call_full}
+use Rattle.acct_machine.specs.Legal.{conns_full, call_full}
 use Rattle.rpc_session.specs.declared.sessions.Act.{Act}
 use Rattle.rpc_session.specs.declared.sessions.Act.TheVariants as act
 use Rattle.rpc_session.specs.declared.hearing.Hearing.{Hearing}
-use Rattle.rpc_session.specs.Hearings.{on}
+use Rattle.rpc_session.specs.Sessions.{on}
 use Rattle.acct_server.specs.declared.events.Event.{Event}
 use Rattle.acct_server.specs.declared.events.Event.TheVariants as event
 use Rattle.link_sessions.specs.declared.connections.Peer.{Peer}
@@ -27,15 +27,15 @@ use Rattle.link_sessions.specs.declared.connections.Peer.TheVariants.{Open, Ende
 use Rattle.acct_stubs.specs.declared.errors.WireError.{WireError}
 use Rattle.rpc_session.specs.declared.sessions.Request.{Request}
 use Rattle.link_sessions.specs.Transcript.{answer_bytes, undecoded_bytes, busy_bytes}
-use Rattle.link_sessions.specs.Answering.{Enters, AnswersCall, AnswersBy, BeginsRequest, FindsFull}
+use Rattle.link_sessions.specs.Answering.{EntersCall, AnswersCall, AnswersBy, BeginsRequest, FindsFull}
 use Rattle.acct_server.specs.Replayed.{Standing, Move, Doing, Verdicts, Printed, Out, IsGone, on_listener}
 use Rattle.link_sessions.specs.Connections.{nothing_heard}
 use Rattle.acct_server.specs.Replayed.{on_open, listener_from, gone, number_of, peer_of, with_peer}
 use Rattle.acct_server.specs.Replayed.{line_bytes, on_end, on_event, quiet, on_heard, on_data, on_act, on_acts}
 use Rattle.acct_server.specs.Replayed.{on_request, on_call, prints_only, both, both_by, peer_behind, verdict_in}
 use Rattle.acct_server.specs.Replayed.{verdict_of, FoundFull, full_line, opened, on_decoded, on_full}
-use Rattle.acct_server.specs.Running.{Running, standing, Ties, Acts, Began, Hears, Does, Refuses, MayStop}
-use Rattle.acct_server.specs.Running.{peers_behind}
+use Rattle.acct_server.specs.steps.Running.{Running, standing, Ties, DoesActs, Began, Hears, DoesLine, Refuses, MayStop}
+use Rattle.acct_server.specs.steps.Running.{peers_behind}
 use Rattle.acct_server.proofs.Room.{both-open, both-full, both-entries, others_by}
 use Rattle.acct_server.proofs.Placing.{with-other}
 
@@ -66,7 +66,7 @@ pub open-does : (old new : Running) (conn given listener : ℕ) (name output : L
     → given ≡ conn → conns_full old.machine.start old.machine.history ≡ None
     → new.machine ≡ with_entry old.machine (Opened given listener)
     → new.peers ≡ old.peers ++ Open (nothing_heard conn) ∷ [] → output ≡ []
-    → Does (λ verdicts. on_open (standing old) conn name) old output None new
+    → DoesLine (λ verdicts. on_open (standing old) conn name) old output None new
 open-does old new conn given listener name output found next same room machine peers printed = record {
   move = opening (standing old) conn listener;
   full = refl;
@@ -82,7 +82,7 @@ open-does old new conn given listener name output found next same room machine p
 pub open-full : (old new : Running) (conn listener count : ℕ) (name output : List ℕ)
     → listener_from 0 name old.machine.start.config.listeners ≡ Some listener → conn ≡ length old.peers + 1
     → conns_full old.machine.start old.machine.history ≡ Some count → new ≡ old → output ≡ full_line conn
-    → Does (λ verdicts. on_open (standing old) conn name) old output (Some count) new
+    → DoesLine (λ verdicts. on_open (standing old) conn name) old output (Some count) new
 open-full old new conn listener count name output found next full same printed = record {
   move = unopened (standing old) conn count;
   full = refl;
@@ -99,7 +99,7 @@ open-full old new conn listener count name output found next full same printed =
 -- an act that makes no entry
 pub prints-act : (what : Verdicts → Doing) (before now : List Entry) (lines : List Printed)
     (old_lines new_lines : List ℕ) → ((verdicts : Verdicts) → what verdicts ≡ prints_only lines) → now ≡ before
-    → new_lines ≡ old_lines ++ flat_map line_bytes lines → Acts what before now old_lines new_lines None
+    → new_lines ≡ old_lines ++ flat_map line_bytes lines → DoesActs what before now old_lines new_lines None
 prints-act what before now lines old_lines new_lines is same printed = record {
   doing = prints_only lines;
   full = refl;
@@ -112,7 +112,8 @@ prints-act what before now lines old_lines new_lines is same printed = record {
 undecoded-acts : (start : Start) (before now : List Entry) (conn : ℕ) (asked : Request) (stub_size : ℕ) (e : WireError)
     (old_lines new_lines : List ℕ) → now ≡ before
     → new_lines ≡ old_lines ++ line_bytes (Out conn (undecoded_bytes asked e))
-    → Acts (λ verdicts. on_request start verdicts before conn asked stub_size (Err e)) before now old_lines new_lines
+    → DoesActs (λ verdicts. on_request start verdicts before conn asked stub_size (Err e)) before now old_lines
+    new_lines
     None
 undecoded-acts start before now conn asked stub_size e old_lines new_lines same printed =
     prints-act (λ verdicts. on_request start verdicts before conn asked stub_size (Err e)) before now
@@ -122,7 +123,8 @@ undecoded-acts start before now conn asked stub_size e old_lines new_lines same 
 -- bytes were answered without a call
 answered-acts : (start : Start) (before : List Entry) (conn : ℕ) (bytes old_lines new_lines : List ℕ)
     → new_lines ≡ old_lines ++ line_bytes (Out conn bytes)
-    → Acts (λ verdicts. on_act start verdicts before conn (act.Answered bytes)) before before old_lines new_lines None
+    → DoesActs (λ verdicts. on_act start verdicts before conn (act.Answered bytes)) before before old_lines new_lines
+    None
 answered-acts start before conn bytes old_lines new_lines printed =
     prints-act (λ verdicts. on_act start verdicts before conn (act.Answered bytes)) before before (Out conn bytes ∷ [])
     old_lines new_lines (λ verdicts. refl) refl
@@ -130,7 +132,7 @@ answered-acts start before conn bytes old_lines new_lines printed =
 
 -- no act was done yet
 pub none-done : (start : Start) (conn : ℕ) (before : List Entry) (lines : List ℕ) → lines ≡ []
-    → Acts (λ verdicts. on_acts start verdicts before conn []) before before [] lines None
+    → DoesActs (λ verdicts. on_acts start verdicts before conn []) before before [] lines None
 none-done start conn before lines none =
     record { doing = prints_only []; full = refl; is = λ later. refl; history = sym (append-nil before); prints = none }
 
@@ -168,19 +170,19 @@ Only before found = found ≡ before
 
 -- the entry of a call stands
 enters-here : (start : Start) (before now : List Entry) (conn : ℕ) (call : Call) (stub_size : ℕ)
-    → (enters : Enters start conn (Only before) now call stub_size)
+    → (enters : EntersCall start conn (Only before) now call stub_size)
     → now ≡ before ++ Called conn call enters.verdict stub_size ∷ []
 enters-here start before now conn call stub_size enters =
     enters.entered ∙ ap (λ (h : List Entry). h ++ Called conn call enters.verdict stub_size ∷ []) enters.finds_it
 
 -- the history takes it
 taken-here : (start : Start) (before now : List Entry) (conn : ℕ) (call : Call) (stub_size : ℕ)
-    → Enters start conn (Only before) now call stub_size → call_full start before stub_size ≡ None
+    → EntersCall start conn (Only before) now call stub_size → call_full start before stub_size ≡ None
 taken-here start before now conn call stub_size enters =
     subst (λ (h : List Entry). call_full start h stub_size ≡ None) enters.finds_it enters.taken
 
 call-began : (start : Start) (before now : List Entry) (conn : ℕ) (asked : Request) (stub_size : ℕ) (call : Call)
-    → Enters start conn (Only before) now call stub_size
+    → EntersCall start conn (Only before) now call stub_size
     → Began (λ verdicts. on_request start verdicts before conn asked stub_size (Ok call)) before now
 call-began start before now conn asked stub_size call enters =
     let history = enters-here start before now conn call stub_size enters in record {
@@ -215,7 +217,8 @@ answered-began start before now conn asked stub_size (Ok call) bytes answers = i
 call-acts : (start : Start) (before now : List Entry) (conn : ℕ) (asked : Request) (stub_size : ℕ) (call : Call)
     (bytes old_lines new_lines : List ℕ) → AnswersCall start conn (Only before) now asked stub_size call bytes
     → new_lines ≡ old_lines ++ line_bytes (Out conn bytes)
-    → Acts (λ verdicts. on_request start verdicts before conn asked stub_size (Ok call)) before now old_lines new_lines
+    → DoesActs (λ verdicts. on_request start verdicts before conn asked stub_size (Ok call)) before now old_lines
+    new_lines
     None
 call-acts start before now conn asked stub_size call bytes old_lines new_lines answers printed =
     let enters = answers.enters in
@@ -238,7 +241,7 @@ pub request-acts : (start : Start) (before now : List Entry) (conn : ℕ) (asked
     (r : Result Call WireError) (bytes old_lines new_lines : List ℕ)
     → AnswersBy start conn (Only before) before now asked stub_size r bytes
     → new_lines ≡ old_lines ++ line_bytes (Out conn bytes)
-    → Acts (λ verdicts. on_request start verdicts before conn asked stub_size r) before now old_lines new_lines None
+    → DoesActs (λ verdicts. on_request start verdicts before conn asked stub_size r) before now old_lines new_lines None
 request-acts start before now conn asked stub_size (Err e) bytes old_lines new_lines answers printed =
     undecoded-acts start before now conn asked stub_size e old_lines new_lines answers.0
     (printed ∙ ap (λ (bs : List ℕ). old_lines ++ line_bytes (Out conn bs)) answers.1)
@@ -249,7 +252,7 @@ request-acts start before now conn asked stub_size (Ok call) bytes old_lines new
 pub request-fills : (start : Start) (before mid : List Entry) (conn : ℕ) (asked : Request) (stub_size : ℕ)
     (call : Call) (count : ℕ) (old_lines new_lines : List ℕ) → FindsFull start (Only before) mid stub_size count
     → new_lines ≡ old_lines ++ line_bytes (Out conn (busy_bytes asked))
-    → Acts (λ verdicts. on_request start verdicts before conn asked stub_size (Ok call)) before
+    → DoesActs (λ verdicts. on_request start verdicts before conn asked stub_size (Ok call)) before
     (mid ++ Gone conn ∷ []) old_lines (new_lines ++ line_bytes (FoundFull conn)) (Some count)
 request-fills start before mid conn asked stub_size call count old_lines new_lines finds printed =
     let out = line_bytes (Out conn (busy_bytes asked)) in
@@ -305,9 +308,9 @@ acts-both start conn x xs before mid now d is stands room more longer later =
 -- an act was done, and then those after it
 pub acts-before : (start : Start) (conn : ℕ) (x : Act) (xs : List Act) (before mid now : List Entry)
     (old_lines mid_lines new_lines : List ℕ) (found : Option ℕ)
-    → Acts (λ verdicts. on_act start verdicts before conn x) before mid old_lines mid_lines None
-    → Acts (λ verdicts. on_acts start verdicts mid conn xs) mid now mid_lines new_lines found
-    → Acts (λ verdicts. on_acts start verdicts before conn (x ∷ xs)) before now old_lines new_lines found
+    → DoesActs (λ verdicts. on_act start verdicts before conn x) before mid old_lines mid_lines None
+    → DoesActs (λ verdicts. on_acts start verdicts mid conn xs) mid now mid_lines new_lines found
+    → DoesActs (λ verdicts. on_acts start verdicts before conn (x ∷ xs)) before now old_lines new_lines found
 acts-before start conn x xs before mid now old_lines mid_lines new_lines found one others = record {
   doing = both_by None one.doing others.doing;
   full = others.full;
@@ -325,8 +328,8 @@ acts-before start conn x xs before mid now old_lines mid_lines new_lines found o
 -- one found the history full: those after it aren't done
 pub acts-full : (start : Start) (conn : ℕ) (x : Act) (xs : List Act) (before now : List Entry)
     (old_lines new_lines : List ℕ) (count : ℕ)
-    → Acts (λ verdicts. on_act start verdicts before conn x) before now old_lines new_lines (Some count)
-    → Acts (λ verdicts. on_acts start verdicts before conn (x ∷ xs)) before now old_lines new_lines (Some count)
+    → DoesActs (λ verdicts. on_act start verdicts before conn x) before now old_lines new_lines (Some count)
+    → DoesActs (λ verdicts. on_acts start verdicts before conn (x ∷ xs)) before now old_lines new_lines (Some count)
 acts-full start conn x xs before now old_lines new_lines count one = record {
   doing = one.doing;
   full = one.full;
@@ -341,7 +344,7 @@ acts-full start conn x xs before now old_lines new_lines count one = record {
 -- memory ran out after an act
 pub began-before : (start : Start) (conn : ℕ) (x : Act) (xs : List Act) (before mid now : List Entry)
     (old_lines mid_lines : List ℕ)
-    → Acts (λ verdicts. on_act start verdicts before conn x) before mid old_lines mid_lines None
+    → DoesActs (λ verdicts. on_act start verdicts before conn x) before mid old_lines mid_lines None
     → Began (λ verdicts. on_acts start verdicts mid conn xs) mid now
     → Began (λ verdicts. on_acts start verdicts before conn (x ∷ xs)) before now
 began-before start conn x xs before mid now old_lines mid_lines one began = record {
@@ -384,10 +387,11 @@ behind-heard None conn leaves peers = refl
 behind-heard (Some count) conn leaves peers = with-other conn peers (Open leaves) Ended
 
 pub data-does : (old mid new : Running) (conn : ℕ) (bytes output : List ℕ) (as' : List Act) (found : Option ℕ)
-    → Hears conn bytes old as' mid → Acts (λ verdicts. on_acts mid.machine.start verdicts mid.machine.history conn as')
+    → Hears conn bytes old as' mid
+    → DoesActs (λ verdicts. on_acts mid.machine.start verdicts mid.machine.history conn as')
     mid.machine.history new.machine.history [] output found
     → new.peers ≡ peers_behind found conn mid.peers → new.machine.start ≡ mid.machine.start
-    → Does (λ verdicts. on_data verdicts (standing old) conn bytes (peer_of conn old.peers)) old output found new
+    → DoesLine (λ verdicts. on_data verdicts (standing old) conn bytes (peer_of conn old.peers)) old output found new
 data-does old mid new conn bytes output as' found hears done peers start =
     let heard = on hears.hearing bytes in
     let machine : mid.machine ≡ old.machine = ap (λ (r : Running). r.machine) hears.left in
@@ -449,7 +453,7 @@ pub end-does : (old new : Running) (conn : ℕ) (h : Hearing) (output : List ℕ
     → new.machine.start ≡ old.machine.start
     → new.peers ≡ with_peer conn Ended old.peers
     → output ≡ flat_map line_bytes (map IsGone (number_of conn (Some (Open h))))
-    → Does (λ verdicts. on_end (standing old) conn (peer_of conn old.peers)) old output None new
+    → DoesLine (λ verdicts. on_end (standing old) conn (peer_of conn old.peers)) old output None new
 end-does old new conn h output stands history start peers printed = record {
   move = record { effect = gone (number_of conn (Some (Open h))); peers = with_peer conn Ended old.peers };
   full = refl;
@@ -462,7 +466,7 @@ end-does old new conn h output stands history start peers printed = record {
 
 -- the move of a line that says nothing
 pub nothing-does : (run : Running) (e : Event) (output : List ℕ) → e ≡ event.Nothing → output ≡ []
-    → Does (λ verdicts. on_event verdicts (standing run) (Some e)) run output None run
+    → DoesLine (λ verdicts. on_event verdicts (standing run) (Some e)) run output None run
 nothing-does run e output is printed = record {
   move = quiet run.peers;
   full = refl;
@@ -476,11 +480,12 @@ nothing-does run e output is printed = record {
 -- the clauses of an event, by what the event is
 pub event-does : {O E : Type 0} (items : O → List ℕ) (found : O → Option ℕ) (old new : Running) (e known : Event)
     (r : Result O E) → e ≡ known
-    → IfOk r (λ (o : O). Does (λ verdicts. on_event verdicts (standing old) (Some known)) old (items o) (found o) new)
-    → IfOk r (λ (o : O). Does (λ verdicts. on_event verdicts (standing old) (Some e)) old (items o) (found o) new)
+    → IfOk r (λ (o : O). DoesLine (λ verdicts. on_event verdicts (standing old) (Some known)) old (items o) (found o)
+    new)
+    → IfOk r (λ (o : O). DoesLine (λ verdicts. on_event verdicts (standing old) (Some e)) old (items o) (found o) new)
 event-does items found old new e known r is does =
     subst (λ (x : Event). IfOk r
-    (λ o. Does (λ verdicts. on_event verdicts (standing old) (Some x)) old (items o) (found o) new)) (sym is) does
+    (λ o. DoesLine (λ verdicts. on_event verdicts (standing old) (Some x)) old (items o) (found o) new)) (sym is) does
 
 pub event-refuses : (old new : Running) (e known : Event) (P : Type 0) → e ≡ known
     → (P → Refuses (λ verdicts. on_event verdicts (standing old) (Some known)) old new)

@@ -13,7 +13,7 @@ use Rattle.link_sessions.specs.declared.connections.Peer.{Peer}
 use Rattle.link_sessions.specs.declared.connections.Peer.TheVariants.{Ended}
 use Rattle.link_sessions.specs.Connections.{is_served}
 use Rattle.acct_server.specs.Replayed.{peer_of, with_peer}
-use Rattle.acct_server.specs.Running.{IsClosing, Ties}
+use Rattle.acct_server.specs.steps.Running.{IsClosing, Ties}
 use Rattle.acct_server.proofs.Closing.{length-set_peer}
 
 set_here : (i : ℕ) (peers : List Peer) (p q : Peer) → slice_get peers i ≡ Some q

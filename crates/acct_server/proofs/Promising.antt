@@ -14,21 +14,19 @@ use Rattle.acct_machine.specs.State.{Start}
 use Rattle.acct_machine.specs.declared.entry.Entry.{Entry}
 use Rattle.acct_machine.specs.declared.entry.Entry.TheVariants.{Opened, Gone}
 use Rattle.acct_rows.specs.Rows.{Shown}
-use Rattle.rpc_session.specs.Acts.{acts}
-use Rattle.rpc_session.specs.Hearings.{listed}
+use Rattle.rpc_session.specs.Sessions.{acts, listed}
 use Rattle.rpc_session.specs.declared.sessions.Act.{Act}
 use Rattle.rpc_session.specs.declared.sessions.Act.TheVariants as act
 use Rattle.link_sessions.specs.Sessions.{IsCutShort, IsLeftOff, IsTurnedAway, Transcript}
-use Rattle.link_sessions.specs.Transcribed.{IsTranscribed}
-use Rattle.link_sessions.specs.Transcript.{written, transcript, busy, no_bytes, busy_bytes, decoded_calls}
+use Rattle.link_sessions.specs.Transcript.{IsTranscribed, written, transcript, busy, no_bytes, busy_bytes}
+use Rattle.link_sessions.specs.Transcript.{decoded_calls}
 use Rattle.link_sessions.specs.declared.ends.SessionEnd.{SessionEnd}
 use Rattle.link_sessions.specs.declared.ends.SessionEnd.TheVariants as end
 use Rattle.link_sessions.proofs.Transcripts.{decoded-then, written-then, transcript-more, request-last}
-use Rattle.door_workers.specs.Doors.{DoorRun, ServesDoor, all_services}
+use Rattle.door_workers.specs.Doors.{DoorRun, ServesDoor, all_services, Has}
 use Rattle.door_workers.specs.Services.{Service, Served as ServedLink, Serves, Unopened, IsOfConn, ServesConn, HasGone}
-use Rattle.door_workers.specs.Working.{Has}
 use Rattle.door_workers.proofs.Places.{at-behind, has-either, has-none}
-use Rattle.acct_server.specs.Connections.{found_full, received, sent as sent_by_lines}
+use Rattle.acct_server.specs.Replaying.{found_full, received, sent as sent_by_lines}
 use Rattle.acct_server.specs.Headline.{Extent, ToTheEnd, UntilFull, UntilFullCut, UntilLost, Begin, AnswersAll}
 use Rattle.acct_server.specs.Headline.{AnswersUntilFull, AnswersUntilFullCut, AnswersUntilLost, AnswersBy, Headline}
 use Rattle.acct_server.specs.Headlines.{extent_by, IsFarAs, ReplayComesTo, HasOpened, IsOnLink, ServeComesTo}
@@ -182,7 +180,7 @@ gone-behind start events history k listener entries o =
     let parts = among-splits (Gone k) history (subst (λ (h : List Entry). Among (Gone k) h) (sym entries) goes) in
     record { before = parts.0; after = parts.1; is = parts.2 }
 
-pub replay-comes-to : {S T K : Type 0} (told : replaying.Telling S T K) (old new : replaying.Parts S T K)
+pub replay-comes-to : {S T K : Type 0} (told : replaying.TellingReplay S T K) (old new : replaying.Parts S T K)
     (left : Replayed K) → replaying.IsReplay told old new left → IsSome left.opening
     → ReplayComesTo told old new left
 replay-comes-to told old new left is there = elim is.leaves [
@@ -247,7 +245,7 @@ of-door (run ∷ runs) s has = elim (has-either run.services (all_services runs)
       }
 ]
 
-module _ {D L K : Type 0} (telling : serving.Telling D L K) (config : Config) (before now : List D) (keeper : K)
+module _ {D L K : Type 0} (telling : serving.TellingDoors D L K) (config : Config) (before now : List D) (keeper : K)
     (left : Served K) where
   -- what a link that served a connection shows of it
   on-link : RepliesToEach → (has : serving.HasServedDoors telling config before now keeper left) (s : ServedLink L)

@@ -13,13 +13,13 @@ use Rattle.acct_machine.specs.declared.entry.Entry.{Entry}
 use Rattle.acct_machine.specs.declared.entry.Entry.TheVariants.{Opened, Called, Gone, Hooked}
 use Rattle.acct_machine.specs.State.{Start, State, first as first_state}
 use Rattle.acct_machine.specs.Step.{state_after, state_at, step, acted}
-use Rattle.acct_machine.specs.Legal.{replies_from, replies, calls_of}
+use Rattle.acct_machine.specs.Legal.{replies_from, replies, calls_of, conns_full, call_full}
 use Rattle.rpc_session.specs.declared.sessions.Act.{Act}
 use Rattle.rpc_session.specs.declared.sessions.Act.TheVariants as act
 use Rattle.rpc_session.specs.declared.hearing.Hearing.{Hearing}
 use Rattle.rpc_session.specs.declared.hearing.Hearing.TheVariants as hearing
-use Rattle.rpc_session.specs.Hearings.{Heard, hear, hear_in, on}
-use Rattle.rpc_session.specs.Acts.{acts, IsCutAnywhere}
+use Rattle.rpc_session.specs.Sessions.{Heard, hear, hear_in, on, acts}
+use Rattle.rpc_session.specs.Acts.{IsCutAnywhere}
 use Rattle.acct_server.specs.declared.events.Event.{Event}
 use Rattle.acct_server.specs.declared.events.Event.TheVariants as event
 use Rattle.link_sessions.specs.declared.connections.Peer.{Peer}
@@ -28,10 +28,8 @@ use Rattle.acct_server.specs.declared.status.Status.{Status}
 use Rattle.acct_server.specs.declared.status.Status.TheVariants.{Done, EventLine, HistoryFull}
 use Rattle.acct_stubs.specs.declared.errors.WireError.{WireError}
 use Rattle.rpc_session.specs.declared.sessions.Request.{Request}
-use Rattle.link_sessions.specs.Requests.{call_on}
-use Rattle.link_sessions.specs.Transcript.{written, answered, answer_bytes, undecoded_bytes, busy_bytes}
-use Rattle.link_sessions.specs.Transcript.{decoded_calls}
-use Rattle.link_sessions.specs.Transcript.{with_call}
+use Rattle.link_sessions.specs.Transcript.{call_on, written, answered, answer_bytes, undecoded_bytes, busy_bytes}
+use Rattle.link_sessions.specs.Transcript.{decoded_calls, with_call, IsTranscribed, last_bytes}
 use Rattle.acct_server.specs.Events.{event_of, lines_of}
 use Rattle.acct_server.specs.Replayed.{Effect, Move, Doing, Standing, Trace, Verdicts, Printed, Out, IsClosed, IsGone}
 use Rattle.acct_server.specs.Replayed.{on_line, on_event, on_listener, listener_from, on_data, on_heard, on_acts}
@@ -40,14 +38,11 @@ use Rattle.acct_server.specs.Replayed.{on_act, on_request, on_end, quiet, moved,
 use Rattle.acct_server.specs.Replayed.{peer_behind, gone, peer_of, with_peer, number_of, served_from, follow}
 use Rattle.acct_server.specs.Replayed.{unless_full, ends, ending, trace_from, at_start, verdict_in, replayed}
 use Rattle.acct_server.specs.Replayed.{entries_of, FoundFull, opened, on_call, on_full, on_decoded, both}
-use Rattle.acct_machine.specs.Room.{conns_full, call_full}
 use Rattle.acct_machine.specs.declared.entry.Verdict.{Verdict}
 use Rattle.acct_server.proofs.Placing.{peer-here, peer-there}
 use Rattle.acct_server.proofs.Room.{both-open, both-full}
-use Rattle.link_sessions.specs.Transcribed.{IsTranscribed, last_bytes}
-use Rattle.acct_server.specs.Connections.{sent_by_line, brought, sent_in, received, sent}
-use Rattle.acct_server.specs.Connections.{on_connection, is_full_line, full_in, found_full}
-use Rattle.acct_server.specs.Connections.{CutsChangeNothing}
+use Rattle.acct_server.specs.Replaying.{sent_by_line, brought, sent_in, received, sent, on_connection, is_full_line}
+use Rattle.acct_server.specs.Replaying.{full_in, found_full, CutsChangeNothing}
 
 -- ---- what a connection has heard
 

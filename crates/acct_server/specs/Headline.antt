@@ -7,15 +7,13 @@ use Rattle.acct_keeper.specs.declared.pairs.Pair.{Pair}
 use Rattle.acct_machine.specs.Legal.{Legal, replies, calls_of}
 use Rattle.acct_machine.specs.State.{Start}
 use Rattle.acct_machine.specs.Step.{state_at}
-use Rattle.acct_machine.specs.Storing.{HoldsRows}
+use Rattle.acct_machine.specs.Outbox.{HoldsRows}
 use Rattle.acct_machine.specs.declared.entry.Entry.{Entry}
-use Rattle.rpc_session.specs.Acts.{acts}
-use Rattle.rpc_session.specs.Hearings.{listed}
+use Rattle.rpc_session.specs.Sessions.{acts, listed}
 use Rattle.rpc_session.specs.declared.sessions.Act.{Act}
 use Rattle.link_sessions.specs.Transcript.{transcript, busy, decoded_calls}
 use Rattle.door_workers.specs.Services.{HasGone}
-use Rattle.acct_server.specs.Begun.{IsBegun}
-use Rattle.acct_server.specs.Denied.{DeniesExactlyIn}
+use Rattle.acct_server.specs.Begun.{IsBegun, DeniesExactlyIn}
 
 -- How far the acts of the bytes that came on a connection were answered: all of them; up to a call that found the
 -- history full, which is answered that the server is too busy; the same, but that the write of this answer failed; or

@@ -6,18 +6,15 @@ use Rattle.acct_links.specs.Links.{Told, IsNew}
 use Rattle.acct_machine.specs.State.{Start}
 use Rattle.acct_machine.specs.declared.entry.Entry.{Entry}
 use Rattle.acct_machine.specs.declared.entry.Entry.TheVariants.{Opened}
-use Rattle.acct_keeper.specs.Causes.{Rose}
-use Rattle.acct_keeper.specs.Whole.{IsWhole}
+use Rattle.acct_keeper.specs.Faults.{Rose, IsWhole}
 use Rattle.link_sessions.specs.Sessions.{Cause}
 use Rattle.link_sessions.specs.declared.ends.SessionEnd.{SessionEnd}
 use Rattle.link_sessions.specs.declared.ends.SessionEnd.TheVariants as end
-use Rattle.door_workers.specs.Doors.{DoorRun, ServesDoor}
+use Rattle.door_workers.specs.Doors.{DoorRun, ServesDoor, Has}
 use Rattle.door_workers.specs.Services.{Served as ServedLink, Serves}
-use Rattle.door_workers.specs.Working.{Has}
-use Rattle.acct_server.specs.Configured.{IsConfigured}
-use Rattle.acct_server.specs.Connections.{found_full, received, sent as sent_by_lines}
+use Rattle.acct_server.specs.Leaves.{IsConfigured, Breaks, RunsOut, IsRunThrough, IsOfRun}
+use Rattle.acct_server.specs.Replaying.{found_full, received, sent as sent_by_lines}
 use Rattle.acct_server.specs.Headline.{Extent, ToTheEnd, UntilFull, UntilFullCut, UntilLost, Headline}
-use Rattle.acct_server.specs.Leaves.{Breaks, Stops, IsRunThrough, IsOfRun}
 use Rattle.acct_server.specs.Replayed.{Effect, replayed, output_of}
 use Rattle.acct_server.specs.Replaying as replaying
 use Rattle.acct_server.specs.Serving as serving
@@ -48,7 +45,7 @@ pub record IsInLines (effects : List Effect) (k : ℕ) (extent : Extent) (came s
 -- refused one, or to one that found the history full, and then the lines of their effects are written, and the headline
 -- holds of each connection that they opened; or until a write failed or memory ran out, and then as the last two fields
 -- say.
-pub record ReplayComesTo {S T K : Type 0} (told : replaying.Telling S T K) (old new : replaying.Parts S T K)
+pub record ReplayComesTo {S T K : Type 0} (told : replaying.TellingReplay S T K) (old new : replaying.Parts S T K)
     (left : Replayed K) : Type 0 where
   pub config : Config
   pub events : List ℕ
@@ -62,10 +59,10 @@ pub record ReplayComesTo {S T K : Type 0} (told : replaying.Telling S T K) (old 
       → Headline config (told.pairs old.keeper) (told.pairs new.keeper) (told.store_faults old.keeper) start
       left.history k (IsInLines (replayed start events left.history).effects k)
   pub breaks : left.status ≡ WriteFault → Breaks start (told.held old.out) (told.held new.out) events left.history
-  pub stops : left.status ≡ NoMemory → Stops start (told.held old.out) (told.held new.out) events left.history
+  pub stops : left.status ≡ NoMemory → RunsOut start (told.held old.out) (told.held new.out) events left.history
 
 -- a replay whose machine was made
-abbrev pub ReplayGivesHeadline : {S T K : Type 0} → replaying.Telling S T K → Type 0
+abbrev pub ReplayGivesHeadline : {S T K : Type 0} → replaying.TellingReplay S T K → Type 0
 ReplayGivesHeadline {S} {T} {K} told =
     (old new : replaying.Parts S T K) (left : Replayed K) → replaying.IsReplay told old new left
     → IsSome left.opening → ReplayComesTo told old new left
@@ -87,7 +84,7 @@ IsFarAs _ _ given back = ⊥
 -- A door, one of those that were served, gave a link that was new. The connection was opened at the listener of the
 -- door, and served there to its end; the door took the link back. These bytes were read on it, at most so many, and
 -- these were written.
-pub record IsOnLink {D L K : Type 0} (telling : serving.Telling D L K) (most : ℕ) (before now : List D)
+pub record IsOnLink {D L K : Type 0} (telling : serving.TellingDoors D L K) (most : ℕ) (before now : List D)
     (history : List Entry) (k : ℕ) (extent : Extent) (came sent : List ℕ) : Type 0 where
   pub place : ℕ
   pub within : place < length now
@@ -107,7 +104,7 @@ pub record IsOnLink {D L K : Type 0} (telling : serving.Telling D L K) (most : �
   pub cause : Cause link.end k most came (telling.told link.given) (telling.told link.back)
 
 -- Doors were served: the headline holds of each connection that the history opens.
-pub record ServeComesTo {D L K : Type 0} (telling : serving.Telling D L K) (config : Config) (before now : List D)
+pub record ServeComesTo {D L K : Type 0} (telling : serving.TellingDoors D L K) (config : Config) (before now : List D)
     (keeper : K) (left : Served K) : Type 0 where
   pub start : Start
   pub headline : (k listener : ℕ) → HasOpened k listener left.history
@@ -115,7 +112,7 @@ pub record ServeComesTo {D L K : Type 0} (telling : serving.Telling D L K) (conf
       (IsOnLink telling config.limits.max_read before now left.history k)
 
 -- serving whose machine was made
-abbrev pub ServeGivesHeadline : {D L K : Type 0} → serving.Telling D L K → Type 0
+abbrev pub ServeGivesHeadline : {D L K : Type 0} → serving.TellingDoors D L K → Type 0
 ServeGivesHeadline {D} {L} {K} telling =
     (config : Config) (before now : List D) (keeper : K) (left : Served K)
     → serving.IsServe telling config before now keeper left → IsSome left.opening

@@ -1,19 +1,18 @@
 -- What running a program for the changes in the outbox of a store does: the contract of `run_hooks`.
 use Rattle.std.specs.Prelude.{◌≡◌, ◌≢◌, ℕ, ◌≤◌, ◌⊎◌, List, [], ◌∷◌, Option, Some, ⊤}
-use Rattle.account_hooks.specs.Runs.{Job, Run, Adds}
-use Rattle.account_hooks.specs.Drains.{Drains, IfHeld, IfStoreFault}
+use Rattle.account_hooks.specs.Drains.{Job, Run, Adds, Drains, IfHeld, IfStoreFault}
 use Rattle.account_hooks.specs.declared.drains.Drained.{Drained}
 use Rattle.account_hooks.specs.declared.drains.Drained.TheVariants as drained
 use Rattle.acct_config.specs.declared.config.Config.{Config}
 use Rattle.acct_config.specs.declared.config.Hook.{Hook}
 use Rattle.acct_keeper.specs.declared.pairs.Pair.{Pair}
-use Rattle.acct_keeper.specs.Causes.{Rose, NotRisen}
+use Rattle.acct_keeper.specs.Faults.{Rose, NotRisen}
 use Rattle.acct_machine.specs.State.{Start}
-use Rattle.acct_machine.specs.Storing.{HoldsRows}
+use Rattle.acct_machine.specs.Outbox.{HoldsRows}
 use Rattle.acct_machine.specs.Jobs.{jobs_of}
 use Rattle.acct_rows.specs.PairRules.{AreUnbroken}
 use Rattle.acct_rows.specs.Rows.{Lists, remove_row}
-use Rattle.acct_rows.specs.declared.row.RowKey.TheVariants as keys
+use Rattle.acct_tables.specs.declared.row.RowKey.TheVariants as keys
 use Rattle.acct_server.specs.Begun.{IsBegun}
 use Rattle.acct_server.specs.Leaves.{StoreCause, StoreKept}
 use Rattle.acct_server.specs.declared.status.Status.{Status}

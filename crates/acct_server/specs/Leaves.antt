@@ -1,32 +1,55 @@
--- What a replay leaves, by its status.
-use Rattle.std.specs.Prelude.{◌≡◌, ◌≢◌, ℕ, ◌<◌, ◌≤◌, List, [], ◌∷◌, ◌++◌, ◌⊎◌, take, length, Option, Some, None, IfSome}
+-- What a replay leaves, by its status, and under which configuration its lines are run.
+use Rattle.std.specs.Prelude.{◌≡◌, ℕ, List, Option, None, IfSome, ◌≢◌, ◌<◌, ◌≤◌, [], ◌∷◌, ◌++◌, ◌⊎◌, take, length, Some}
 use Rattle.std.specs.Prelude.{if◌then◌else◌, nat_lt, Bool, true, false}
 use Rattle.std.specs.Io.KnownBytes.{Appends}
-use Rattle.acct_machine.specs.State.{Start}
+use Rattle.std.specs.List.{flat_map}
+use Rattle.acct_config.specs.Document.{whole}
+use Rattle.acct_config.specs.Spelled.{IsRightConfig, config_of, IsSpelledBy}
 use Rattle.acct_config.specs.Rules.{first_broken}
-use Rattle.acct_machine.specs.declared.entry.Entry.{Entry}
-use Rattle.acct_server.specs.declared.status.Status.{Status}
-use Rattle.acct_server.specs.declared.status.Status.TheVariants.{Done, NoMemory, Config as ConfigBroken, ReadFault}
-use Rattle.acct_server.specs.declared.status.Status.TheVariants.{WriteFault, StoreFault, StoredPair, EventLine}
-use Rattle.acct_server.specs.declared.status.Status.TheVariants.{HistoryFull}
-use Rattle.acct_server.specs.declared.status.Status.TheVariants.{InputTooLong}
+use Rattle.acct_config.specs.declared.config.Config.{Config}
+use Rattle.acct_config.specs.declared.errors.ConfigError.{ConfigError}
+use Rattle.acct_config.specs.declared.errors.ConfigError.TheVariants as refusal
+use Rattle.acct_keeper.specs.Faults.{Rose, most_bytes}
+use Rattle.acct_keeper.specs.declared.pairs.Pair.{Pair}
 use Rattle.acct_keeper.specs.declared.whole.WholeError.{WholeError}
 use Rattle.acct_keeper.specs.declared.whole.WholeError.TheVariants.{Fault, TooLong, Memory}
-use Rattle.acct_keeper.specs.Causes.{Rose}
-use Rattle.acct_keeper.specs.Whole.{most_bytes}
-use Rattle.acct_keeper.specs.declared.pairs.Pair.{Pair}
-use Rattle.acct_machine.specs.declared.opened.OpenError.{OpenError}
-use Rattle.acct_machine.specs.declared.opened.OpenError.TheVariants as unopened
-use Rattle.acct_machine.specs.Storing.{HoldsRows}
-use Rattle.acct_config.specs.declared.config.Config.{Config}
 use Rattle.acct_rows.specs.PairRules.{IsSmallestBroken}
 use Rattle.acct_rows.specs.PairsOf.{migrated}
 use Rattle.acct_rows.specs.Seed.{seed_lists}
+use Rattle.acct_machine.specs.State.{Start}
+use Rattle.acct_machine.specs.Outbox.{HoldsRows}
+use Rattle.acct_machine.specs.declared.entry.Entry.{Entry}
+use Rattle.acct_machine.specs.declared.opened.OpenError.{OpenError}
+use Rattle.acct_machine.specs.declared.opened.OpenError.TheVariants as unopened
 use Rattle.acct_server.specs.Begun.{IsBegun}
-use Rattle.acct_server.specs.Configured.{spelled}
 use Rattle.acct_server.specs.Replayed.{Effect, replayed, ending, entries_of, output_of, line_bytes}
-use Rattle.acct_server.specs.Running.{Running, standing}
-use Rattle.std.specs.List.{flat_map}
+use Rattle.acct_server.specs.steps.Running.{Running, standing}
+use Rattle.acct_server.specs.declared.status.Status.{Status}
+use Rattle.acct_server.specs.declared.status.Status.TheVariants.{NoMemory, Config as ConfigBroken, Done, ReadFault}
+use Rattle.acct_server.specs.declared.status.Status.TheVariants.{WriteFault, StoreFault, StoredPair, EventLine}
+use Rattle.acct_server.specs.declared.status.Status.TheVariants.{HistoryFull, InputTooLong}
+
+-- ======== under which configuration the lines are run
+
+-- the configuration that a document spells
+abbrev pub spelled : List ℕ → Config
+spelled document = config_of (whole document)
+
+-- the document that a source has left, if it tells, breaks no rule
+abbrev pub BreaksNone : Option (List ℕ) → Type 0
+BreaksNone left = IfSome left (λ document. first_broken document ≡ None)
+
+-- a configuration is right, and the one that the document spells, if the source tells it
+pub record IsConfigured (left : Option (List ℕ)) (config : Config) : Type 0 where
+  pub right : IsRightConfig config
+  pub told : IfSome left (λ document. IsSpelledBy document config)
+
+-- the status of a document that isn't taken
+abbrev pub refused_status : ConfigError → Status
+refused_status (refusal.Rule number) = ConfigBroken number
+refused_status refusal.Memory = NoMemory
+
+-- ======== what a replay leaves, by its status
 
 -- the lines were run to their end, to a refused one, or to one that found the history full
 abbrev pub IsRunThrough : Status → Type 0
@@ -68,7 +91,7 @@ pub record Breaks (start : Start) (held now : Option (List ℕ)) (events : List 
   pub lines : Appends held now (output_of done ++ take written (flat_map line_bytes met.prints))
 
 -- Memory ran out: the history is a prefix of the entries, and what is written a prefix of the lines.
-pub record Stops (start : Start) (held now : Option (List ℕ)) (events : List ℕ) (history : List Entry) : Type 0 where
+pub record RunsOut (start : Start) (held now : Option (List ℕ)) (events : List ℕ) (history : List Entry) : Type 0 where
   pub later : List Entry
   pub written : ℕ
   pub entries : entries_of (replayed start events history).effects ≡ history ++ later

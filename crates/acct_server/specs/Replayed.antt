@@ -13,12 +13,12 @@ use Rattle.acct_machine.specs.declared.entry.Verdict.TheVariants.{Ran}
 use Rattle.acct_machine.specs.declared.entry.Entry.{Entry}
 use Rattle.acct_machine.specs.declared.entry.Entry.TheVariants.{Opened, Called, Gone, Hooked}
 use Rattle.acct_machine.specs.Step.{state_at, acted}
-use Rattle.acct_machine.specs.Room.{conns_full, call_full}
+use Rattle.acct_machine.specs.Legal.{conns_full, call_full}
 use Rattle.rpc_session.specs.declared.sessions.Act.{Act}
 use Rattle.rpc_session.specs.declared.sessions.Act.TheVariants as act
 use Rattle.rpc_session.specs.declared.sessions.Request.{Request}
 use Rattle.rpc_session.specs.declared.hearing.Hearing.{Hearing}
-use Rattle.rpc_session.specs.Hearings.{Heard, on}
+use Rattle.rpc_session.specs.Sessions.{Heard, on}
 use Rattle.acct_stubs.specs.declared.errors.WireError.{WireError}
 use Rattle.acct_server.specs.declared.events.Event.{Event}
 use Rattle.acct_server.specs.declared.events.Event.TheVariants as event
@@ -28,8 +28,7 @@ use Rattle.acct_server.specs.declared.status.Status.{Status}
 use Rattle.acct_server.specs.declared.status.Status.TheVariants.{Done, EventLine, HistoryFull}
 use Rattle.acct_server.specs.Events.{event_of, lines_of}
 use Rattle.link_sessions.specs.Connections.{nothing_heard, is_served}
-use Rattle.link_sessions.specs.Requests.{call_on}
-use Rattle.link_sessions.specs.Transcript.{answer_bytes, undecoded_bytes, busy_bytes}
+use Rattle.link_sessions.specs.Transcript.{call_on, answer_bytes, undecoded_bytes, busy_bytes}
 
 -- ---- lines that are printed
 

@@ -1,6 +1,6 @@
 // The machine with which a replay or serving begins.
 ghost use Rattle.std.specs.Prelude.{◌≡◌, ◌≤◌, [], IfOk, IfErr};
-ghost use Rattle.acct_config.specs.Right.{IsRight};
+ghost use Rattle.acct_config.specs.Spelled.{IsRightConfig};
 ghost use Rattle.acct_server.specs.Begun.{IsBegun};
 ghost use Rattle.acct_server.specs.Leaves.{StoreCause, StoreKept};
 
@@ -21,7 +21,7 @@ pub(crate) fn begin<K: Keeper + Drop>(
     config: &Config,
     mut keeper: K,
 ) -> Result<Machine<K>, NotBegun<K>>
-    requires { IsRight config.now }
+    requires { IsRightConfig config.now }
     ensures begun { IfOk result (λ machine.
         IsBegun config.now (K.held keeper) (K.faults keeper) machine.past.start) }
     ensures history { IfOk result (λ machine. machine.past.history ≡ []) }

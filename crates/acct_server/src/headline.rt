@@ -1,6 +1,6 @@
 // That the contracts of a replay and of serving give the headline, for readers and for the crates above. Each law is
 // brought in by a call, which does nothing.
-ghost use Rattle.acct_server.specs.Completing.{ServingIsComplete};
+ghost use Rattle.acct_server.specs.Serving.{ServingIsComplete};
 ghost use Rattle.acct_server.specs.Headlines.{ReplayGivesHeadline, ServeGivesHeadline};
 
 use acct_keeper::{Sink, Source};

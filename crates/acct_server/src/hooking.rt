@@ -1,6 +1,6 @@
 // Running a program for the changes in the outbox of a store.
 ghost use Rattle.std.specs.Prelude.{◌≡◌, Some};
-ghost use Rattle.acct_config.specs.Right.{IsRight};
+ghost use Rattle.acct_config.specs.Spelled.{IsRightConfig};
 ghost use Rattle.acct_server.specs.Hooked.{RunsHooks, HooksAreComplete, hook_status};
 
 use crate::Status;
@@ -30,7 +30,7 @@ pub fn run_hooks<K: Keeper + Drop, P: Spawner>(
     keeper: K,
     spawner: &mut P,
 ) -> (Status, K)
-    requires right { IsRight config.now }
+    requires right { IsRightConfig config.now }
     requires hook { config.now.hook ≡ Some hook.now }
     ensures { RunsHooks (record { pairs = K.held; faults = K.faults; runs = P.runs; failed = P.failed }) config.now
         hook.now (record { keeper = keeper; spawner = spawner.old })

@@ -1,5 +1,5 @@
 // The laws of a replay, for readers and for the crates above to cite. Each is brought in by a call, which does nothing.
-ghost use Rattle.acct_server.specs.Connections.{CutsChangeNothing};
+ghost use Rattle.acct_server.specs.Replaying.{CutsChangeNothing};
 
 use rpc_session::streams_are_cut_anywhere;
 

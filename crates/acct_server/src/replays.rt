@@ -1,13 +1,10 @@
 // A replay of event lines.
 ghost use Rattle.std.specs.Prelude.{◌≡◌, ◌<◌, ◌≤◌, ◌^◌, [], None, length, IfSome, IfOk, IfErr, OnOk};
 ghost use Rattle.acct_server.specs.declared.status.Status.TheVariants.{NoMemory, WriteFault};
-ghost use Rattle.acct_keeper.specs.Causes.{Rose};
-ghost use Rattle.acct_keeper.specs.Counts.{faults_after};
-ghost use Rattle.acct_keeper.specs.Whole.{most_bytes};
+ghost use Rattle.acct_keeper.specs.Faults.{Rose, faults_after, most_bytes};
 ghost use Rattle.acct_machine.specs.Step.{state_at};
-ghost use Rattle.acct_machine.specs.Storing.{HoldsRows, AreCounted};
-ghost use Rattle.acct_server.specs.Configured.{IsConfigured};
-ghost use Rattle.acct_server.specs.Leaves.{Leaves, ConfigCause, Breaks, Stops, Finishes, FinishBreaks};
+ghost use Rattle.acct_machine.specs.Outbox.{HoldsRows, AreCounted};
+ghost use Rattle.acct_server.specs.Leaves.{IsConfigured, Leaves, ConfigCause, Breaks, RunsOut, Finishes, FinishBreaks};
 ghost use Rattle.acct_server.specs.Leaves.{IsRunThrough, IsOfRun, is_write_fault};
 ghost use Rattle.acct_server.specs.Replaying.{IsReplay, RunsLines};
 
@@ -84,7 +81,7 @@ fn run_lines<K: Keeper + Drop, T: Sink>(
     ensures breaks { result ≡ WriteFault
         → Breaks run.old.machine.start (T.held out.old) (T.held out.new) bytes.now run.new.machine.history }
     ensures stops { result ≡ NoMemory
-        → Stops run.old.machine.start (T.held out.old) (T.held out.new) bytes.now run.new.machine.history }
+        → RunsOut run.old.machine.start (T.held out.old) (T.held out.new) bytes.now run.new.machine.history }
     ensures write { result ≡ WriteFault → Rose (T.faults out.old) (T.faults out.new) }
     ensures later { T.faults out.old ≤ T.faults out.new }
     ensures faults { T.faults out.new ≡ faults_after (is_write_fault result) (T.faults out.old) }

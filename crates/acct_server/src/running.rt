@@ -3,25 +3,24 @@ ghost use Rattle.std.specs.Prelude.{◌≡◌, ◌⊎◌, ◌+◌, ◌≤◌, �
 ghost use Rattle.std.specs.Prelude.{List, length, Some, None, Ok, Err, OnOk, OnErr, IfOk, IfErr, IfSome, IsSome};
 ghost use Rattle.std.specs.Prelude.{slice_get, map, All, option_map};
 ghost use Rattle.std.specs.List.{flat_map};
-ghost use Rattle.acct_machine.specs.Storing.{HoldsRows, AreCounted};
+ghost use Rattle.acct_machine.specs.Outbox.{HoldsRows, AreCounted};
 ghost use Rattle.acct_machine.specs.State.{Start, is_live};
 ghost use Rattle.acct_machine.specs.declared.entry.Entry.{Entry};
 ghost use Rattle.acct_machine.specs.Machine.{state_of, with_entry};
 ghost use Rattle.acct_machine.specs.Legal.{Legal};
 ghost use Rattle.acct_machine.specs.declared.entry.Entry.TheVariants.{Gone};
-ghost use Rattle.rpc_session.specs.Hearings.{is_going};
+ghost use Rattle.rpc_session.specs.Sessions.{is_going};
 ghost use Rattle.rpc_session.specs.Acts.{IsFit};
 ghost use Rattle.acct_server.specs.declared.events.LineError.TheVariants.{NoMemory, Refused};
 ghost use Rattle.link_sessions.specs.declared.connections.Peer.TheVariants as peer;
 ghost use Rattle.acct_server.specs.Events.{DataFits};
-ghost use Rattle.link_sessions.specs.Refusals.{closing_of};
+ghost use Rattle.link_sessions.specs.Sessions.{closing_of};
 ghost use Rattle.link_sessions.specs.Connections.{is_served};
 ghost use Rattle.acct_server.specs.Replayed.{IsClosed, IsGone, FoundFull, peer_of, with_peer};
 ghost use Rattle.acct_server.specs.Replayed.{number_of, served_from, ending, line_bytes, listener_from, on_open};
 ghost use Rattle.acct_server.specs.Replayed.{on_acts, on_data, on_end, on_event, on_line};
-ghost use Rattle.acct_server.specs.Running.{standing, AllHeard, Acts, Began, Hears, IsClosing, Does, Refuses, MayStop};
-ghost use Rattle.acct_server.specs.Running.{peers_behind, Answered, AnsweredToFull};
-ghost use Rattle.acct_server.specs.Running.{Closes};
+ghost use Rattle.acct_server.specs.steps.Running.{standing, AllHeard, DoesActs, Began, Hears, IsClosing, DoesLine};
+ghost use Rattle.acct_server.specs.steps.Running.{Refuses, MayStop, peers_behind, Answered, AnsweredToFull, Closes};
 
 use crate::events::{Event, LineError, event_of};
 use crate::out_lines::OutLines;
@@ -86,7 +85,7 @@ pub struct Run<K: Keeper + Drop> {
 
 impl<K: Keeper + Drop> Model for Run<K> {
     ghost use Rattle.acct_machine.specs.Step.{state_at};
-    ghost use Rattle.acct_server.specs.Running.{Running, Ties};
+    ghost use Rattle.acct_server.specs.steps.Running.{Running, Ties};
 
     ghost Value = { Running };
 
@@ -131,7 +130,7 @@ impl<K: Keeper + Drop> Run<K> {
     }
 
     fn open(&mut self, alloc: Global, conn: u32, name: &[u8]) -> Result<Ran, LineError>
-        ensures does { IfOk result (λ ran. Does (λ verdicts. on_open (standing self.old) conn name.now) self.old
+        ensures does { IfOk result (λ ran. DoesLine (λ verdicts. on_open (standing self.old) conn name.now) self.old
             ran.output.items ran.full self.new) }
         ensures refused { result ≡ Err Refused
             → Refuses (λ verdicts. on_open (standing self.old) conn name.now) self.old self.new }
@@ -260,7 +259,7 @@ impl<K: Keeper + Drop> Run<K> {
         requires closed { (i : ℕ) → IsClosing (is_served (peer_of conn self.old.peers)) i (length acts.now)
             (slice_get acts.now i) }
         ensures acts { (start : Start) (before : List Entry) (old : List ℕ) → Answered conn start acts.now before
-            self.old.machine.history old lines.old.items (closing_of acts.now) → OnOk result (Acts
+            self.old.machine.history old lines.old.items (closing_of acts.now) → OnOk result (DoesActs
             (λ verdicts. on_acts start verdicts before conn acts.now) before self.new.machine.history old
             lines.new.items None) }
         ensures peers { self.new.peers ≡ self.old.peers }
@@ -280,7 +279,7 @@ impl<K: Keeper + Drop> Run<K> {
         requires fits { All IsFit acts.now }
         requires closed { (i : ℕ) → IsClosing (is_served (peer_of conn self.old.peers)) i (length acts.now)
             (slice_get acts.now i) }
-        ensures acts { IfOk result (λ ran. Acts
+        ensures acts { IfOk result (λ ran. DoesActs
             (λ verdicts. on_acts self.old.machine.start verdicts self.old.machine.history conn acts.now)
             self.old.machine.history self.new.machine.history [] ran.output.items ran.full) }
         ensures began { OnErr result (Began
@@ -322,7 +321,7 @@ impl<K: Keeper + Drop> Run<K> {
         requires fits { All IsFit acts.now }
         requires closed { (i : ℕ) → IsClosing (is_served (peer_of conn self.old.peers)) i (length acts.now)
             (slice_get acts.now i) }
-        ensures acts { IfOk result (λ ran. Acts
+        ensures acts { IfOk result (λ ran. DoesActs
             (λ verdicts. on_acts self.old.machine.start verdicts self.old.machine.history conn acts.now)
             self.old.machine.history self.new.machine.history [] ran.output.items ran.full) }
         ensures began { OnErr result (Began
@@ -374,7 +373,7 @@ impl<K: Keeper + Drop> Run<K> {
     fn data(&mut self, alloc: Global, conn: u32, bytes: &[u8]) -> Result<Ran, LineError>
         requires heard { AllHeard (2 ^ 32) self.old.peers }
         requires short { length bytes.now ≤ 2 ^ 32 }
-        ensures does { IfOk result (λ ran. Does
+        ensures does { IfOk result (λ ran. DoesLine
             (λ verdicts. on_data verdicts (standing self.old) conn bytes.now (peer_of conn self.old.peers)) self.old
             ran.output.items ran.full self.new) }
         ensures refused { result ≡ Err Refused
@@ -406,7 +405,7 @@ impl<K: Keeper + Drop> Run<K> {
 
     // Ends a connection that was opened and not ended.
     fn end(&mut self, alloc: Global, conn: u32) -> Result<Ran, LineError>
-        ensures does { IfOk result (λ ran. Does
+        ensures does { IfOk result (λ ran. DoesLine
             (λ verdicts. on_end (standing self.old) conn (peer_of conn self.old.peers))
             self.old ran.output.items ran.full self.new) }
         ensures refused { result ≡ Err Refused
@@ -432,7 +431,7 @@ impl<K: Keeper + Drop> Run<K> {
     fn event(&mut self, alloc: Global, event: Event) -> Result<Ran, LineError>
         requires heard { AllHeard (2 ^ 32) self.old.peers }
         requires short { DataFits (2 ^ 32) event }
-        ensures does { IfOk result (λ ran. Does (λ verdicts. on_event verdicts (standing self.old) (Some event))
+        ensures does { IfOk result (λ ran. DoesLine (λ verdicts. on_event verdicts (standing self.old) (Some event))
             self.old ran.output.items ran.full self.new) }
         ensures refused { result ≡ Err Refused
             → Refuses (λ verdicts. on_event verdicts (standing self.old) (Some event)) self.old self.new }
@@ -459,7 +458,7 @@ impl<K: Keeper + Drop> Run<K> {
     pub fn line(&mut self, alloc: Global, line: &[u8]) -> Result<Ran, LineError>
         requires heard { AllHeard (2 ^ 32) self.old.peers }
         requires short { length line.now < 2 ^ 32 }
-        ensures does { IfOk result (λ ran. Does (λ verdicts. on_line verdicts (standing self.old) line.now) self.old
+        ensures does { IfOk result (λ ran. DoesLine (λ verdicts. on_line verdicts (standing self.old) line.now) self.old
             ran.output.items ran.full self.new) }
         ensures refused { result ≡ Err Refused
             → Refuses (λ verdicts. on_line verdicts (standing self.old) line.now) self.old self.new }

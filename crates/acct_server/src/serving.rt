@@ -1,9 +1,9 @@
 // Serving over doors.
 ghost use Rattle.std.specs.Prelude.{◌≡◌, ◌<◌, ◌≤◌, ℕ, [], Some, None, length, vec_len, slice_index_or};
-ghost use Rattle.acct_config.specs.Right.{IsRight};
+ghost use Rattle.acct_config.specs.Spelled.{IsRightConfig};
 ghost use Rattle.acct_machine.specs.Machine.{state_of};
-ghost use Rattle.acct_machine.specs.Storing.{HoldsRows, AreCounted};
-ghost use Rattle.acct_server.specs.Denied.{DeniesExactlyIn};
+ghost use Rattle.acct_machine.specs.Outbox.{HoldsRows, AreCounted};
+ghost use Rattle.acct_server.specs.Begun.{DeniesExactlyIn};
 ghost use Rattle.acct_server.specs.Replaying.{lists_in};
 ghost use Rattle.acct_server.specs.Serving.{IsServe, served_status};
 
@@ -98,7 +98,7 @@ pub fn serve<R: Threads + Wait + Sync, D: Door + Drop + Send, K: Keeper + Drop +
 ) -> Served<K>
 where
     D::L: Send,
-    requires right { IsRight config.now }
+    requires right { IsRightConfig config.now }
     requires few { vec_len doors.old ≤ 1024 }
     requires configured { (i : ℕ) (d : _) → i < vec_len doors.old
         → D.listener (slice_index_or doors.old.items i d) < length config.now.listeners }

@@ -1,7 +1,6 @@
 // How a command ends.
 ghost use Rattle.std.specs.Prelude.{◌≡◌};
-ghost use Rattle.acct_server.specs.Configured.{refused_status};
-ghost use Rattle.acct_server.specs.Leaves.{unread_status, unopened_status};
+ghost use Rattle.acct_server.specs.Leaves.{refused_status, unread_status, unopened_status};
 
 use crate::WholeError;
 use acct_base::Seq;

@@ -4,8 +4,7 @@ use Rattle.std.proofs.Common.{Result, Ok, Err, refl, sym, ◌∙◌, ap, subst, 
 use Rattle.std.specs.Str.{bytes_eq}
 use Rattle.std.proofs.lemmas.Slice.Eq.{bytes_eq-Decides}
 use Rattle.acct_keeper.specs.declared.pairs.Pair.{Pair}
-use Rattle.acct_keeper.specs.Causes.{Rose}
-use Rattle.acct_keeper.specs.Counts.{one_more}
+use Rattle.acct_keeper.specs.Faults.{Rose, one_more}
 use Rattle.acct_world.specs.declared.part.Part.{Part}
 use Rattle.acct_world.specs.declared.part.Part.TheVariants as part
 use Rattle.acct_links.specs.declared.callers.TakeError.{TakeError}

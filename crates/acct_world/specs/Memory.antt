@@ -3,7 +3,7 @@
 use Rattle.std.specs.Prelude.{◌≡◌, ◌≢◌, ℕ, ◌≤◌, List, [], ◌∷◌, ◌++◌, Bool, true, ◌||◌, codes, Option, Some, None}
 use Rattle.std.specs.Prelude.{Result, Err, IfOk, OnOk, OnErr, is_err, is_none, if◌then◌else◌}
 use Rattle.std.specs.Str.{bytes_eq}
-use Rattle.acct_keeper.specs.Counts.{one_more}
+use Rattle.acct_keeper.specs.Faults.{one_more}
 use Rattle.acct_keeper.specs.Memory.{is_among}
 use Rattle.acct_world.specs.declared.part.Part.{Part}
 use Rattle.acct_world.specs.declared.period.Period.{Period}

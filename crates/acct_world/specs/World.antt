@@ -4,7 +4,7 @@ use Rattle.std.specs.Prelude.{OnErr}
 use Rattle.std.specs.declared.option.Option.{Option}
 use Rattle.std.specs.declared.result.Result.{Result}
 use Rattle.acct_keeper.specs.declared.pairs.Pair.{Pair}
-use Rattle.acct_keeper.specs.Causes.{Rose}
+use Rattle.acct_keeper.specs.Faults.{Rose}
 use Rattle.acct_world.specs.declared.period.Period.{Period}
 use Rattle.acct_links.specs.declared.callers.TakeError.{TakeError}
 use Rattle.acct_links.specs.declared.callers.TakeError.TheVariants.{Failed, NoMemory}

@@ -11,17 +11,17 @@ use Rattle.acct_machine.specs.Legal.{Legal}
 use Rattle.acct_machine.specs.declared.entry.Entry.{Entry}
 use Rattle.acct_links.specs.Links.{Told}
 use Rattle.acct_links.specs.declared.doors.Door.{Ghosts}
-use Rattle.link_sessions.specs.Turns.{IsFrontOf}
-use Rattle.door_workers.specs.Passing.{start_under}
+use Rattle.link_sessions.specs.Transcript.{IsFrontOf}
+use Rattle.door_workers.specs.steps.Passing.{start_under}
 use Rattle.door_workers.specs.declared.kept.Begun.{Begun}
 use Rattle.door_workers.specs.declared.kept.Locked.{Locked}
 use Rattle.link_sessions.specs.declared.ends.Ended.{Ended}
-use Rattle.door_workers.specs.Joining.{ServesAll}
-use Rattle.door_workers.specs.Working.{IsJoined}
+use Rattle.door_workers.specs.steps.Joining.{ServesAll}
+use Rattle.door_workers.specs.steps.Working.{IsJoined}
 use Rattle.door_workers.proofs.Places.{at-within, at-behind}
 use Rattle.door_workers.specs.declared.ends.DoorEnd.{DoorEnd}
 use Rattle.door_workers.specs.Doors.{IsServed, all_services}
-use Rattle.door_workers.specs.Hiring.{ClosesTo, WorksDoors}
+use Rattle.door_workers.specs.steps.Hiring.{ClosesTo, WorksDoors}
 
 placed-has : (n : ℕ) (h : List Entry) (p : ℕ) (e : Entry) → At h p e → In (placed n h) (n + p) e
 placed-has n [] p e at = absurd (some-ne-none e (sym at))

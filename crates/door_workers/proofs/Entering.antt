@@ -9,7 +9,7 @@ use Rattle.acct_machine.specs.declared.machine.Opened.TheVariants as answer
 use Rattle.acct_machine.specs.Machine.{Opens, OpensFresh}
 use Rattle.acct_machine.specs.Passing.{conn_of}
 use Rattle.acct_machine.specs.Shown.{Past}
-use Rattle.door_workers.specs.Lanes.{lane_of}
+use Rattle.door_workers.specs.steps.Lanes.{lane_of}
 use Rattle.door_workers.proofs.Passing.{others-at}
 
 -- an entry of a lane is of that connection

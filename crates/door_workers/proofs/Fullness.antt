@@ -3,8 +3,7 @@ use Rattle.std.proofs.Common.{◌≡◌, ℕ, ◌+◌, ◌<◌, ◌≤◌, ◌�
 use Rattle.std.proofs.Common.{Option, Some, None, refl, sym, subst, arith}
 use Rattle.std.specs.Prelude.{nat_le, nat_lt, if◌then◌else◌}
 use Rattle.std.proofs.lemmas.Bool.Decides.{nat_tests}
-use Rattle.acct_machine.specs.Room.{opened_count, call_count, stub_bytes, calls_full, bytes_full}
-use Rattle.acct_machine.specs.Room.{either_full}
+use Rattle.acct_machine.specs.Legal.{opened_count, call_count, stub_bytes, calls_full, bytes_full, either_full}
 use Rattle.acct_machine.specs.Legal.{LimitsAreKept}
 use Rattle.acct_machine.specs.declared.entry.Entry.{Entry}
 use Rattle.acct_machine.specs.declared.entry.Entry.TheVariants.{Opened, Called, Gone, Hooked}

@@ -7,13 +7,13 @@ use Rattle.acct_machine.specs.declared.entry.Entry.{Entry}
 use Rattle.acct_links.specs.Links.{Told, IsNew}
 use Rattle.acct_links.specs.declared.doors.Door.{Ghosts}
 use Rattle.door_workers.specs.declared.kept.Begun.{Begun}
-use Rattle.door_workers.specs.Passing.{OwnsLanes}
+use Rattle.door_workers.specs.steps.Passing.{OwnsLanes}
 use Rattle.link_sessions.specs.declared.ends.Ended.{Ended}
 use Rattle.door_workers.specs.declared.ends.DoorEnd.{DoorEnd}
 use Rattle.door_workers.specs.declared.ends.DoorEnd.TheVariants as stop
 use Rattle.door_workers.specs.Services.{Served, Serves, Unopened}
-use Rattle.door_workers.specs.Opening.{OpensWith, OpensNot}
-use Rattle.door_workers.specs.Serving.{TakesBack, ServesLink, HandlesLink}
+use Rattle.door_workers.specs.steps.Opening.{OpensWith, OpensNot}
+use Rattle.door_workers.specs.steps.Serving.{TakesBack, ServesLink, HandlesLink}
 use Rattle.door_workers.proofs.Runs.{notes-link}
 use Rattle.door_workers.proofs.Worked.{worked, not-opened}
 

@@ -20,14 +20,14 @@ use Rattle.door_workers.specs.declared.ends.DoorEnd.{DoorEnd}
 use Rattle.door_workers.specs.declared.ends.DoorEnd.TheVariants as stop
 use Rattle.link_sessions.specs.declared.ends.Ended.{Ended}
 use Rattle.door_workers.specs.Services.{Service, end_of}
-use Rattle.door_workers.specs.Joining.{TakesIn, WorksAlone, JoinsLinks}
-use Rattle.door_workers.specs.Serving.{IsServing}
-use Rattle.door_workers.specs.Working.{IsJoined, AreServed}
+use Rattle.door_workers.specs.steps.Joining.{TakesIn, WorksAlone, JoinsLinks}
+use Rattle.door_workers.specs.steps.Serving.{IsServing}
+use Rattle.door_workers.specs.steps.Working.{IsJoined}
+use Rattle.door_workers.specs.Doors.{AreServed, Adds, behind, DoorRun, ServesDoor, ServesDoors, ComesTo, IsServed}
+use Rattle.door_workers.specs.Doors.{all_services, ends_from}
 use Rattle.door_workers.proofs.Runs.{runs-none}
 use Rattle.door_workers.proofs.Places.{has-none, distinct-none}
-use Rattle.door_workers.specs.Outcomes.{Adds, behind}
-use Rattle.door_workers.specs.Doors.{DoorRun, ServesDoor, ServesDoors, ComesTo, IsServed, all_services, ends_from}
-use Rattle.door_workers.specs.Hiring.{JoinsOne, AreJoined, WorksDoors}
+use Rattle.door_workers.specs.steps.Hiring.{JoinsOne, AreJoined, WorksDoors}
 use Rattle.door_workers.proofs.DoorPlaces.{longer-by-one}
 use Rattle.door_workers.proofs.Outcomes.{none-before, none-behind, outcome-more, services-more, ends-more, comes-sorted}
 

@@ -14,14 +14,14 @@ use Rattle.acct_machine.specs.Passing.{KeepsConnection, OthersChangeNothing, Ope
 use Rattle.acct_machine.specs.declared.entry.Entry.{Entry}
 use Rattle.acct_machine.specs.declared.entry.Entry.TheVariants as entry
 use Rattle.acct_links.specs.Links.{Told}
-use Rattle.link_sessions.specs.Turns.{IsFrontOf}
-use Rattle.door_workers.specs.Lanes.{lane_of}
+use Rattle.link_sessions.specs.Transcript.{IsFrontOf}
+use Rattle.door_workers.specs.steps.Lanes.{lane_of}
 use Rattle.door_workers.specs.declared.kept.Begun.{Begun}
-use Rattle.door_workers.specs.Moving.{front-then, front-same}
-use Rattle.door_workers.specs.Passing.{IsMine}
+use Rattle.door_workers.specs.steps.Moving.{front-then, front-same}
+use Rattle.door_workers.specs.steps.Passing.{IsMine}
 use Rattle.door_workers.specs.Services.{Service, Serves, Unopened, IsOfConn, IsService}
-use Rattle.door_workers.specs.Working.{Has, OwnsNoneBehind, WasService, IsWorking, IsJoined}
-use Rattle.door_workers.specs.Working.{AreServed}
+use Rattle.door_workers.specs.Doors.{Has, AreServed}
+use Rattle.door_workers.specs.steps.Working.{OwnsNoneBehind, WasService, IsWorking, IsJoined}
 use Rattle.door_workers.proofs.Passing.{of-others, others-at, conn-mine}
 use Rattle.door_workers.proofs.Places.{at-behind, at-within, has-either, has-left, has-right, distinct-append}
 use Rattle.door_workers.proofs.Staying.{serves-stays, none-stays}

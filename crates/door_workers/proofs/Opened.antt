@@ -16,10 +16,10 @@ use Rattle.acct_machine.specs.Step.{state_at}
 use Rattle.acct_machine.specs.Machine.{SameCalls}
 use Rattle.acct_machine.specs.Passing.{KeepsConnection, OthersChangeNothing, AreOfOthers, conn_of}
 use Rattle.link_sessions.specs.Turns.{IfConn, HasNoCall, MachineOpens, shown}
-use Rattle.door_workers.specs.Lanes.{lane_of}
+use Rattle.door_workers.specs.steps.Lanes.{lane_of}
 use Rattle.door_workers.specs.declared.kept.Begun.{Begun}
-use Rattle.door_workers.specs.Moving.{passes-then}
-use Rattle.door_workers.specs.Passing.{IsMine, OwnsLanes, Serves, OpensConn, OpensNone, OpensOn}
+use Rattle.door_workers.specs.steps.Moving.{passes-then}
+use Rattle.door_workers.specs.steps.Passing.{IsMine, OwnsLanes, ServesLive, OpensConn, OpensNone, OpensOn}
 use Rattle.door_workers.proofs.Passing.{finds-passes, passes-one, others-at, own-same, own-more, mine-by, mine-longer}
 use Rattle.door_workers.proofs.Passing.{in-longer, one, owns-same, owns-more}
 
@@ -108,7 +108,7 @@ module _ (others : OthersChangeNothing) (start : Start) (v w : View Begun Entry)
 
 -- an opened connection is served, and has no call
 pub served-by : (start : Start) (v w : View Begun Entry) (out : answer.Opened) (P : Type 0) → OpensOn start out v w → P
-    → OwnsLanes w → IfConn out (λ k. P × OwnsLanes w × Serves start w k)
+    → OwnsLanes w → IfConn out (λ k. P × OwnsLanes w × ServesLive start w k)
 served-by start v w (opens.Conn k) P opened p owns = (p, owns, opened.serves)
 served-by start v w (opens.Full count) P opened p owns = tt
 

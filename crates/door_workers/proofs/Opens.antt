@@ -2,16 +2,15 @@
 use Rattle.std.proofs.Common.{ℕ, List, ap, ◌∙◌}
 use Rattle.hist_lock.specs.declared.view.View.{View}
 use Rattle.acct_machine.specs.State.{Start}
-use Rattle.acct_machine.specs.Legal.{Legal}
-use Rattle.acct_machine.specs.Room.{conns_full}
+use Rattle.acct_machine.specs.Legal.{Legal, conns_full}
 use Rattle.acct_machine.specs.Shown.{Past}
 use Rattle.acct_machine.specs.declared.entry.Entry.{Entry}
 use Rattle.acct_machine.specs.declared.machine.Opened as answer
 use Rattle.acct_machine.specs.declared.machine.Opened.TheVariants as opens
 use Rattle.link_sessions.specs.Turns.{Turn, MachineOpens}
 use Rattle.door_workers.specs.declared.kept.Begun.{Begun}
-use Rattle.door_workers.specs.Passing.{OpensOn}
-use Rattle.door_workers.specs.Opening.{OpensAt}
+use Rattle.door_workers.specs.steps.Passing.{OpensOn}
+use Rattle.door_workers.specs.steps.Opening.{OpensAt}
 
 pub opens-at : (start : Start) (listener : ℕ) (out : answer.Opened) (v w : View Begun Entry)
     (finds : List Entry → Type 0) → Turn finds (MachineOpens start listener out) w.known → OpensOn start out v w

@@ -9,8 +9,8 @@ use Rattle.door_workers.specs.declared.ends.DoorEnd.{DoorEnd}
 use Rattle.door_workers.specs.declared.ends.DoorEnd.TheVariants as stop
 use Rattle.link_sessions.specs.declared.ends.Ended.{Ended}
 use Rattle.door_workers.specs.Services.{Service, end_of}
-use Rattle.door_workers.specs.Outcomes.{behind, behind_all, outcome_of}
-use Rattle.door_workers.specs.Doors.{DoorRun, all_services, stops, ends_from, AreEnds, ComesTo}
+use Rattle.door_workers.specs.Doors.{behind, behind_all, outcome_of, DoorRun, all_services, stops, ends_from, AreEnds}
+use Rattle.door_workers.specs.Doors.{ComesTo}
 
 behind_all-more : (so_far : DoorEnd) (ends : List DoorEnd) (end : DoorEnd)
     → behind_all so_far (ends ++ end ∷ []) ≡ behind (behind_all so_far ends) end

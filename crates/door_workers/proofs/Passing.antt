@@ -21,10 +21,10 @@ use Rattle.acct_machine.specs.Step.{state_at}
 use Rattle.acct_machine.specs.Legal.{Legal}
 use Rattle.acct_machine.specs.Passing.{KeepsConnection, OthersChangeNothing, AreOfOthers, conn_of}
 use Rattle.link_sessions.specs.Turns.{MachineActs, MachineEnds, Turn as GateTurn}
-use Rattle.door_workers.specs.Lanes.{lane_of}
+use Rattle.door_workers.specs.steps.Lanes.{lane_of}
 use Rattle.door_workers.specs.declared.kept.Begun.{Begun}
-use Rattle.door_workers.specs.Moving.{passes-then}
-use Rattle.door_workers.specs.Passing.{IsMine, OwnsLanes, Serves, MovesOn, IsPassing}
+use Rattle.door_workers.specs.steps.Moving.{passes-then}
+use Rattle.door_workers.specs.steps.Passing.{IsMine, OwnsLanes, ServesLive, MovesOn, IsPassing}
 
 -- ---- places
 
@@ -103,7 +103,7 @@ finds-passes others start v k h owns mine finds =
     absurd (omega (arith, known)))))
 
 pub finds-live : OthersChangeNothing → (start : Start) (v : View Begun Entry) (k : ℕ) (h : List Entry) → OwnsLanes v
-    → Serves start v k → Finds lane_of v h
+    → ServesLive start v k → Finds lane_of v h
     → is_live k (state_at start h).conns ≡ true
 finds-live others start v k h owns serves finds = (finds-passes others start v k h owns serves.mine finds).live
     ∙ serves.live
@@ -290,7 +290,8 @@ ends-appended start k before after m = appends (entry.Gone k) (ap (λ (s : Past)
 
 pub still-serves : OthersChangeNothing → {does : List Entry → List Entry → Type 0} (start : Start)
     (v w : View Begun Entry) (k : ℕ) (call : Call) (n : ℕ) (out : Acted) (t : Turn lane_of does v w) → OwnsLanes v
-    → Serves start v k → MachineActs start k call n out t.before t.after → MovesOn start k v w → Serves start w k
+    → ServesLive start v k → MachineActs start k call n out t.before t.after → MovesOn start k v w
+    → ServesLive start w k
 still-serves others start v w k call n out t owns serves m moves = record {
   mine = moves.mine k serves.mine;
   live =

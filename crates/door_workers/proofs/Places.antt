@@ -5,7 +5,7 @@ use mathlib.Core.Option.{some, some-injective, some-ne-none}
 use lib.ListN.{get_elem?}
 use Rattle.atomic_table.proofs.Lists.{at_longer}
 use Rattle.door_workers.specs.Services.{Service, IsOfConn}
-use Rattle.door_workers.specs.Working.{Has, AreDistinct}
+use Rattle.door_workers.specs.Doors.{Has, AreDistinct}
 
 pub at-behind : {A : Type 0} (xs ys : List A) (p : ℕ) (a : A) → get_elem? ys p ≡ some a
     → get_elem? (xs ++ ys) (length xs + p) ≡ some a

@@ -10,12 +10,12 @@ use Rattle.std.proofs.lemmas.List.{append-nil}
 use Rattle.std.proofs.lemmas.List.Concat.{flat_map-append}
 use Rattle.std.proofs.lemmas.List.Elements.{All-head, All-tail}
 use Rattle.acct_base.specs.Words.{is_within}
-use Rattle.acct_config.specs.Right.{is_right_listener}
+use Rattle.acct_config.specs.Spelled.{is_right_listener}
 use Rattle.acct_config.specs.declared.config.Config.{Config}
 use Rattle.acct_links.specs.declared.doors.Door.{Ghosts}
 use Rattle.acct_config.specs.declared.config.Listener.{Listener}
 use Rattle.acct_links.specs.declared.asking.Asking.{Asking}
-use Rattle.door_workers.specs.Askings.{asking_of, askings_from, askings_of, listeners_for, asked_besides, Opens}
+use Rattle.door_workers.specs.Doors.{asking_of, askings_from, askings_of, listeners_for, asked_besides, OpensDoors}
 
 module _ {X Y : Type 0} (f : X → Y) (y : Y) where
   -- elements that have one value
@@ -53,13 +53,13 @@ asked-then xs ys (Some before) = ap (λ (l : List Asking). Some l) (append_assoc
 -- one more listener was asked for, and gave its doors
 pub opens-more : {D L : Type 0} (door : Ghosts D L) (config : Config) (n : ℕ) (d : Listener)
     (before old now : Option (List Asking)) (had given : List D) → n < length config.listeners
-    → Opens door config n before old had
+    → OpensDoors door config n before old had
     → now ≡ asked_besides (asking_of n (get_or config.listeners n d) ∷ []) old
     → map door.listener given
     ≡ map door.listener had ++ replicate (get_or config.listeners n d).workers n
     → All (λ x. door.closed x ≡ false) given
     → All (λ x. IfSome (door.finished x) (λ links. links ≡ [])) given
-    → Opens door config (n + 1) before now given
+    → OpensDoors door config (n + 1) before now given
 opens-more door config n d before old now had given lt opens asked listeners going unused =
     let asking : Asking = asking_of n (get_or config.listeners n d) in
     let so_far : List Asking = take n (askings_of config) in

@@ -8,7 +8,7 @@ use Rattle.std.proofs.lemmas.List.Concat.{flat_map-append}
 use Rattle.hist_lock.specs.declared.view.View.{View}
 use Rattle.acct_machine.specs.State.{Start}
 use Rattle.acct_machine.specs.declared.entry.Entry.{Entry}
-use Rattle.acct_keeper.specs.Counts.{one_more}
+use Rattle.acct_keeper.specs.Faults.{one_more}
 use Rattle.acct_links.specs.Links.{Told}
 use Rattle.acct_links.specs.Doors.{GivesNext}
 use Rattle.acct_links.specs.declared.doors.Door.{Ghosts}
@@ -21,9 +21,9 @@ use Rattle.door_workers.specs.declared.ends.DoorEnd.{DoorEnd}
 use Rattle.door_workers.specs.declared.ends.DoorEnd.TheVariants as stop
 use Rattle.door_workers.specs.Services.{Service, Served, Serves, given_of, finished_of, IsAtListener, full_count}
 use Rattle.door_workers.specs.Services.{end_count, NoneFull, NoneFullBeforeLast, end_of}
-use Rattle.door_workers.specs.Working.{Has, IsWorking}
-use Rattle.door_workers.specs.Serving.{Gives, door_end, EndsLink, NotesEnd, TakesBack, HandlesLink, Runs, StopsAt}
-use Rattle.door_workers.specs.Serving.{IsServing}
+use Rattle.door_workers.specs.Doors.{Has, Gives, Runs, StopsAt}
+use Rattle.door_workers.specs.steps.Working.{IsWorking}
+use Rattle.door_workers.specs.steps.Serving.{door_end, EndsLink, NotesEnd, TakesBack, HandlesLink, IsServing}
 use Rattle.door_workers.proofs.Places.{has-either, has-none, only}
 
 -- where none of the links found the history full, one more may be the last

@@ -5,10 +5,10 @@ use Rattle.acct_machine.specs.Passing.{KeepsConnection}
 use Rattle.acct_machine.specs.declared.entry.Entry.{Entry}
 use Rattle.acct_machine.specs.declared.entry.Entry.TheVariants.{Gone}
 use Rattle.acct_links.specs.Links.{Told}
-use Rattle.link_sessions.specs.Turns.{IsFrontOf}
+use Rattle.link_sessions.specs.Transcript.{IsFrontOf}
 use Rattle.link_sessions.specs.declared.ends.SessionEnd.{SessionEnd}
 use Rattle.link_sessions.proofs.Staying.{conversation-stays}
-use Rattle.door_workers.specs.Moving.{front-then}
+use Rattle.door_workers.specs.steps.Moving.{front-then}
 use Rattle.door_workers.specs.Services.{HasGone, ServesConn, TakesNone}
 
 -- a connection that is gone is gone in what comes after

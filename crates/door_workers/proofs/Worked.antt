@@ -10,14 +10,15 @@ use Rattle.acct_machine.specs.Legal.{Legal}
 use Rattle.acct_machine.specs.Passing.{KeepsConnection}
 use Rattle.acct_machine.specs.declared.entry.Entry.{Entry}
 use Rattle.acct_links.specs.Links.{Told, IsNew}
-use Rattle.link_sessions.specs.Turns.{IsFrontOf}
+use Rattle.link_sessions.specs.Transcript.{IsFrontOf}
 use Rattle.link_sessions.specs.Sessions.{IsSession, IsConversation}
 use Rattle.door_workers.specs.declared.kept.Begun.{Begun}
-use Rattle.door_workers.specs.Moving.{front-then, front-same, passes-then}
-use Rattle.door_workers.specs.Passing.{IsMine, OwnsLanes, MovesOn}
+use Rattle.door_workers.specs.steps.Moving.{front-then, front-same, passes-then}
+use Rattle.door_workers.specs.steps.Passing.{IsMine, OwnsLanes, MovesOn}
 use Rattle.door_workers.specs.Services.{Service, Served, Serves, Unopened, IsOfConn, IsService}
-use Rattle.door_workers.specs.Opening.{OpensWith, OpensNot}
-use Rattle.door_workers.specs.Working.{Has, IsMineOn, IsWorking}
+use Rattle.door_workers.specs.steps.Opening.{OpensWith, OpensNot}
+use Rattle.door_workers.specs.Doors.{Has}
+use Rattle.door_workers.specs.steps.Working.{IsMineOn, IsWorking}
 use Rattle.door_workers.proofs.Places.{has-either, has-left, has-right, has-none, only, distinct-none, distinct-one}
 use Rattle.door_workers.proofs.Places.{distinct-append}
 use Rattle.door_workers.proofs.Staying.{serves-stays, none-stays}

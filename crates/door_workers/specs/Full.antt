@@ -1,10 +1,9 @@
 -- What the count says with which a history was found full.
 use Rattle.std.specs.Prelude.{◌≡◌, ℕ, ◌+◌, ◌<◌, ◌⊎◌, List, Some}
 use Rattle.acct_machine.specs.State.{Start}
-use Rattle.acct_machine.specs.Room.{opened_count, call_count, stub_bytes, conns_full, call_full}
-use Rattle.acct_machine.specs.Legal.{Legal}
+use Rattle.acct_machine.specs.Legal.{opened_count, call_count, stub_bytes, conns_full, call_full, Legal}
 use Rattle.acct_machine.specs.declared.entry.Entry.{Entry}
-use Rattle.link_sessions.specs.Turns.{IsFrontOf}
+use Rattle.link_sessions.specs.Transcript.{IsFrontOf}
 
 -- The history has as many connections as the configuration lets it have, and this is their number.
 pub record HasAllConns (start : Start) (history : List Entry) (n : ℕ) : Type 0 where

@@ -1,13 +1,4 @@
-pub mod Lanes
-pub mod Passing
-pub mod Moving
-pub mod Services
-pub mod Opening
-pub mod Full
-pub mod Working
-pub mod Serving
-pub mod Joining
-pub mod Outcomes
 pub mod Doors
-pub mod Hiring
-pub mod Askings
+pub mod Full
+pub mod Services
+pub mod steps

@@ -1,13 +1,12 @@
 -- What became of the links that a door gave.
 use Rattle.std.specs.Prelude.{◌≡◌, ℕ, List, [], ◌∷◌, ◌++◌, Option, Some, None, ⊤}
 use Rattle.acct_machine.specs.State.{Start}
-use Rattle.acct_machine.specs.Room.{conns_full}
+use Rattle.acct_machine.specs.Legal.{conns_full}
 use Rattle.acct_machine.specs.declared.entry.Entry.{Entry}
 use Rattle.acct_machine.specs.declared.entry.Entry.TheVariants.{Opened, Gone}
 use Rattle.acct_links.specs.Links.{Told, IsNew}
-use Rattle.link_sessions.specs.Turns.{IsFrontOf}
-use Rattle.link_sessions.specs.Faults.{Faults}
-use Rattle.link_sessions.specs.Sessions.{IsConversation}
+use Rattle.link_sessions.specs.Transcript.{IsFrontOf}
+use Rattle.link_sessions.specs.Sessions.{Faults, IsConversation}
 use Rattle.link_sessions.specs.declared.ends.SessionEnd.{SessionEnd}
 use Rattle.link_sessions.specs.declared.ends.SessionEnd.TheVariants as end
 use Rattle.link_sessions.specs.declared.ends.Ended.{Ended}

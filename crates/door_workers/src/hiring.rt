@@ -2,8 +2,8 @@
 ghost use Rattle.std.specs.Prelude.{◌≡◌, ◌+◌, ◌-◌, ◌^◌, ◌<◌, ◌≤◌, ℕ};
 ghost use Rattle.std.specs.Prelude.{[], None, length, vec_len, vec_capacity, slice_index_or};
 ghost use Rattle.hist_lock.specs.Passes.{view};
-ghost use Rattle.door_workers.specs.Passing.{start_under};
-ghost use Rattle.door_workers.specs.Hiring.{IsIdle, IsHired};
+ghost use Rattle.door_workers.specs.steps.Passing.{start_under};
+ghost use Rattle.door_workers.specs.steps.Hiring.{IsIdle, IsHired};
 
 use crate::ends::DoorEnd;
 use crate::kept::Locked;

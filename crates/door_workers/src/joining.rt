@@ -3,10 +3,10 @@ ghost use Rattle.std.specs.Prelude.{◌≡◌, ◌≢◌, ◌+◌, ◌<◌, ◌�
 ghost use Rattle.std.specs.List.Sorted.{IsPermutation, IsNonDecreasingBy};
 ghost use Rattle.hist_lock.specs.Passes.{view, IsPassOf};
 ghost use Rattle.hist_lock.specs.Views.{IsFirst};
-ghost use Rattle.door_workers.specs.Passing.{start_under};
+ghost use Rattle.door_workers.specs.steps.Passing.{start_under};
 ghost use Rattle.door_workers.specs.declared.ends.DoorEnd.TheVariants.{NoMemory};
-ghost use Rattle.door_workers.specs.Outcomes.{Adds};
-ghost use Rattle.door_workers.specs.Hiring.{IsOther, HasWorked, AreJoined, JoinsOne};
+ghost use Rattle.door_workers.specs.Doors.{Adds};
+ghost use Rattle.door_workers.specs.steps.Hiring.{IsOther, HasWorked, AreJoined, JoinsOne};
 
 use crate::ends::DoorEnd;
 use crate::hiring::Hired;

@@ -4,10 +4,10 @@ ghost use Rattle.std.specs.Prelude.{◌≡◌, ◌<◌, true, length};
 use acct_machine::{Acted, Call, Config, Entry, Keeper, Machine, Opened, Rows};
 use hist_lock::{Job, Kept};
 
-/// The machine, as the lock keeps it.
+/// The machine, as the lock keeps it: in a box, since each turn takes it out of the lock's slot and puts it back.
 #[derive(Drop)]
 pub struct Locked<K: Keeper + Drop> {
-    pub machine: Machine<K>,
+    pub machine: Box<Machine<K>>,
 }
 
 /// Where the history of a machine began, as plain data: the configuration, the rows, and how often the keeper had
@@ -19,15 +19,15 @@ pub struct Begun {
 }
 
 impl<K: Keeper + Drop> Kept for Locked<K> {
-    ghost use Rattle.door_workers.specs.Lanes.{lane_of, begun_of};
+    ghost use Rattle.door_workers.specs.steps.Lanes.{lane_of, begun_of};
 
     type Entry = Entry;
 
     type Fixed = Begun;
 
-    ghost entries = { λ locked. locked.machine.past.history };
+    ghost entries = { λ locked. locked.machine.value.past.history };
 
-    ghost fixed = { λ locked. begun_of locked.machine.past.start };
+    ghost fixed = { λ locked. begun_of locked.machine.value.past.start };
 
     ghost lane = { lane_of };
 
@@ -45,7 +45,7 @@ pub struct Opening {
 impl<K: Keeper + Drop> Job<Locked<K>> for Opening {
     ghost use Rattle.hist_lock.specs.Lanes.{names_none};
     ghost use Rattle.link_sessions.specs.Turns.{MachineOpens};
-    ghost use Rattle.door_workers.specs.Lanes.{start_of};
+    ghost use Rattle.door_workers.specs.steps.Lanes.{start_of};
 
     type Out = Opened;
 
@@ -72,10 +72,10 @@ impl<K: Keeper + Drop> Job<Locked<K>> for Calling {
     ghost use Rattle.hist_lock.specs.Lanes.{names_lane};
     ghost use Rattle.acct_machine.specs.State.{is_live};
     ghost use Rattle.acct_machine.specs.Step.{state_at};
-    ghost use Rattle.acct_machine.specs.Calls.{IsCall};
+    ghost use Rattle.acct_machine.specs.Access.{IsCall};
     ghost use Rattle.acct_machine.specs.Machine.{Shaped};
     ghost use Rattle.link_sessions.specs.Turns.{MachineActs};
-    ghost use Rattle.door_workers.specs.Lanes.{start_of};
+    ghost use Rattle.door_workers.specs.steps.Lanes.{start_of};
 
     type Out = Acted;
 
@@ -103,7 +103,7 @@ impl<K: Keeper + Drop> Job<Locked<K>> for Ending {
     ghost use Rattle.acct_machine.specs.State.{is_live};
     ghost use Rattle.acct_machine.specs.Step.{state_at};
     ghost use Rattle.link_sessions.specs.Turns.{MachineEnds};
-    ghost use Rattle.door_workers.specs.Lanes.{start_of};
+    ghost use Rattle.door_workers.specs.steps.Lanes.{start_of};
 
     type Out = ();
 

@@ -1,6 +1,6 @@
 // Laws of what workers leave: each function does nothing, and its contract is the law.
 ghost use Rattle.door_workers.specs.Full.{FullOfConns, FullOfCalls};
-ghost use Rattle.door_workers.specs.Joining.{StartsIdle, WorksAlone, JoinsLinks, ServesAll};
+ghost use Rattle.door_workers.specs.steps.Joining.{StartsIdle, WorksAlone, JoinsLinks, ServesAll};
 
 use acct_links::Link;
 use acct_machine::{connections_are_opened_once, limits_are_kept, others_change_nothing};

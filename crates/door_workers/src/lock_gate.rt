@@ -19,8 +19,8 @@ impl<'a, R: Wait, K: Keeper + Drop> Gate for LockGate<'a, R, Locked<K>> {
     ghost use Rattle.std.proofs.Common.{refl, ◌∙◌};
     ghost use Rattle.hist_lock.specs.Passes.{view, IsPassOf};
     ghost use Rattle.acct_machine.specs.Legal.{Legal};
-    ghost use Rattle.door_workers.specs.Passing.{start_under, OwnsLanes, Serves, MovesOn, IsPassing, OpensOn};
-    ghost use Rattle.door_workers.specs.Moving.{moves-none, moves-by};
+    ghost use Rattle.door_workers.specs.steps.Passing.{start_under, OwnsLanes, ServesLive, MovesOn, IsPassing, OpensOn};
+    ghost use Rattle.door_workers.specs.steps.Moving.{moves-none, moves-by};
 
     ghost start = { λ g. start_under g.lock.now };
 
@@ -29,7 +29,7 @@ impl<'a, R: Wait, K: Keeper + Drop> Gate for LockGate<'a, R, Locked<K>> {
     ghost finds = { λ g found. IsPassing (start_under g.lock.now) (view g.pass) found };
 
     ghost serves = { λ g k. IsPassOf g.lock.now g.pass × OwnsLanes (view g.pass)
-        × Serves (start_under g.lock.now) (view g.pass) k };
+        × ServesLive (start_under g.lock.now) (view g.pass) k };
 
     ghost moves = { λ g k h. (h.lock.now ≡ g.lock.now) × (IsPassOf g.lock.now g.pass → IsPassOf h.lock.now h.pass)
         × (OwnsLanes (view g.pass) → OwnsLanes (view h.pass))

@@ -1,11 +1,10 @@
 // An entrance is asked for the doors of all listeners.
 ghost use Rattle.std.specs.Prelude.{◌≡◌, ◌+◌, ◌≤◌, ◌<◌, ℕ, [], ◌∷◌, ◌++◌, All, IfErr, IfSome, OnOk, false, length};
 ghost use Rattle.std.specs.Prelude.{replicate, map, slice_index_or, vec_len};
-ghost use Rattle.acct_config.specs.Right.{IsRight};
-ghost use Rattle.acct_keeper.specs.Causes.{KeepCause};
-ghost use Rattle.acct_keeper.specs.Counts.{faults_after};
+ghost use Rattle.acct_config.specs.Spelled.{IsRightConfig};
+ghost use Rattle.acct_keeper.specs.Faults.{KeepCause, faults_after};
 ghost use Rattle.acct_keeper.specs.Memory.{is_fault};
-ghost use Rattle.door_workers.specs.Askings.{asking_of, asked_besides, Opens, StopsAsking};
+ghost use Rattle.door_workers.specs.Doors.{asking_of, asked_besides, OpensDoors, StopsAsking};
 
 use acct_config::{Config, Listener};
 use acct_keeper::KeepError;
@@ -57,9 +56,9 @@ pub fn open_doors<E: Entrance>(
 ) -> Result<(), KeepError>
 where
     E::D: Drop,
-    requires right { IsRight config.now }
+    requires right { IsRightConfig config.now }
     requires none { doors.old.items ≡ [] }
-    ensures ok { OnOk result (Opens E.D.Door config.now (length config.now.listeners) (E.asked entrance.old)
+    ensures ok { OnOk result (OpensDoors E.D.Door config.now (length config.now.listeners) (E.asked entrance.old)
         (E.asked entrance.new) doors.new.items) }
     ensures err { IfErr result (StopsAsking E.D.Door config.now (E.asked entrance.old) (E.asked entrance.new)
         (E.faults entrance.old) (E.faults entrance.new) doors.new.items) }

@@ -1,7 +1,7 @@
 // How serving ends, by how its doors ended.
 ghost use Rattle.std.specs.Prelude.{◌≡◌};
 ghost use Rattle.door_workers.specs.declared.ends.DoorEnd.TheVariants as stop;
-ghost use Rattle.door_workers.specs.Outcomes.{behind};
+ghost use Rattle.door_workers.specs.Doors.{behind};
 
 use crate::ends::DoorEnd;
 

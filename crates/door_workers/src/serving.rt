@@ -2,10 +2,10 @@
 ghost use Rattle.std.specs.Prelude.{◌≡◌, ◌-◌, ◌<◌, ◌≤◌, ◌^◌, ℕ, [], length, vec_len, slice_index_or};
 ghost use Rattle.hist_lock.specs.Passes.{view, IsPassOf};
 ghost use Rattle.hist_lock.specs.Views.{IsFirst};
-ghost use Rattle.door_workers.specs.Passing.{start_under};
+ghost use Rattle.door_workers.specs.steps.Passing.{start_under};
 ghost use Rattle.door_workers.specs.declared.ends.DoorEnd.TheVariants.{NoMemory};
 ghost use Rattle.door_workers.specs.Doors.{IsServed};
-ghost use Rattle.door_workers.specs.Hiring.{IsIdle, WorksDoors, ClosesTo};
+ghost use Rattle.door_workers.specs.steps.Hiring.{IsIdle, WorksDoors, ClosesTo};
 
 use crate::ends::DoorEnd;
 use crate::hiring::hire_all;
@@ -55,7 +55,7 @@ fn close<K: Keeper + Drop>(
     let Sum { outcome, ends } = sum;
     match lock.close(first) {
         Closed::Whole(locked) => DoorsServed {
-            machine: locked.machine,
+            machine: Box::into_inner(locked.machine),
             outcome,
             ends,
         },
@@ -119,9 +119,13 @@ where
         result.machine.past.history result.outcome result.ends.items }
 {
     links_are_joined::<D::L>();
+    let machine = match Box::new(alloc, machine) {
+        Ok(machine) => machine,
+        Err(none) => return not_served(alloc, none.value),
+    };
     let (lock, mut first) = match HistLock::new(alloc, Locked { machine }) {
         Ok(made) => made,
-        Err(none) => return not_served(alloc, none.kept.machine),
+        Err(none) => return not_served(alloc, Box::into_inner(none.kept.machine)),
     };
     let sum = work_doors(rt, alloc, &lock, &mut first, doors, max_read);
     close(lock, first, sum)

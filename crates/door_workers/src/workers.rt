@@ -3,9 +3,9 @@ ghost use Rattle.std.specs.Prelude.{◌≡◌, ◌<◌, [], None, Some, length};
 ghost use Rattle.hist_lock.specs.Passes.{view, IsPassOf};
 ghost use Rattle.acct_links.specs.Links.{IsNew};
 ghost use Rattle.link_sessions.specs.Turns.{HasNoCall};
-ghost use Rattle.door_workers.specs.Passing.{start_under, OwnsLanes, Serves};
-ghost use Rattle.door_workers.specs.Opening.{OpensAt};
-ghost use Rattle.door_workers.specs.Serving.{IsServing, HandlesLink, ServesLink, door_end};
+ghost use Rattle.door_workers.specs.steps.Passing.{start_under, OwnsLanes, ServesLive};
+ghost use Rattle.door_workers.specs.steps.Opening.{OpensAt};
+ghost use Rattle.door_workers.specs.steps.Serving.{IsServing, HandlesLink, ServesLink, door_end};
 
 use crate::ends::DoorEnd;
 use crate::kept::Locked;
@@ -60,7 +60,7 @@ impl<'a, R: Wait, K: Keeper + Drop, D: Door> Worker<'a, R, Locked<K>, D> {
     // Serves the connection that was opened for a link, and gives the link back.
     fn serve_conn(&mut self, alloc: Global, link: D::L, conn: u32) -> Option<DoorEnd>
         requires ready { IsPassOf self.old.gate.lock.now self.old.gate.pass × OwnsLanes (view self.old.gate.pass) }
-        requires serves { Serves (start_under self.old.gate.lock.now) (view self.old.gate.pass) conn }
+        requires serves { ServesLive (start_under self.old.gate.lock.now) (view self.old.gate.pass) conn }
         requires silent { HasNoCall (start_under self.old.gate.lock.now) (view self.old.gate.pass).known conn }
         requires new { IsNew (D.L.told link) }
         requires lent { D.has_lent self.old.door }

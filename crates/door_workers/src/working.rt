@@ -1,6 +1,6 @@
 // All workers work.
 ghost use Rattle.std.specs.Prelude.{◌≡◌, ◌<◌, ℕ, length, slice_index_or};
-ghost use Rattle.door_workers.specs.Hiring.{IsHired, HasWorked};
+ghost use Rattle.door_workers.specs.steps.Hiring.{IsHired, HasWorked};
 
 use crate::hiring::Hired;
 use crate::kept::Locked;

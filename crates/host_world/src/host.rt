@@ -3,7 +3,7 @@ ghost use Rattle.std.specs.Prelude.{◌≡◌, ◌≤◌, Some, None, Err, true,
 ghost use Rattle.std.specs.Prelude.{MatchOption, IfOk, IfErr, IsOk, OnErr};
 ghost use Rattle.std.specs.Option.{option_or};
 ghost use Rattle.std.specs.Str.{bytes_eq};
-ghost use Rattle.acct_keeper.specs.Causes.{Rose};
+ghost use Rattle.acct_keeper.specs.Faults.{Rose};
 ghost use Rattle.acct_links.specs.declared.callers.TakeError.TheVariants as take_error;
 ghost use Rattle.host_world.specs.Host.{held_by, trouble_of, first_trouble, unread_after};
 ghost use Rattle.host_world.specs.declared.stranger.Stranger.TheVariants.{Other};

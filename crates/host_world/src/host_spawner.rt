@@ -1,7 +1,7 @@
 // What runs programs of the system.
 ghost use Rattle.std.specs.Prelude.{◌≡◌, ◌≤◌, true, false, not, None, IsSomeAnd, map, string_bytes};
-ghost use Rattle.acct_keeper.specs.Counts.{faults_after};
-ghost use Rattle.account_hooks.specs.Runs.{ended_well};
+ghost use Rattle.acct_keeper.specs.Faults.{faults_after};
+ghost use Rattle.account_hooks.specs.Drains.{ended_well};
 ghost use Rattle.host_world.specs.Programs.{ran_of, IsOfRun};
 
 use crate::failed_run::FailedRun;

@@ -1,23 +1,21 @@
 -- A machine that was begun is a gate that may be drained, and what that leaves.
 use Rattle.std.proofs.Common.{◌≡◌, ℕ, ◌<◌, inr, List, [], Option, Some, IfSome, refl, sym, ap, ◌∙◌, subst, arith}
 use Rattle.std.specs.Prelude.{is_some}
-use Rattle.account_hooks.specs.Drains.{Drains}
-use Rattle.account_hooks.specs.Gates.{Begins, numbers}
-use Rattle.acct_config.specs.Right.{IsRight, IsRightHook}
+use Rattle.account_hooks.specs.Drains.{Drains, Begins, numbers}
+use Rattle.acct_config.specs.Spelled.{IsRightConfig, IsRightHook}
 use Rattle.acct_config.specs.declared.config.Config.{Config}
 use Rattle.acct_config.specs.declared.config.Hook.{Hook}
 use Rattle.acct_machine.specs.Legal.{Legal}
-use Rattle.acct_machine.specs.Outbox.{has_hook}
+use Rattle.acct_machine.specs.Outbox.{has_hook, HoldsRows}
 use Rattle.acct_machine.specs.Jobs.{jobs_at}
 use Rattle.acct_machine.specs.Outs.{hooks_of}
-use Rattle.acct_machine.specs.Storing.{HoldsRows}
 use Rattle.acct_machine.specs.declared.entry.Entry.{Entry}
 use Rattle.acct_rows.specs.Rows.{Lists}
 use Rattle.acct_server.proofs.Draining.{has-drained}
 use Rattle.acct_server.proofs.hooking.run_hooks.Goals as goal
 
 -- a right configuration's program may be run once at least
-tried : (config : Config) (hook : Hook) → IsRight config → config.hook ≡ Some hook → 0 < hook.tries
+tried : (config : Config) (hook : Hook) → IsRightConfig config → config.hook ≡ Some hook → 0 < hook.tries
 tried config hook right is =
     let by : IsRightHook hook = subst (λ (h : Option Hook). IfSome h IsRightHook) is right.hook in by.tried
 
@@ -31,7 +29,7 @@ drain-answer-requires-clause-ready g c =
     let under = c.in-Ok.ensures.begun.under in
     record {
       good = record {
-        right = subst (λ (x : Config). IsRight x) (sym under) c.requires.right;
+        right = subst (λ (x : Config). IsRightConfig x) (sym under) c.requires.right;
         sound = c.in-Ok.ensures.begun.sound;
         legal = subst (λ (h : List Entry). Legal start h) (sym c.in-Ok.ensures.history) tt;
       };

@@ -1,6 +1,6 @@
 -- Where all was written, the status is the one of lines that were run through, which is none of a failed write.
 use Rattle.std.proofs.Common.{sym, ap, ◌∙◌}
-use Rattle.acct_keeper.specs.Counts.{faults_after}
+use Rattle.acct_keeper.specs.Faults.{faults_after}
 use Rattle.acct_server.proofs.WriteFaults.{through-no-fault}
 use Rattle.acct_server.proofs.replays.finish.Goals as goal
 

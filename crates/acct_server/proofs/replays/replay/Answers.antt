@@ -1,9 +1,9 @@
 -- What `replay` leaves without a configuration, without events, without an opened store, and with its lines run.
 use Rattle.std.proofs.Common.{refl, ◌≤◌, ◌∙◌, sym, subst, List, ℕ}
-use Rattle.acct_keeper.specs.Whole.{IsWhole}
+use Rattle.acct_keeper.specs.Faults.{IsWhole}
 use Rattle.acct_server.specs.declared.status.Status.{Status}
 use Rattle.acct_server.specs.Begun.{IsBegun}
-use Rattle.acct_server.specs.Running.{Running}
+use Rattle.acct_server.specs.steps.Running.{Running}
 use Rattle.acct_server.specs.Leaves.{ConfigCause, EventsCause, StoreCause, StoreKept}
 use Rattle.acct_server.proofs.Configuring.{breaks_none, events-whole, made-none, config-not-taken, told-short}
 use Rattle.acct_server.proofs.Configuring.{events-not-taken, store-not-opened, lines-run}

@@ -4,7 +4,7 @@ use Rattle.acct_machine.specs.declared.entry.Entry.{Entry}
 use Rattle.acct_machine.specs.State.{Start}
 use Rattle.acct_machine.specs.Step.{state_at}
 use Rattle.acct_machine.specs.Legal.{Legal}
-use Rattle.acct_machine.specs.Storing.{HoldsRows, AreCounted}
+use Rattle.acct_machine.specs.Outbox.{HoldsRows, AreCounted}
 use Rattle.acct_rows.specs.Rows.{Lists}
 use Rattle.acct_server.proofs.Denying.{denies-in}
 use Rattle.acct_server.proofs.Transcribing.{transcribing}

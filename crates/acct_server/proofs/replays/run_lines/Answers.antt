@@ -3,12 +3,12 @@
 use Rattle.std.proofs.Common.{Option, List, ℕ, ◌≡◌, ◌+◌, ◌-◌, ◌^◌, length, [], refl, true, sym, ap, ◌∙◌, subst, take}
 use Rattle.std.proofs.Common.{arith, Err}
 use Rattle.std.specs.Io.KnownBytes.{Appends}
-use Rattle.acct_keeper.specs.Counts.{faults_after}
+use Rattle.acct_keeper.specs.Faults.{faults_after}
 use Rattle.acct_server.specs.declared.events.LineError.{LineError}
 use Rattle.acct_server.specs.declared.events.LineError.TheVariants.{NoMemory, Refused}
 use Rattle.acct_server.specs.Replayed.{on_line}
-use Rattle.acct_server.specs.Running.{Running, standing, Does}
-use Rattle.acct_server.specs.Leaves.{Stops, is_write_fault}
+use Rattle.acct_server.specs.steps.Running.{Running, standing, DoesLine}
+use Rattle.acct_server.specs.Leaves.{RunsOut, is_write_fault}
 use Rattle.acct_server.proofs.Bytes.{from_OnOk, from_OnErr, is_nil}
 use Rattle.acct_server.proofs.Heard.{all-within, none-heard}
 use Rattle.acct_server.proofs.Going.{going-starts, going-on, going-stops, going-may-stop, going-breaks, going-ends}
@@ -47,7 +47,8 @@ returns-in-Err-Refused-clause-stops g c = λ memory.
     c.in-Err-Refused.is ∙ ap (λ (e : LineError). Err e) c.in-Err-Refused.field-0-is in
     let kept = c.finish-in-Err-Refused.ensures.memory memory in
     let same : c.finish-in-Err-Refused.new.run ≡ c.loop-rest.run = kept.0 ∙ (c.line.ensures.refused refused).same in
-    subst (λ (held : Option (List ℕ)). Stops c.args.run.now.machine.start (t.held c.args.out.now) held c.args.bytes.now
+    subst (λ (held : Option (List ℕ)). RunsOut c.args.run.now.machine.start (t.held c.args.out.now) held
+    c.args.bytes.now
     c.finish-in-Err-Refused.new.run.machine.history) (sym kept.1)
     (going-stops c.args.run.now.machine.start (t.held c.args.out.now) (t.held c.loop-rest.out) c.args.bytes.now
     c.loop-rest.run c.finish-in-Err-Refused.new.run c.loop-rest.number c.loop-rest.rest.now c.loop-rest.invariant.going
@@ -83,7 +84,7 @@ loop-rest-preserved g c =
           (t.held c.write_all.new.out) c.args.bytes.now c.loop-rest.run c.line.new.self c.loop-rest.number
           c.loop-rest.rest.now c.next_line.result.0.now c.next_line.result.1.now c.in-Ok.ran.output.items
           c.loop-rest.invariant.going c.next_line.ensures.lines
-          (subst (λ (o : Option ℕ). Does (λ verdicts. on_line verdicts (standing c.loop-rest.run)
+          (subst (λ (o : Option ℕ). DoesLine (λ verdicts. on_line verdicts (standing c.loop-rest.run)
           c.next_line.result.0.now) c.loop-rest.run c.in-Ok.ran.output.items o c.line.new.self) c.in_default.is
           c.in-Ok.ensures.does)
           (rw c.deref.ensures.value at (from_OnOk c.write_all.result
@@ -124,7 +125,8 @@ pub returns-clause-stops : goal.returns-clause-stops
 returns-clause-stops g c = λ memory.
     let t = g.T.Sink in
     let kept = c.finish-2.ensures.memory memory in
-    subst (λ (held : Option (List ℕ)). Stops c.args.run.now.machine.start (t.held c.args.out.now) held c.args.bytes.now
+    subst (λ (held : Option (List ℕ)). RunsOut c.args.run.now.machine.start (t.held c.args.out.now) held
+    c.args.bytes.now
     c.finish-2.new.run.machine.history) (sym kept.1)
     (going-stops c.args.run.now.machine.start (t.held c.args.out.now) (t.held c.loop-rest.out) c.args.bytes.now
     c.loop-rest.run c.finish-2.new.run c.loop-rest.number c.loop-rest.rest.now c.loop-rest.invariant.going
@@ -150,7 +152,7 @@ line-requires-clause-heard g c =
 pub returns-in-Some-clause-through : goal.returns-in-Some-clause-through
 returns-in-Some-clause-through g c = λ through.
     let t = g.T.Sink in
-    let does = subst (λ (o : Option ℕ). Does (λ verdicts. on_line verdicts (standing c.loop-rest.run)
+    let does = subst (λ (o : Option ℕ). DoesLine (λ verdicts. on_line verdicts (standing c.loop-rest.run)
     c.next_line.result.0.now) c.loop-rest.run c.in-Ok.ran.output.items o c.line.new.self) c.in-Some.is
     c.in-Ok.ensures.does in
     let appends : Appends (t.held c.loop-rest.out) (t.held c.write_all.new.out) c.in-Ok.ran.output.items =
@@ -165,7 +167,7 @@ returns-in-Some-clause-through g c = λ through.
 pub returns-in-Some-clause-breaks : goal.returns-in-Some-clause-breaks
 returns-in-Some-clause-breaks g c = λ fault.
     let t = g.T.Sink in
-    let does = subst (λ (o : Option ℕ). Does (λ verdicts. on_line verdicts (standing c.loop-rest.run)
+    let does = subst (λ (o : Option ℕ). DoesLine (λ verdicts. on_line verdicts (standing c.loop-rest.run)
     c.next_line.result.0.now) c.loop-rest.run c.in-Ok.ran.output.items o c.line.new.self) c.in-Some.is
     c.in-Ok.ensures.does in
     let appends : Appends (t.held c.loop-rest.out) (t.held c.write_all.new.out) c.in-Ok.ran.output.items =
@@ -180,14 +182,15 @@ returns-in-Some-clause-breaks g c = λ fault.
 pub returns-in-Some-clause-stops : goal.returns-in-Some-clause-stops
 returns-in-Some-clause-stops g c = λ memory.
     let t = g.T.Sink in
-    let does = subst (λ (o : Option ℕ). Does (λ verdicts. on_line verdicts (standing c.loop-rest.run)
+    let does = subst (λ (o : Option ℕ). DoesLine (λ verdicts. on_line verdicts (standing c.loop-rest.run)
     c.next_line.result.0.now) c.loop-rest.run c.in-Ok.ran.output.items o c.line.new.self) c.in-Some.is
     c.in-Ok.ensures.does in
     let appends : Appends (t.held c.loop-rest.out) (t.held c.write_all.new.out) c.in-Ok.ran.output.items =
     rw c.deref.ensures.value at (from_OnOk c.write_all.result (sym c.is_err.ensures.value ∙ c.if-is_err.false)
     c.write_all.ensures.ok) in
     let kept = c.finish.ensures.memory memory in
-    subst (λ (held : Option (List ℕ)). Stops c.args.run.now.machine.start (t.held c.args.out.now) held c.args.bytes.now
+    subst (λ (held : Option (List ℕ)). RunsOut c.args.run.now.machine.start (t.held c.args.out.now) held
+    c.args.bytes.now
     c.finish.new.run.machine.history) (sym kept.1)
     (going-fill-stops c.args.run.now.machine.start (t.held c.args.out.now) (t.held c.loop-rest.out)
     (t.held c.write_all.new.out) c.args.bytes.now c.loop-rest.run c.line.new.self c.finish.new.run c.loop-rest.number

@@ -1,7 +1,7 @@
 -- The lines passed were run and what they print was written, no write failed, and running those left ends the replay
 -- of all lines.
 use Rattle.std.proofs.Common.{◌≡◌, ◌≤◌, ◌+◌, ℕ, length}
-use Rattle.acct_server.specs.Running.{AllHeard}
+use Rattle.acct_server.specs.steps.Running.{AllHeard}
 use Rattle.acct_server.proofs.Going.{Going}
 use Rattle.acct_server.proofs.replays.run_lines.Given as goal
 

@@ -3,10 +3,10 @@ use Rattle.std.proofs.Common.{◌≡◌, List, Some, inr, sym, ap, ◌∙◌, su
 use Rattle.acct_machine.specs.declared.entry.Entry.{Entry}
 use Rattle.acct_machine.specs.State.{Start}
 use Rattle.acct_machine.specs.Step.{state_at}
-use Rattle.acct_machine.specs.Storing.{HoldsRows, AreCounted}
+use Rattle.acct_machine.specs.Outbox.{HoldsRows, AreCounted}
 use Rattle.door_workers.specs.Doors.{IsServed}
 use Rattle.link_sessions.specs.declared.ends.Ended.{Ended}
-use Rattle.acct_server.specs.Denied.{DeniesExactlyIn}
+use Rattle.acct_server.specs.Begun.{DeniesExactlyIn}
 use Rattle.acct_server.proofs.Configuring.{counted-later}
 use Rattle.acct_server.proofs.serving.serve.Goals as goal
 

@@ -1,7 +1,7 @@
 -- A worker more is hired, for the last of the doors that are left.
 use Rattle.std.proofs.Common.{◌≡◌, ◌+◌, length, sym, ◌∙◌, subst, arith, vec_len}
 use Rattle.std.specs.Prelude.{slice_index_or}
-use Rattle.door_workers.specs.Hiring.{IsHired}
+use Rattle.door_workers.specs.steps.Hiring.{IsHired}
 use Rattle.door_workers.proofs.DoorPlaces.{below, each-more, each-less, the-last}
 use Rattle.door_workers.proofs.hiring.hire_all.Goals as goal
 

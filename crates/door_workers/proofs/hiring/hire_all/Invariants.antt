@@ -2,7 +2,7 @@
 use Rattle.std.proofs.Common.{◌≡◌, ◌+◌, ◌<◌, ◌≤◌, ℕ, vec_len}
 use Rattle.std.specs.Prelude.{slice_index_or, vec_capacity}
 use Rattle.hist_lock.specs.Passes.{view}
-use Rattle.door_workers.specs.Hiring.{IsIdle, IsHired}
+use Rattle.door_workers.specs.steps.Hiring.{IsIdle, IsHired}
 use Rattle.door_workers.proofs.hiring.hire_all.Given as goal
 
 abbrev pub invariant-loop-door : goal.invariant-loop-door

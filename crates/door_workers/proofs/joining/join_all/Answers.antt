@@ -2,9 +2,9 @@
 use Rattle.std.proofs.Common.{◌≡◌, ◌+◌, ◌<◌, [], Some, None, length, refl, sym, ap, ◌∙◌, subst, arith, vec_len, get_or}
 use Rattle.std.specs.Prelude.{slice_index_or}
 use Rattle.std.proofs.lemmas.List.{get_or_default}
-use Rattle.door_workers.specs.Passing.{start_under}
+use Rattle.door_workers.specs.steps.Passing.{start_under}
 use Rattle.door_workers.specs.declared.ends.DoorEnd.TheVariants as stop
-use Rattle.door_workers.specs.Hiring.{HasWorked, AreJoined}
+use Rattle.door_workers.specs.steps.Hiring.{HasWorked, AreJoined}
 use Rattle.door_workers.proofs.Joined.{none-joined, one-joined}
 use Rattle.door_workers.proofs.DoorPlaces.{below, each-less, the-last}
 use Rattle.door_workers.proofs.joining.join_all.Goals as goal

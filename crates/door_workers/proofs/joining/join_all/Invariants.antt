@@ -2,8 +2,8 @@
 use Rattle.std.proofs.Common.{◌≡◌, ◌+◌, ◌<◌, ◌≤◌, ℕ, vec_len}
 use Rattle.std.specs.Prelude.{slice_index_or, vec_capacity}
 use Rattle.hist_lock.specs.Passes.{view, IsPassOf}
-use Rattle.door_workers.specs.Passing.{start_under}
-use Rattle.door_workers.specs.Hiring.{HasWorked, AreJoined}
+use Rattle.door_workers.specs.steps.Passing.{start_under}
+use Rattle.door_workers.specs.steps.Hiring.{HasWorked, AreJoined}
 use Rattle.door_workers.proofs.joining.join_all.Given as goal
 
 abbrev pub invariant-loop-hired : goal.invariant-loop-hired

@@ -1,8 +1,8 @@
 -- A worker's pass is joined: what became of its door and its links.
 use Rattle.std.proofs.Common.{◌≡◌, Some, sym, ◌∙◌, subst}
-use Rattle.door_workers.specs.Passing.{start_under}
+use Rattle.door_workers.specs.steps.Passing.{start_under}
 use Rattle.door_workers.specs.declared.ends.DoorEnd.{DoorEnd}
-use Rattle.door_workers.specs.Serving.{IsServing}
+use Rattle.door_workers.specs.steps.Serving.{IsServing}
 use Rattle.door_workers.proofs.Joined.{joins-one}
 use Rattle.door_workers.proofs.joining.join_one.Goals as goal
 

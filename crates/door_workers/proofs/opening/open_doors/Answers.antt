@@ -1,8 +1,8 @@
 -- The doors got so far, with those of the listeners left, are those of all, up to the first asking that fails.
 use Rattle.std.proofs.Common.{◌≡◌, ◌<◌, ◌∷◌, ◌++◌, [], length, map, replicate, ◌∙◌, ap, subst, arith, get_or, Err}
-use Rattle.acct_keeper.specs.Counts.{faults_after}
+use Rattle.acct_keeper.specs.Faults.{faults_after}
 use Rattle.acct_keeper.specs.Memory.{is_fault}
-use Rattle.door_workers.specs.Askings.{asking_of, asked_besides}
+use Rattle.door_workers.specs.Doors.{asking_of, asked_besides}
 use Rattle.door_workers.proofs.Placing.{opens-more, workers-within}
 use Rattle.door_workers.proofs.opening.open_doors.Goals as goal
 

@@ -1,8 +1,8 @@
 -- Hired workers have their doors' listeners, each has worked as it was hired, and all are joined in the doors' order.
 use Rattle.std.proofs.Common.{◌≡◌, ◌+◌, ◌<◌, ◌++◌, length, take, drop, sym, ap, ◌∙◌, subst, get_or}
 use Rattle.std.proofs.Math.Seq.{take-append_seam}
-use Rattle.door_workers.specs.Passing.{start_under}
-use Rattle.door_workers.specs.Hiring.{IsHired, HasWorked, AreJoined}
+use Rattle.door_workers.specs.steps.Passing.{start_under}
+use Rattle.door_workers.specs.steps.Hiring.{IsHired, HasWorked, AreJoined}
 use Rattle.door_workers.proofs.Joined.{none-worked, all-joined}
 use Rattle.door_workers.proofs.DoorPlaces.{below}
 use Rattle.door_workers.proofs.serving.work_doors.Goals as goal

@@ -1,5 +1,5 @@
 -- A pass opens a connection of its own at a listener, or finds the history full and stays as it was.
-use Rattle.door_workers.specs.Passing.{start_under, IsPassing}
+use Rattle.door_workers.specs.steps.Passing.{start_under, IsPassing}
 use Rattle.door_workers.proofs.Opens.{opens-at}
 use Rattle.door_workers.proofs.workers.open_conn.Goals as goal
 

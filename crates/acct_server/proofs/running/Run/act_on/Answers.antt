@@ -1,7 +1,7 @@
 -- Acts that were answered are done, once their refusal has ended the connection.
 use Rattle.std.proofs.Common.{ℕ, List, [], subst}
-use Rattle.link_sessions.specs.Refusals.{closing_of}
-use Rattle.acct_server.specs.Running.{Answered}
+use Rattle.link_sessions.specs.Sessions.{closing_of}
+use Rattle.acct_server.specs.steps.Running.{Answered}
 use Rattle.acct_server.proofs.Bytes.{where-ok}
 use Rattle.acct_server.proofs.running.Run.act_on.Goals as goal
 

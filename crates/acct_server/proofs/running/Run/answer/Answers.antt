@@ -2,9 +2,9 @@
 use Rattle.std.proofs.Common.{◌≡◌, false, OnOk, IfErr, subst}
 use Rattle.acct_machine.specs.Step.{state_at}
 use Rattle.link_sessions.specs.Connections.{is_served}
-use Rattle.link_sessions.specs.Refusals.{closing_of}
+use Rattle.link_sessions.specs.Sessions.{closing_of}
 use Rattle.acct_server.specs.Replayed.{on_acts, peer_of}
-use Rattle.acct_server.specs.Running.{Running, Began, Answered, AnsweredToFull}
+use Rattle.acct_server.specs.steps.Running.{Running, Began, Answered, AnsweredToFull}
 use Rattle.acct_server.proofs.Answered.{all-answered, all-full, both-began, both-live}
 use Rattle.acct_server.proofs.Moves.{ties-live}
 use Rattle.acct_server.proofs.running.Run.answer.Goals as goal

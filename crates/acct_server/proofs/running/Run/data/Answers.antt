@@ -2,7 +2,7 @@
 use Rattle.std.proofs.Common.{◌+◌, length, List, sym, subst}
 use Rattle.rpc_session.specs.declared.sessions.Act.{Act}
 use Rattle.link_sessions.specs.declared.connections.Peer.{Peer}
-use Rattle.acct_server.specs.Running.{AllHeard, Hears}
+use Rattle.acct_server.specs.steps.Running.{AllHeard, Hears}
 use Rattle.acct_server.proofs.Heard.{heard-there, all-heard-behind}
 use Rattle.acct_server.proofs.Moves.{data-does, data-stops}
 use Rattle.acct_server.proofs.running.Run.data.Goals as goal

@@ -7,7 +7,7 @@ use Rattle.acct_machine.specs.Shown.{Past}
 use Rattle.link_sessions.specs.declared.connections.Peer.{Peer}
 use Rattle.link_sessions.specs.declared.connections.Peer.TheVariants as peer
 use Rattle.acct_server.specs.Replayed.{IsGone, line_bytes, peer_of, with_peer, number_of}
-use Rattle.acct_server.specs.Running.{Running, Ties, AllHeard}
+use Rattle.acct_server.specs.steps.Running.{Running, Ties, AllHeard}
 use Rattle.acct_server.proofs.Heard.{ended-at, still-there, peer-set, all-heard-ended}
 use Rattle.acct_server.proofs.Placing.{ties-set}
 use Rattle.acct_machine.specs.Step.{state_at}

@@ -2,7 +2,7 @@
 use Rattle.std.proofs.Common.{◌≡◌, ◌++◌, map, length, ap, ◌∙◌, arith}
 use Rattle.acct_machine.specs.declared.entry.Entry.TheVariants.{Gone}
 use Rattle.acct_server.specs.Replayed.{served_from}
-use Rattle.acct_server.specs.Running.{Running}
+use Rattle.acct_server.specs.steps.Running.{Running}
 use Rattle.acct_server.proofs.Closing.{closing-goes_on, closing-count}
 use Rattle.acct_server.proofs.running.Run.end_all.Goals as goal
 

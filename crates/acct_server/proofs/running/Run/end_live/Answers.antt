@@ -5,7 +5,7 @@ use Rattle.acct_machine.specs.Step.{state_at}
 use Rattle.link_sessions.specs.declared.connections.Peer.{Peer}
 use Rattle.link_sessions.specs.declared.connections.Peer.TheVariants.{Ended}
 use Rattle.acct_server.specs.Replayed.{peer_of}
-use Rattle.acct_server.specs.Running.{Running, Ties}
+use Rattle.acct_server.specs.steps.Running.{Running, Ties}
 use Rattle.acct_server.proofs.Heard.{peer-set}
 use Rattle.acct_server.proofs.Placing.{some-there, ties-ended}
 use Rattle.acct_server.proofs.running.Run.end_live.Goals as goal

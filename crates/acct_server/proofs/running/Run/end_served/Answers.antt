@@ -4,7 +4,7 @@ use Rattle.acct_machine.specs.State.{is_live}
 use Rattle.acct_machine.specs.Machine.{state_of}
 use Rattle.link_sessions.specs.Connections.{is_served}
 use Rattle.acct_server.specs.Replayed.{peer_of}
-use Rattle.acct_server.specs.Running.{Running}
+use Rattle.acct_server.specs.steps.Running.{Running}
 use Rattle.acct_server.proofs.Placing.{served-some}
 use Rattle.acct_server.proofs.running.Run.end_served.Goals as goal
 

@@ -2,13 +2,13 @@
 use Rattle.std.proofs.Common.{◌≡◌, ◌^◌, ◌+◌, ◌-◌, List, Option, Some, All, length, slice_get, slice_set, sym, ap}
 use Rattle.std.proofs.Common.{◌∙◌, subst}
 use Rattle.rpc_session.specs.declared.sessions.Act.{Act}
-use Rattle.rpc_session.specs.Hearings.{on, is_going}
+use Rattle.rpc_session.specs.Sessions.{on, is_going}
 use Rattle.rpc_session.specs.Acts.{IsFit}
 use Rattle.link_sessions.specs.declared.connections.Peer.{Peer}
 use Rattle.link_sessions.specs.declared.connections.Peer.TheVariants as peer
 use Rattle.link_sessions.specs.Connections.{is_served}
 use Rattle.acct_server.specs.Replayed.{peer_of}
-use Rattle.acct_server.specs.Running.{Running, HasHeard, AllHeard, IsClosing}
+use Rattle.acct_server.specs.steps.Running.{Running, HeardPeer, AllHeard, IsClosing}
 use Rattle.acct_server.proofs.Placing.{peer-here}
 use Rattle.acct_server.proofs.Heard.{open-here, heard-here, piece-acts-fit, piece-closes, all-heard}
 use Rattle.acct_server.proofs.running.Run.hear.Goals as goal
@@ -19,7 +19,7 @@ returns-clause-fits g c =
     let same : c.self.inside.peers.items ≡ now = ap (λ (r : Running). r.peers) c.self.view_is in
     let stands = open-here c.args.conn now c.self.inside.peers.items c.in-Some-Open.field-0.now c.index_mut.result.now
     c.in-Open.stream same c.in-Some-Open.ensures.value c.index_mut.ensures.value c.in-Open.is in
-    let heard = subst (λ (p : Option Peer). HasHeard (2 ^ 32) c.args.conn p) stands (c.requires.heard c.args.conn) in
+    let heard = subst (λ (p : Option Peer). HeardPeer (2 ^ 32) c.args.conn p) stands (c.requires.heard c.args.conn) in
     subst (λ (as' : List Act). All IsFit as') (sym c.in_ok-heard-in-Open.ensures.acts)
     (piece-acts-fit c.streams_are_cut_anywhere.ensures c.calls_fit.ensures (2 ^ 32) c.args.conn c.in-Open.stream
     c.args.bytes.now heard)
@@ -32,7 +32,7 @@ returns-clause-closed g c = λ i.
     c.in-Open.stream same c.in-Some-Open.ensures.value c.index_mut.ensures.value c.in-Open.is in
     let left = heard-here c.args.conn now c.self.inside.peers.items c.in-Open.stream c.heard.new.stream c.args.bytes.now
     same stands c.in_ok-heard-in-Open.ensures.leaves in
-    let heard = subst (λ (p : Option Peer). HasHeard (2 ^ 32) c.args.conn p) stands (c.requires.heard c.args.conn) in
+    let heard = subst (λ (p : Option Peer). HeardPeer (2 ^ 32) c.args.conn p) stands (c.requires.heard c.args.conn) in
     let new = peer.Open (on c.in-Open.stream c.args.bytes.now).leaves in
     let here : peer_of c.args.conn (slice_set c.self.inside.peers.items (c.args.conn - 1)
     (peer.Open c.heard.new.stream)) ≡ Some new =

@@ -7,7 +7,7 @@ use Rattle.link_sessions.specs.declared.connections.Peer.{Peer}
 use Rattle.link_sessions.specs.declared.connections.Peer.TheVariants.{Open}
 use Rattle.link_sessions.specs.Connections.{nothing_heard}
 use Rattle.acct_server.specs.Replayed.{on_open, listener_from}
-use Rattle.acct_server.specs.Running.{Running, standing, Does, AllHeard}
+use Rattle.acct_server.specs.steps.Running.{Running, standing, DoesLine, AllHeard}
 use Rattle.acct_server.proofs.Configuring.{few_listeners}
 use Rattle.acct_server.proofs.Heard.{all-heard-pushed}
 use Rattle.acct_server.proofs.Moves.{open-does, open-full}
@@ -27,7 +27,7 @@ returns-in-Conn-clause-does g c =
     let next : c.args.conn ≡ length old.peers + 1 = grind (arith, nat_tests) in
     let same : c.in-Conn.field-0 ≡ c.args.conn = made.1 ∙ ap (λ n. n + 1) c.self.invariant.count ∙ sym next in
     let added : new.peers ≡ old.peers ++ Open (nothing_heard c.args.conn) ∷ [] = grind (arith, common_steps) in
-    subst (λ (r : Running). Does (λ verdicts. on_open (standing r) c.args.conn c.args.name.now) r c.new.result.items
+    subst (λ (r : Running). DoesLine (λ verdicts. on_open (standing r) c.args.conn c.args.name.now) r c.new.result.items
     None new) c.self.view_is
     (open-does old new c.args.conn c.in-Conn.field-0 c.in-Some.listener c.args.name.now c.new.result.items found next
     same made.0 made.2 added c.new.ensures.items)
@@ -52,7 +52,7 @@ returns-in_ok-full_line-in-Full-clause-does g c =
     let next : c.args.conn ≡ length old.peers + 1 = grind (arith, nat_tests) in
     let kept : new.peers ≡ old.peers = grind (arith, common_steps) in
     let same : new ≡ old = λ i. record { machine = made.1 i; peers = kept i } in
-    subst (λ (r : Running). Does (λ verdicts. on_open (standing r) c.args.conn c.args.name.now) r
+    subst (λ (r : Running). DoesLine (λ verdicts. on_open (standing r) c.args.conn c.args.name.now) r
     c.in_ok-full_line-in-Full.field-0.items (Some c.in-Full.count) new) c.self.view_is
     (open-full old new c.args.conn c.in-Some.listener c.in-Full.count c.args.name.now
     c.in_ok-full_line-in-Full.field-0.items found next made.0 same c.in_ok-full_line-in-Full.ensures)

@@ -10,7 +10,7 @@ turn-requires-clause-lane g c = c.requires.serves.2.mine
 pub turn-requires-clause-job : goal.turn-requires-clause-job
 turn-requires-clause-job g c = λ h finds.
     let a = c.args in
-    let start = a.self.now.lock.now.table.shared.key.machine.past.start in (
+    let start = a.self.now.lock.now.table.shared.key.machine.value.past.start in (
       finds-live c.others_change_nothing.ensures start a.self.now.pass.seat.me.0 a.conn h c.requires.serves.1
           c.requires.serves.2 finds,
       c.requires.spelled,
@@ -19,7 +19,7 @@ turn-requires-clause-job g c = λ h finds.
 pub returns-clause-turn : goal.returns-clause-turn
 returns-clause-turn g c =
     let a = c.args in
-    let start = a.self.now.lock.now.table.shared.key.machine.past.start in
+    let start = a.self.now.lock.now.table.shared.key.machine.value.past.start in
     let t = c.turn.ensures.turn in
     turn-on c.others_change_nothing.ensures start a.self.now.pass.seat.me.0 c.turn.new.pass.seat.me.0
     (MachineActs start a.conn a.call a.bytes c.turn.result) t c.requires.serves.1 t.related.0
@@ -27,7 +27,7 @@ returns-clause-turn g c =
 pub returns-clause-serves : goal.returns-clause-serves
 returns-clause-serves g c =
     let a = c.args in
-    let start = a.self.now.lock.now.table.shared.key.machine.past.start in
+    let start = a.self.now.lock.now.table.shared.key.machine.value.past.start in
     let v = a.self.now.pass.seat.me.0 in
     let w = c.turn.new.pass.seat.me.0 in
     let t = c.turn.ensures.turn in
@@ -42,7 +42,7 @@ returns-clause-serves g c =
 pub returns-clause-moves : goal.returns-clause-moves
 returns-clause-moves g c =
     let a = c.args in
-    let start = a.self.now.lock.now.table.shared.key.machine.past.start in
+    let start = a.self.now.lock.now.table.shared.key.machine.value.past.start in
     let v = a.self.now.pass.seat.me.0 in
     let w = c.turn.new.pass.seat.me.0 in
     let t = c.turn.ensures.turn in

@@ -9,7 +9,7 @@ use Rattle.door_workers.proofs.lock_gate.LockGateLockedGate.open_conn.Goals as g
 pub returns-clause-turn : goal.returns-clause-turn
 returns-clause-turn g c =
     let a = c.args in
-    let start = a.self.now.lock.now.table.shared.key.machine.past.start in
+    let start = a.self.now.lock.now.table.shared.key.machine.value.past.start in
     let t = c.turn.ensures.turn in
     turn-on c.others_change_nothing.ensures start a.self.now.pass.seat.me.0 c.turn.new.pass.seat.me.0
     (MachineOpens start a.listener c.turn.result) t c.requires.ready.1 t.related
@@ -18,7 +18,7 @@ pub returns-clause-served : goal.returns-clause-served
 returns-clause-served g c =
     let a = c.args in
     let t = c.turn.ensures.turn in
-    let start = a.self.now.lock.now.table.shared.key.machine.past.start in
+    let start = a.self.now.lock.now.table.shared.key.machine.value.past.start in
     let v = a.self.now.pass.seat.me.0 in
     let w = c.turn.new.pass.seat.me.0 in
     let both = opens-on c.others_change_nothing.ensures start v w _ t c.requires.ready.1 a.listener c.turn.result
@@ -29,7 +29,7 @@ pub returns-clause-silent : goal.returns-clause-silent
 returns-clause-silent g c =
     let a = c.args in
     let t = c.turn.ensures.turn in
-    let start = a.self.now.lock.now.table.shared.key.machine.past.start in
+    let start = a.self.now.lock.now.table.shared.key.machine.value.past.start in
     let v = a.self.now.pass.seat.me.0 in
     let w = c.turn.new.pass.seat.me.0 in
     let both = opens-on c.others_change_nothing.ensures start v w _ t c.requires.ready.1 a.listener c.turn.result
@@ -40,7 +40,7 @@ pub returns-clause-ready : goal.returns-clause-ready
 returns-clause-ready g c =
     let a = c.args in
     let t = c.turn.ensures.turn in
-    let start = a.self.now.lock.now.table.shared.key.machine.past.start in
+    let start = a.self.now.lock.now.table.shared.key.machine.value.past.start in
     let both = opens-on c.others_change_nothing.ensures start a.self.now.pass.seat.me.0 c.turn.new.pass.seat.me.0 _ t
     c.requires.ready.1 a.listener c.turn.result t.related in
     (c.turn.ensures.pass, both.1)
@@ -49,7 +49,7 @@ pub returns-clause-opens : goal.returns-clause-opens
 returns-clause-opens g c =
     let a = c.args in
     let t = c.turn.ensures.turn in
-    let start = a.self.now.lock.now.table.shared.key.machine.past.start in
+    let start = a.self.now.lock.now.table.shared.key.machine.value.past.start in
     let both = opens-on c.others_change_nothing.ensures start a.self.now.pass.seat.me.0 c.turn.new.pass.seat.me.0 _ t
     c.requires.ready.1 a.listener c.turn.result t.related in (
       refl,

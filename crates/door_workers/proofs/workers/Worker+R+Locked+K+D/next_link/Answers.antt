@@ -1,5 +1,5 @@
 -- The next link of a door is taken as it is given, or it is told why none is, and the pass stays as it was.
-use Rattle.door_workers.specs.Passing.{start_under}
+use Rattle.door_workers.specs.steps.Passing.{start_under}
 use Rattle.door_workers.proofs.Runs.{link-served, door-closed, door-failed, is-closed}
 use Rattle.door_workers.proofs.workers.Worker+R+Locked+K+D.next_link.Goals as goal
 

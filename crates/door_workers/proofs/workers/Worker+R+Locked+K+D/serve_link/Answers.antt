@@ -1,8 +1,8 @@
 -- A link is served on a connection that the pass opens, or given back unread where the history takes none.
 use Rattle.std.proofs.Common.{refl, subst}
-use Rattle.door_workers.specs.Passing.{start_under}
-use Rattle.door_workers.specs.Opening.{OpensWith}
-use Rattle.door_workers.specs.Serving.{ServesLink}
+use Rattle.door_workers.specs.steps.Passing.{start_under}
+use Rattle.door_workers.specs.steps.Opening.{OpensWith}
+use Rattle.door_workers.specs.steps.Serving.{ServesLink}
 use Rattle.door_workers.proofs.Handled.{link-served, link-unopened}
 use Rattle.door_workers.proofs.workers.Worker+R+Locked+K+D.serve_link.Goals as goal
 

@@ -1,7 +1,7 @@
 -- The links served so far and the one that follows are those of the door in order, until none is taken.
 use Rattle.std.proofs.Common.{◌<◌, None, length, refl, sym, ap, ◌∙◌, subst, rules}
 use Rattle.hist_lock.specs.Passes.{IsPassOf}
-use Rattle.door_workers.specs.Passing.{start_under}
+use Rattle.door_workers.specs.steps.Passing.{start_under}
 use Rattle.door_workers.proofs.Runs.{idle-serves, serving-as}
 use Rattle.door_workers.proofs.Worked.{idle-works}
 use Rattle.door_workers.proofs.workers.Worker+R+Locked+K+D.work.Goals as goal

@@ -1,8 +1,8 @@
 -- The links that the door gave were served on the worker's pass, their ends noted, and none found the history full.
 use Rattle.std.proofs.Common.{◌≡◌, None}
 use Rattle.hist_lock.specs.Passes.{view, IsPassOf}
-use Rattle.door_workers.specs.Passing.{start_under, OwnsLanes}
-use Rattle.door_workers.specs.Serving.{IsServing}
+use Rattle.door_workers.specs.steps.Passing.{start_under, OwnsLanes}
+use Rattle.door_workers.specs.steps.Serving.{IsServing}
 use Rattle.door_workers.proofs.workers.Worker+R+Locked+K+D.work.Given as goal
 
 abbrev pub invariant-loop : goal.invariant-loop

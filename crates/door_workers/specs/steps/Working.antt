@@ -1,24 +1,17 @@
 -- What a pass knows of the links that were served over it.
 use Rattle.std.specs.Prelude.{◌≡◌, ℕ, ◌<◌, List, length, Some, IfSome}
-use mathlib.Core.Option.{some}
-use lib.ListN.{get_elem?}
 use Rattle.hist_lock.specs.Histories.{At, In}
 use Rattle.hist_lock.specs.declared.view.View.{View}
 use Rattle.acct_machine.specs.State.{Start}
 use Rattle.acct_machine.specs.Legal.{Legal}
 use Rattle.acct_machine.specs.Passing.{conn_of}
 use Rattle.acct_machine.specs.declared.entry.Entry.{Entry}
-use Rattle.acct_machine.specs.declared.entry.Entry.TheVariants as entry
 use Rattle.acct_links.specs.Links.{Told}
-use Rattle.link_sessions.specs.Turns.{IsFrontOf}
+use Rattle.link_sessions.specs.Transcript.{IsFrontOf}
 use Rattle.door_workers.specs.declared.kept.Begun.{Begun}
-use Rattle.door_workers.specs.Passing.{IsMine, OwnsLanes}
-use Rattle.door_workers.specs.Services.{Service, Serves, Unopened, IsOfConn, IsService}
-
-module _ {A : Type 0} where
-  -- the list has this element at some place
-  abbrev pub Has : List A → A → Type 0
-  Has xs x = (i : ℕ) × (get_elem? xs i ≡ some x)
+use Rattle.door_workers.specs.steps.Passing.{IsMine, OwnsLanes}
+use Rattle.door_workers.specs.Services.{Service, Serves, Unopened, IsService}
+use Rattle.door_workers.specs.Doors.{AreDistinct, Has, IsServedOn}
 
 -- After a prefix of what the pass knows, it owns no entry of the connection that the link served.
 pub record OwnsNoneBehind (v : View Begun Entry) (k : ℕ) (front : List Entry) : Type 0 where
@@ -26,16 +19,6 @@ pub record OwnsNoneBehind (v : View Begun Entry) (k : ℕ) (front : List Entry) 
   pub no_more : (p : ℕ) (e : Entry) → In v.own p e → conn_of e ≡ Some k → p < length front
 
 module _ {L : Type 0} where
-  -- no connection was served on two links
-  abbrev pub AreDistinct : List (Service L) → Type 0
-  AreDistinct ss =
-      (i j k : ℕ) (s t : Service L) → get_elem? ss i ≡ some s → get_elem? ss j ≡ some t → IsOfConn k s → IsOfConn k t
-      → i ≡ j
-
-  -- one of the links served the connection
-  abbrev pub IsServedOn : List (Service L) → ℕ → Type 0
-  IsServedOn ss k = (s : Service L) × Has ss s × IsOfConn k s
-
   -- the pass opened the connection that the link served
   abbrev pub IsMineOn : View Begun Entry → Service L → Type 0
   IsMineOn v (Serves s) = IsMine v s.conn
@@ -67,12 +50,4 @@ module _ {L : Type 0} where
     pub opened : (p : ℕ) (e : Entry) → In v.own p e → IfSome (conn_of e) (IsMine v)
     pub was : (s : Service L) → Has ss s → WasService told start most v s
     pub all : (k : ℕ) → IsMine v k → IsServedOn ss k
-    pub once : AreDistinct ss
-
-  -- What serving leaves in the history, which is legal: each link's, and each connection was served on just one link.
-  pub record AreServed (told : L → Told) (start : Start) (most : ℕ) (history : List Entry) (ss : List (Service L))
-      : Type 0 where
-    pub legal : Legal start history
-    pub each : (s : Service L) → Has ss s → IsService told start most history s
-    pub all : (p k listener : ℕ) → At history p (entry.Opened k listener) → IsServedOn ss k
     pub once : AreDistinct ss

@@ -1,30 +1,22 @@
 -- What a worker does with the links of its door, by what the door's ghost members and those of its links tell.
-use Rattle.std.specs.Prelude.{◌≡◌, ℕ, ◌≤◌, true, List, [], ◌∷◌, ◌++◌, map, Option, Some, None, option_map, IfSome, ⊤}
-use Rattle.std.specs.Prelude.{◌⊎◌, ◌≢◌}
+use Rattle.std.specs.Prelude.{◌≡◌, ℕ, List, [], ◌∷◌, ◌++◌, Option, Some, None, option_map, ⊤, ◌⊎◌, ◌≢◌}
 use Rattle.std.specs.List.{flat_map}
 use Rattle.hist_lock.specs.declared.view.View.{View}
 use Rattle.acct_machine.specs.State.{Start}
 use Rattle.acct_machine.specs.declared.entry.Entry.{Entry}
-use Rattle.acct_keeper.specs.Counts.{one_more}
 use Rattle.acct_links.specs.Links.{Told}
 use Rattle.acct_links.specs.declared.doors.Door.{Ghosts}
 use Rattle.link_sessions.specs.Sessions.{IsSession}
 use Rattle.link_sessions.specs.declared.ends.SessionEnd.{SessionEnd}
 use Rattle.link_sessions.specs.declared.ends.SessionEnd.TheVariants as end
 use Rattle.door_workers.specs.declared.kept.Begun.{Begun}
-use Rattle.door_workers.specs.Passing.{MovesOn}
+use Rattle.door_workers.specs.steps.Passing.{MovesOn}
 use Rattle.link_sessions.specs.declared.ends.Ended.{Ended}
 use Rattle.door_workers.specs.declared.ends.DoorEnd.{DoorEnd}
 use Rattle.door_workers.specs.declared.ends.DoorEnd.TheVariants as stop
-use Rattle.door_workers.specs.Services.{Service, given_of, finished_of, IsAtListener, full_count, NoneFull, LastIsFull}
-use Rattle.door_workers.specs.Services.{end_of, NoneFullBeforeLast}
-use Rattle.door_workers.specs.Working.{Has, IsWorking}
-
--- The links were given in order, and are no longer to come.
-abbrev pub Gives : {L : Type 0} → Option (List L) → List L → Option (List L) → Type 0
-Gives None links now = ⊤
-Gives (Some old) links None = ⊥
-Gives (Some old) links (Some now) = old ≡ links ++ now
+use Rattle.door_workers.specs.Services.{Service, given_of, finished_of, IsAtListener, full_count, end_of}
+use Rattle.door_workers.specs.steps.Working.{IsWorking}
+use Rattle.door_workers.specs.Doors.{Runs, StopsAt}
 
 -- why no further link is taken after a session that ended so
 abbrev pub door_end : SessionEnd → Option DoorEnd
@@ -74,32 +66,12 @@ module _ {D L : Type 0} (door : Ghosts D L) (told : L → Told) where
     pub takes : TakesBack (finished_of service).0 (finished_of service).1 old new
     pub ends : EndsLink answer place service ends_before ends_behind
 
-  -- From one state of a door to another it gave the links of these services in order, and took them back in order.
-  pub record Runs (before now : D) (ss : List (Service L)) : Type 0 where
-    pub coming : Gives (door.coming before) (map given_of ss) (door.coming now)
-    pub finished : door.finished now ≡ option_map (λ l. l ++ map finished_of ss) (door.finished before)
-    pub listener : door.listener now ≡ door.listener before
-    pub later : door.faults before ≤ door.faults now
-    pub at : (s : Service L) → Has ss s → IsAtListener (door.listener before) s
-
-  -- Why no further link is taken from the door: it is closed, and none is to come, where it tells; it failed once; the
-  -- last link found the history full, or memory ran out once it had been served. None before the last link found the
-  -- history full, and no other call of the door failed.
-  abbrev pub StopsAt : Option DoorEnd → D → D → List (Service L) → Type 0
-  StopsAt None before now ss = NoneFull ss × (door.faults now ≡ door.faults before)
-  StopsAt (Some stop.Closed) before now ss =
-      NoneFull ss × (door.faults now ≡ door.faults before) × (door.closed now ≡ true)
-      × IfSome (door.coming before) (λ _. door.coming now ≡ Some [])
-  StopsAt (Some stop.Failed) before now ss = NoneFull ss × (door.faults now ≡ one_more (door.faults before))
-  StopsAt (Some (stop.Full n)) before now ss = LastIsFull ss n × (door.faults now ≡ door.faults before)
-  StopsAt (Some stop.NoMemory) before now ss = NoneFullBeforeLast ss × (door.faults now ≡ door.faults before)
-
   -- A worker so far: what became of the links that its door gave, what its pass knows of them, and their ends, which
   -- are all noted, unless memory ran out.
   pub record IsServing (start : Start) (most place : ℕ) (answer : Option DoorEnd) (before now : D)
       (v : View Begun Entry) (ends : List Ended) : Type 0 where
     pub services : List (Service L)
-    pub runs : Runs before now services
+    pub runs : Runs door told before now services
     pub working : IsWorking told start most v services
-    pub stops : StopsAt answer before now services
+    pub stops : StopsAt door told answer before now services
     pub noted : answer ≢ Some stop.NoMemory → ends ≡ flat_map (end_of place) services

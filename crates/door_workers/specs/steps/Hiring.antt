@@ -11,8 +11,8 @@ use Rattle.acct_machine.specs.Shown.{Past}
 use Rattle.acct_machine.specs.declared.entry.Entry.{Entry}
 use Rattle.acct_links.specs.Links.{Told}
 use Rattle.acct_links.specs.declared.doors.Door as doors
-use Rattle.link_sessions.specs.Turns.{IsFrontOf}
-use Rattle.door_workers.specs.Passing.{start_under}
+use Rattle.link_sessions.specs.Transcript.{IsFrontOf}
+use Rattle.door_workers.specs.steps.Passing.{start_under}
 use Rattle.door_workers.specs.declared.kept.Begun.{Begun}
 use Rattle.door_workers.specs.declared.kept.Locked.{Locked}
 use Rattle.std.specs.List.{flat_map}
@@ -20,10 +20,10 @@ use Rattle.door_workers.specs.declared.ends.DoorEnd.{DoorEnd}
 use Rattle.door_workers.specs.declared.ends.DoorEnd.TheVariants as stop
 use Rattle.link_sessions.specs.declared.ends.Ended.{Ended}
 use Rattle.door_workers.specs.Services.{Service, end_of}
-use Rattle.door_workers.specs.Serving.{IsServing, Runs, StopsAt}
-use Rattle.door_workers.specs.Working.{IsJoined}
-use Rattle.door_workers.specs.Outcomes.{outcome_of}
-use Rattle.door_workers.specs.Doors.{DoorRun, ServesDoor, ServesDoors, ComesTo, all_services, stops, ends_from}
+use Rattle.door_workers.specs.steps.Serving.{IsServing}
+use Rattle.door_workers.specs.Doors.{Runs, StopsAt, outcome_of, DoorRun, ServesDoor, ServesDoors, ComesTo, all_services}
+use Rattle.door_workers.specs.Doors.{stops, ends_from}
+use Rattle.door_workers.specs.steps.Working.{IsJoined}
 
 -- The machine came back from under the lock, where the first pass had taken all others in.
 pub record ClosesTo {K : Type 0} (lock : HistLock (Locked K) Entry Begun) (v : View Begun Entry) (past : Past)

@@ -6,10 +6,11 @@ use Rattle.acct_machine.specs.State.{Start}
 use Rattle.acct_machine.specs.Legal.{Legal}
 use Rattle.acct_machine.specs.declared.entry.Entry.{Entry}
 use Rattle.acct_links.specs.Links.{Told}
-use Rattle.link_sessions.specs.Turns.{IsFrontOf}
+use Rattle.link_sessions.specs.Transcript.{IsFrontOf}
 use Rattle.door_workers.specs.declared.kept.Begun.{Begun}
 use Rattle.door_workers.specs.Services.{Service}
-use Rattle.door_workers.specs.Working.{IsWorking, IsJoined, AreServed}
+use Rattle.door_workers.specs.steps.Working.{IsWorking, IsJoined}
+use Rattle.door_workers.specs.Doors.{AreServed}
 
 -- A pass took another one in: it knows and owns what both knew and owned.
 pub record TakesIn (v w u : View Begun Entry) : Type 0 where

@@ -10,8 +10,8 @@ use Rattle.link_sessions.specs.declared.connections.Peer.{Peer}
 use Rattle.link_sessions.specs.declared.connections.Peer.TheVariants.{Open, Ended}
 use Rattle.rpc_session.specs.declared.hearing.Hearing.{Hearing}
 use Rattle.rpc_session.specs.declared.sessions.Act.{Act}
-use Rattle.rpc_session.specs.Hearings.{on}
-use Rattle.rpc_session.specs.Acts.{acts, is_refusal, IsSoFar}
+use Rattle.rpc_session.specs.Sessions.{on, acts}
+use Rattle.rpc_session.specs.Acts.{is_refusal, IsSoFar}
 use Rattle.link_sessions.specs.Connections.{is_served}
 use Rattle.acct_server.specs.Replayed.{Standing, Move, Doing, Verdicts, peer_of, with_peer, verdict_in}
 use Rattle.acct_server.specs.Replayed.{line_bytes, ending, on_acts, IsClosed, FoundFull}
@@ -33,19 +33,20 @@ pub record Ties (peers : List Peer) (s : State) : Type 0 where
   pub lives : (conn : ℕ) → is_served (peer_of conn peers) ≡ true → is_live conn s.conns ≡ true
 
 -- what a connection that wasn't ended has heard is a stream of at most so many bytes
-abbrev pub HasHeard : ℕ → ℕ → Option Peer → Type 0
-HasHeard most conn None = Unit {0}
-HasHeard most conn (Some (Open hearing)) = (stream : List ℕ) × IsSoFar conn stream hearing (acts conn stream)
+abbrev pub HeardPeer : ℕ → ℕ → Option Peer → Type 0
+HeardPeer most conn None = Unit {0}
+HeardPeer most conn (Some (Open hearing)) = (stream : List ℕ) × IsSoFar conn stream hearing (acts conn stream)
     × (length stream ≤ most)
-HasHeard most conn (Some Ended) = Unit {0}
+HeardPeer most conn (Some Ended) = Unit {0}
 
 -- and so it is with every connection
 abbrev pub AllHeard : ℕ → List Peer → Type 0
-AllHeard most peers = (conn : ℕ) → HasHeard most conn (peer_of conn peers)
+AllHeard most peers = (conn : ℕ) → HeardPeer most conn (peer_of conn peers)
 
 -- Acts were done, by whatever entries the history goes on: their entries stand, their lines were added, and where they
 -- found it full, this is what it has.
-pub record Acts (what : Verdicts → Doing) (before now : List Entry) (old_lines new_lines : List ℕ) (found : Option ℕ)
+pub record DoesActs (what : Verdicts → Doing) (before now : List Entry) (old_lines new_lines : List ℕ)
+    (found : Option ℕ)
     : Type 0 where
   pub doing : Doing
   pub full : doing.full ≡ found
@@ -57,15 +58,15 @@ pub record Acts (what : Verdicts → Doing) (before now : List Entry) (old_lines
 -- done.
 abbrev pub Answered : ℕ → Start → List Act → List Entry → List Entry → List ℕ → List ℕ → Option (ℕ × ℕ) → Type 0
 Answered conn start acts before now old_lines new_lines None =
-    Acts (λ verdicts. on_acts start verdicts before conn acts) before now old_lines new_lines None
+    DoesActs (λ verdicts. on_acts start verdicts before conn acts) before now old_lines new_lines None
 Answered conn start acts before now old_lines new_lines (Some at) =
-    Acts (λ verdicts. on_acts start verdicts before conn acts) before (now ++ Gone conn ∷ []) old_lines
+    DoesActs (λ verdicts. on_acts start verdicts before conn acts) before (now ++ Gone conn ∷ []) old_lines
     (new_lines ++ line_bytes (IsClosed conn at.0 at.1)) None
 
 -- The same of acts that stopped, where one found the history full.
 abbrev pub AnsweredToFull : ℕ → Start → List Act → List Entry → List Entry → List ℕ → List ℕ → Stop → Type 0
 AnsweredToFull conn start acts before now old_lines new_lines (stop.Full count) =
-    Acts (λ verdicts. on_acts start verdicts before conn acts) before (now ++ Gone conn ∷ []) old_lines
+    DoesActs (λ verdicts. on_acts start verdicts before conn acts) before (now ++ Gone conn ∷ []) old_lines
     (new_lines ++ line_bytes (FoundFull conn)) (Some count)
 AnsweredToFull conn start acts before now old_lines new_lines _ = Unit {0}
 
@@ -95,7 +96,7 @@ IsClosing served i count (Some act) = is_refusal act ≡ true → (i + 1 ≡ cou
 
 -- The run goes on by the move that a line makes, by whatever entries the history goes on; where it was found full, this
 -- is what it has.
-pub record Does (what : Verdicts → Option Move) (old : Running) (output : List ℕ) (found : Option ℕ) (new : Running)
+pub record DoesLine (what : Verdicts → Option Move) (old : Running) (output : List ℕ) (found : Option ℕ) (new : Running)
     : Type 0 where
   pub move : Move
   pub full : move.effect.full ≡ found
@@ -111,7 +112,7 @@ pub record Refuses (what : Verdicts → Option Move) (old new : Running) : Type 
   pub same : new ≡ old
 
 -- the first of the entries of a line stand
-pub record Enters (what : Verdicts → Option Move) (old new : Running) : Type 0 where
+pub record EntersLine (what : Verdicts → Option Move) (old new : Running) : Type 0 where
   pub front : List Entry
   pub history : new.machine.history ≡ old.machine.history ++ front
   pub move : List Entry → Move
@@ -121,7 +122,7 @@ pub record Enters (what : Verdicts → Option Move) (old new : Running) : Type 0
 
 -- where memory ran out the first of the entries of a line stand, or none does
 abbrev pub MayStop : (Verdicts → Option Move) → Running → Running → Type 0
-MayStop what old new = (new.machine.history ≡ old.machine.history) ⊎ Enters what old new
+MayStop what old new = (new.machine.history ≡ old.machine.history) ⊎ EntersLine what old new
 
 -- the connections that were open are ended
 pub record Closes (old : Running) (output : List ℕ) (new : Running) : Type 0 where

@@ -2,14 +2,13 @@
 use Rattle.std.specs.Prelude.{◌≡◌, ℕ, List, [], ◌∷◌, ◌++◌, Some}
 use Rattle.hist_lock.specs.declared.view.View.{View}
 use Rattle.acct_machine.specs.State.{Start}
-use Rattle.acct_machine.specs.Legal.{Legal}
-use Rattle.acct_machine.specs.Room.{conns_full}
+use Rattle.acct_machine.specs.Legal.{Legal, conns_full}
 use Rattle.acct_machine.specs.declared.entry.Entry.{Entry}
 use Rattle.acct_machine.specs.declared.entry.Entry.TheVariants as entry
 use Rattle.acct_machine.specs.declared.machine.Opened as answer
 use Rattle.acct_machine.specs.declared.machine.Opened.TheVariants as opens
 use Rattle.door_workers.specs.declared.kept.Begun.{Begun}
-use Rattle.door_workers.specs.Passing.{OpensConn, OpensNone}
+use Rattle.door_workers.specs.steps.Passing.{OpensConn, OpensNone}
 
 -- A connection was opened at the listener, and that is the last that the pass knows.
 pub record OpensWith (start : Start) (listener k : ℕ) (v w : View Begun Entry) : Type 0 where

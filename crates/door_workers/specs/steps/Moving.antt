@@ -5,9 +5,9 @@ use Rattle.hist_lock.specs.declared.view.View.{View}
 use Rattle.acct_machine.specs.State.{Start}
 use Rattle.acct_machine.specs.declared.entry.Entry.{Entry}
 use Rattle.acct_machine.specs.Passing.{KeepsConnection}
-use Rattle.link_sessions.specs.Turns.{IsFrontOf}
+use Rattle.link_sessions.specs.Transcript.{IsFrontOf}
 use Rattle.door_workers.specs.declared.kept.Begun.{Begun}
-use Rattle.door_workers.specs.Passing.{MovesOn}
+use Rattle.door_workers.specs.steps.Passing.{MovesOn}
 
 pub passes-none : (start : Start) (k : ℕ) (h : List Entry) → KeepsConnection start k h h
 passes-none start k h = record { calls = refl; replies = refl; live = refl }

@@ -11,14 +11,15 @@ use Rattle.acct_machine.specs.declared.entry.Entry.{Entry}
 use Rattle.acct_machine.specs.declared.machine.Opened as answer
 use Rattle.acct_machine.specs.declared.machine.Opened.TheVariants as opens
 use Rattle.acct_machine.specs.Passing.{KeepsConnection, conn_of}
-use Rattle.link_sessions.specs.Turns.{HasNoCall, IsFrontOf}
-use Rattle.door_workers.specs.Lanes.{lane_of}
+use Rattle.link_sessions.specs.Turns.{HasNoCall}
+use Rattle.link_sessions.specs.Transcript.{IsFrontOf}
+use Rattle.door_workers.specs.steps.Lanes.{lane_of}
 use Rattle.door_workers.specs.declared.kept.Begun.{Begun}
 use Rattle.door_workers.specs.declared.kept.Locked.{Locked}
 
 -- where the history of the machine under a lock began
 abbrev pub start_under : {K : Type 0} → HistLock (Locked K) Entry Begun → Start
-start_under lock = (first_value lock).machine.past.start
+start_under lock = (first_value lock).machine.value.past.start
 
 -- the pass opened the connection
 abbrev pub IsMine : View Begun Entry → ℕ → Type 0
@@ -31,7 +32,7 @@ pub record OwnsLanes (v : View Begun Entry) : Type 0 where
   pub opened : (p : ℕ) (e : Entry) → In v.own p e → IfSome (conn_of e) (IsMine v)
 
 -- The pass opened the connection, which is live.
-pub record Serves (start : Start) (v : View Begun Entry) (k : ℕ) : Type 0 where
+pub record ServesLive (start : Start) (v : View Begun Entry) (k : ℕ) : Type 0 where
   pub mine : IsMine v k
   pub live : is_live k (state_at start v.known).conns ≡ true
 
@@ -51,7 +52,7 @@ pub record MovesOn (start : Start) (k : ℕ) (v w : View Begun Entry) : Type 0 w
 
 -- The connection is new, live and without a call; all others of the pass are as they were.
 pub record OpensConn (start : Start) (k : ℕ) (v w : View Begun Entry) : Type 0 where
-  pub serves : Serves start w k
+  pub serves : ServesLive start w k
   pub silent : HasNoCall start w.known k
   pub new : IsMine v k → ⊥
   pub grows : IsFrontOf v.known w.known
