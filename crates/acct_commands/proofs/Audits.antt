@@ -4,17 +4,14 @@ use Rattle.std.proofs.Common.{◌≡◌, ◌≢◌, ℕ, ◌≤◌, inl, inr, �
 use Rattle.std.proofs.Common.{subst, arith, IfSome}
 use Rattle.acct_config.specs.declared.config.Config.{Config}
 use Rattle.acct_config.specs.Spelled.{IsSpelledBy}
-use Rattle.acct_keeper.specs.Causes.{Rose, NotRisen}
-use Rattle.acct_keeper.specs.Whole.{most_bytes}
+use Rattle.acct_keeper.specs.Faults.{Rose, NotRisen, most_bytes}
 use Rattle.acct_keeper.specs.declared.pairs.Pair.{Pair}
-use Rattle.acct_machine.specs.Legal.{Legal}
-use Rattle.acct_machine.specs.Room.{hooked_count}
+use Rattle.acct_machine.specs.Legal.{Legal, hooked_count}
 use Rattle.acct_machine.specs.declared.entry.Entry.{Entry}
 use Rattle.acct_machine.specs.State.{Start}
 use Rattle.acct_rows.specs.Rows.{Lists, Shown}
-use Rattle.acct_server.specs.Configured.{BreaksNone}
-use Rattle.acct_server.specs.Leaves.{IsRunThrough, ConfigCause, EventsCause}
-use Rattle.acct_server.specs.Replaying.{Telling, Parts, RunsLines, HasRunLines, AsksFor, IsReplay, lists_in}
+use Rattle.acct_server.specs.Leaves.{BreaksNone, IsRunThrough, ConfigCause, EventsCause}
+use Rattle.acct_server.specs.Replaying.{TellingReplay, Parts, RunsLines, HasRunLines, AsksFor, IsReplay, lists_in}
 use Rattle.acct_server.specs.declared.replays.Replayed.{Replayed}
 use Rattle.acct_server.specs.declared.status.Status.{Status}
 use Rattle.acct_server.specs.declared.status.Status.TheVariants.{Done, NoMemory, WriteFault, Usage}
@@ -44,7 +41,7 @@ legal-under : (start : Start) (config : Config) (history : List Entry) → start
 legal-under start config history same legal =
     subst (λ (c : Config). Legal (record { config = c; rows = start.rows; faults = start.faults }) history) same legal
 
-run-traceable : {S T K : Type 0} (told : Telling S T K) (old new : Parts S T K) (left : Replayed K)
+run-traceable : {S T K : Type 0} (told : TellingReplay S T K) (old new : Parts S T K) (left : Replayed K)
     (document : List ℕ) (config : Config)
     → told.left old.config ≡ Some document → IsSpelledBy document config → (has : HasRunLines told old new left)
     → left.status ≡ Done → AreTraceable config left.history has.start.rows
@@ -62,7 +59,7 @@ run-traceable told old new left document config tells spells has is =
     }
 
 -- a replay that was run to its end has what its traces are asked of
-pub replay-traceable : {S T K : Type 0} (told : Telling S T K) (old new : Parts S T K) (left : Replayed K)
+pub replay-traceable : {S T K : Type 0} (told : TellingReplay S T K) (old new : Parts S T K) (left : Replayed K)
     (document : List ℕ) (config : Config)
     → told.left old.config ≡ Some document → IsSpelledBy document config → IsReplay told old new left
     → left.status ≡ Done → MayBeTraced config left.history (lists_in left.opening)
@@ -108,7 +105,7 @@ told-ends config status opening history old new held now before after ended tell
   | inr other ↦ inl (tells.others other).0
 ]
 
-pub audit-not-usage : {S T K : Type 0} (told : Telling S T K) (old new : Parts S T K) (left : Audited K)
+pub audit-not-usage : {S T K : Type 0} (told : TellingReplay S T K) (old new : Parts S T K) (left : Audited K)
     → IsAudit told old new left → left.ended ≢ Usage
 audit-not-usage told old new left audit is = elim audit.leaves [
   | inl none ↦ elim none.cause [
@@ -168,7 +165,7 @@ replay_of left = record {
   keeper = left.keeper;
 }
 
-as-replay : {S T K : Type 0} (told : Telling S T K) (old new : Parts S T K) (left : Audited K)
+as-replay : {S T K : Type 0} (told : TellingReplay S T K) (old new : Parts S T K) (left : Audited K)
     → HasNotRead told old new left → IsReplay told old new (replay_of left) → IsAudit told old new left
 as-replay told old new left none replayed = record {
   leaves = inl none;
@@ -179,7 +176,7 @@ as-replay told old new left none replayed = record {
   keeper_later = replayed.keeper_later;
 }
 
-pub config-not-read : {S T K : Type 0} (told : Telling S T K) (old new : Parts S T K) (left : Audited K)
+pub config-not-read : {S T K : Type 0} (told : TellingReplay S T K) (old new : Parts S T K) (left : Audited K)
     → left.opening ≡ None → left.history ≡ [] → left.rows ≡ None → new.out ≡ old.out → new.events ≡ old.events
     → new.keeper ≡ old.keeper
     → ConfigCause (told.left old.config) (told.read_faults old.config) (told.read_faults new.config) left.ended
@@ -194,7 +191,7 @@ config-not-read told old new left opening history rows out events keeper cause l
     }) (config-not-taken told old new (replay_of left) (made-none (replay_of left) opening history rows) out events
     keeper cause later)
 
-pub events-not-read : {S T K : Type 0} (told : Telling S T K) (old new : Parts S T K) (left : Audited K)
+pub events-not-read : {S T K : Type 0} (told : TellingReplay S T K) (old new : Parts S T K) (left : Audited K)
     → left.opening ≡ None → left.history ≡ [] → left.rows ≡ None → new.out ≡ old.out → new.keeper ≡ old.keeper
     → BreaksNone (told.left old.config) → IfSome (told.left old.config) (λ document. length document ≤ most_bytes)
     → EventsCause (told.left old.events) (told.read_faults old.events) (told.read_faults new.events) left.ended
@@ -213,7 +210,7 @@ events-not-read told old new left opening history rows out keeper taken short ca
 still-0 : NotRisen 0 0
 still-0 = (refl, omega arith)
 
-pub has-audited : {S T K : Type 0} (told : Telling S T K) (old new : Parts S T K) (left : Audited K)
+pub has-audited : {S T K : Type 0} (told : TellingReplay S T K) (old new : Parts S T K) (left : Audited K)
     → HasAudited told old new left → told.read_faults old.config ≤ told.read_faults new.config
     → told.read_faults old.events ≤ told.read_faults new.events → IsAudit told old new left
 has-audited told old new left has config_later events_later = record {

@@ -4,25 +4,23 @@ use Rattle.std.proofs.Common.{Option, Some, None, refl, sym, ◌∙◌, ap, subs
 use Rattle.std.proofs.Common.{arith, IfSome, IfNone, Bool, true, get_or, drop, option_map, if◌then◌else◌}
 use Rattle.std.specs.Option.{option_or}
 use Rattle.acct_keeper.specs.declared.streams.Failed.{Failed}
-use Rattle.acct_keeper.specs.Causes.{Rose, NotRisen}
+use Rattle.acct_keeper.specs.Faults.{Rose, NotRisen}
 use Rattle.acct_links.specs.Links.{Told, IsNew}
-use Rattle.acct_client.specs.Calls.{Sunk, called_with, IsSilent, IsUncalled, PrintsBy, TalksOver}
-use Rattle.acct_client.specs.Talks.{ComesToItsEnd, IsDoneOrLost as IsDone}
+use Rattle.acct_client.specs.Talks.{Sunk, called_with, IsSilent, IsUncalled, PrintsBy, TalksOver, ComesToItsEnd}
+use Rattle.acct_client.specs.Talks.{IsDoneOrLost as IsDone, IsBegun}
 use Rattle.acct_client.specs.declared.ends.TalkEnd.{TalkEnd}
 use Rattle.acct_client.specs.declared.ends.TalkEnd.TheVariants as talk
 use Rattle.acct_world.specs.declared.part.Part.TheVariants as part
 use Rattle.acct_server.specs.declared.status.Status.{Status}
-use Rattle.acct_commands.specs.Statuses.{talk_status}
+use Rattle.acct_commands.specs.Calling.{talk_status, TellingCall, IsDoneOrLost, HasTalked, HasCalled, Calls}
 use Rattle.acct_commands.specs.Words.{Form, Replay, Audit, Generate, Serve, Hooks, Call, Calling, ServeNames, calling}
 use Rattle.acct_commands.specs.Words.{calling_at, call_form, is_call_form, replay_form, audit_form, gen_form}
 use Rattle.acct_commands.specs.Words.{serve_form, hooks_form, form_of}
 use Rattle.acct_client.specs.declared.dialogue.Talk.{Talk}
 use Rattle.acct_client.specs.Dialogues.{begun}
-use Rattle.acct_client.specs.Talks.{IsBegun}
 use Rattle.client_commands.specs.declared.command.Command.{Command}
 use Rattle.client_commands.specs.Words.{command_of}
 use Rattle.acct_world.specs.World.{Seen, TakesSink, GivesSink, TakesCaller, GivesCaller}
-use Rattle.acct_commands.specs.Calling.{TellingCall, IsDoneOrLost, HasTalked, HasCalled, Calls}
 use Rattle.acct_commands.specs.Does.{TellingAll, Does}
 use Rattle.acct_commands.proofs.Worlds.{asked-ok, asked-more}
 
@@ -56,7 +54,7 @@ has-talked told command end printing status old new now given law is unused talk
   complete = λ peer brings quiet.
       subst (λ (s : Status). IsDoneOrLost s) (sym is)
       (done-or-lost end printing talks.lines old new talks.prints quiet
-      (law command end (told given) (told now) talks.lines peer talks.talks brings));
+      (law command end (told given) (told now) talks.lines peer talks.talks.dialogue brings));
 }
 
 have-talked : {L : Type 0} (told : L → Told) (command : Command) (end : TalkEnd) (printing : Result (Unit {0}) Failed)

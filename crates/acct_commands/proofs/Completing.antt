@@ -4,13 +4,11 @@ use Rattle.std.proofs.Common.{Option, Some, None, sym, ◌∙◌, subst, arith}
 use Rattle.std.specs.Prelude.{IfSome, if◌then◌else◌}
 use Rattle.acct_config.specs.Rules.{first_broken}
 use Rattle.acct_config.specs.declared.config.Config.{Config}
-use Rattle.acct_keeper.specs.Causes.{Rose, NotRisen, KeepCause}
-use Rattle.acct_keeper.specs.Whole.{most_bytes}
+use Rattle.acct_keeper.specs.Faults.{Rose, NotRisen, KeepCause, most_bytes}
 use Rattle.acct_keeper.specs.declared.keeper.KeepError.{KeepError}
 use Rattle.acct_keeper.specs.declared.keeper.KeepError.TheVariants as keep
-use Rattle.acct_server.specs.Completing.{IsServingsEnd, ServingIsComplete}
+use Rattle.acct_server.specs.Serving.{IsServingsEnd, ServingIsComplete, TellingDoors}
 use Rattle.acct_server.specs.Leaves.{ConfigCause}
-use Rattle.acct_server.specs.Serving.{Telling}
 use Rattle.acct_server.specs.declared.status.Status.{Status}
 use Rattle.acct_server.specs.declared.status.Status.TheVariants as status
 use Rattle.acct_commands.specs.Serving.{TellingServe, ServeParts, Round, Follow, AreRounds, AreQuiet, IsQuiet}
@@ -74,7 +72,7 @@ last-ends : {D K : Type 0} (earlier : List (Round D K)) (last : Round D K) → E
 last-ends [] last each = each.0
 last-ends (round ∷ earlier) last each = last-ends earlier last each.1
 
-module _ {D F K : Type 0} (telling : Telling D F K) (config : Config) (complete : ServingIsComplete telling) where
+module _ {D F K : Type 0} (telling : TellingDoors D F K) (config : Config) (complete : ServingIsComplete telling) where
   follow-end : (more : ℕ) (last : Round D K) (rounds : List (Round D K)) → Follow telling config more last rounds
       → AreQuiet telling last.doors last.left.keeper rounds → EachEnds rounds
   follow-end more last [] follow quiet = tt

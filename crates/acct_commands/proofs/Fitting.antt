@@ -6,13 +6,13 @@ use Rattle.std.proofs.lemmas.Bool.{ltb-true}
 use Rattle.std.proofs.lemmas.List.Elements.{All-nil, All-cons, All-append, All-from_recursion}
 use Rattle.std.proofs.lemmas.List.Sums.{AllPass-from_list_all}
 use Rattle.acct_calls.specs.declared.calls.Call.{Call}
-use Rattle.acct_layouts.specs.Bounds.{IsText}
+use Rattle.acct_layouts.specs.Values.{IsText}
 use Rattle.acct_layouts.specs.CallShapes.{CanBeSpelled}
 use Rattle.acct_layouts.specs.Table.{samr_layout, lsa_layout}
-use Rattle.dtyp_sid.specs.Value.{IsSid}
-use Rattle.acct_commands.specs.Calls.{most_users, domain_sid, user, user_sid, user_name, opening_calls, creation}
-use Rattle.acct_commands.specs.Calls.{addition, control, control_calls, closing, user_calls, asked_names}
-use Rattle.acct_commands.specs.Calls.{closing_calls}
+use Rattle.dtyp_sid.specs.Sids.{IsSid}
+use Rattle.acct_commands.specs.Generated.{most_users, domain_sid, user, user_sid, user_name, opening_calls, creation}
+use Rattle.acct_commands.specs.Generated.{addition, control, control_calls, closing, user_calls, asked_names}
+use Rattle.acct_commands.specs.Generated.{closing_calls}
 
 below : (bound : ℕ) (numbers : List ℕ) → list_all (λ n. nat_lt n bound) numbers ≡ true → All (λ n. n < bound) numbers
 below bound numbers all = λ k d lt. ltb-true _ _ (AllPass-from_list_all (λ n. nat_lt n bound) numbers all k d lt)

@@ -3,21 +3,21 @@ use Rattle.std.proofs.Common.{◌≡◌, ℕ, inl, inr, Bool, true, false, List,
 use Rattle.std.proofs.Common.{◌∙◌, subst}
 use Rattle.std.specs.Prelude.{IfSome, IsSome, if◌then◌else◌}
 use Rattle.acct_config.specs.declared.config.Config.{Config}
-use Rattle.acct_config.specs.Right.{IsRight}
+use Rattle.acct_config.specs.Spelled.{IsRightConfig}
 use Rattle.acct_keeper.specs.declared.pairs.Pair.{Pair}
 use Rattle.acct_machine.specs.Opened.{OpensRows}
 use Rattle.acct_machine.specs.Sound.{KeepsSound}
 use Rattle.acct_machine.specs.Step.{state_at}
-use Rattle.acct_machine.specs.Storing.{HoldsRows}
+use Rattle.acct_machine.specs.Outbox.{HoldsRows}
 use Rattle.acct_keeper.specs.Pairs.{after}
 use Rattle.acct_rows.specs.PairRules.{has_value, is_old}
 use Rattle.acct_rows.specs.PairsOf.{ArePairsOf, HoldPairs, PairsAreOfOne, migration, migrated}
-use Rattle.acct_rows.specs.Spelled.{format_pair, old_format_value}
+use Rattle.acct_tables.specs.Spelled.{format_pair, old_format_value}
 use Rattle.acct_rows.specs.Rows.{Lists, Shown}
 use Rattle.acct_rows.specs.Sound.{IsSoundRows}
 use Rattle.acct_server.specs.Leaves.{StoreCause}
 use Rattle.acct_server.specs.Replaying.{lists_in}
-use Rattle.acct_server.specs.Serving.{Telling, HasServedDoors}
+use Rattle.acct_server.specs.Serving.{TellingDoors, HasServedDoors}
 use Rattle.acct_server.specs.declared.serving.Served.{Served}
 use Rattle.acct_server.specs.declared.status.Status.{Status}
 use Rattle.acct_server.specs.declared.status.Status.TheVariants as status
@@ -93,19 +93,21 @@ as-it-ended : (kept : Bool) (s : Status) → is_full (if kept then s else status
 as-it-ended true s full = full
 as-it-ended false s full = absurd cc
 
-module _ {D F K : Type 0} (telling : Telling D F K) (config : Config) where
-  both-served : (doors now later : List D) (keeper : K) (left next : Served K) → IsRight config → PairsAreOfOne
+module _ {D F K : Type 0} (telling : TellingDoors D F K) (config : Config) where
+  both-served : (doors now later : List D) (keeper : K) (left next : Served K) → IsRightConfig config → PairsAreOfOne
       → KeepsSound
       → HasServedDoors telling config doors now keeper left → HasServedDoors telling config now later left.keeper next
       → IfSome (telling.pairs left.keeper) (λ pairs. lists_in next.opening ≡ lists_in left.rows)
   both-served doors now later keeper left next right one keeps has has_next =
       with-fact (telling.pairs left.keeper) _ _
       (told-again config (state_at has.start left.history).rows has_next.start.rows (telling.pairs left.keeper) one
-      (keeps has.start left.history (subst (λ (c : Config). IsRight c) (sym has.begun.under) right) has.begun.sound
+      (keeps has.start left.history (subst (λ (c : Config). IsRightConfig c) (sym has.begun.under) right)
+      has.begun.sound
       has.served.links.legal).rows has_next.begun.sound has.stored has_next.begun.rows)
       (λ same. has_next.opening ∙ ap (λ (rows : Lists). Some rows) same ∙ sym has.rows)
 
-  pub goes-on : (doors : List D) (keeper : K) (last next : Round D K) → IsRight config → PairsAreOfOne → KeepsSound
+  pub goes-on : (doors : List D) (keeper : K) (last next : Round D K) → IsRightConfig config → PairsAreOfOne
+      → KeepsSound
       → IsRound telling config doors keeper last → IsRound telling config last.doors last.left.keeper next
       → is_full (ending last) ≡ true → GoesOn telling config last next
   goes-on doors keeper last next right one keeps is is_next full = elim is.serves.leaves [

@@ -9,11 +9,9 @@ use Rattle.acct_config.specs.Rules.{first_broken}
 use Rattle.acct_config.specs.Spelled.{IsSpelledBy}
 use Rattle.acct_config.specs.declared.config.Config.{Config}
 use Rattle.acct_config.specs.declared.config.Hook.{Hook}
-use Rattle.acct_keeper.specs.Causes.{Rose, NotRisen}
-use Rattle.acct_keeper.specs.Whole.{most_bytes}
-use Rattle.acct_server.specs.Configured.{spelled}
+use Rattle.acct_keeper.specs.Faults.{Rose, NotRisen, most_bytes}
+use Rattle.acct_server.specs.Leaves.{spelled, ConfigCause, StoreCause}
 use Rattle.acct_server.specs.Hooked.{RunsHooks, HooksAreComplete, IsDrainsEnd, hook_status}
-use Rattle.acct_server.specs.Leaves.{ConfigCause, StoreCause}
 use Rattle.acct_server.specs.declared.status.Status.{Status}
 use Rattle.acct_server.specs.declared.status.Status.TheVariants as status
 use Rattle.acct_world.specs.declared.part.Part.TheVariants as part

@@ -12,4 +12,6 @@ pub mod GoingOn
 pub mod Fitting
 pub mod Lines
 pub mod Counting
+pub mod Taking
+pub mod Configured
 pub mod Summarizing

@@ -3,8 +3,8 @@ use Rattle.std.proofs.Common.{◌≡◌, ℕ, suc, ◌+◌, ◌<◌, ◌≤◌, 
 use Rattle.std.proofs.Common.{◌∙◌, arith, append_assoc, length-append}
 use Rattle.std.proofs.lemmas.List.{append-nil, length-take-le, take_more}
 use Rattle.acct_calls.specs.declared.calls.Call.{Call}
-use Rattle.acct_commands.specs.Calls.{opening_calls, user_calls, calls_for_users, closing_calls}
-use Rattle.acct_commands.specs.Generated.{call_line, call_lines, beginning, generated}
+use Rattle.acct_commands.specs.Generated.{opening_calls, user_calls, calls_for_users, closing_calls, call_line}
+use Rattle.acct_commands.specs.Generated.{call_lines, beginning, generated}
 
 -- those of two lists: the second goes on with the next call id
 pub lines-append : (id : ℕ) (calls more : List Call)

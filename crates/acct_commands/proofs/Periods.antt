@@ -11,7 +11,7 @@ use Rattle.door_workers.specs.declared.ends.DoorEnd.{DoorEnd}
 use Rattle.door_workers.specs.declared.ends.DoorEnd.TheVariants as stop
 use Rattle.door_workers.specs.declared.ends.DoorEnd.TheVariants.{Closed}
 use Rattle.acct_server.specs.Leaves.{StoreCause}
-use Rattle.acct_server.specs.Serving.{Telling, IsServe, served_status}
+use Rattle.acct_server.specs.Serving.{TellingDoors, IsServe, served_status}
 use Rattle.acct_server.specs.declared.serving.Served.{Served}
 use Rattle.acct_server.specs.declared.status.Status.{Status}
 use Rattle.acct_server.specs.declared.status.Status.TheVariants.{Usage}
@@ -20,9 +20,9 @@ use Rattle.acct_world.specs.World.{Seen}
 use Rattle.acct_commands.specs.Commanded.{period_between, Keeps}
 use Rattle.acct_commands.specs.Serving.{Round, IsRound, GoesOn, Follow, AreRounds}
 use Rattle.acct_commands.specs.Serving.{KeepsRounds, ending, is_full, kept_in}
-use Rattle.acct_commands.specs.Rounds.{RunsRound}
+use Rattle.acct_commands.specs.steps.Rounds.{RunsRound}
 
-module _ {S T K E D F C L P : Type 0} (telling : Telling D F K) (config : Config) where
+module _ {S T K E D F C L P : Type 0} (telling : TellingDoors D F K) (config : Config) where
   -- the doors were served once, and the world was asked to keep what that left
   pub round-of : (doors now : List D) (keeper : K) (left : Served K) (old new : Seen S T K E D C L P) (status : Status)
       (o : Option Period) → period_between left.opening left.history left.rows left.ends ≡ o
@@ -62,7 +62,7 @@ module _ {S T K E D F C L P : Type 0} (telling : Telling D F K) (config : Config
     keeps = record { periods = λ tells. keeps.1 ∙ sym (append-nil old.periods); others = others };
   }
 
-module _ {D F K : Type 0} (telling : Telling D F K) (config : Config) where
+module _ {D F K : Type 0} (telling : TellingDoors D F K) (config : Config) where
   -- what was run so far, where so many more may be run: whatever may follow the last round follows all of them
   abbrev pub SoFar : ℕ → List D → K → List (Round D K) → Round D K → Type 0
   SoFar more doors keeper earlier last = (rounds : List (Round D K)) → Follow telling config more last rounds

@@ -2,7 +2,7 @@
 -- before.
 use Rattle.std.proofs.Common.{◌≡◌, List, ◌∷◌, [], ◌++◌, Ok, refl, sym, ◌∙◌, ap}
 use Rattle.std.specs.List.{flat_map}
-use Rattle.acct_server.specs.Completing.{ServingIsComplete}
+use Rattle.acct_server.specs.Serving.{ServingIsComplete}
 use Rattle.acct_server.specs.declared.status.Status.{Status}
 use Rattle.acct_world.specs.declared.part.Part.TheVariants as part
 use Rattle.acct_world.specs.declared.period.Period.{Period}
@@ -10,7 +10,7 @@ use Rattle.acct_commands.specs.Words.{ServeNames}
 use Rattle.acct_world.specs.World.{Seen, TakesSource, GivesSource, TakesKeeper, GivesKeeper, TakesEntrance}
 use Rattle.acct_world.specs.World.{GivesEntrance}
 use Rattle.acct_commands.specs.Serving.{TellingServe, ServeParts, HasServed, kept_in}
-use Rattle.acct_commands.specs.Rounds.{RunsParts, ReturnsParts}
+use Rattle.acct_commands.specs.steps.Rounds.{RunsParts, ReturnsParts}
 use Rattle.acct_commands.proofs.Completing.{serving-completes}
 use Rattle.acct_commands.proofs.Worlds.{asked-ok, asked-more}
 

@@ -5,14 +5,14 @@ use Rattle.std.specs.Prelude.{⊤}
 use Rattle.acct_calls.specs.declared.calls.Call.{Call}
 use Rattle.acct_machine.specs.declared.entry.Entry.{Entry}
 use Rattle.acct_machine.specs.declared.entry.Entry.TheVariants.{Opened, Called, Gone, Hooked}
-use Rattle.acct_machine.specs.Room.{conns_full, call_full, hooked_count}
+use Rattle.acct_machine.specs.Legal.{conns_full, call_full, hooked_count}
 use Rattle.acct_machine.specs.State.{Start}
 use Rattle.acct_stubs.specs.declared.errors.WireError.{WireError}
-use Rattle.rpc_session.specs.Hearings.{on}
+use Rattle.rpc_session.specs.Sessions.{on}
 use Rattle.rpc_session.specs.declared.sessions.Act.{Act}
 use Rattle.rpc_session.specs.declared.sessions.Act.TheVariants as act
 use Rattle.rpc_session.specs.declared.sessions.Request.{Request}
-use Rattle.link_sessions.specs.Requests.{call_on}
+use Rattle.link_sessions.specs.Transcript.{call_on}
 use Rattle.link_sessions.specs.declared.connections.Peer.{Peer}
 use Rattle.link_sessions.specs.declared.connections.Peer.TheVariants.{Open, Ended}
 use Rattle.acct_server.specs.Events.{event_of, lines_of}

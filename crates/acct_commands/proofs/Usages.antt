@@ -5,16 +5,16 @@ use Rattle.acct_server.specs.declared.replays.Replayed.{Replayed}
 use Rattle.acct_server.specs.declared.status.Status.{Status}
 use Rattle.acct_server.specs.declared.status.Status.TheVariants.{NoMemory, Usage}
 use Rattle.acct_server.specs.Leaves.{IsOfRun, ConfigCause, EventsCause, StoreCause}
-use Rattle.acct_server.specs.Replaying.{Telling, Parts, HasNotRun, IsReplay}
+use Rattle.acct_server.specs.Replaying.{TellingReplay, Parts, HasNotRun, IsReplay}
 use Rattle.acct_world.specs.declared.part.Part.{Part}
 use Rattle.acct_world.specs.declared.period.Period.{Period}
 use Rattle.acct_client.specs.declared.ends.TalkEnd.{TalkEnd}
 use Rattle.acct_client.specs.declared.ends.TalkEnd.TheVariants as talk
-use Rattle.acct_commands.specs.Statuses.{talk_status}
+use Rattle.acct_commands.specs.Calling.{talk_status}
 use Rattle.acct_world.specs.World.{Seen}
 use Rattle.acct_commands.specs.Commanded.{TakeCause, NotHandedOut, OverParts, HasRun, Keeps}
 
-not-run-not-usage : {S T K : Type 0} (told : Telling S T K) (old new : Parts S T K) (left : Replayed K)
+not-run-not-usage : {S T K : Type 0} (told : TellingReplay S T K) (old new : Parts S T K) (left : Replayed K)
     → HasNotRun told old new left → left.status ≢ Usage
 not-run-not-usage told old new left none is =
     let C : Status → Type 0 = λ (x : Status).
@@ -28,7 +28,7 @@ not-run-not-usage told old new left none is =
       | inr other ↦ elim other [ inl events ↦ subst E is events.cause | inr store ↦ subst K is store.cause ]
     ]
 
-pub replay-not-usage : {S T K : Type 0} (told : Telling S T K) (old new : Parts S T K) (left : Replayed K)
+pub replay-not-usage : {S T K : Type 0} (told : TellingReplay S T K) (old new : Parts S T K) (left : Replayed K)
     → IsReplay told old new left → left.status ≢ Usage
 replay-not-usage told old new left by is = elim by.leaves [
   | inl none ↦ not-run-not-usage told old new left none is

@@ -6,7 +6,7 @@ use Rattle.std.specs.Str.{bytes_eq}
 use Rattle.std.proofs.lemmas.List.{append-nil}
 use Rattle.std.proofs.lemmas.Slice.Eq.{bytes_eq-Decides}
 use Rattle.acct_keeper.specs.declared.pairs.Pair.{Pair}
-use Rattle.acct_keeper.specs.Causes.{Rose}
+use Rattle.acct_keeper.specs.Faults.{Rose}
 use Rattle.acct_server.specs.Replaying.{Parts}
 use Rattle.acct_world.specs.declared.period.Period.{Period}
 use Rattle.acct_server.specs.declared.status.Status.{Status}

@@ -3,15 +3,13 @@
 use Rattle.std.specs.Prelude.{◌≡◌, ◌≢◌, ℕ, ◌≤◌, List, [], ◌⊎◌, Option, Some, None, All, MatchOption}
 use Rattle.acct_config.specs.declared.config.Config.{Config}
 use Rattle.acct_keeper.specs.declared.memory_streams.SteadySink.{SteadySink}
-use Rattle.acct_keeper.specs.Counts.{faults_after}
+use Rattle.acct_keeper.specs.Faults.{faults_after, IsWhole}
 use Rattle.acct_keeper.specs.Memory.{SteadyInMemory}
-use Rattle.acct_keeper.specs.Whole.{IsWhole}
 use Rattle.acct_machine.specs.declared.entry.Entry.{Entry}
 use Rattle.acct_rows.specs.Rows.{Lists, Shown}
 use Rattle.acct_rows.specs.Sound.{IsSoundRows}
-use Rattle.acct_server.specs.Configured.{IsConfigured}
-use Rattle.acct_server.specs.Leaves.{is_write_fault}
-use Rattle.acct_server.specs.Replaying.{Telling, Parts, StopsAtConfig, StopsAtEvents, IsReplay, AllQuiet, AsksFor}
+use Rattle.acct_server.specs.Leaves.{IsConfigured, is_write_fault}
+use Rattle.acct_server.specs.Replaying.{TellingReplay, Parts, StopsAtConfig, StopsAtEvents, IsReplay, AllQuiet, AsksFor}
 use Rattle.acct_server.specs.Replaying.{lists_in}
 use Rattle.acct_server.specs.declared.replays.Replayed.{Replayed}
 use Rattle.acct_server.specs.declared.status.Status.{Status}
@@ -23,7 +21,7 @@ use Rattle.acct_commands.specs.Generating.{source, IsWritten}
 use Rattle.acct_commands.specs.declared.auditing.Audited.{Audited}
 
 -- sources and a sink in memory that never fail, of which the sink tells nothing, and the keeper
-abbrev pub in_memory : {S T K : Type 0} → Telling S T K → Telling SteadyInMemory SteadySink K
+abbrev pub in_memory : {S T K : Type 0} → TellingReplay S T K → TellingReplay SteadyInMemory SteadySink K
 in_memory told = record {
   left = λ s. Some s.left;
   read_faults = λ s. 0;
@@ -67,7 +65,8 @@ pub record TellsTraces {T : Type 0} (config : Config) (status : Status) (opening
 -- ---- the command
 
 -- The configuration wasn't taken, or it was and the events weren't: nothing was replayed and nothing was written.
-pub record HasNotRead {S T K : Type 0} (told : Telling S T K) (old new : Parts S T K) (left : Audited K) : Type 0 where
+pub record HasNotRead {S T K : Type 0} (told : TellingReplay S T K) (old new : Parts S T K) (left : Audited K)
+    : Type 0 where
   pub cause : StopsAtConfig told old new left.ended ⊎ StopsAtEvents told old new left.ended
   pub opening : left.opening ≡ None
   pub history : left.history ≡ []
@@ -75,7 +74,8 @@ pub record HasNotRead {S T K : Type 0} (told : Telling S T K) (old new : Parts S
   pub out : new.out ≡ old.out
 
 -- Both were read whole and their events replayed over these bytes and the keeper; what that left was told to the sink.
-pub record HasAudited {S T K : Type 0} (told : Telling S T K) (old new : Parts S T K) (left : Audited K) : Type 0 where
+pub record HasAudited {S T K : Type 0} (told : TellingReplay S T K) (old new : Parts S T K) (left : Audited K)
+    : Type 0 where
   pub config : Config
   pub document : List ℕ
   pub events : List ℕ
@@ -93,7 +93,8 @@ pub record HasAudited {S T K : Type 0} (told : Telling S T K) (old new : Parts S
   pub rows : left.rows ≡ replay.rows
   pub keeper : new.keeper ≡ after.keeper
 
-pub record IsAudit {S T K : Type 0} (told : Telling S T K) (old new : Parts S T K) (left : Audited K) : Type 0 where
+pub record IsAudit {S T K : Type 0} (told : TellingReplay S T K) (old new : Parts S T K) (left : Audited K)
+    : Type 0 where
   pub leaves : HasNotRead told old new left ⊎ HasAudited told old new left
   -- where no count rose, the status is the one that is asked for, as of a replay, or memory ran out
   pub complete : AllQuiet told old new

@@ -1,19 +1,37 @@
--- What the command `call ADDRESS WORD..` does to a world.
-use Rattle.std.specs.Prelude.{◌≡◌, ℕ, ◌≤◌, true, List, ◌∷◌, [], ◌++◌, ◌⊎◌, Option, Some, Result, IfSome, IfNone}
-use Rattle.acct_links.specs.Links.{Told, IsNew}
-use Rattle.acct_keeper.specs.declared.streams.Failed.{Failed}
-use Rattle.acct_keeper.specs.Causes.{NotRisen}
-use Rattle.acct_client.specs.Calls.{Sunk, called_with, IsSilent, IsUncalled, TalksOver}
-use Rattle.acct_client.specs.Talks.{BringsAll}
-use Rattle.acct_client.specs.declared.ends.TalkEnd.{TalkEnd}
+-- What the command `call ADDRESS WORD..` does to a world, and the status that it ends with.
+use Rattle.std.specs.Prelude.{Result, Ok, Err, ◌≡◌, ℕ, ◌≤◌, true, List, ◌∷◌, [], ◌++◌, ◌⊎◌, Option, Some, IfSome}
+use Rattle.std.specs.Prelude.{IfNone}
 use Rattle.client_commands.specs.declared.command.Command.{Command}
-use Rattle.acct_world.specs.declared.part.Part.TheVariants.{Sink, Caller}
+use Rattle.acct_keeper.specs.Faults.{NotRisen}
+use Rattle.acct_keeper.specs.declared.streams.Failed.{Failed}
+use Rattle.acct_links.specs.Links.{Told, IsNew}
+use Rattle.acct_client.specs.Talks.{Sunk, called_with, IsSilent, IsUncalled, TalksOver, BringsAll}
+use Rattle.acct_client.specs.declared.ends.TalkEnd.{TalkEnd}
+use Rattle.acct_client.specs.declared.ends.TalkEnd.TheVariants as talk
 use Rattle.acct_server.specs.declared.status.Status.{Status}
-use Rattle.acct_server.specs.declared.status.Status.TheVariants.{Done, NoMemory}
-use Rattle.acct_commands.specs.Statuses.{talk_status}
-use Rattle.acct_commands.specs.Words.{Calling}
+use Rattle.acct_server.specs.declared.status.Status.TheVariants.{Done, NoMemory, WriteFault, PeerBytes, PeerFault}
+use Rattle.acct_server.specs.declared.status.Status.TheVariants.{InputTooLong, Refused}
 use Rattle.acct_world.specs.World.{Seen}
+use Rattle.acct_world.specs.declared.part.Part.TheVariants.{Sink, Caller}
 use Rattle.acct_commands.specs.Commanded.{NotHandedOut}
+use Rattle.acct_commands.specs.Words.{Calling}
+
+-- ======== the status of how a dialogue ended
+
+abbrev pub end_status : TalkEnd → Status
+end_status talk.Done = Done
+end_status talk.NoMemory = NoMemory
+end_status (talk.PeerBytes place) = PeerBytes place
+end_status talk.PeerFault = PeerFault
+end_status talk.InputTooLong = InputTooLong
+end_status (talk.Refused status) = Refused status
+
+-- a failed write of the lines comes first
+abbrev pub talk_status : {E : Type 0} → TalkEnd → Result (Unit {0}) E → Status
+talk_status end (Ok u) = end_status end
+talk_status end (Err e) = WriteFault
+
+-- ======== what the command `call ADDRESS WORD..` does to a world
 
 -- what the parts of a call tell: of a sink the bytes that it holds and its count of faults, of a caller the addresses
 -- for which it gave a link and its count, and of a link what it tells

@@ -3,10 +3,10 @@ use Rattle.std.specs.Prelude.{◌≡◌, ◌≢◌, ℕ, true, false, List, ◌�
 use Rattle.std.specs.Prelude.{MatchOption, Ok}
 use Rattle.acct_machine.specs.declared.entry.Entry.{Entry}
 use Rattle.acct_rows.specs.Rows.{Shown}
-use Rattle.acct_keeper.specs.Causes.{Rose}
+use Rattle.acct_keeper.specs.Faults.{Rose}
 use Rattle.acct_keeper.specs.declared.pairs.Pair.{Pair}
 use Rattle.acct_server.specs.declared.replays.Replayed.{Replayed}
-use Rattle.acct_server.specs.Replaying.{Telling, Parts, IsReplay}
+use Rattle.acct_server.specs.Replaying.{TellingReplay, Parts, IsReplay}
 use Rattle.acct_server.specs.declared.status.Status.{Status}
 use Rattle.acct_server.specs.declared.status.Status.TheVariants.{ReadFault, WriteFault, StoreFault, DoorFault}
 use Rattle.acct_server.specs.declared.status.Status.TheVariants.{PeerFault, SpawnFault, NoMemory}
@@ -100,7 +100,7 @@ pub record OverParts (S T K X : Type 0) : Type 1 where
   pub period : X → Option Period
   pub ended : X → Status
 
-abbrev pub replaying : {S T K : Type 0} → Telling S T K → OverParts S T K (Replayed K)
+abbrev pub replaying : {S T K : Type 0} → TellingReplay S T K → OverParts S T K (Replayed K)
 replaying told = record {
   pairs = told.pairs;
   leaves = λ old new left. IsReplay told old new left;
@@ -108,7 +108,7 @@ replaying told = record {
   ended = λ left. left.status;
 }
 
-abbrev pub auditing : {S T K : Type 0} → Telling S T K → OverParts S T K (Audited K)
+abbrev pub auditing : {S T K : Type 0} → TellingReplay S T K → OverParts S T K (Audited K)
 auditing told = record {
   pairs = told.pairs;
   leaves = λ old new left. IsAudit told old new left;

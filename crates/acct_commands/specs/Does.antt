@@ -1,6 +1,6 @@
 -- What each command does to a world.
 use Rattle.std.specs.Prelude.{◌≡◌, ℕ, List, true}
-use Rattle.acct_server.specs.Replaying.{Telling}
+use Rattle.acct_server.specs.Replaying.{TellingReplay}
 use Rattle.acct_server.specs.declared.status.Status.{Status}
 use Rattle.acct_server.specs.declared.status.Status.TheVariants.{Usage, NoMemory}
 use Rattle.acct_commands.specs.Words.{Form, Replay, Audit, Generate, Serve, Hooks, Call, is_call_form}
@@ -13,7 +13,7 @@ use Rattle.acct_commands.specs.Hooking.{TellingOutbox, Hooks as RunsOutbox}
 
 -- what the parts of each command tell
 pub record TellingAll (S T K E D F C L P : Type 0) : Type 1 where
-  pub replay : Telling S T K
+  pub replay : TellingReplay S T K
   pub serve : TellingServe S K E D F
   pub call : TellingCall T C L
   pub hooks : TellingOutbox S K P

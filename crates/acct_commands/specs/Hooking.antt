@@ -4,11 +4,9 @@ use Rattle.std.specs.Prelude.{IsSome, IfSome, MatchOption}
 use Rattle.acct_config.specs.Rules.{first_broken}
 use Rattle.acct_config.specs.declared.config.Config.{Config}
 use Rattle.acct_config.specs.declared.config.Hook.{Hook}
-use Rattle.acct_keeper.specs.Causes.{NotRisen}
-use Rattle.acct_keeper.specs.Whole.{most_bytes}
-use Rattle.acct_server.specs.Configured.{IsConfigured, spelled}
+use Rattle.acct_keeper.specs.Faults.{NotRisen, most_bytes}
+use Rattle.acct_server.specs.Leaves.{IsConfigured, spelled, ConfigCause}
 use Rattle.acct_server.specs.Hooked.{TellingHooks, HookParts, RunsHooks, DrainsQuietly, IsDrainsEnd}
-use Rattle.acct_server.specs.Leaves.{ConfigCause}
 use Rattle.acct_server.specs.declared.status.Status.{Status}
 use Rattle.acct_server.specs.declared.status.Status.TheVariants.{Config as ConfigBroken}
 use Rattle.acct_world.specs.declared.part.Part.{Part}
@@ -55,7 +53,7 @@ module _ {S K P : Type 0} (told : TellingOutbox S K P) where
     pub short : IfSome (told.left source) (λ document. length document ≤ most_bytes)
 
   -- The configuration wasn't taken: the keeper and the spawner are untouched.
-  pub record StopsAtConfig (before after : OutboxParts S K P) (status : Status) : Type 0 where
+  pub record HooksStopAtConfig (before after : OutboxParts S K P) (status : Status) : Type 0 where
     pub cause : ConfigCause (told.left before.config) (told.read_faults before.config)
         (told.read_faults after.config) status
     pub others : hook_parts after ≡ hook_parts before
@@ -78,7 +76,7 @@ module _ {S K P : Type 0} (told : TellingOutbox S K P) where
 
   abbrev pub LeavesOutbox : OutboxParts S K P → OutboxParts S K P → Status → Type 0
   LeavesOutbox before after status =
-      StopsAtConfig before after status ⊎ (HasNoHook before after status ⊎ DrainsOutbox before after status)
+      HooksStopAtConfig before after status ⊎ (HasNoHook before after status ⊎ DrainsOutbox before after status)
 
   -- Nothing failed outside: the source told a short document that breaks no rule and has a program, its count didn't
   -- rise, and neither the keeper nor a run failed.

@@ -7,14 +7,11 @@ use Rattle.acct_config.specs.declared.config.Config.{Config}
 use Rattle.acct_keeper.specs.declared.keeper.KeepError.{KeepError}
 use Rattle.acct_keeper.specs.declared.keeper.KeepError.TheVariants as keep
 use Rattle.acct_links.specs.declared.asking.Asking.{Asking}
-use Rattle.acct_keeper.specs.Causes.{NotRisen}
-use Rattle.acct_keeper.specs.Whole.{most_bytes}
-use Rattle.door_workers.specs.Askings.{Opens, StopsAsking}
-use Rattle.acct_server.specs.Completing.{ServesQuietly, IsServingsEnd}
-use Rattle.acct_server.specs.Configured.{IsConfigured}
-use Rattle.acct_server.specs.Leaves.{ConfigCause}
+use Rattle.acct_keeper.specs.Faults.{NotRisen, most_bytes}
+use Rattle.door_workers.specs.Doors.{OpensDoors, StopsAsking}
+use Rattle.acct_server.specs.Serving.{ServesQuietly, IsServingsEnd, TellingDoors, IsServe}
+use Rattle.acct_server.specs.Leaves.{IsConfigured, ConfigCause}
 use Rattle.acct_server.specs.Replaying.{lists_in}
-use Rattle.acct_server.specs.Serving.{Telling, IsServe}
 use Rattle.acct_server.specs.declared.serving.Served.{Served}
 use Rattle.acct_server.specs.declared.status.Status.{Status}
 use Rattle.acct_server.specs.declared.status.Status.TheVariants.{DoorFault, HistoryFull, NoMemory}
@@ -36,7 +33,7 @@ pub record TellingServe (S K E D F : Type 0) : Type 1 where
   pub read_faults : S → ℕ
   pub asked : E → Option (List Asking)
   pub entrance_faults : E → ℕ
-  pub served : Telling D F K
+  pub served : TellingDoors D F K
 
 -- the source of the configuration, the keeper and the entrance at one time, and the doors that the entrance gave
 pub record ServeParts (S K E D : Type 0) : Type 0 where
@@ -70,7 +67,7 @@ abbrev pub is_full : Status → Bool
 is_full (HistoryFull count) = true
 is_full _ = false
 
-module _ {D F K : Type 0} (telling : Telling D F K) (config : Config) where
+module _ {D F K : Type 0} (telling : TellingDoors D F K) (config : Config) where
   -- All doors were served over the keeper. Memory runs out only as a period that is there is kept.
   pub record IsRound (doors : List D) (keeper : K) (round : Round D K) : Type 0 where
     pub serves : IsServe telling config doors round.doors keeper round.left
@@ -95,7 +92,7 @@ module _ {D F K : Type 0} (telling : Telling D F K) (config : Config) where
   AreRounds doors keeper (first ∷ rounds) =
       IsRound doors keeper first × Follow (config.limits.max_periods - 1) first rounds
 
-module _ {D F K : Type 0} (telling : Telling D F K) where
+module _ {D F K : Type 0} (telling : TellingDoors D F K) where
   -- Nothing failed in the rounds from these doors and this keeper on: the pairs that each found break no rule, and
   -- neither its keeper's count rose nor that of a door.
   abbrev pub AreQuiet : List D → K → List (Round D K) → Type 0
@@ -117,7 +114,8 @@ module _ {S K E D F : Type 0} (told : TellingServe S K E D F) where
     pub short : IfSome (told.left source) (λ document. length document ≤ most_bytes)
 
   -- The configuration wasn't taken: the entrance wasn't asked for doors, and the keeper is untouched.
-  pub record StopsAtConfig (before after : ServeParts S K E D) (rounds : List (Round D K)) (status : Status) : Type 0
+  pub record ServesStopsAtConfig (before after : ServeParts S K E D) (rounds : List (Round D K)) (status : Status)
+      : Type 0
     where
       pub cause : ConfigCause (told.left before.config) (told.read_faults before.config)
           (told.read_faults after.config) status
@@ -144,7 +142,7 @@ module _ {S K E D F : Type 0} (told : TellingServe S K E D F) where
       pub config : Config
       pub spelled : IsSpelled before.config config
       pub doors : List D
-      pub opens : Opens told.served.door config (length config.listeners) (told.asked before.entrance)
+      pub opens : OpensDoors told.served.door config (length config.listeners) (told.asked before.entrance)
           (told.asked after.entrance) doors
       pub are : AreRounds told.served config doors before.keeper rounds
       pub earlier : List (Round D K)
@@ -168,7 +166,7 @@ module _ {S K E D F : Type 0} (told : TellingServe S K E D F) where
 
   abbrev pub LeavesParts : ServeParts S K E D → ServeParts S K E D → List (Round D K) → Status → Type 0
   LeavesParts before after rounds status =
-      StopsAtConfig before after rounds status
+      ServesStopsAtConfig before after rounds status
       ⊎ (StopsAtEntrance before after rounds status ⊎ ServesRounds before after rounds status)
 
 -- ---- the world

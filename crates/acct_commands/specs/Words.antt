@@ -5,8 +5,8 @@ use Rattle.std.specs.List.{list_any}
 use Rattle.std.specs.Option.{option_or}
 use Rattle.std.specs.Str.{bytes_eq}
 use Rattle.acct_base.specs.Words.{is_within, decimal_of}
-use Rattle.acct_commands.specs.Calls.{most_users}
-use Rattle.acct_config.specs.Address.{is_address}
+use Rattle.acct_commands.specs.Generated.{most_users}
+use Rattle.acct_config.specs.Values.{is_address}
 use Rattle.client_commands.specs.declared.command.Command.{Command}
 use Rattle.client_commands.specs.Words.{command_of}
 

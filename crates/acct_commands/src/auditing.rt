@@ -1,8 +1,8 @@
 // The command `audit` without a world: its sources are read whole, their events replayed in memory, and the traces of
 // the history written.
 ghost use Rattle.std.specs.Prelude.{◌≡◌, ◌≤◌, [], None, All};
-ghost use Rattle.acct_config.specs.Right.{IsRight};
-ghost use Rattle.acct_keeper.specs.Counts.{faults_after};
+ghost use Rattle.acct_config.specs.Spelled.{IsRightConfig};
+ghost use Rattle.acct_keeper.specs.Faults.{faults_after};
 ghost use Rattle.acct_server.specs.Leaves.{is_write_fault};
 ghost use Rattle.acct_server.specs.Replaying.{lists_in};
 ghost use Rattle.acct_server.specs.declared.status.Status.TheVariants.{Done};
@@ -58,7 +58,7 @@ fn write_traces<T: Sink>(
     history: &[Entry],
     out: &mut T,
 ) -> Status
-    requires right { IsRight config.now }
+    requires right { IsRightConfig config.now }
     requires traceable { AreTraceable config.now history.now opening.now.lists }
     ensures written { IsWritten (trace_lines (traces config.now opening.now.lists history.now)) (T.held out.old)
         (T.held out.new) (T.faults out.old) (T.faults out.new) result }
@@ -89,7 +89,7 @@ fn tell<T: Sink>(
     history: &[Entry],
     out: &mut T,
 ) -> Status
-    requires right { IsRight config.now }
+    requires right { IsRightConfig config.now }
     requires traceable { status ≡ Done → MayBeTraced config.now history.now (lists_in opening.now) }
     ensures { TellsTraces config.now status opening.now history.now out.old out.new (T.held out.old) (T.held out.new)
         (T.faults out.old) (T.faults out.new) result }
@@ -110,7 +110,7 @@ fn finish<T: Sink, K: Drop>(
     left: Replayed<K>,
     out: &mut T,
 ) -> Audited<K>
-    requires right { IsRight config.now }
+    requires right { IsRightConfig config.now }
     requires traceable { left.status ≡ Done → MayBeTraced config.now left.history (lists_in left.opening) }
     ensures tells { TellsTraces config.now left.status left.opening left.history out.old out.new (T.held out.old)
         (T.held out.new) (T.faults out.old) (T.faults out.new) result.ended }

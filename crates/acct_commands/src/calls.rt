@@ -1,10 +1,9 @@
 // The calls of the generator.
 ghost use Rattle.std.specs.Prelude.{◌≡◌, ◌++◌, ◌≤◌, length, IfOk, OnOk};
-ghost use Rattle.acct_layouts.specs.Bounds.{IsText};
-ghost use Rattle.acct_commands.specs.Calls.{most_users};
-ghost use Rattle.acct_commands.specs.Calls.{handle_of, domain_sid, user_sid, user_name, control, closing};
-ghost use Rattle.acct_commands.specs.Calls.{asked_names};
-ghost use Rattle.acct_commands.specs.Calls.{opening_calls, user_calls, closing_calls, policy_calls};
+ghost use Rattle.acct_layouts.specs.Values.{IsText};
+ghost use Rattle.acct_commands.specs.Generated.{most_users, handle_of, domain_sid, user_sid, user_name, control};
+ghost use Rattle.acct_commands.specs.Generated.{closing, asked_names, opening_calls, user_calls, closing_calls};
+ghost use Rattle.acct_commands.specs.Generated.{policy_calls};
 
 use acct_calls::{
     Args, Call, Handle, Info, Name, Names, NoMemory, ZERO_HANDLE, lsa_call, samr_call,
@@ -72,7 +71,7 @@ fn ascii_name(alloc: Global, text: &str) -> Result<Name, NoMemory>
 }
 
 /// The name of a user.
-#[tactic(auto, unfolding(crate::specs::Calls::user_name))]
+#[tactic(auto, unfolding(crate::specs::Generated::user_name))]
 fn user_name(alloc: Global, k: u32) -> Result<Name, NoMemory>
     requires { k ≤ most_users }
     ensures value { IfOk result (λ name. name ≡ user_name k) }
@@ -83,7 +82,7 @@ fn user_name(alloc: Global, k: u32) -> Result<Name, NoMemory>
 }
 
 /// The calls that open the server and the domain, and create the alias.
-#[tactic(auto, unfolding(crate::specs::Calls::opening_calls))]
+#[tactic(auto, unfolding(crate::specs::Generated::opening_calls))]
 pub fn opening_calls(alloc: Global) -> Result<Vec<Call>, NoMemory>
     ensures value { IfOk result (λ calls. calls.items ≡ opening_calls) }
     ensures few { IfOk result (λ calls. length calls.items ≡ 3) }
@@ -124,7 +123,7 @@ fn closing(handle: Handle) -> Call
 
 /// The calls that create a user, make it a member of the alias, set the control of every second one, and close its
 /// handle.
-#[tactic(auto, unfolding(crate::specs::Calls::user_calls))]
+#[tactic(auto, unfolding(crate::specs::Generated::user_calls))]
 pub fn user_calls(alloc: Global, k: u32) -> Result<Vec<Call>, NoMemory>
     requires { k ≤ most_users }
     ensures value { IfOk result (λ calls. calls.items ≡ user_calls k) }
@@ -161,7 +160,7 @@ fn asked_names(alloc: Global) -> Result<Names, NoMemory>
 }
 
 /// The calls that look up what was made, and close the handles.
-#[tactic(auto, unfolding(crate::specs::Calls::closing_calls))]
+#[tactic(auto, unfolding(crate::specs::Generated::closing_calls))]
 pub fn closing_calls(alloc: Global, users: u32) -> Result<Vec<Call>, NoMemory>
     requires { users ≤ most_users }
     ensures value { IfOk result (λ calls. calls.items ≡ closing_calls users) }

@@ -1,7 +1,7 @@
 // The program's commands, over a world.
 ghost use Rattle.std.specs.Prelude.{◌≡◌, ◌≢◌, ◌≤◌, Some, None, length, map, true, MatchResult};
 ghost use Rattle.std.specs.String.{string_bytes};
-ghost use Rattle.acct_commands.specs.Calls.{most_users};
+ghost use Rattle.acct_commands.specs.Generated.{most_users};
 ghost use Rattle.acct_client.specs.Talks.{IsBegun};
 ghost use Rattle.client_commands.specs.declared.command.Command.{Command};
 ghost use Rattle.acct_server.specs.declared.status.Status.TheVariants.{Usage};
@@ -14,7 +14,7 @@ ghost use Rattle.acct_commands.specs.Does.{Does, IsFormless};
 
 use crate::auditing::{Audited, audit};
 use crate::forms::{
-    audit_name, behind_two, gen_users, hooks_names, is_call_form, replay_name, serve_names,
+    after_two, audit_name, gen_users, hooks_names, is_call_form, replay_name, serve_names,
 };
 use crate::generating::{Generation, generate};
 use crate::hooking::run_outbox;
@@ -257,7 +257,7 @@ fn run_client<W: World>(alloc: Global, words: &Vec<String>, world: &mut W) -> St
         IsFormless (map string_bytes words.now.items) result }
     ensures untouched { call_form (map string_bytes words.now.items) ≡ None → world.new ≡ world.old }
 {
-    match Asker::new(alloc, behind_two(words)) {
+    match Asker::new(alloc, after_two(words)) {
         Ok(asker) => run_call(alloc, asker, words[1].as_str(), world),
         Err(AskError::Usage) => Status::Usage,
         Err(_) => Status::NoMemory,

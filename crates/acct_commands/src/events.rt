@@ -4,8 +4,9 @@ ghost use Rattle.acct_codes.specs.Limits.{most_fragment};
 ghost use Rattle.acct_layouts.specs.CallShapes.{CanBeSpelled};
 ghost use Rattle.acct_stubs.specs.Calls.{spell};
 ghost use Rattle.acct_client.specs.Dialogues.{wire_of, call_bytes};
-ghost use Rattle.acct_commands.specs.Calls.{most_users};
-ghost use Rattle.acct_commands.specs.Generated.{beginning, data_line, call_line, call_lines, generated};
+ghost use Rattle.acct_commands.specs.Generated.{most_users, beginning, data_line, call_line, call_lines, generated};
+ghost use Rattle.acct_commands.specs.Generating.{AreAccepted};
+ghost use Rattle.acct_commands.specs.steps.Taken.{AreTaken};
 
 use crate::calls::{closing_calls, opening_calls, user_calls};
 use acct_calls::{Call, Face, NoMemory};
@@ -15,13 +16,22 @@ use std::alloc::Global;
 
 /// Adds a line of data that brings a PDU.
 #[tactic(auto, unfolding(crate::specs::Generated::data_line))]
-fn push_data(alloc: Global, lines: &mut Vec<u8>, pdu: &[u8]) -> Result<(), NoMemory>
+fn push_line(alloc: Global, lines: &mut Vec<u8>, pdu: &[u8]) -> Result<(), NoMemory>
     ensures { OnOk result (lines.new.items ≡ lines.old.items ++ data_line pdu.now) }
 {
     let digits = hex::encode(alloc, pdu)?;
     lines.extend_from_slice(b"data 1 ")?;
     lines.extend_from_slice(digits.as_bytes())?;
     lines.push(b'\n')?;
+    Ok(())
+}
+
+/// The same. Where a replay takes the lines it takes the new one, too.
+fn push_data(alloc: Global, lines: &mut Vec<u8>, pdu: &[u8]) -> Result<(), NoMemory>
+    ensures lines { OnOk result (lines.new.items ≡ lines.old.items ++ data_line pdu.now) }
+    ensures taken { OnOk result (AreTaken lines.old.items → AreTaken lines.new.items) }
+{
+    push_line(alloc, lines, pdu)?;
     Ok(())
 }
 
@@ -50,7 +60,8 @@ fn call_bytes(alloc: Global, id: u32, call: &Call) -> Result<Vec<u8>, NoMemory>
 #[tactic(auto, unfolding(crate::specs::Generated::call_line))]
 fn push_call(alloc: Global, lines: &mut Vec<u8>, id: u32, call: &Call) -> Result<(), NoMemory>
     requires { CanBeSpelled call.now }
-    ensures { OnOk result (lines.new.items ≡ lines.old.items ++ call_line id call.now) }
+    ensures lines { OnOk result (lines.new.items ≡ lines.old.items ++ call_line id call.now) }
+    ensures taken { OnOk result (AreTaken lines.old.items → AreTaken lines.new.items) }
 {
     push_data(alloc, lines, &call_bytes(alloc, id, call)?)
 }
@@ -58,7 +69,8 @@ fn push_call(alloc: Global, lines: &mut Vec<u8>, id: u32, call: &Call) -> Result
 /// The lines that open the connection and bring the bind.
 #[tactic(auto, unfolding(crate::specs::Generated::beginning))]
 fn beginning(alloc: Global) -> Result<Vec<u8>, NoMemory>
-    ensures { IfOk result (λ lines. lines.items ≡ beginning) }
+    ensures lines { IfOk result (λ lines. lines.items ≡ beginning) }
+    ensures taken { IfOk result (λ lines. AreTaken lines.items) }
 {
     let mut lines = b"open 1 a\n".to_vec(alloc)?;
     push_data(alloc, &mut lines, &bind_bytes(alloc)?)?;
@@ -70,6 +82,7 @@ fn push_calls(alloc: Global, lines: &mut Vec<u8>, id: u32, calls: &[Call]) -> Re
     requires fit { All CanBeSpelled calls.now }
     requires few { id + length calls.now < 2 ^ 32 }
     ensures lines { OnOk result (lines.new.items ≡ lines.old.items ++ call_lines id calls.now) }
+    ensures taken { OnOk result (AreTaken lines.old.items → AreTaken lines.new.items) }
     ensures next { IfOk result (λ next. next ≡ id + length calls.now) }
 {
     let mut next = id;
@@ -80,10 +93,11 @@ fn push_calls(alloc: Global, lines: &mut Vec<u8>, id: u32, calls: &[Call]) -> Re
     Ok(next)
 }
 
-/// The events with so many users: each line is written once, after those before it.
+/// The events with so many users: each line is written once, after those before it, and a replay accepts each of them.
 pub fn generated(alloc: Global, users: u32) -> Result<Vec<u8>, NoMemory>
     requires { users ≤ most_users }
-    ensures { IfOk result (λ events. events.items ≡ generated users) }
+    ensures lines { IfOk result (λ events. events.items ≡ generated users) }
+    ensures accepted { IfOk result (λ events. AreAccepted events.items) }
 {
     let mut lines = beginning(alloc)?;
     let mut id = push_calls(alloc, &mut lines, 2, &opening_calls(alloc)?)?;

@@ -4,7 +4,7 @@ ghost use Rattle.std.specs.List.{list_any};
 ghost use Rattle.std.specs.String.{string_bytes};
 ghost use Rattle.acct_commands.specs.Words.{replay_form, audit_form, gen_form, names_form, serve_form, hooks_form};
 ghost use Rattle.acct_commands.specs.Words.{users_in, is_call_form, begins_with_dash};
-ghost use Rattle.acct_commands.specs.Calls.{most_users};
+ghost use Rattle.acct_commands.specs.Generated.{most_users};
 
 use crate::calls::MOST_USERS;
 use acct_base::decimal_of;
@@ -71,7 +71,7 @@ fn begins_with_dash(word: &str) -> bool
 }
 
 // The names of the configuration and of the store, of the words of a command and two names.
-fn names_behind<'a>(command: &str, words: &'a Vec<String>) -> Option<(&'a str, &'a str)>
+fn names_after<'a>(command: &str, words: &'a Vec<String>) -> Option<(&'a str, &'a str)>
     ensures { MatchOption result (names_form command.now (map string_bytes words.now.items) ≡ None)
         (λ names. names_form command.now (map string_bytes words.now.items)
         ≡ Some (record { config = names.0.now; store = names.1.now })) }
@@ -93,7 +93,7 @@ pub fn serve_names(words: &Vec<String>) -> Option<(&str, &str)>
         (λ names. serve_form (map string_bytes words.now.items)
         ≡ Some (record { config = names.0.now; store = names.1.now })) }
 {
-    names_behind("serve", words)
+    names_after("serve", words)
 }
 
 /// The same, of the words `hooks CONFIG STORE`.
@@ -102,7 +102,7 @@ pub fn hooks_names(words: &Vec<String>) -> Option<(&str, &str)>
         (λ names. hooks_form (map string_bytes words.now.items)
         ≡ Some (record { config = names.0.now; store = names.1.now })) }
 {
-    names_behind("hooks", words)
+    names_after("hooks", words)
 }
 
 // Whether one of the words begins with a dash.
@@ -113,7 +113,7 @@ fn has_dash(words: &[String]) -> bool
 }
 
 /// The words after the first two.
-pub fn behind_two(words: &Vec<String>) -> &[String]
+pub fn after_two(words: &Vec<String>) -> &[String]
     requires { 2 ≤ length words.now.items }
     ensures { result.now ≡ drop 2 words.now.items }
 {
@@ -128,5 +128,5 @@ pub fn is_call_form(words: &Vec<String>) -> bool
     if words.len() < 3 {
         return false;
     }
-    words[0].as_str() == "call" && is_address(words[1].as_str()) && !has_dash(behind_two(words))
+    words[0].as_str() == "call" && is_address(words[1].as_str()) && !has_dash(after_two(words))
 }

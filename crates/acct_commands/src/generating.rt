@@ -1,10 +1,9 @@
 // The command `gen` without a world: the replay of the generated events, and what is told of it.
-ghost use Rattle.std.specs.Prelude.{◌≡◌, ◌≢◌, ◌≤◌, ℕ, IfOk, is_some, true};
+ghost use Rattle.std.specs.Prelude.{◌≡◌, ◌≢◌, ◌≤◌, ℕ, IfOk, OnOk, is_some, true};
 ghost use Rattle.acct_server.specs.declared.status.Status.TheVariants.{Done, Usage};
-ghost use Rattle.acct_commands.specs.Calls.{most_users};
-ghost use Rattle.acct_commands.specs.Generated.{generated};
-ghost use Rattle.acct_commands.specs.Summary.{summary};
-ghost use Rattle.acct_commands.specs.Generating.{configuration, source, LeftByReplay, IsWritten, Tells, IsGeneration};
+ghost use Rattle.acct_commands.specs.Generated.{most_users, generated};
+ghost use Rattle.acct_commands.specs.Generating.{summary, configuration, source, LeftByReplay, IsWritten, Tells};
+ghost use Rattle.acct_commands.specs.Generating.{IsGeneration, AreAccepted, ConfigurationIsTaken};
 
 use crate::NoMemory;
 use crate::events::generated;
@@ -28,10 +27,16 @@ fn configuration(alloc: Global) -> Result<SteadySource, NoMemory>
     Ok(SteadySource::new(CONFIGURATION.as_bytes().to_vec(alloc)?))
 }
 
+/// A law: the configuration breaks no rule, and its first listener is the one that the events open.
+pub fn configuration_is_taken()
+    ensures { ConfigurationIsTaken }
+{}
+
 /// The events with so many users.
 fn events(alloc: Global, users: u32) -> Result<SteadySource, NoMemory>
     requires { users ≤ most_users }
-    ensures { IfOk result (λ events. events ≡ source (generated users)) }
+    ensures events { IfOk result (λ events. events ≡ source (generated users)) }
+    ensures accepted { OnOk result (AreAccepted (generated users)) }
 {
     Ok(SteadySource::new(generated(alloc, users)?))
 }

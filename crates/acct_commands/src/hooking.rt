@@ -1,6 +1,6 @@
 // The command `hooks`, over a world.
 ghost use Rattle.std.specs.Prelude.{◌≢◌};
-ghost use Rattle.acct_config.specs.Right.{IsRight};
+ghost use Rattle.acct_config.specs.Spelled.{IsRightConfig};
 ghost use Rattle.acct_server.specs.declared.status.Status.TheVariants.{Usage};
 ghost use Rattle.acct_commands.specs.Hooking.{Hooks, DrainsBy, LeavesOutbox, ReturnsOutbox};
 
@@ -22,7 +22,7 @@ fn drain_with<K: Keeper + Drop, P: Spawner>(
     keeper: K,
     spawner: &mut P,
 ) -> (Status, K)
-    requires right { IsRight config.now }
+    requires right { IsRightConfig config.now }
     ensures { DrainsBy (record { pairs = K.held; faults = K.faults; runs = P.runs; failed = P.failed }) config.now
         (record { keeper = keeper; spawner = spawner.old }) (record { keeper = result.1; spawner = spawner.new })
         result.0 }

@@ -34,6 +34,7 @@ mod summary;
 
 pub use command::account;
 pub use events::generated;
+pub use generating::configuration_is_taken;
 
 /// Running out of memory, which is the one fault that may come anywhere.
 pub type NoMemory = std::alloc::AllocError;

@@ -1,9 +1,9 @@
 // The command `serve`, over a world.
 ghost use Rattle.std.specs.Prelude.{◌≡◌, ◌≢◌, ◌<◌, ◌≤◌, ℕ, [], length, vec_len, slice_index_or};
-ghost use Rattle.acct_config.specs.Right.{IsRight};
+ghost use Rattle.acct_config.specs.Spelled.{IsRightConfig};
 ghost use Rattle.acct_server.specs.declared.status.Status.TheVariants.{Usage};
 ghost use Rattle.acct_commands.specs.Serving.{Serves, is_full};
-ghost use Rattle.acct_commands.specs.Rounds.{RunsRound, RunsRounds, RunsParts, ReturnsParts};
+ghost use Rattle.acct_commands.specs.steps.Rounds.{RunsRound, RunsRounds, RunsParts, ReturnsParts};
 
 use crate::keeping::keep;
 use crate::period::parted_served;
@@ -36,7 +36,7 @@ fn serve_round<R: Threads + Wait + Sync, W: World>(
 where
     <W::E as Entrance>::D: Drop + Send,
     <<W::E as Entrance>::D as Door>::L: Send,
-    requires right { IsRight config.now }
+    requires right { IsRightConfig config.now }
     requires few { vec_len doors.old ≤ 1024 }
     requires configured { (i : ℕ) (d : _) → i < vec_len doors.old
         → W.E.D.listener (slice_index_or doors.old.items i d) < length config.now.listeners }
@@ -67,7 +67,7 @@ fn serve_rounds<R: Threads + Wait + Sync, W: World>(
 where
     <W::E as Entrance>::D: Drop + Send,
     <<W::E as Entrance>::D as Door>::L: Send,
-    requires right { IsRight config.now }
+    requires right { IsRightConfig config.now }
     requires few { vec_len doors.old ≤ 1024 }
     requires configured { (i : ℕ) (d : _) → i < vec_len doors.old
         → W.E.D.listener (slice_index_or doors.old.items i d) < length config.now.listeners }

@@ -3,7 +3,7 @@ ghost use Rattle.std.specs.Prelude.{◌≡◌};
 ghost use Rattle.acct_commands.specs.Commanded.{read_status, write_status, link_status, store_status, door_status};
 ghost use Rattle.acct_commands.specs.Commanded.{spawn_status};
 ghost use Rattle.acct_commands.specs.Serving.{entrance_status};
-ghost use Rattle.acct_commands.specs.Statuses.{talk_status};
+ghost use Rattle.acct_commands.specs.Calling.{talk_status};
 
 use acct_client::TalkEnd;
 use acct_keeper::KeepError;

@@ -1,9 +1,11 @@
 // The summary of a history and of rows.
 ghost use Rattle.std.specs.Prelude.{◌≡◌, ◌++◌, codes, length, IfOk, OnOk};
 ghost use Rattle.acct_codes.specs.declared.kind.Kind.TheVariants.{Alias, User};
-ghost use Rattle.acct_rows.specs.Rows.{account_domain, alias_members_of, is_in_alias};
-ghost use Rattle.acct_machine.specs.Room.{call_count};
-ghost use Rattle.acct_commands.specs.Summary.{count_line, is_call, kind_count, member_count, next_rid, summary};
+ghost use Rattle.acct_tables.specs.Keys.{account_domain};
+ghost use Rattle.acct_rows.specs.Rows.{alias_members_of};
+ghost use Rattle.acct_tables.specs.Selected.{is_in_alias};
+ghost use Rattle.acct_machine.specs.Legal.{call_count};
+ghost use Rattle.acct_commands.specs.Generating.{count_line, is_call, kind_count, member_count, next_rid, summary};
 
 use crate::NoMemory;
 use acct_calls::Name;
@@ -13,7 +15,7 @@ use acct_rows::{ACCOUNT_DOMAIN, AliasRow, Rows};
 use std::alloc::Global;
 
 /// Adds a word and a number as a line.
-#[tactic(auto, unfolding(crate::specs::Summary::count_line))]
+#[tactic(auto, unfolding(crate::specs::Generating::count_line))]
 fn push_count(alloc: Global, lines: &mut Vec<u8>, word: &str, count: usize) -> Result<(), NoMemory>
     ensures { OnOk result (lines.new.items ≡ lines.old.items ++ count_line word.now count) }
 {
@@ -97,7 +99,7 @@ fn next_rid(rows: &Rows) -> u32
 
 /// The five lines: the calls of the history, the users, the aliases of both domains, the members of the alias `site`,
 /// and the next RID of the account domain.
-#[tactic(auto, unfolding(crate::specs::Summary::summary))]
+#[tactic(auto, unfolding(crate::specs::Generating::summary))]
 pub fn summary(alloc: Global, history: &[Entry], rows: &Rows) -> Result<Vec<u8>, NoMemory>
     ensures { IfOk result (λ lines. lines.items ≡ summary history.now rows.now.lists) }
 {

@@ -3,7 +3,7 @@ use Rattle.std.proofs.Common.{List, ℕ, Some, refl, sym, ◌∙◌, ap, subst}
 use Rattle.acct_config.specs.Spelled.{IsSpelledBy}
 use Rattle.acct_keeper.specs.Memory.{SteadyInMemory}
 use Rattle.acct_server.specs.Leaves.{ConfigCause, EventsCause}
-use Rattle.acct_server.specs.Replaying.{Telling, Parts}
+use Rattle.acct_server.specs.Replaying.{TellingReplay, Parts}
 use Rattle.acct_server.specs.declared.status.Status.{Status}
 use Rattle.acct_server.proofs.Configuring.{config-whole, config-rule, events-whole, told-spelled, told-short}
 use Rattle.acct_server.proofs.Configuring.{breaks_none}
@@ -17,7 +17,7 @@ returns-in-Err g c =
     let a = c.args in
     let config = c.read_whole.new.source in
     let ends = c.not_audited in
-    let telling : Telling _ _ _ = record {
+    let telling : TellingReplay _ _ _ = record {
       left = s.left;
       read_faults = s.faults;
       held = g.T.Sink.held;
@@ -43,7 +43,7 @@ returns-in-Err-read_config g c =
     let config = c.read_whole.new.source in
     let ends = c.not_audited-in-Err-read_config in
     let whole = c.in-Ok.ensures.whole in
-    let telling : Telling _ _ _ = record {
+    let telling : TellingReplay _ _ _ = record {
       left = s.left;
       read_faults = s.faults;
       held = g.T.Sink.held;
@@ -72,7 +72,7 @@ returns-in-Err-read_whole g c =
     let events = c.read_whole-2.new.source in
     let ends = c.not_audited-in-Err-read_whole in
     let whole = c.in-Ok.ensures.whole in
-    let telling : Telling _ _ _ = record {
+    let telling : TellingReplay _ _ _ = record {
       left = s.left;
       read_faults = s.faults;
       held = g.T.Sink.held;
@@ -128,7 +128,7 @@ returns g c =
     let ends = c.finish-audited in
     let document = c.in-Ok.document.items in
     let configuration = c.in-Ok-read_config.configuration in
-    let telling : Telling _ _ _ = record {
+    let telling : TellingReplay _ _ _ = record {
       left = s.left;
       read_faults = s.faults;
       held = g.T.Sink.held;

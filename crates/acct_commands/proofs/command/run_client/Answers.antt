@@ -12,7 +12,7 @@ clash o one some none = let e : Some one ≡ None = sym some ∙ none in absurd 
 
 pub run_call-requires-after_bounds : goal.run_call-requires-after_bounds
 run_call-requires-after_bounds g c = λ lives outlive.
-    let a = asks (map string_bytes c.behind_two.result.now) c.in-Ok.asker c.in-Ok.ensures.ok in (a.command, a.begins)
+    let a = asks (map string_bytes c.after_two.result.now) c.in-Ok.asker c.in-Ok.ensures.ok in (a.command, a.begins)
 
 pub returns-in-Ok : goal.returns-in-Ok
 returns-in-Ok g c =
@@ -22,11 +22,11 @@ returns-in-Ok g c =
     let w = g.W.World in
     let items = c.args.words.now.items in
     let words : List (List ℕ) = map string_bytes items in
-    let rest : List (List ℕ) = map string_bytes c.behind_two.result.now in
+    let rest : List (List ℕ) = map string_bytes c.after_two.result.now in
     let a = asks rest c.in-Ok.asker c.in-Ok.ensures.ok in
     let address = c.as_str.result.now in
     let behind : drop 2 words ≡ rest =
-    drop-map string_bytes 2 items ∙ ap (λ (xs : List _). map string_bytes xs) (sym c.behind_two.ensures) in
+    drop-map string_bytes 2 items ∙ ap (λ (xs : List _). map string_bytes xs) (sym c.after_two.ensures) in
     let some : 1 < length items = omega (arith, c.requires.some) in
     let here : get_or words 1 [] ≡ address = get_or-map string_bytes items 1 c.index.result.now [] some
     ∙ ap (λ (word : _). string_bytes word) (sym c.index.ensures) ∙ sym c.as_str.ensures.value in

@@ -1,7 +1,7 @@
 -- Where `run_replay` isn't handed out all parts, it has nothing else to do, and else it runs over them; its
 -- status isn't usage.
 use Rattle.std.proofs.Common.{inl, inr}
-use Rattle.acct_server.specs.Replaying.{Telling}
+use Rattle.acct_server.specs.Replaying.{TellingReplay}
 use Rattle.acct_commands.specs.Commanded.{replaying}
 use Rattle.acct_commands.proofs.Worlds.{has-run}
 use Rattle.acct_commands.proofs.Usages.{refused-not-usage, run-not-usage, replay-not-usage}
@@ -20,7 +20,7 @@ returns-in-Ok g c =
     let k = g.W.K.Keeper in
     let w = g.W.World in
     let parts = c.in-Ok in
-    let told : Telling _ _ _ = record {
+    let told : TellingReplay _ _ _ = record {
       left = s.left;
       read_faults = s.faults;
       held = t.held;

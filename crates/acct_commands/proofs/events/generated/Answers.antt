@@ -2,8 +2,9 @@
 use Rattle.std.proofs.Common.{◌≡◌, ◌+◌, List, All, length, sym, ap, ◌∙◌, subst, arith}
 use Rattle.acct_calls.specs.declared.calls.Call.{Call}
 use Rattle.acct_layouts.specs.CallShapes.{CanBeSpelled}
-use Rattle.acct_commands.specs.Calls.{opening_calls, user_calls, closing_calls}
+use Rattle.acct_commands.specs.Generated.{opening_calls, user_calls, closing_calls}
 use Rattle.acct_commands.proofs.Fitting.{opening-fits, user-fits, closings-fit}
+use Rattle.acct_commands.proofs.Taking.{accepted}
 use Rattle.acct_commands.proofs.Lines.{started, went-on, ended, count-started, count-went-on}
 use Rattle.acct_commands.proofs.events.generated.Goals as goal
 
@@ -18,10 +19,11 @@ push_calls-requires-clause-fit c =
 pub loop-before-init : goal.loop-before-init
 loop-before-init c =
     let is = c.deref.ensures.value ∙ c.in_ok-opening_calls.ensures.value in (
-      started c.in_ok-lines.lines.items c.push_calls.new.lines.items c.deref.result.now c.in_ok-lines.ensures is
+      started c.in_ok-lines.lines.items c.push_calls.new.lines.items c.deref.result.now c.in_ok-lines.ensures.lines is
           c.in_ok-id.ensures.lines,
       count-started c.in_ok-id.id c.deref.result.now is c.in_ok-id.ensures.next,
       omega (arith, c.in_ok-id.ensures.next, ap length c.deref.ensures.value, c.in_ok-opening_calls.ensures.few),
+      c.in_ok-id.ensures.taken c.in_ok-lines.ensures.taken,
     )
 
 pub push_calls-requires-in-loop-before-clause-fit : goal.push_calls-requires-in-loop-before-clause-fit
@@ -46,6 +48,7 @@ loop-before-preserved c =
         ap length c.deref-in-loop-before.ensures.value,
         c.in_ok-user_calls.ensures.few,
       ),
+      c.in_ok-id-2.ensures.taken c.loop-before.invariant.3,
     )
 
 pub push_calls-requires-2-clause-fit : goal.push_calls-requires-2-clause-fit
@@ -53,8 +56,12 @@ push_calls-requires-2-clause-fit c =
     fit-as c.deref-2.result.now (closing_calls c.args.users)
     (c.deref-2.ensures.value ∙ c.in_ok-closing_calls.ensures.value) (closings-fit c.args.users c.requires)
 
-pub returns : goal.returns
-returns c =
+pub returns-clause-lines : goal.returns-clause-lines
+returns-clause-lines c =
     ended c.loop-before.lines.items c.push_calls-2.new.lines.items c.loop-before.before c.args.users c.loop-before.id
     c.deref-2.result.now (omega arith) c.loop-before.invariant.0 c.loop-before.invariant.1
     (c.deref-2.ensures.value ∙ c.in_ok-closing_calls.ensures.value) c.in_ok-push_calls.ensures.lines
+
+pub returns-clause-accepted : goal.returns-clause-accepted
+returns-clause-accepted c =
+    accepted c.push_calls-2.new.lines.items (c.in_ok-push_calls.ensures.taken c.loop-before.invariant.3)

@@ -9,4 +9,5 @@ returns c =
     left-by-replay c.args.users
     (record { config = c.in-Ok.config; events = c.in-Ok-events.events; out = record {}; keeper = c.new.result })
     (record { config = left.new.config; events = left.new.events; out = left.new.out; keeper = left.result.keeper })
-    left.result c.in-Ok.ensures c.in-Ok-events.ensures c.new.ensures refl left.ensures
+    left.result c.in-Ok.ensures c.in-Ok-events.ensures.events c.new.ensures refl
+    c.in-Ok-events.ensures.accepted left.ensures

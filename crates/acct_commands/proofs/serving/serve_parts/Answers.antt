@@ -1,6 +1,6 @@
 -- `serve_parts` begins without doors, and gives back the entrance, the keeper and the source as the run left them.
 use Rattle.std.proofs.Common.{[], subst}
-use Rattle.acct_commands.specs.Rounds.{RunsParts}
+use Rattle.acct_commands.specs.steps.Rounds.{RunsParts}
 use Rattle.acct_commands.proofs.Servings.{gave-back}
 use Rattle.acct_commands.proofs.serving.serve_parts.Goals as goal
 

@@ -1,6 +1,6 @@
 -- What `serve_round` served is one round: as many doors as before, of listeners there are, and the end isn't usage.
 use Rattle.std.proofs.Common.{arith, refl, sym, subst, length, ◌<◌}
-use Rattle.acct_server.specs.Serving.{Telling}
+use Rattle.acct_server.specs.Serving.{TellingDoors}
 use Rattle.acct_commands.specs.Commanded.{period_between}
 use Rattle.acct_commands.proofs.Periods.{round-of, doors-stay, listeners-stay, serve-not-usage}
 use Rattle.acct_commands.proofs.Usages.{kept-not-usage}
@@ -10,7 +10,7 @@ pub returns : goal.returns
 returns g c =
     let k = g.W.K.Keeper in
     let w = g.W.World in
-    let telling : Telling _ _ _ = record {
+    let telling : TellingDoors _ _ _ = record {
       door = g.W.E.D.Door;
       told = g.W.E.D.L.Link.told;
       pairs = k.held;

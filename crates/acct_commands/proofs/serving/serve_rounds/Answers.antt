@@ -1,7 +1,7 @@
 -- Each round so far but the last was full and the next went on from it; the last isn't full, or no more are allowed.
 use Rattle.std.proofs.Common.{◌≡◌, ◌-◌, ◌<◌, ◌∷◌, [], ◌++◌, true, sym, ap, ◌∙◌, subst, arith}
 use Rattle.std.proofs.lemmas.Bool.{false≢true}
-use Rattle.acct_server.specs.Serving.{Telling}
+use Rattle.acct_server.specs.Serving.{TellingDoors}
 use Rattle.acct_commands.specs.Serving.{IsRound, ending, is_full}
 use Rattle.acct_commands.proofs.GoingOn.{goes-on}
 use Rattle.acct_commands.proofs.Periods.{so-far-one, so-far-more, so-far-all, keeps-more}
@@ -11,7 +11,7 @@ use Rattle.acct_commands.proofs.serving.serve_rounds.Goals.{then-loop-alloc-test
 pub loop-alloc-init : goal.loop-alloc-init
 loop-alloc-init g c =
     let a = c.args in
-    let telling : Telling _ _ _ = record {
+    let telling : TellingDoors _ _ _ = record {
       door = g.W.E.D.Door;
       told = g.W.E.D.L.Link.told;
       pairs = g.W.K.Keeper.held;
@@ -41,7 +41,7 @@ loop-alloc-init g c =
 pub loop-alloc-preserved : goal.loop-alloc-preserved
 loop-alloc-preserved g c =
     let a = c.args in
-    let telling : Telling _ _ _ = record {
+    let telling : TellingDoors _ _ _ = record {
       door = g.W.E.D.Door;
       told = g.W.E.D.L.Link.told;
       pairs = g.W.K.Keeper.held;
@@ -85,7 +85,7 @@ loop-alloc-preserved g c =
 pub returns-clause-runs : goal.returns-clause-runs
 returns-clause-runs g c =
     let a = c.args in
-    let telling : Telling _ _ _ = record {
+    let telling : TellingDoors _ _ _ = record {
       door = g.W.E.D.Door;
       told = g.W.E.D.L.Link.told;
       pairs = g.W.K.Keeper.held;

@@ -1,7 +1,7 @@
 -- The UTF-16 units of the text `site` are the codes of its letters.
 use Rattle.std.proofs.Common.{◌≡◌, refl, codes}
 use Rattle.std.specs.Str.{chars}
-use Rattle.acct_calls.specs.CodePoints.{units_of}
+use Rattle.acct_calls.specs.Names.{units_of}
 use Rattle.acct_commands.proofs.summary.alias_name.Goals as goal
 
 units : units_of (chars (codes "site")) ≡ codes "site"

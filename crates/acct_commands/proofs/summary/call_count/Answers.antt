@@ -2,7 +2,7 @@
 use Rattle.std.proofs.Common.{◌∙◌, rules, tests}
 use Rattle.std.proofs.lemmas.Iterator.{YieldsList-from_slice}
 use Rattle.std.proofs.lemmas.Iterator.Consumers.{YieldsList-at, YieldsList-from_filter, count_from_yields_List}
-use Rattle.acct_commands.specs.Summary.{is_call}
+use Rattle.acct_commands.specs.Generating.{is_call}
 use Rattle.acct_commands.proofs.Counting.{calls-counted}
 use Rattle.acct_commands.proofs.summary.call_count.Goals as goal
 

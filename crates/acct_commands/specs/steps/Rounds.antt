@@ -2,14 +2,14 @@
 use Rattle.std.specs.Prelude.{◌≡◌, ◌≢◌, ℕ, true, List, ◌∷◌, [], ◌++◌, Some}
 use Rattle.std.specs.List.{flat_map}
 use Rattle.acct_config.specs.declared.config.Config.{Config}
-use Rattle.acct_server.specs.Serving.{Telling}
+use Rattle.acct_server.specs.Serving.{TellingDoors}
 use Rattle.acct_server.specs.declared.status.Status.{Status}
 use Rattle.acct_commands.specs.Words.{ServeNames}
 use Rattle.acct_world.specs.World.{Seen}
 use Rattle.acct_commands.specs.Serving.{TellingServe, ServeParts, Round, IsRound, AreRounds, KeepsRounds, LeavesParts}
 use Rattle.acct_commands.specs.Serving.{ending, kept_in}
 
-module _ {S T K E D F C L P : Type 0} (telling : Telling D F K) (config : Config) where
+module _ {S T K E D F C L P : Type 0} (telling : TellingDoors D F K) (config : Config) where
   -- One round was run, from the doors and the keeper before it to those after it.
   pub record RunsRound (doors doors_now : List D) (keeper keeper_now : K) (old new : Seen S T K E D C L P)
       (status : Status) : Type 0 where
