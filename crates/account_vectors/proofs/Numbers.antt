@@ -2,8 +2,8 @@
 use Rattle.std.proofs.Common.{◌≡◌, ℕ, false, List, [], ◌∷◌}
 use Rattle.std.specs.List.{list_any}
 use Rattle.acct_rows.specs.Rows.{TakeNumbers}
-use Rattle.acct_rows.specs.declared.row.Row.{Row}
-use Rattle.acct_rows.specs.declared.row.Row.TheVariants as rows
+use Rattle.acct_tables.specs.declared.row.Row.{Row}
+use Rattle.acct_tables.specs.declared.row.Row.TheVariants as rows
 use Rattle.acct_rules.specs.Touched.{is_out_row}
 
 pub take-none : (next : ℕ) (puts : List Row) → list_any is_out_row puts ≡ false → TakeNumbers next puts

@@ -1,6 +1,6 @@
 -- Numbers each once, after the last one that was given
 use Rattle.std.proofs.Common.{ℕ, List, Option, Some, None}
-use Rattle.acct_rows.specs.Rows.{each_once_after, each_once}
+use Rattle.acct_tables.specs.Selected.{each_once_after, each_once}
 
 abbrev pub once_after : Option ℕ → List ℕ → List ℕ
 once_after None ns = each_once ns

@@ -5,7 +5,7 @@
 // - the operation by its name in the table of operations, the object of the handle, and the arguments. A name `256*61`
 //   has 256 units 0x61;
 // - what is expected: the status, the outputs, and what is put, removed, opened or deleted, where there is such.
-ghost use Rattle.dtyp_access.specs.Limits.{IsDescriptor};
+ghost use Rattle.dtyp_access.specs.Parts.{IsDescriptor};
 
 mod asked;
 mod brought;

@@ -1,7 +1,7 @@
 // Calls in words, and what they are answered in words.
 ghost use Rattle.std.specs.Prelude.{◌≤◌, ◌<◌, ◌^◌, All, IfOk, length};
 ghost use Rattle.acct_codes.specs.Limits.{most_descriptor};
-ghost use Rattle.acct_machine.specs.Calls.{IsCall};
+ghost use Rattle.acct_machine.specs.Access.{IsCall};
 
 use crate::tests::words::{self, word};
 use acct_calls::Bytes;

@@ -1,5 +1,5 @@
 // What openings of the server grant, and the check of a handle of each kind at each operation.
-ghost use Rattle.acct_config.specs.Right.{IsRight};
+ghost use Rattle.acct_config.specs.Spelled.{IsRightConfig};
 
 use super::configs::{DENY_FIRST, with_entries};
 use crate::tests::works::all_works;
@@ -12,7 +12,7 @@ use std::test::Fail;
 
 /// What an opening of the server grants a connection at a listener.
 fn granted_at(config: &Config, listener: u32, desired: u32) -> Option<u32>
-    requires { IsRight config.now }
+    requires { IsRightConfig config.now }
 {
     let conn = Conn {
         number: 1,

@@ -1,6 +1,6 @@
 // Configurations of two listeners: the token of the second has one more SID, that of the users.
 ghost use Rattle.std.specs.Prelude.{◌≡◌, IfOk, length};
-ghost use Rattle.acct_config.specs.Right.{IsRight};
+ghost use Rattle.acct_config.specs.Spelled.{IsRightConfig};
 
 use acct_machine::{Config, read_config};
 use std::alloc::Global;
@@ -51,7 +51,7 @@ fn has_two_listeners(rt: &impl Abort, config: &Config)
 
 /// The configuration of a document with two listeners.
 pub fn configured(rt: &impl Abort, alloc: Global, document: &str) -> Result<Config, Fail>
-    ensures right { IfOk result IsRight }
+    ensures right { IfOk result IsRightConfig }
     ensures listeners { IfOk result (λ config. length config.listeners ≡ 2) }
 {
     let config = read_config(alloc, document.as_bytes())?;
@@ -61,7 +61,7 @@ pub fn configured(rt: &impl Abort, alloc: Global, document: &str) -> Result<Conf
 
 /// The plain configuration, with these entries of the descriptor of the server or with none.
 pub fn with_entries(rt: &impl Abort, alloc: Global, entries: &str) -> Result<Config, Fail>
-    ensures right { IfOk result IsRight }
+    ensures right { IfOk result IsRightConfig }
     ensures listeners { IfOk result (λ config. length config.listeners ≡ 2) }
 {
     if entries.is_empty() {

@@ -104,9 +104,9 @@ const HANDLES: &str = "\
 1 close 1.2 = 0 0.0";
 
 const HANDLES_LEFT: &str =
-    "opened 1 0;opened 2 1;1 Samr 57 Ran 22;1 Samr 62 Ran 22;1 Samr 64 Ran 22;\
-    1 Samr 1 Ran 22;1 Samr 1 Ran 22;1 Samr 57 Ran 22;2 Samr 1 Ran 22;2 Samr 57 Ran 22;1 Samr 1 Ran 22;2 Samr 1 Ran 22;\
-    1 Samr 1 Ran 22;gone 1;8-8 0-0 0";
+    "opened 1 0;opened 2 1;1 Samr 57 Ran 220;1 Samr 62 Ran 220;1 Samr 64 Ran 220;\
+    1 Samr 1 Ran 220;1 Samr 1 Ran 220;1 Samr 57 Ran 220;2 Samr 1 Ran 22;2 Samr 57 Ran 22;1 Samr 1 Ran 220;\
+    2 Samr 1 Ran 22;1 Samr 1 Ran 220;gone 1;8-8 0-0 0";
 
 /// Each interface closes handles to its own objects, and gives back another that it is sent. No root is opened.
 const INTERFACES: &str = "\
@@ -121,8 +121,8 @@ const INTERFACES: &str = "\
 1 close 1.1 = 0 0.0";
 
 const INTERFACES_LEFT: &str =
-    "opened 1 0;opened 2 1;1 Samr 57 Ran 22;1 Lsa 44 Ran 22;1 Lsa 44 Ran 22;\
-    1 Lsa 0 Ran 22;1 Samr 1 Ran 22;2 Lsa 0 Ran 22;1 Lsa 0 Ran 22;1 Lsa 0 Ran 22;1 Samr 1 Ran 22;gone 1;8-8 0-0 0";
+    "opened 1 0;opened 2 1;1 Samr 57 Ran 220;1 Lsa 44 Ran 220;1 Lsa 44 Ran 220;\
+    1 Lsa 0 Ran 220;1 Samr 1 Ran 220;2 Lsa 0 Ran 22;1 Lsa 0 Ran 220;1 Lsa 0 Ran 220;1 Samr 1 Ran 220;gone 1;8-8 0-0 0";
 
 #[test]
 fn handles_are_opened_and_closed(rt: HostRuntime) -> Result<(), Fail> {
@@ -143,8 +143,8 @@ const HUNDRED: &str = "\
 >1 close 1.140 = fault 1c00001a";
 
 const HUNDRED_LEFT: &str =
-    "opened 1 0;opened 2 1;<1-60:1 Samr 57 Ran 22;>2 Samr 57 Ran 22;<1-40:1 Lsa 44 Ran 22;>\
-    <1-60:1 Samr 1 Ran 22;><1-40:1 Samr 57 Ran 22;>2 Samr 1 Ran 22;<1-40:1 Lsa 0 Ran 22;><1-41:1 Samr 1 Ran 22;>\
+    "opened 1 0;opened 2 1;<1-60:1 Samr 57 Ran 220;>2 Samr 57 Ran 22;<1-40:1 Lsa 44 Ran 220;>\
+    <1-60:1 Samr 1 Ran 220;><1-40:1 Samr 57 Ran 220;>2 Samr 1 Ran 22;<1-40:1 Lsa 0 Ran 220;><1-41:1 Samr 1 Ran 220;>\
     gone 1;8-8 0-0 0";
 
 #[test]
@@ -196,8 +196,8 @@ const FAILING: &str = "\
 1 create 1.1 = c0000035 0.0";
 
 const FAILING_LEFT: &str =
-    "opened 1 0;opened 2 1;1 Lsa 44 Ran 22;1 Lsa 10 StoreFault(1) 22;1 Lsa 10 Ran 22;\
-    1 Lsa 10 Ran 22;gone 1;8-8 0-1 1";
+    "opened 1 0;opened 2 1;1 Lsa 44 Ran 220;1 Lsa 10 StoreFault(1) 220;1 Lsa 10 Ran 220;\
+    1 Lsa 10 Ran 220;gone 1;8-8 0-1 1";
 
 /// Nothing is committed where nothing changes: the first handle lacks the right to create.
 const TWICE: &str = "\
@@ -207,8 +207,8 @@ const TWICE: &str = "\
 1 create 1.2 = c0000158 0.0
 1 create 1.2 = c0000158 0.0";
 
-const TWICE_LEFT: &str = "opened 1 0;opened 2 1;1 Lsa 44 Ran 22;1 Lsa 10 Ran 22;1 Lsa 44 Ran 22;\
-    1 Lsa 10 StoreFault(1) 22;1 Lsa 10 StoreFault(2) 22;gone 1;8-8 0-0 2";
+const TWICE_LEFT: &str = "opened 1 0;opened 2 1;1 Lsa 44 Ran 220;1 Lsa 10 Ran 220;1 Lsa 44 Ran 220;\
+    1 Lsa 10 StoreFault(1) 220;1 Lsa 10 StoreFault(2) 220;gone 1;8-8 0-0 2";
 
 #[test]
 fn a_commit_that_fails_changes_nothing(rt: HostRuntime) -> Result<(), Fail> {

@@ -1,6 +1,6 @@
 // Rows that leave the outbox: in order, each once, and as the store lets them.
 ghost use Rattle.std.specs.Prelude.{◌≡◌, true, IfOk, length};
-ghost use Rattle.acct_config.specs.Right.{IsRight};
+ghost use Rattle.acct_config.specs.Spelled.{IsRightConfig};
 ghost use Rattle.acct_machine.specs.Outbox.{has_hook};
 
 use super::configs::{PLAIN, configured};
@@ -29,7 +29,7 @@ pub fn is_told(rt: &impl Abort, config: &Config)
 
 /// The plain configuration with a program that is told of changes.
 pub fn with_hook(rt: &impl Abort, alloc: Global) -> Result<Config, Fail>
-    ensures right { IfOk result IsRight }
+    ensures right { IfOk result IsRightConfig }
     ensures listeners { IfOk result (λ config. length config.listeners ≡ 2) }
     ensures told { IfOk result (λ config. has_hook config ≡ true) }
 {
@@ -82,7 +82,7 @@ fn put_rows(alloc: Global, keeper: &mut MemoryKeeper, next: u64) -> Result<(), F
 
 /// Seeds a store, and fills its outbox.
 fn fill(alloc: Global, config: &Config, keeper: &mut MemoryKeeper, next: u64) -> Result<(), Fail>
-    requires { IsRight config.now }
+    requires { IsRightConfig config.now }
 {
     drop(open_store(alloc, config, keeper)?);
     put_rows(alloc, keeper, next)
@@ -95,7 +95,7 @@ pub fn filled(
     next: u64,
     failing: &[u64],
 ) -> Result<MemoryKeeper, Fail>
-    requires { IsRight config.now }
+    requires { IsRightConfig config.now }
 {
     let mut keeper = keeper_with(alloc, failing)?;
     match fill(alloc, config, &mut keeper, next) {
@@ -115,7 +115,7 @@ fn made(
     next: u64,
     failing: &[u64],
 ) -> Result<Machine<MemoryKeeper>, Fail>
-    requires { IsRight config.now }
+    requires { IsRightConfig config.now }
     ensures { IfOk result (λ machine. machine.past.start.config ≡ config.now) }
 {
     machine_over(rt, alloc, config, filled(alloc, config, next, failing)?)
@@ -175,7 +175,7 @@ fn told(
     failing: &[u64],
     numbers: &[u64],
 ) -> Result<String, Fail>
-    requires right { IsRight config.now }
+    requires right { IsRightConfig config.now }
     requires told { has_hook config.now ≡ true }
 {
     let mut machine = made(rt, alloc, config, next, failing)?;
@@ -207,7 +207,7 @@ const TAKEN: [(u64, [u64; 5], &str); 3] = [
 ];
 
 fn two_taken(rt: &impl Abort, alloc: Global, config: &Config) -> Result<(), Fail>
-    requires right { IsRight config.now }
+    requires right { IsRightConfig config.now }
     requires told { has_hook config.now ≡ true }
 {
     for (failing, numbers, wanted) in TAKEN {
@@ -235,7 +235,7 @@ fn hundred(alloc: Global) -> Result<Vec<u64>, Fail> {
 }
 
 fn all_taken(rt: &impl Abort, alloc: Global, config: &Config) -> Result<(), Fail>
-    requires right { IsRight config.now }
+    requires right { IsRightConfig config.now }
     requires told { has_hook config.now ≡ true }
 {
     let numbers = hundred(alloc)?;

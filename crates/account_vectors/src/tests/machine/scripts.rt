@@ -1,7 +1,7 @@
 // Scripts: what two connections ask, line by line, and what each call is answered.
 ghost use Rattle.std.specs.Prelude.{◌≡◌, true, IfOk, length};
-ghost use Rattle.acct_config.specs.Right.{IsRight};
-ghost use Rattle.acct_machine.specs.Calls.{IsCall};
+ghost use Rattle.acct_config.specs.Spelled.{IsRightConfig};
+ghost use Rattle.acct_machine.specs.Access.{IsCall};
 ghost use Rattle.acct_machine.specs.State.{is_live};
 ghost use Rattle.acct_machine.specs.Machine.{state_of};
 
@@ -27,7 +27,7 @@ pub fn machine_over(
     config: &Config,
     mut keeper: MemoryKeeper,
 ) -> Result<Machine<MemoryKeeper>, Fail>
-    requires { IsRight config.now }
+    requires { IsRightConfig config.now }
     ensures { IfOk result (λ machine. machine.past.start.config ≡ config.now) }
 {
     let rows = open_store(alloc, config, &mut keeper)?;
@@ -60,7 +60,7 @@ pub fn started_over(
     config: Config,
     keeper: MemoryKeeper,
 ) -> Result<Machine<MemoryKeeper>, Fail>
-    requires right { IsRight config }
+    requires right { IsRightConfig config }
     requires listeners { length config.listeners ≡ 2 }
     ensures first { IfOk result (λ machine. is_live 1 (state_of machine.past).conns ≡ true) }
     ensures second { IfOk result (λ machine. is_live 2 (state_of machine.past).conns ≡ true) }
@@ -79,7 +79,7 @@ pub fn started_under(
     config: Config,
     failing: &[u64],
 ) -> Result<Machine<MemoryKeeper>, Fail>
-    requires right { IsRight config }
+    requires right { IsRightConfig config }
     requires listeners { length config.listeners ≡ 2 }
     ensures first { IfOk result (λ machine. is_live 1 (state_of machine.past).conns ≡ true) }
     ensures second { IfOk result (λ machine. is_live 2 (state_of machine.past).conns ≡ true) }
@@ -107,7 +107,7 @@ pub fn started(
     started_under(rt, alloc, config, failing)
 }
 
-/// A connection makes a call.
+/// A connection makes a call, whose stub took 220 or 22 bytes.
 fn acted(machine: &mut Machine<MemoryKeeper>, is_first: bool, call: Call) -> Acted
     requires first { is_live 1 (state_of machine.old.past).conns ≡ true }
     requires second { is_live 2 (state_of machine.old.past).conns ≡ true }
@@ -116,7 +116,7 @@ fn acted(machine: &mut Machine<MemoryKeeper>, is_first: bool, call: Call) -> Act
     ensures second { is_live 2 (state_of machine.new.past).conns ≡ true }
 {
     if is_first {
-        machine.act(1, call, 22)
+        machine.act(1, call, 220)
     } else {
         machine.act(2, call, 22)
     }

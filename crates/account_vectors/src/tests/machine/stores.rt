@@ -1,5 +1,5 @@
 // Stores that are opened, again or not at all.
-ghost use Rattle.acct_config.specs.Right.{IsRight};
+ghost use Rattle.acct_config.specs.Spelled.{IsRightConfig};
 
 use super::configs::{PLAIN, configured};
 use super::scripts::keeper_with;
@@ -22,7 +22,7 @@ fn push_opening(text: &mut String, opening: &Result<Rows, OpenError>) -> Result<
 /// What an opening of a store answers: how many accounts there are, or why it isn't opened; and how many pairs are
 /// kept.
 fn opened(alloc: Global, config: &Config, keeper: &mut MemoryKeeper) -> Result<String, Fail>
-    requires { IsRight config.now }
+    requires { IsRightConfig config.now }
 {
     let opening = open_store(alloc, config, keeper);
     let mut text = String::new(alloc);
@@ -35,7 +35,7 @@ fn opened(alloc: Global, config: &Config, keeper: &mut MemoryKeeper) -> Result<S
 
 /// What the opening of a keeper without a pair answers whose calls of these numbers fail.
 fn opened_first(alloc: Global, config: &Config, failing: &[u64]) -> Result<String, Fail>
-    requires { IsRight config.now }
+    requires { IsRightConfig config.now }
 {
     let mut keeper = keeper_with(alloc, failing)?;
     opened(alloc, config, &mut keeper)
@@ -43,7 +43,7 @@ fn opened_first(alloc: Global, config: &Config, failing: &[u64]) -> Result<Strin
 
 /// A load that fails, and a seeding that does: no pair is kept.
 fn opened_where_one_fails(rt: &impl Abort, alloc: Global, config: &Config) -> Result<(), Fail>
-    requires { IsRight config.now }
+    requires { IsRightConfig config.now }
 {
     for (failing, wanted) in [
         (1, "StoreFault, 0 pairs"),
@@ -81,7 +81,7 @@ fn is_opened(
     keeper: &mut MemoryKeeper,
     wanted: &str,
 ) -> Result<bool, Fail>
-    requires { IsRight config.now }
+    requires { IsRightConfig config.now }
 {
     Ok(opened(alloc, config, keeper)?.as_str() == wanted)
 }
@@ -93,7 +93,7 @@ fn opened_again(
     config: &Config,
     keeper: &mut MemoryKeeper,
 ) -> Result<(), Fail>
-    requires { IsRight config.now }
+    requires { IsRightConfig config.now }
 {
     for time in ["first", "second"] {
         assert!(rt;
@@ -159,7 +159,7 @@ fn opened_in_format(
     keeper: &mut MemoryKeeper,
     format: u8,
 ) -> Result<String, Fail>
-    requires { IsRight config.now }
+    requires { IsRightConfig config.now }
 {
     drop(open_store(alloc, config, keeper)?);
     set_format(alloc, keeper, format)?;
@@ -170,7 +170,7 @@ fn opened_in_format(
 
 /// The pairs of a seeded store but that of its format.
 fn seeded_pairs(alloc: Global, config: &Config) -> Result<String, Fail>
-    requires { IsRight config.now }
+    requires { IsRightConfig config.now }
 {
     let mut keeper = keeper_with(alloc, &[])?;
     drop(open_store(alloc, config, &mut keeper)?);
@@ -186,7 +186,7 @@ fn told_and_kept(
     keeper: &mut MemoryKeeper,
     format: u8,
 ) -> Result<(String, String), Fail>
-    requires { IsRight config.now }
+    requires { IsRightConfig config.now }
 {
     let told = opened_in_format(alloc, config, keeper, format)?;
     let kept = other_pairs(alloc, keeper)?;
@@ -200,7 +200,7 @@ fn migrated(
     format: u8,
     failing: u64,
 ) -> Result<(String, String), Fail>
-    requires { IsRight config.now }
+    requires { IsRightConfig config.now }
 {
     let mut keeper = keeper_with(alloc, &[failing])?;
     let told = told_and_kept(alloc, config, &mut keeper, format);
@@ -220,7 +220,7 @@ const FORMATS: [(u8, u64, &str); 5] = [
 
 /// The other pairs are kept as they were.
 fn migrates(rt: &impl Abort, alloc: Global, config: &Config) -> Result<(), Fail>
-    requires { IsRight config.now }
+    requires { IsRightConfig config.now }
 {
     let seeded = seeded_pairs(alloc, config)?;
     for (format, failing, wanted) in FORMATS {

@@ -171,9 +171,8 @@ fn push_naming(
 ) -> Result<(), Fail> {
     let (rid, sid) = word(words);
     let sid = parse_text(sid.trim())?;
-    let mut keys = Seq::new(alloc);
-    rows.push_member_keys(&mut keys, domain, number(rid))?;
-    rows.push_alias_keys(&mut keys, domain, number(rid), &sid)?;
+    let keys = rows.with_member_keys(Seq::new(alloc), domain, number(rid))?;
+    let keys = rows.with_alias_keys(keys, domain, number(rid), &sid)?;
     for key in keys.as_slice() {
         push_key(alloc, text, key)?;
     }

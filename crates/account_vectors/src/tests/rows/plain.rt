@@ -2,8 +2,8 @@
 ghost use Rattle.std.specs.Prelude.{◌≡◌, IfOk, find, map};
 ghost use Rattle.std.specs.List.{filter, list_any};
 ghost use Rattle.std.specs.Option.{option_copied};
-ghost use Rattle.dtyp_sid.specs.Order.{sid_eq};
-ghost use Rattle.acct_rows.specs.Rows.{has_name, has_primary, has_one, each_once};
+ghost use Rattle.dtyp_sid.specs.Sids.{sid_eq};
+ghost use Rattle.acct_tables.specs.Selected.{has_name, has_primary, has_one, each_once};
 
 use acct_base::Seq;
 use acct_calls::{Name, NoMemory, Rids};

@@ -2,7 +2,7 @@
 // `next` and each commit fails in turn. Which connection is the first one, and which user gets the first RID, is as it
 // comes: what each link has to be answered is worked out from the history of the very run.
 ghost use Rattle.std.specs.Prelude.{◌≡◌, ◌+◌, ◌<◌, ◌≤◌, All, length, vec_len, IfOk};
-ghost use Rattle.acct_config.specs.Right.{IsRight};
+ghost use Rattle.acct_config.specs.Spelled.{IsRightConfig};
 ghost use Rattle.acct_links.specs.Links.{IsNew};
 
 use super::clients::Client;
@@ -342,7 +342,7 @@ fn told<R: Threads + Wait + Sync>(
     config: &Config,
     words: &str,
 ) -> Result<String, Fail>
-    requires right { IsRight config.now }
+    requires right { IsRightConfig config.now }
     requires listener { 0 < length config.now.listeners }
 {
     let failing = [number_of(words, 'k')].to_vec(alloc)?;
@@ -361,7 +361,7 @@ fn tell<R: Abort + Threads + Wait + Sync>(
     config: &Config,
     row: &str,
 ) -> Result<(), Fail>
-    requires right { IsRight config.now }
+    requires right { IsRightConfig config.now }
     requires listener { 0 < length config.now.listeners }
 {
     let (words, wanted) = column(row);
@@ -375,7 +375,7 @@ fn tell_all<R: Abort + Threads + Wait + Sync>(
     alloc: Global,
     config: &Config,
 ) -> Result<(), Fail>
-    requires right { IsRight config.now }
+    requires right { IsRightConfig config.now }
     requires listener { 0 < length config.now.listeners }
 {
     for row in ROWS.lines() {

@@ -1,6 +1,6 @@
 // Entrances in memory that are asked for the doors of listeners: which askings are answered, and which doors are there.
 ghost use Rattle.std.specs.Prelude.{All, IfOk};
-ghost use Rattle.acct_config.specs.Right.{IsRight};
+ghost use Rattle.acct_config.specs.Spelled.{IsRightConfig};
 ghost use Rattle.acct_links.specs.Links.{IsNew};
 ghost use Rattle.acct_links.specs.Memory.{told_by_steady};
 
@@ -52,14 +52,14 @@ fn document_of(alloc: Global, listeners: &str) -> Result<String, Fail> {
 }
 
 fn read(alloc: Global, document: &str) -> Result<Config, Fail>
-    ensures { IfOk result IsRight }
+    ensures { IfOk result IsRightConfig }
 {
     Ok(read_config(alloc, document.as_bytes())?)
 }
 
 // A configuration with these listeners.
 fn configured(alloc: Global, listeners: &str) -> Result<Config, Fail>
-    ensures { IfOk result IsRight }
+    ensures { IfOk result IsRightConfig }
 {
     let document = document_of(alloc, listeners)?;
     read(alloc, document.as_str())
@@ -141,7 +141,7 @@ fn left(
     config: &Config,
     entrance: &mut MemoryEntrance<SteadyLink>,
 ) -> Result<String, Fail>
-    requires { IsRight config.now }
+    requires { IsRightConfig config.now }
 {
     let mut doors = Vec::new(alloc);
     let answer = open_doors(config, entrance, &mut doors);

@@ -1,6 +1,6 @@
 // Two links that wait for each other: only doors that are served side by side bring both to their end.
 ghost use Rattle.std.specs.Prelude.{◌≡◌, ◌+◌, ◌<◌, ◌≤◌, All, length, vec_len, IfOk};
-ghost use Rattle.acct_config.specs.Right.{IsRight};
+ghost use Rattle.acct_config.specs.Spelled.{IsRightConfig};
 ghost use Rattle.acct_links.specs.Links.{IsNew};
 ghost use Rattle.acct_links.specs.Memory.{told_by};
 
@@ -124,7 +124,7 @@ fn left(
 }
 
 fn told<R: Threads + Wait + Sync>(rt: &R, alloc: Global, config: &Config) -> Result<String, Fail>
-    requires right { IsRight config.now }
+    requires right { IsRightConfig config.now }
     requires listener { 0 < length config.now.listeners }
 {
     let mut doors = doors_of(alloc)?;

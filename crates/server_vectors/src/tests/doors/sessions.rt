@@ -1,6 +1,6 @@
 // Sessions over a link in memory and the machine.
 ghost use Rattle.std.specs.Prelude.{◌≡◌, false, IfOk};
-ghost use Rattle.acct_config.specs.Right.{IsRight};
+ghost use Rattle.acct_config.specs.Spelled.{IsRightConfig};
 
 use super::words::{bytes_of, configured, digits_of_all};
 use crate::tests::left::push_history;
@@ -103,7 +103,7 @@ fn link_of(alloc: Global, making: Making, came: Vec<u8>) -> Result<MemoryLink, F
 }
 
 fn made(rt: &impl Abort, alloc: Global, config: &Config) -> Result<Machine<SteadyKeeper>, Fail>
-    requires { IsRight config.now }
+    requires { IsRightConfig config.now }
 {
     let mut keeper = SteadyKeeper::new(alloc);
     let rows = open_store(alloc, config, &mut keeper)?;

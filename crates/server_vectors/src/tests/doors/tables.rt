@@ -1,6 +1,6 @@
 // Doors in memory, of which only the first brings links, so that connections have their numbers by their order.
 ghost use Rattle.std.specs.Prelude.{◌≡◌, ◌+◌, ◌<◌, ◌≤◌, All, length, vec_len, IfOk};
-ghost use Rattle.acct_config.specs.Right.{IsRight};
+ghost use Rattle.acct_config.specs.Spelled.{IsRightConfig};
 ghost use Rattle.acct_links.specs.Links.{IsNew};
 ghost use Rattle.acct_links.specs.Memory.{told_by};
 
@@ -149,7 +149,7 @@ fn told<R: Threads + Wait + Sync>(
     mut doors: Vec<MemoryDoor<MemoryLink>>,
     keeper: MemoryKeeper,
 ) -> Result<String, Fail>
-    requires right { IsRight config.now }
+    requires right { IsRightConfig config.now }
     requires few { vec_len doors ≤ 1024 }
     requires first { All (λ door. door.door.listener ≡ 0) doors.items }
     requires listener { 0 < length config.now.listeners }

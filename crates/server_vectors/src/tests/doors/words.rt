@@ -1,6 +1,6 @@
 // The words of a row, and what they name.
 ghost use Rattle.std.specs.Prelude.{IfOk};
-ghost use Rattle.acct_config.specs.Right.{IsRight};
+ghost use Rattle.acct_config.specs.Spelled.{IsRightConfig};
 ghost use Rattle.acct_links.specs.Links.{IsNew};
 ghost use Rattle.acct_links.specs.Memory.{told_by};
 
@@ -77,14 +77,14 @@ pub fn link_of(alloc: Global, words: &str) -> Result<MemoryLink, Fail>
 }
 
 fn read(alloc: Global, document: &str) -> Result<Config, Fail>
-    ensures { IfOk result IsRight }
+    ensures { IfOk result IsRightConfig }
 {
     Ok(read_config(alloc, document.as_bytes())?)
 }
 
 /// The configuration, where the history has a limit or none.
 pub fn configured(alloc: Global, limit: &str) -> Result<Config, Fail>
-    ensures { IfOk result IsRight }
+    ensures { IfOk result IsRightConfig }
 {
     let document = config_of(alloc, limit)?;
     read(alloc, document.as_str())

@@ -1,7 +1,7 @@
 // The first run over real sockets, in one process: a client has sent its bind, an opening and its closing, and reads
 // the answers once the server, whose door takes one link, has served it to its end.
 ghost use Rattle.std.specs.Prelude.{◌≡◌, ◌<◌, ◌≤◌, All, length, vec_len};
-ghost use Rattle.acct_config.specs.Right.{IsRight};
+ghost use Rattle.acct_config.specs.Spelled.{IsRightConfig};
 
 use crate::tests::doors::words::{bytes_of, configured, digits_of_all};
 use crate::tests::left::push_history;
@@ -37,7 +37,7 @@ fn told<R: Threads + Wait + Sync, D: Door + Drop + Send>(
 ) -> Result<String, Fail>
 where
     D::L: Send,
-    requires right { IsRight config.now }
+    requires right { IsRightConfig config.now }
     requires few { vec_len doors.old ≤ 1024 }
     requires first { All (λ door. D.listener door ≡ 0) doors.old.items }
     requires listener { 0 < length config.now.listeners }

@@ -1,7 +1,7 @@
 -- The RIDs so far, then those that the matching rows left add, are the aliases of all matching rows, each once.
 use Rattle.std.proofs.Common.{◌≡◌, ◌++◌, drop, map}
 use Rattle.std.specs.List.{filter}
-use Rattle.acct_rows.specs.Rows.{has_one, each_once}
+use Rattle.acct_tables.specs.Selected.{has_one, each_once}
 use Rattle.account_vectors.proofs.Once.{once_after}
 use Rattle.account_vectors.proofs.tests.rows.plain.aliases_of.Given as goal
 
