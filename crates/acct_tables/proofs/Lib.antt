@@ -2,6 +2,7 @@ pub mod Ascending
 pub mod Between
 pub mod BetweenRows
 pub mod Described
+pub mod Each
 pub mod Ended
 pub mod Equals
 pub mod FoldOrder

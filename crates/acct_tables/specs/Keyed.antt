@@ -51,6 +51,11 @@ module _ {A : Type 0} (key : A → Key) where
   put a [] = a ∷ []
   put a (x ∷ xs) = by_order (compare (key a) (key x)) (a ∷ x ∷ xs) (a ∷ xs) (x ∷ put a xs)
 
+  -- with each value in its place, one after the other: of those with one key the last stays
+  abbrev pub put_each : List A → List A → List A
+  put_each [] xs = xs
+  put_each (a ∷ more) xs = put_each more (put a xs)
+
   -- without the value with that key
   abbrev pub without : Key → List A → List A
   without k xs = filter (λ x. not (same_key k (key x))) xs

@@ -58,7 +58,7 @@ pub fn find<'a, T: Keyed>(rows: &'a [T], key: &T::Key) -> Option<&'a T>
 }
 
 /// A table has fewer rows than that.
-const MOST: usize = 1 << 32;
+pub const MOST: usize = 1 << 32;
 
 /// Rows by ascending key, with room for more. A contract sees the list of the rows, and for how many more there is
 /// room; with those the table has fewer than 2^32 rows.

@@ -8,15 +8,16 @@
 //! with the value in its place or without it, and no change takes memory. Two tables of the same values by two orders
 //! are kept side by side by whoever wants both. `acct_rows` uses besides that a row has one pair and that of a pair the
 //! row is read which it spells exactly ([`row_pair`], [`read_row`], [`laws`]), whether a row breaks a rule by itself
-//! ([`breaks_alone`]), and that a contract sees rows of one kind ([`RowTable`], [`Accounts`], [`Members`], [`Aliases`])
-//! as their list by strictly ascending key. A look-up is its filter over that list. That an index agrees with its list
-//! is the invariant of the type that has both, and no public clause mentions one.
+//! ([`breaks_alone`]), and that a contract sees rows of one kind ([`RowTable`], [`Unsorted`], [`Accounts`],
+//! [`Members`], [`Aliases`]) as their list by strictly ascending key. A look-up is its filter over that list. That an
+//! index agrees with its list is the invariant of the type that has both, and no public clause mentions one.
 //!
 //! Values by key: `order` says how, `table` keeps them. Of a row: `object` and `row` say what there is, `copies` copies
 //! it; `fields` and `reading` read pairs, `writing` writes them, `rules` has the rules of a row by itself. Of rows of
-//! one kind: `keyed` is the table, `keys` has the keys; `accounts` with `names` and `primaries`, `groups`, and
-//! `aliases` with `membership` have indexes, of entries as `entries` makes them; `ranges` lends rows whose keys are a
-//! range, and `naming` has the keys of rows that name an account.
+//! one kind: `keyed` is the table, `unsorted` has the rows of one before they are sorted, `keys` has the keys;
+//! `accounts` with `names` and `primaries`, `groups`, and `aliases` with `membership` have indexes, of entries as
+//! `entries` makes them; `ranges` lends rows whose keys are a range, and `naming` has the keys of rows that name an
+//! account.
 #![tactic(auto)]
 
 mod accounts;
@@ -40,6 +41,7 @@ mod reading;
 mod row;
 mod rules;
 mod table;
+mod unsorted;
 mod writing;
 
 pub use accounts::Accounts;
@@ -56,4 +58,5 @@ pub use row::{
 };
 pub use rules::breaks_alone;
 pub use table::{Table, find_key, place_of, sort};
+pub use unsorted::Unsorted;
 pub use writing::{Paired, format_pair, key_bytes, next_out_pair, row_key, row_pair};

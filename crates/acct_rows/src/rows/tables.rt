@@ -1,4 +1,5 @@
-// The rows as they are loaded: tables alone, whose indexes are made at once when all rows are there.
+// The rows as they are loaded: tables alone, whose indexes are made at once when all rows are there. Stored rows come
+// in the order of their keys' bytes, which isn't that of SIDs: rows with a SID in their key are sorted then, once.
 ghost use Rattle.std.specs.Prelude.{◌≡◌, ◌+◌, ◌<◌, ◌≤◌, true, IfOk, OnOk};
 ghost use Rattle.acct_calls.specs.Names.{is_domain_name, is_domain_sid};
 ghost use Rattle.acct_rows.specs.Loading.{no_lists};
@@ -10,7 +11,7 @@ use crate::seed::{seed_accounts, seed_aliases, seed_domains, seed_members};
 use acct_calls::{Name, NoMemory};
 use acct_tables::{
     AccountRow, Accounts, AliasRow, Aliases, DescRow, DomainRow, LsaRow, MemberRow, Members,
-    OutRow, Row, RowTable,
+    OutRow, Row, RowTable, Unsorted,
 };
 use dtyp_sid::Sid;
 use std::alloc::Global;
@@ -23,9 +24,9 @@ pub struct Tables {
     domains: RowTable<DomainRow>,
     accounts: RowTable<AccountRow>,
     members: RowTable<MemberRow>,
-    aliases: RowTable<AliasRow>,
-    lsa: RowTable<LsaRow>,
-    descriptors: RowTable<DescRow>,
+    aliases: Unsorted<AliasRow>,
+    lsa: Unsorted<LsaRow>,
+    descriptors: Unsorted<DescRow>,
     outs: RowTable<OutRow>,
     next_out: u64,
     spare: usize,
@@ -69,9 +70,9 @@ impl Tables {
             domains: RowTable::new(alloc),
             accounts: RowTable::new(alloc),
             members: RowTable::new(alloc),
-            aliases: RowTable::new(alloc),
-            lsa: RowTable::new(alloc),
-            descriptors: RowTable::new(alloc),
+            aliases: Unsorted::new(alloc),
+            lsa: Unsorted::new(alloc),
+            descriptors: Unsorted::new(alloc),
             outs: RowTable::new(alloc),
             next_out,
             spare: 0,
@@ -92,9 +93,9 @@ impl Tables {
             domains: RowTable::from_rows(domains),
             accounts: RowTable::from_rows(accounts),
             members: RowTable::from_rows(members),
-            aliases: RowTable::from_rows(aliases),
-            lsa: RowTable::new(alloc),
-            descriptors: RowTable::new(alloc),
+            aliases: Unsorted::from_rows(aliases),
+            lsa: Unsorted::new(alloc),
+            descriptors: Unsorted::new(alloc),
             outs: RowTable::new(alloc),
             next_out: 1,
             spare: 0,
@@ -137,23 +138,31 @@ impl Tables {
         self.spare -= 1;
     }
 
-    /// The rows with their indexes, each of which is sorted once.
+    /// The rows with their indexes. What isn't in its order is sorted once, and so is each index.
     pub fn into_rows(self, alloc: Global) -> Result<Rows, NoMemory>
         ensures { IfOk result (λ rows. rows.lists ≡ self.lists) }
     {
-        let (accounts, members, aliases) = indexed(
+        let (lsa, descriptors) = sorted(alloc, self.lsa, self.descriptors)?;
+        let (accounts, members, aliases) = match indexed(
             alloc,
             self.accounts,
             self.members,
             self.aliases,
-        )?;
+        ) {
+            Ok(indexed) => indexed,
+            Err(error) => {
+                drop(lsa);
+                drop(descriptors);
+                return Err(error);
+            }
+        };
         Ok(Rows {
             domains: self.domains,
             accounts,
             members,
             aliases,
-            lsa: self.lsa,
-            descriptors: self.descriptors,
+            lsa,
+            descriptors,
             outs: self.outs,
             next_out: self.next_out,
             spare: 0,
@@ -161,18 +170,50 @@ impl Tables {
     }
 }
 
+// The tables of rows that came in any order.
+fn sorted(
+    alloc: Global,
+    lsa: Unsorted<LsaRow>,
+    descriptors: Unsorted<DescRow>,
+) -> Result<(RowTable<LsaRow>, RowTable<DescRow>), NoMemory>
+    ensures lsa { IfOk result (λ tables. tables.0.0 ≡ lsa.0) }
+    ensures descriptors { IfOk result (λ tables. tables.1.0 ≡ descriptors.0) }
+{
+    let lsa = match lsa.into_table(alloc) {
+        Ok(lsa) => lsa,
+        Err(error) => {
+            drop(descriptors);
+            return Err(error);
+        }
+    };
+    match descriptors.into_table(alloc) {
+        Ok(descriptors) => Ok((lsa, descriptors)),
+        Err(error) => {
+            drop(lsa);
+            Err(error)
+        }
+    }
+}
+
+fn indexed_aliases(alloc: Global, aliases: Unsorted<AliasRow>) -> Result<Aliases, NoMemory>
+    ensures { IfOk result (λ indexed. indexed.0 ≡ aliases.0) }
+{
+    let aliases = aliases.into_table(alloc)?;
+    Aliases::from_rows(alloc, aliases.into_rows())
+}
+
 // The tables that have indexes, with those.
 fn indexed(
     alloc: Global,
     accounts: RowTable<AccountRow>,
     members: RowTable<MemberRow>,
-    aliases: RowTable<AliasRow>,
+    aliases: Unsorted<AliasRow>,
 ) -> Result<(Accounts, Members, Aliases), NoMemory>
     ensures accounts { IfOk result (λ indexed. indexed.0.0 ≡ accounts.0) }
     ensures members { IfOk result (λ indexed. indexed.1.0 ≡ members.0) }
     ensures aliases { IfOk result (λ indexed. indexed.2.0 ≡ aliases.0) }
 {
-    let aliases = match Aliases::from_rows(alloc, aliases.into_rows()) {
+    let aliases = match indexed_aliases(alloc, aliases) {
         Ok(aliases) => aliases,
         Err(error) => {
             drop(accounts);
