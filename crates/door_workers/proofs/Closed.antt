@@ -41,7 +41,7 @@ no-more known (e ∷ rest) all =
     absurd (omega arith)
 
 -- what a pass knows that owns each entry of a history is the history
-known-whole : (v : View Begun Entry) (h : List Entry) → IsFrontOf v.known h → v.own ≡ placed 0 h
+pub known-whole : (v : View Begun Entry) (h : List Entry) → IsFrontOf v.known h → v.own ≡ placed 0 h
     → ((p : ℕ) (e : Entry) → In v.own p e → At v.known p e) → h ≡ v.known
 known-whole v h front own known =
     let all : (p : ℕ) (e : Entry) → At (v.known ++ front.0) p e → At v.known p e = λ p e at.

@@ -1,4 +1,5 @@
 pub mod Passing
+pub mod Homes
 pub mod Opened
 pub mod Entering
 pub mod Doing
@@ -14,4 +15,5 @@ pub mod DoorPlaces
 pub mod Outcomes
 pub mod Joined
 pub mod Closed
+pub mod Emptying
 pub mod Placing

@@ -22,7 +22,7 @@ use Rattle.door_workers.specs.steps.Passing.{IsMine}
 use Rattle.door_workers.specs.Services.{Service, Serves, Unopened, IsOfConn, IsService}
 use Rattle.door_workers.specs.Doors.{Has, AreServed}
 use Rattle.door_workers.specs.steps.Working.{OwnsNoneBehind, WasService, IsWorking, IsJoined}
-use Rattle.door_workers.proofs.Passing.{of-others, others-at, conn-mine}
+use Rattle.door_workers.proofs.Passing.{of-others, others-at, conn-mine, if-mine}
 use Rattle.door_workers.proofs.Places.{at-behind, at-within, has-either, has-left, has-right, distinct-append}
 use Rattle.door_workers.proofs.Staying.{serves-stays, none-stays}
 
@@ -116,7 +116,7 @@ module _ {L : Type 0} (told : L → Told) (start : Start) (most : ℕ) where
   was-working v ss working = record {
     legal = working.legal;
     known = working.owns.finds.own;
-    opened = working.owns.opened;
+    opened = λ p e i. if-mine v e (working.owns.opened p e i);
     was = λ s has. was-service v ss s working has;
     all = working.all;
     once = working.once;
@@ -143,7 +143,7 @@ module _ {L : Type 0} (told : L → Told) (start : Start) (most : ℕ) where
       apart its.0 mine.1 its.1 (subst (λ n. In v.own n mine.1) same mine.2) its.2
 
   -- a link of one pass, where another pass was taken in that owns nothing of its connection
-  was-on : (v u : View Begun Entry) (s : Service L) → ((k : ℕ) → IsMine v k → IsMine u k) → IsFrontOf v.known u.known
+  pub was-on : (v u : View Begun Entry) (s : Service L) → ((k : ℕ) → IsMine v k → IsMine u k) → IsFrontOf v.known u.known
       → ((p : ℕ) (e : Entry) → In u.own p e → In v.own p e ⊎ ((k : ℕ) → conn_of e ≡ Some k → IsMine v k → ⊥))
       → WasService told start most v s → WasService told start most u s
   was-on v u (Serves s) mine grows either (m, (front, none, is)) = (

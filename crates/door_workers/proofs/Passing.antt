@@ -6,7 +6,7 @@ use Rattle.std.proofs.lemmas.List.{append-nil}
 use mathlib.Core.Option.{some, some-injective, some-ne-none}
 use lib.ListN.{get_elem?}
 use Rattle.atomic_table.proofs.Lists.{at_longer, at_last, at_snoc}
-use Rattle.hist_lock.specs.Lanes.{Mark, opens, within}
+use Rattle.hist_lock.specs.Lanes.{Mark, opens, within, home}
 use Rattle.hist_lock.specs.Histories.{At, In, Opened, placed}
 use Rattle.hist_lock.specs.Views.{IsOfOwnLane, Finds, Turn}
 use Rattle.hist_lock.specs.declared.view.View.{View}
@@ -24,7 +24,7 @@ use Rattle.link_sessions.specs.Turns.{MachineActs, MachineEnds, Turn as GateTurn
 use Rattle.door_workers.specs.steps.Lanes.{lane_of}
 use Rattle.door_workers.specs.declared.kept.Begun.{Begun}
 use Rattle.door_workers.specs.steps.Moving.{passes-then}
-use Rattle.door_workers.specs.steps.Passing.{IsMine, OwnsLanes, ServesLive, MovesOn, IsPassing}
+use Rattle.door_workers.specs.steps.Passing.{IsMine, IsOfMine, OwnsLanes, ServesLive, MovesOn, IsPassing}
 
 -- ---- places
 
@@ -87,6 +87,36 @@ pub conn-mine : (v w : View Begun Entry) (o : Option ℕ) → ((k : ℕ) → IsM
     → IfSome o (IsMine w)
 conn-mine v w None more mine = tt
 conn-mine v w (Some k) more mine = more k mine
+
+-- an entry of a connection of one view is of one of another that opened it too
+pub of-mine : (v w : View Begun Entry) (e : Entry) → ((k : ℕ) → IsMine v k → IsMine w k) → IsOfMine v e → IsOfMine w e
+of-mine v w (entry.Opened conn listener) more mine = more conn mine
+of-mine v w (entry.Called conn call verdict bytes) more mine = more conn mine
+of-mine v w (entry.Gone conn) more mine = more conn mine
+of-mine v w (entry.Hooked number) more mine = absurd mine
+
+-- an entry of this connection is of one that the pass opened
+pub of-conn-mine : (v : View Begun Entry) (e : Entry) (k : ℕ) → conn_of e ≡ Some k → IsMine v k → IsOfMine v e
+of-conn-mine v (entry.Opened conn listener) k is mine =
+    let same : conn ≡ k = cc in subst (λ n. IsMine v n) (sym same) mine
+of-conn-mine v (entry.Called conn call verdict bytes) k is mine =
+    let same : conn ≡ k = cc in subst (λ n. IsMine v n) (sym same) mine
+of-conn-mine v (entry.Gone conn) k is mine =
+    let same : conn ≡ k = cc in subst (λ n. IsMine v n) (sym same) mine
+of-conn-mine v (entry.Hooked number) k is mine = absurd cc
+
+pub if-mine : (v : View Begun Entry) (e : Entry) → IsOfMine v e → IfSome (conn_of e) (IsMine v)
+if-mine v (entry.Opened conn listener) mine = mine
+if-mine v (entry.Called conn call verdict bytes) mine = mine
+if-mine v (entry.Gone conn) mine = mine
+if-mine v (entry.Hooked number) mine = tt
+
+-- an entry of a connection is of no home lane
+pub not-home : (v : View Begun Entry) (e : Entry) → IsOfMine v e → lane_of e ≡ home → ⊥
+not-home v (entry.Opened conn listener) mine is = absurd (let other : opens conn ≡ home = is in cc)
+not-home v (entry.Called conn call verdict bytes) mine is = absurd (let other : within conn ≡ home = is in cc)
+not-home v (entry.Gone conn) mine is = absurd (let other : within conn ≡ home = is in cc)
+not-home v (entry.Hooked number) mine is = mine
 
 -- what comes after what the pass knows is of no connection of the pass
 pub finds-passes : OthersChangeNothing → (start : Start) (v : View Begun Entry) (k : ℕ) (h : List Entry) → OwnsLanes v
@@ -158,14 +188,14 @@ owns-same v w t is owns =
             (t.finds.lanes p e (subst (λ (l : List Entry). At l p e) known at)
             (lane-back v w e (λ k of m. mine-by w v k (sym same) m) t.same.number mine));
       };
-      opened = λ p e i. conn-mine v w (conn_of e) (λ k m. mine-by v w k same m)
+      opened = λ p e i. of-mine v w e (λ k m. mine-by v w k same m)
           (owns.opened p e (subst (λ (own : List (ℕ × Entry)). In own p e) same i));
     }
 
 -- an entry was appended; its connection is one that the pass has opened, and of those before it no more are the pass's
 pub owns-more : {does : List Entry → List Entry
     → Type 0} (v w : View Begun Entry) (t : Turn lane_of does v w) (e : Entry) → t.after ≡ t.before ++ e ∷ []
-    → IfSome (conn_of e) (IsMine w)
+    → IsOfMine w e
     → ((p : ℕ) (d : Entry) (k : ℕ) → At t.before p d → conn_of d ≡ Some k → IsMine w k → IsMine v k)
     → OwnsLanes v → OwnsLanes w
 owns-more v w t e is mine no_more owns =
@@ -191,9 +221,8 @@ owns-more v w t e is mine no_more owns =
             (at-snoc-at t.before e d p (subst (λ (l : List Entry). At l p d) known at));
       };
       opened = λ p d i. ⊎_elim
-          (λ (old : In v.own p d). conn-mine v w (conn_of d) (λ k m. mine-longer v w x k longer m)
-          (owns.opened p d old))
-          (λ (new : x ≡ (p, d)). subst (λ (y : ℕ × Entry). IfSome (conn_of y.1) (IsMine w)) new mine)
+          (λ (old : In v.own p d). of-mine v w d (λ k m. mine-longer v w x k longer m) (owns.opened p d old))
+          (λ (new : x ≡ (p, d)). subst (λ (y : ℕ × Entry). IsOfMine w y.1) new mine)
           (in-longer v.own x p d (subst (λ (own : List (ℕ × Entry)). In own p d) longer i));
     }
 
@@ -222,7 +251,7 @@ owns-on v w k t (nothing is) mine owns = owns-same v w t is owns
 owns-on v w k t (appends e is lane conn) mine owns =
     let longer = own-more v w t e is in
     let x : ℕ × Entry = (length t.before, e) in
-    owns-more v w t e is (subst (λ (o : Option ℕ). IfSome o (IsMine w)) (sym conn) (mine-longer v w x k longer mine))
+    owns-more v w t e is (of-conn-mine w e k conn (mine-longer v w x k longer mine))
     (λ p d j at of its. no-more v w x j longer (λ o. within-no (lane_of e) k j lane o) its) owns
 
 pub one : (j k : ℕ) → Some j ≡ Some k → j ≡ k

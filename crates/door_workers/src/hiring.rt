@@ -5,6 +5,7 @@ ghost use Rattle.hist_lock.specs.Passes.{view};
 ghost use Rattle.door_workers.specs.steps.Passing.{start_under};
 ghost use Rattle.door_workers.specs.steps.Hiring.{IsIdle, IsHired};
 
+use crate::bell::Bell;
 use crate::ends::DoorEnd;
 use crate::kept::Locked;
 use crate::lock_gate::LockGate;
@@ -28,6 +29,7 @@ fn hire<'a, R: Wait, K: Keeper + Drop, D: Door>(
     alloc: Global,
     lock: &'a HistLock<Locked<K>>,
     first: &mut Pass<Locked<K>>,
+    bell: Option<&'a Bell>,
     door: D,
     place: u32,
     max_read: u64,
@@ -45,7 +47,12 @@ fn hire<'a, R: Wait, K: Keeper + Drop, D: Door>(
     let pass = lock.split(first);
     Hired {
         worker: Worker {
-            gate: LockGate { rt, lock, pass },
+            gate: LockGate {
+                rt,
+                lock,
+                pass,
+                bell,
+            },
             door,
             place,
             max_read,
@@ -55,12 +62,13 @@ fn hire<'a, R: Wait, K: Keeper + Drop, D: Door>(
     }
 }
 
-/// A worker for each door, the last door's first. There is room for them.
+/// A worker for each door, the last door's first, each with the bell, if there is one. There is room for them.
 pub(crate) fn hire_all<'a, R: Wait, K: Keeper + Drop, D: Door + Drop>(
     rt: &'a R,
     alloc: Global,
     lock: &'a HistLock<Locked<K>>,
     first: &mut Pass<Locked<K>>,
+    bell: Option<&'a Bell>,
     doors: &mut Vec<D>,
     max_read: u64,
     workers: &mut Vec<Hired<Worker<'a, R, Locked<K>, D>>>,
@@ -84,7 +92,7 @@ pub(crate) fn hire_all<'a, R: Wait, K: Keeper + Drop, D: Door + Drop>(
 {
     while let Some(door) = doors.pop() {
         let place = doors.len() as u32;
-        let hired = hire(rt, alloc, lock, first, door, place, max_read);
+        let hired = hire(rt, alloc, lock, first, bell, door, place, max_read);
         workers.push_reserved(hired);
     }
 }

@@ -6,7 +6,12 @@ ghost use Rattle.hist_lock.specs.Views.{IsFirst};
 ghost use Rattle.door_workers.specs.steps.Passing.{start_under};
 ghost use Rattle.door_workers.specs.declared.ends.DoorEnd.TheVariants.{NoMemory};
 ghost use Rattle.door_workers.specs.Doors.{Adds};
+ghost use Rattle.hist_lock.specs.declared.view.View.{View};
+ghost use Rattle.acct_machine.specs.declared.entry.Entry.{Entry};
 ghost use Rattle.door_workers.specs.steps.Hiring.{IsOther, HasWorked, AreJoined, JoinsOne};
+ghost use Rattle.door_workers.specs.Hooking.{KnowsOwn, TakesInOthers};
+ghost use Rattle.door_workers.specs.steps.Working.{IsJoined};
+ghost use Rattle.door_workers.specs.declared.kept.Begun.{Begun};
 
 use crate::ends::DoorEnd;
 use crate::hiring::Hired;
@@ -15,7 +20,7 @@ use crate::laws::links_are_joined;
 use crate::lock_gate::LockGate;
 use crate::workers::Worker;
 use acct_links::Door;
-use acct_machine::Keeper;
+use acct_machine::{Keeper, outs_are_left};
 use hist_lock::{HistLock, Pass};
 use link_sessions::Ended;
 use std::alloc::Global;
@@ -47,8 +52,12 @@ fn join_one<R: Wait, K: Keeper + Drop, D: Door + Drop>(
         w.gate.pass hired.entry.end given w.door w.ends.items
         → JoinsOne D.Door D.L.told (start_under lock.now) max_read w.place (view first.old) (view first.new) given
         result.door result.end result.ends.items }
+    ensures others { (o : View Begun Entry) (given : D) → let w = hired.entry.worker in HasWorked D.Door D.L.told
+        lock.now max_read w.place w.gate.pass hired.entry.end given w.door w.ends.items
+        → KnowsOwn o → TakesInOthers o (view first.old) → TakesInOthers o (view first.new) }
 {
     links_are_joined::<D::L>();
+    outs_are_left();
     let Hired { worker, end } = hired;
     let Worker {
         gate,
@@ -99,7 +108,7 @@ impl Sum {
 }
 
 /// Takes the passes of all workers back, that of the first door first, and puts the doors back in their order. There
-/// is room for them.
+/// is room for them. The first pass has served no link.
 pub(crate) fn join_all<R: Wait, K: Keeper + Drop, D: Door + Drop>(
     alloc: Global,
     lock: &HistLock<Locked<K>>,
@@ -110,7 +119,7 @@ pub(crate) fn join_all<R: Wait, K: Keeper + Drop, D: Door + Drop>(
     doors: &mut Vec<D>,
 ) -> Sum
     requires first { IsPassOf lock.now first.old × IsFirst (view first.old) }
-    requires idle { ((view first.old).known ≡ []) × ((view first.old).own ≡ []) }
+    requires links { IsJoined D.L.told (start_under lock.now) max_read (view first.old) [] }
     requires none { doors.old.items ≡ [] }
     requires room { vec_len workers ≤ vec_capacity doors.old }
     requires given { vec_len given.now.value ≡ vec_len workers }
@@ -122,6 +131,7 @@ pub(crate) fn join_all<R: Wait, K: Keeper + Drop, D: Door + Drop>(
     ensures first { IsPassOf lock.now first.new × IsFirst (view first.new) }
     ensures made { (view first.new).made ≡ (view first.old).made }
     ensures joined { (view first.new).joined ≡ (view first.old).joined + vec_len workers.entry }
+    ensures others { TakesInOthers (view first.old) (view first.new) }
     ensures doors { vec_len doors.new ≡ vec_len workers.entry }
     ensures all { AreJoined D.Door D.L.told (start_under lock.now) max_read (view first.new) given.now.value.items
         doors.new.items result.outcome result.ends.items }

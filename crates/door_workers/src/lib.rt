@@ -11,6 +11,9 @@
 //! read and wrote, in the one history that the machine then has (`IsServed`); and it tells how serving ended, and the
 //! end of each session by the number of its connection.
 //!
+//! Where the configuration has a hook, [`serve_doors_with_hook`] does all that, and beside the workers it runs the
+//! program for the changes in the outbox: all drains of the call come to one, over the whole history (`HasDrained`).
+//!
 //! Below that, a lock and a pass are a gate ([`LockGate`]): each opening, call and end is a turn of the lock, which
 //! finds a history that goes on from what the pass knows by entries of other passes, and does there what the machine
 //! does. Whatever is said of a connection that the pass opened is as the pass knows it (`IsPassing`), and stays so
@@ -18,14 +21,24 @@
 //! door, in order: each served a connection, which was opened at the door's listener and is gone, or was given back
 //! unread since the history was full (`IsServing`).
 //!
+//! A lock and its first pass are a gate to the outbox ([`HookLockGate`]): each look and each taking out is a turn, so no
+//! program runs while the lock is held. Entries of changes that were taken out are of the home lane, and so each is the
+//! first pass's own: no other pass took one out.
+//!
 //! In rooms: `opening` asks for the doors; `kept` has what lies under the lock and the jobs of a turn, `lock_gate` the
 //! gate; `workers` has the worker, `ends` why it takes no further link, `laws` what the count of a full history says
 //! and what stands of all links where passes are joined; `hiring` gives each door its worker, `working` lets all of
-//! them work, `joining` takes their passes back, `outcome` says how serving ends, `serving` is the whole.
+//! them work, `joining` takes their passes back, `outcome` says how serving ends, `serving` is the whole. `hook_gate`
+//! has the gate to the outbox, `hooking` the worker that drains it, `bell` what that worker waits for, and `beside` the
+//! whole with it.
 #![tactic(auto)]
 
+mod bell;
+mod beside;
 mod ends;
 mod hiring;
+mod hook_gate;
+mod hooking;
 mod joining;
 mod kept;
 mod laws;
@@ -36,8 +49,11 @@ mod serving;
 mod workers;
 mod working;
 
+pub use bell::Bell;
+pub use beside::{DoorsHooked, serve_doors_with_hook};
 pub use ends::DoorEnd;
-pub use kept::{Begun, Calling, Ending, Locked, Opening};
+pub use hook_gate::HookLockGate;
+pub use kept::{Begun, CallAnswer, Calling, Ending, Hooking, Locked, Looking, Opening};
 pub use laws::{full_counts, links_are_joined};
 pub use lock_gate::LockGate;
 pub use opening::open_doors;

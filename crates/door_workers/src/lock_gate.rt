@@ -1,18 +1,41 @@
 // A lock and a pass as a gate.
 ghost use Rattle.std.specs.Prelude.{◌≡◌, ◌<◌};
 
-use crate::kept::{Calling, Ending, Locked, Opening};
+use crate::bell::Bell;
+use crate::kept::{CallAnswer, Calling, Ending, Locked, Opening};
 use acct_machine::{Acted, Call, Keeper, Opened, others_change_nothing};
 use hist_lock::{HistLock, Kept, Pass};
 use link_sessions::Gate;
 use std::sync::Wait;
 
-/// A lock and a pass.
+/// A lock and a pass, and the bell that is rung for changes in the outbox, where they are told to a program.
 #[derive(Drop)]
 pub struct LockGate<'a, R: Wait, S: Kept> {
     pub rt: &'a R,
     pub lock: &'a HistLock<S>,
     pub pass: Pass<S>,
+    pub bell: Option<&'a Bell>,
+}
+
+impl<'a, R: Wait, S: Kept> LockGate<'a, R, S> {
+    // Rings where a call added a change to the outbox.
+    fn ring(&self, added: bool) {
+        if !added {
+            return;
+        }
+        match self.bell {
+            Some(bell) => bell.ring(self.rt),
+            None => {}
+        }
+    }
+
+    /// No further turn is made.
+    pub(crate) fn leave(&self) {
+        match self.bell {
+            Some(bell) => bell.leave(self.rt),
+            None => {}
+        }
+    }
 }
 
 impl<'a, R: Wait, K: Keeper + Drop> Gate for LockGate<'a, R, Locked<K>> {
@@ -49,8 +72,11 @@ impl<'a, R: Wait, K: Keeper + Drop> Gate for LockGate<'a, R, Locked<K>> {
 
     fn act(&mut self, conn: u32, call: Call, bytes: u32) -> Acted {
         others_change_nothing();
-        self.lock
-            .turn(self.rt, &mut self.pass, Calling { conn, call, bytes })
+        let CallAnswer { acted, added } = self
+            .lock
+            .turn(self.rt, &mut self.pass, Calling { conn, call, bytes });
+        self.ring(added);
+        acted
     }
 
     fn gone(&mut self, conn: u32) {

@@ -12,7 +12,7 @@ use crate::hiring::hire_all;
 use crate::joining::{Sum, join_all};
 use crate::kept::Locked;
 use crate::laws::links_are_joined;
-use crate::working::work_all;
+use crate::working::all_worked;
 use acct_links::Door;
 use acct_machine::{Keeper, Machine};
 use hist_lock::{Closed, HistLock, Pass};
@@ -30,8 +30,8 @@ pub struct DoorsServed<K: Keeper + Drop> {
     pub ends: Vec<Ended>,
 }
 
-// Nothing was served, as memory ran out.
-fn not_served<K: Keeper + Drop>(alloc: Global, machine: Machine<K>) -> DoorsServed<K>
+/// Nothing was served, as memory ran out.
+pub(crate) fn not_served<K: Keeper + Drop>(alloc: Global, machine: Machine<K>) -> DoorsServed<K>
     ensures { (result.machine ≡ machine) × (result.outcome ≡ NoMemory) × (result.ends.items ≡ []) }
 {
     DoorsServed {
@@ -41,8 +41,8 @@ fn not_served<K: Keeper + Drop>(alloc: Global, machine: Machine<K>) -> DoorsServ
     }
 }
 
-// Gives the machine back from under the lock, whose passes were all joined.
-fn close<K: Keeper + Drop>(
+/// Gives the machine back from under the lock, whose passes were all joined.
+pub(crate) fn close<K: Keeper + Drop>(
     lock: HistLock<Locked<K>>,
     first: Pass<Locked<K>>,
     sum: Sum,
@@ -92,8 +92,8 @@ where
         };
     }
     let given = Snapshot::of(doors);
-    hire_all(rt, alloc, lock, first, doors, max_read, &mut workers);
-    work_all(rt, alloc, lock, workers.as_mut_slice(), max_read);
+    hire_all(rt, alloc, lock, first, None, doors, max_read, &mut workers);
+    let workers = all_worked(rt, alloc, lock, workers, max_read);
     let mut sum = join_all(alloc, lock, first, workers, max_read, &given, doors);
     sum.sort();
     sum

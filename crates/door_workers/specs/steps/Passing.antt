@@ -1,5 +1,5 @@
 -- What a pass over the machine's lock knows of its connections.
-use Rattle.std.specs.Prelude.{◌≡◌, ◌≢◌, ℕ, ◌⊎◌, List, true, IfSome}
+use Rattle.std.specs.Prelude.{◌≡◌, ◌≢◌, ℕ, ◌⊎◌, List, true, MatchOption}
 use Rattle.hist_lock.specs.Histories.{In, Opened}
 use Rattle.hist_lock.specs.Passes.{first_value}
 use Rattle.hist_lock.specs.declared.lock.HistLock.{HistLock}
@@ -25,11 +25,15 @@ start_under lock = (first_value lock).machine.value.past.start
 abbrev pub IsMine : View Begun Entry → ℕ → Type 0
 IsMine v k = Opened lane_of v.own k
 
+-- the entry is of a connection that the pass opened
+abbrev pub IsOfMine : View Begun Entry → Entry → Type 0
+IsOfMine v e = MatchOption (conn_of e) ⊥ (IsMine v)
+
 -- What the pass knows is a history that it may find: its own entries stand there, and of its connections there are no
--- others. And each of its own entries is of a connection that it opened, if it is of any.
+-- others. And each of its own entries is of a connection that it opened.
 pub record OwnsLanes (v : View Begun Entry) : Type 0 where
   pub finds : Finds lane_of v v.known
-  pub opened : (p : ℕ) (e : Entry) → In v.own p e → IfSome (conn_of e) (IsMine v)
+  pub opened : (p : ℕ) (e : Entry) → In v.own p e → IsOfMine v e
 
 -- The pass opened the connection, which is live.
 pub record ServesLive (start : Start) (v : View Begun Entry) (k : ℕ) : Type 0 where

@@ -5,6 +5,7 @@ use Rattle.std.proofs.lemmas.List.{get_or_default}
 use Rattle.door_workers.specs.steps.Passing.{start_under}
 use Rattle.door_workers.specs.declared.ends.DoorEnd.TheVariants as stop
 use Rattle.door_workers.specs.steps.Hiring.{HasWorked, AreJoined}
+use Rattle.door_workers.proofs.Homes.{takes-in-none}
 use Rattle.door_workers.proofs.Joined.{none-joined, one-joined}
 use Rattle.door_workers.proofs.DoorPlaces.{below, each-less, the-last}
 use Rattle.door_workers.proofs.joining.join_all.Goals as goal
@@ -26,6 +27,7 @@ loop-hired-init g c =
       first = c.requires.first.1;
       made = refl;
       joined = omega arith;
+      others = takes-in-none v;
       total = omega arith;
       room = c.requires.room;
       places = c.requires.places;
@@ -33,8 +35,7 @@ loop-hired-init g c =
       all = subst (λ ds. AreJoined door told start a.max_read v given ds stop.Closed c.new.result.items)
           (sym c.requires.none)
           (subst (λ es. AreJoined door told start a.max_read v given [] stop.Closed es) (sym c.new.ensures.items)
-          (none-joined door told start a.max_read v given
-          (c.links_are_joined.ensures.idle start a.max_read v c.requires.idle.0 c.requires.idle.1)));
+          (none-joined door told start a.max_read v given c.requires.links));
     }
 
 pub join_one-door-requires-clause-other : goal.join_one-door-requires-clause-other
@@ -95,6 +96,7 @@ loop-hired-preserved g c =
       first = j.first.1;
       made = j.made ∙ inv.made;
       joined = let joins = j.joined in let was = inv.joined in omega arith;
+      others = j.others a.first.now.seat.me.0 b worked c.requires.links.known inv.others;
       total = omega arith;
       room = let was = inv.room in let more = p.capacity in omega arith;
       places = λ i d lt. each-less ws ys hired (λ n h. h.worker.place + n + 1 ≡ vec_len a.workers) e.items

@@ -4,6 +4,7 @@ use Rattle.std.specs.Prelude.{slice_index_or, vec_capacity}
 use Rattle.hist_lock.specs.Passes.{view, IsPassOf}
 use Rattle.door_workers.specs.steps.Passing.{start_under}
 use Rattle.door_workers.specs.steps.Hiring.{HasWorked, AreJoined}
+use Rattle.door_workers.specs.Hooking.{TakesInOthers}
 use Rattle.door_workers.proofs.joining.join_all.Given as goal
 
 abbrev pub invariant-loop-hired : goal.invariant-loop-hired
@@ -12,6 +13,7 @@ invariant-loop-hired g l = record {
   first : (view l.first).number ≡ 0;
   made : (view l.first).made ≡ (view l.initial.first).made;
   joined : (view l.first).joined ≡ (view l.initial.first).joined + vec_len l.doors;
+  others : TakesInOthers (view l.initial.first) (view l.first);
   total : vec_len l.doors + vec_len l.workers ≡ vec_len l.initial.workers;
   room : vec_len l.initial.workers ≤ vec_capacity l.doors;
   places : (i : ℕ) (d : _) → i < vec_len l.workers

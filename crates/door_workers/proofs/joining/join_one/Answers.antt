@@ -3,6 +3,7 @@ use Rattle.std.proofs.Common.{◌≡◌, Some, sym, ◌∙◌, subst}
 use Rattle.door_workers.specs.steps.Passing.{start_under}
 use Rattle.door_workers.specs.declared.ends.DoorEnd.{DoorEnd}
 use Rattle.door_workers.specs.steps.Serving.{IsServing}
+use Rattle.door_workers.proofs.Homes.{joins-others}
 use Rattle.door_workers.proofs.Joined.{joins-one}
 use Rattle.door_workers.proofs.joining.join_one.Goals as goal
 
@@ -27,3 +28,12 @@ returns-clause-one g c = λ given worked.
     })
     (subst (λ (e : DoorEnd). IsServing g.D.Door g.D.L.Link.told start a.max_read w.place (Some e) given w.door
     (w.gate.pass.seat.me.0) w.ends.items) same worked.serving)
+
+pub returns-clause-others : goal.returns-clause-others
+returns-clause-others g c = λ o given worked own others.
+    let a = c.args in
+    let w = a.hired.worker in
+    let e = c.join.ensures in
+    joins-others c.outs_are_left.ensures.grow (start_under a.lock.now) o (a.first.now.seat.me.0)
+    (w.gate.pass.seat.me.0) (c.join.new.pass.seat.me.0) worked.serving.working.owns e.first e.own e.heard.0 e.lanes own
+    others

@@ -8,11 +8,11 @@ use Rattle.door_workers.proofs.kept.CallingJobLocked.run.Goals as goal
 pub returns-clause-does : goal.returns-clause-does
 returns-clause-does g c =
     let job = c.args.self in
-    let e = c.act.ensures in
-    let left = c.act.new.self.past in (
-      subst (λ (p : Past). MachineActs p.start job.conn job.call job.bytes c.act.result p.history left.history)
+    let e = c.act-acted.ensures in
+    let left = c.act-acted.new.self.past in (
+      subst (λ (p : Past). MachineActs p.start job.conn job.call job.bytes c.act-acted.result p.history left.history)
           (ap (λ (m : Shown). m.past) c.deref_mut.ensures.value)
-          (acting-does c.deref_mut.result.now.past left job.conn job.call job.bytes c.act.result e.acts e.live e.calls
-          e.legal),
+          (acting-does c.deref_mut.result.now.past left job.conn job.call job.bytes c.act-acted.result e.acts e.live
+          e.calls e.legal),
       e.shaped,
     )
