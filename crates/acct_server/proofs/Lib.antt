@@ -16,3 +16,5 @@ pub mod Ends
 pub mod Leaving
 pub mod WriteFaults
 pub mod Draining
+pub mod Outs
+pub mod Besides

@@ -1,4 +1,5 @@
 pub mod Begun
+pub mod Beside
 pub mod Events
 pub mod Headline
 pub mod Headlines

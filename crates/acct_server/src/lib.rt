@@ -15,6 +15,11 @@
 //! transcript of the acts of what was read, with the replies of its calls in the one history; each link goes back to
 //! its door; and every end and status has its cause. The configuration of either is read by [`read_configuration`].
 //!
+//! Of [`serve_with_hooks`] the contract is `IsServeBeside`: all that `serve` promises
+//! ([`serving_with_hooks_serves`]), and beside it the program is run for the changes in the outbox: over the whole
+//! history the runs are in order for its changes, and those of which a run ended with 0 have gone, except the last one
+//! where it couldn't be taken out.
+//!
 //! Of [`run_hooks`] the contract is `RunsHooks`: the program is run for the changes in the outbox, in order, and those
 //! of which a run ended with 0 have gone, except the last one where it couldn't be taken out. Where neither the keeper
 //! nor a run failed, no change is left, or memory ran out ([`hooks_are_complete`]).
@@ -24,7 +29,7 @@
 //! ([`serving_is_complete`]).
 //!
 //! In rooms: `beginning` opens the store, `running` does what a line says, `out_lines` takes the answers as lines,
-//! `replays` is a whole replay, `serving` serves, `hooking` drains the outbox; `headline` and `laws` state what follows
+//! `replays` is a whole replay, `serving` serves, `hooking` drains the outbox, `beside` does both; `headline` and `laws` state what follows
 //! of these contracts.
 //!
 //! The way of a line: [`Event`] says what it asks for, the connection's stream which acts its bytes complete, the
@@ -32,6 +37,7 @@
 #![tactic(auto)]
 
 mod beginning;
+mod beside;
 mod events;
 mod headline;
 mod hooking;
@@ -48,6 +54,7 @@ pub use acct_keeper::{
     Failed, MemorySink, MemorySource, Sink, Source, SteadySink, SteadySource, WholeError,
     read_whole, write_all,
 };
+pub use beside::{ServedHooks, serve_with_hooks, serving_with_hooks_serves};
 pub use events::{Event, LineError};
 pub use headline::{replay_gives_headline, serve_gives_headline, serving_is_complete};
 pub use hooking::{hooks_are_complete, run_hooks};

@@ -42,8 +42,8 @@ fn status_of(outcome: DoorEnd) -> Status
     }
 }
 
-// No door was served.
-fn not_served<K: Drop>(alloc: Global, status: Status, keeper: K) -> Served<K>
+/// No door was served.
+pub(crate) fn not_served<K: Drop>(alloc: Global, status: Status, keeper: K) -> Served<K>
     ensures status { result.status ≡ status }
     ensures nothing { (result.history ≡ []) × (result.ends ≡ []) }
     ensures rows { (result.opening ≡ None) × (result.rows ≡ None) }
@@ -59,8 +59,8 @@ fn not_served<K: Drop>(alloc: Global, status: Status, keeper: K) -> Served<K>
     }
 }
 
-// What serving left, from its machine.
-fn left<K: Keeper + Drop>(served: DoorsServed<K>) -> Served<K>
+/// What serving left, from its machine.
+pub(crate) fn left<K: Keeper + Drop>(served: DoorsServed<K>) -> Served<K>
     ensures status { result.status ≡ served_status served.outcome }
     ensures opening { lists_in result.opening ≡ Some served.machine.past.start.rows }
     ensures history { result.history ≡ served.machine.past.history }
