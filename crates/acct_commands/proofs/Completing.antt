@@ -7,12 +7,15 @@ use Rattle.acct_config.specs.declared.config.Config.{Config}
 use Rattle.acct_keeper.specs.Faults.{Rose, NotRisen, KeepCause, most_bytes}
 use Rattle.acct_keeper.specs.declared.keeper.KeepError.{KeepError}
 use Rattle.acct_keeper.specs.declared.keeper.KeepError.TheVariants as keep
-use Rattle.acct_server.specs.Serving.{IsServingsEnd, ServingIsComplete, TellingDoors}
+use Rattle.acct_config.specs.declared.config.Hook.{Hook}
+use Rattle.acct_server.specs.Beside.{TellingBeside, ServingBesideIsComplete}
+use Rattle.acct_server.specs.Serving.{IsServingsEnd, ServesQuietly, ServingIsComplete}
 use Rattle.acct_server.specs.Leaves.{ConfigCause}
 use Rattle.acct_server.specs.declared.status.Status.{Status}
 use Rattle.acct_server.specs.declared.status.Status.TheVariants as status
-use Rattle.acct_commands.specs.Serving.{TellingServe, ServeParts, Round, Follow, AreRounds, AreQuiet, IsQuiet}
-use Rattle.acct_commands.specs.Serving.{LeavesParts, ending, entrance_status}
+use Rattle.acct_commands.specs.Serving.{TellingServe, ServeParts, Spawning, Round, Follow, AreRounds, RunsQuietly}
+use Rattle.acct_commands.specs.Serving.{AreQuiet, IsQuiet, LeavesParts, SpawnCause, ending, entrance_status}
+use Rattle.acct_commands.proofs.Periods.{PeriodBy}
 
 not-risen : (before now : ℕ) → NotRisen before now → Rose before now → ⊥
 not-risen before now still rose = omega (arith, still.0, still.1, rose)
@@ -63,50 +66,78 @@ kept-ends true s ends = ends
 kept-ends false s ends = tt
 
 -- each round comes to its end
-abbrev EachEnds : {D K : Type 0} → List (Round D K) → Type 0
+abbrev EachEnds : {D K P : Type 0} → List (Round D K P) → Type 0
 EachEnds [] = Unit {0}
 EachEnds (round ∷ rounds) = IsServingsEnd (ending round) × EachEnds rounds
 
-last-ends : {D K : Type 0} (earlier : List (Round D K)) (last : Round D K) → EachEnds (earlier ++ last ∷ [])
+last-ends : {D K P : Type 0} (earlier : List (Round D K P)) (last : Round D K P) → EachEnds (earlier ++ last ∷ [])
     → IsServingsEnd (ending last)
 last-ends [] last each = each.0
 last-ends (round ∷ earlier) last each = last-ends earlier last each.1
 
-module _ {D F K : Type 0} (telling : TellingDoors D F K) (config : Config) (complete : ServingIsComplete telling) where
-  follow-end : (more : ℕ) (last : Round D K) (rounds : List (Round D K)) → Follow telling config more last rounds
-      → AreQuiet telling last.doors last.left.keeper rounds → EachEnds rounds
+module _ {D F K P : Type 0} (telling : TellingBeside D F K P) (config : Config)
+    (complete : ServingIsComplete telling.serving) (beside : ServingBesideIsComplete telling) where
+  round-ends : (o : Option Hook) (doors : List D) (keeper : K) (spawner : Option P) (round : Round D K P)
+      → PeriodBy telling config o doors keeper spawner round
+      → ServesQuietly telling.serving doors round.doors keeper round.left
+      → RunsQuietly telling spawner round.spawner → IsServingsEnd round.left.status
+  round-ends None doors keeper spawner round alone still runs =
+      (complete config doors round.doors keeper round.left alone.serves still).ends
+  round-ends (Some hook) doors keeper spawner round by still runs =
+      let quiet : RunsQuietly telling (Some by.before) (Some by.after) =
+      subst (λ (s : Option P). RunsQuietly telling s (Some by.after)) by.was
+      (subst (λ (s : Option P). RunsQuietly telling spawner s) by.is runs) in
+      (beside config hook doors round.doors keeper by.before round.left by.after by.serves still quiet).ends
+
+  follow-end : (more : ℕ) (last : Round D K P) (rounds : List (Round D K P))
+      → Follow telling config more last rounds
+      → AreQuiet telling last.doors last.left.keeper last.spawner rounds → EachEnds rounds
   follow-end more last [] follow quiet = tt
-  follow-end more last (round ∷ rounds) (full, (few, (is, (goes, follow)))) (still, quiet) = (
+  follow-end more last (round ∷ rounds) (full, (few, (is, (goes, follow)))) (still, (runs, quiet)) = (
     kept-ends round.kept round.left.status
-        (complete config last.doors round.doors last.left.keeper round.left is.serves still).ends,
+        (round-ends config.hook last.doors last.left.keeper last.spawner round is.serves still runs),
     follow-end (more - 1) round rounds follow quiet,
   )
 
-  rounds-end : (doors : List D) (keeper : K) (rounds : List (Round D K))
-      → AreRounds telling config doors keeper rounds → AreQuiet telling doors keeper rounds → EachEnds rounds
-  rounds-end doors keeper [] are quiet = absurd are
-  rounds-end doors keeper (first ∷ rounds) (is, follow) (still, quiet) = (
+  rounds-end : (doors : List D) (keeper : K) (spawner : Option P) (rounds : List (Round D K P))
+      → AreRounds telling config doors keeper spawner rounds → AreQuiet telling doors keeper spawner rounds
+      → EachEnds rounds
+  rounds-end doors keeper spawner [] are quiet = absurd are
+  rounds-end doors keeper spawner (first ∷ rounds) (is, follow) (still, (runs, quiet)) = (
     kept-ends first.kept first.left.status
-        (complete config doors first.doors keeper first.left is.serves still).ends,
+        (round-ends config.hook doors keeper spawner first is.serves still runs),
     follow-end (config.limits.max_periods - 1) first rounds follow quiet,
   )
 
+-- what runs programs was refused
+spawner-ends : {P : Type 0} (spawning : Spawning P) (s : Status)
+    → NotRisen spawning.faults_before spawning.faults_after → SpawnCause spawning s → IsServingsEnd s
+spawner-ends spawning status.NoMemory still cause = tt
+spawner-ends spawning status.SpawnFault still cause =
+    absurd (not-risen spawning.faults_before spawning.faults_after still cause.0)
+spawner-ends spawning _ still cause = absurd cause
+
 -- ---- all
 
-pub serving-completes : {S K E D F : Type 0} (told : TellingServe S K E D F) (before after : ServeParts S K E D)
-    (rounds : List (Round D K)) (s : Status) → ServingIsComplete told.served
-    → LeavesParts told before after rounds s → IsQuiet told before after rounds s → IsServingsEnd s
-serving-completes {S} {K} {E} {D} {F} told before after rounds s complete leaves quiet = elim leaves [
-  | inl stops ↦ config-ends (told.left before.config) quiet.document (told.read_faults before.config)
-      (told.read_faults after.config) s (quiet.tells, quiet.short, quiet.unbroken) quiet.source stops.cause
-  | inr opened ↦ elim opened [
-    | inl stops ↦ subst (λ (x : Status). IsServingsEnd x) (sym stops.is)
-        (entrance-ends (told.entrance_faults before.entrance) (told.entrance_faults after.entrance) stops.error
-        quiet.entrance stops.stops.cause)
-    | inr serves ↦ subst (λ (x : Status). IsServingsEnd x) (sym serves.is)
-        (last-ends serves.earlier serves.last
-        (subst (λ (rs : List (Round D K)). EachEnds rs) serves.splits
-        (rounds-end told.served serves.config complete serves.doors before.keeper rounds serves.are
-        (quiet.each serves))))
-  ]
-]
+pub serving-completes : {S K E D F P : Type 0} (told : TellingServe S K E D F P) (before after : ServeParts S K E D)
+    (spawning : Spawning P) (rounds : List (Round D K P)) (s : Status) → ServingIsComplete told.served.serving
+    → ServingBesideIsComplete told.served → LeavesParts told before after spawning rounds s
+    → IsQuiet told before after spawning rounds s → IsServingsEnd s
+serving-completes {S} {K} {E} {D} {F} {P} told before after spawning rounds s complete beside leaves quiet =
+    elim leaves [
+      | inl stops ↦ config-ends (told.left before.config) quiet.document (told.read_faults before.config)
+          (told.read_faults after.config) s (quiet.tells, quiet.short, quiet.unbroken) quiet.source stops.cause
+      | inr taken ↦ elim taken [
+        | inl refused ↦ spawner-ends spawning s quiet.spawner refused.cause
+        | inr opened ↦ elim opened [
+          | inl stops ↦ subst (λ (x : Status). IsServingsEnd x) (sym stops.is)
+              (entrance-ends (told.entrance_faults before.entrance) (told.entrance_faults after.entrance) stops.error
+              quiet.entrance stops.stops.cause)
+          | inr serves ↦ subst (λ (x : Status). IsServingsEnd x) (sym serves.is)
+              (last-ends serves.earlier serves.last
+              (subst (λ (rs : List (Round D K P)). EachEnds rs) serves.splits
+              (rounds-end told.served serves.config complete beside serves.doors before.keeper spawning.handed rounds
+              serves.are (quiet.each serves))))
+        ]
+      ]
+    ]

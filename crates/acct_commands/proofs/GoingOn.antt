@@ -17,11 +17,13 @@ use Rattle.acct_rows.specs.Rows.{Lists, Shown}
 use Rattle.acct_rows.specs.Sound.{IsSoundRows}
 use Rattle.acct_server.specs.Leaves.{StoreCause}
 use Rattle.acct_server.specs.Replaying.{lists_in}
-use Rattle.acct_server.specs.Serving.{TellingDoors, HasServedDoors}
+use Rattle.acct_server.specs.Beside.{TellingBeside, ServesAsWell}
+use Rattle.acct_server.specs.Serving.{HasServedDoors}
 use Rattle.acct_server.specs.declared.serving.Served.{Served}
 use Rattle.acct_server.specs.declared.status.Status.{Status}
 use Rattle.acct_server.specs.declared.status.Status.TheVariants as status
 use Rattle.acct_commands.specs.Serving.{Round, IsRound, GoesOn, ending, is_full}
+use Rattle.acct_commands.proofs.Periods.{served-as}
 
 -- rows of which a keeper holds the pairs have a pair
 some-pair : (rows : Lists) → ArePairsOf rows [] → ⊥
@@ -93,31 +95,41 @@ as-it-ended : (kept : Bool) (s : Status) → is_full (if kept then s else status
 as-it-ended true s full = full
 as-it-ended false s full = absurd cc
 
-module _ {D F K : Type 0} (telling : TellingDoors D F K) (config : Config) where
-  both-served : (doors now later : List D) (keeper : K) (left next : Served K) → IsRightConfig config → PairsAreOfOne
-      → KeepsSound
-      → HasServedDoors telling config doors now keeper left → HasServedDoors telling config now later left.keeper next
-      → IfSome (telling.pairs left.keeper) (λ pairs. lists_in next.opening ≡ lists_in left.rows)
-  both-served doors now later keeper left next right one keeps has has_next =
-      with-fact (telling.pairs left.keeper) _ _
-      (told-again config (state_at has.start left.history).rows has_next.start.rows (telling.pairs left.keeper) one
+module _ {D F K P : Type 0} (telling : TellingBeside D F K P) (config : Config) where
+  both-served : (doors now later : List D) (keeper : K) (left next : Served K) (s t : Status) → IsRightConfig config
+      → PairsAreOfOne → KeepsSound
+      → HasServedDoors telling.serving config doors now keeper (record left { status = s })
+      → HasServedDoors telling.serving config now later left.keeper (record next { status = t })
+      → IfSome (telling.serving.pairs left.keeper) (λ pairs. lists_in next.opening ≡ lists_in left.rows)
+  both-served doors now later keeper left next s t right one keeps has has_next =
+      with-fact (telling.serving.pairs left.keeper) _ _
+      (told-again config (state_at has.start left.history).rows has_next.start.rows
+      (telling.serving.pairs left.keeper) one
       (keeps has.start left.history (subst (λ (c : Config). IsRightConfig c) (sym has.begun.under) right)
       has.begun.sound
       has.served.links.legal).rows has_next.begun.sound has.stored has_next.begun.rows)
       (λ same. has_next.opening ∙ ap (λ (rows : Lists). Some rows) same ∙ sym has.rows)
 
-  pub goes-on : (doors : List D) (keeper : K) (last next : Round D K) → IsRightConfig config → PairsAreOfOne
-      → KeepsSound
-      → IsRound telling config doors keeper last → IsRound telling config last.doors last.left.keeper next
-      → is_full (ending last) ≡ true → GoesOn telling config last next
-  goes-on doors keeper last next right one keeps is is_next full = elim is.serves.leaves [
-    | inl none ↦ absurd (not-full (telling.pairs keeper) (telling.faults keeper) (telling.faults last.left.keeper)
-        last.left.status none.cause (as-it-ended last.kept last.left.status full))
-    | inr has ↦ elim is_next.serves.leaves [
-      | inl none ↦ with-none (telling.pairs last.left.keeper) _
-          (none-opened next.left.opening last.left.rows none.opening)
-      | inr has_next ↦ with-fact (telling.pairs last.left.keeper) _ _
-          (both-served doors last.doors next.doors keeper last.left next.left right one keeps has has_next)
-          (λ same some. same)
-    ]
-  ]
+  pub goes-on : ServesAsWell telling → (doors : List D) (keeper : K) (spawner : Option P) (last next : Round D K P)
+      → IsRightConfig config → PairsAreOfOne → KeepsSound → IsRound telling config doors keeper spawner last
+      → IsRound telling config last.doors last.left.keeper last.spawner next → is_full (ending last) ≡ true
+      → GoesOn telling config last next
+  goes-on law doors keeper spawner last next right one keeps is is_next full =
+      let serves = served-as telling config law config.hook doors keeper spawner last is.serves in
+      let again = served-as telling config law config.hook last.doors last.left.keeper last.spawner next
+      is_next.serves in
+      elim serves.serves.leaves [
+        | inl none ↦ absurd (not-full (telling.serving.pairs keeper) (telling.serving.faults keeper)
+            (telling.serving.faults last.left.keeper) last.left.status
+            (subst (λ (s : Status). StoreCause (telling.serving.pairs keeper) (telling.serving.faults keeper)
+            (telling.serving.faults last.left.keeper) s) (serves.unserved none.opening) none.cause)
+            (as-it-ended last.kept last.left.status full))
+        | inr has ↦ elim again.serves.leaves [
+          | inl none ↦ with-none (telling.serving.pairs last.left.keeper) _
+              (none-opened next.left.opening last.left.rows none.opening)
+          | inr has_next ↦ with-fact (telling.serving.pairs last.left.keeper) _ _
+              (both-served doors last.doors next.doors keeper last.left next.left serves.status again.status right one
+              keeps has has_next)
+              (λ same some. same)
+        ]
+      ]

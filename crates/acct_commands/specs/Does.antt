@@ -14,7 +14,7 @@ use Rattle.acct_commands.specs.Hooking.{TellingOutbox, Hooks as RunsOutbox}
 -- what the parts of each command tell
 pub record TellingAll (S T K E D F C L P : Type 0) : Type 1 where
   pub replay : TellingReplay S T K
-  pub serve : TellingServe S K E D F
+  pub serve : TellingServe S K E D F P
   pub call : TellingCall T C L
   pub hooks : TellingOutbox S K P
 

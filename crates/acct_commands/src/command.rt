@@ -297,7 +297,10 @@ where
             read_faults = W.S.faults;
             asked = W.E.asked;
             entrance_faults = W.E.faults;
-            served = record { door = W.E.D.Door; told = W.E.D.L.told; pairs = W.K.held; faults = W.K.faults };
+            served = record {
+              serving = record { door = W.E.D.Door; told = W.E.D.L.told; pairs = W.K.held; faults = W.K.faults };
+              spawner = W.P.Spawner;
+            };
           };
           call = record {
             sunk = λ out. record { held = W.T.held out; faults = W.T.faults out };

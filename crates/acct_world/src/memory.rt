@@ -271,7 +271,7 @@ impl<
     K: Keeper + Drop + Send,
     E: Entrance + Drop,
     C: Caller + Drop,
-    P: Spawner + Drop,
+    P: Spawner + Drop + Send,
 > World for MemoryWorld<S, T, K, E, C, P>
 where
     E::D: Drop,

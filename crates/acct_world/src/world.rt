@@ -24,7 +24,7 @@ pub trait World {
 
     type C: Caller;
 
-    type P: Spawner;
+    type P: Spawner + Drop + Send;
 
     /// What it shows.
     ghost seen: { Self → Seen Self.S Self.T Self.K Self.E Self.E.D Self.C Self.C.L Self.P };

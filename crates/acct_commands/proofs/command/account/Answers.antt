@@ -32,7 +32,10 @@ returns-then-is_call_form-clause-commanded g c =
         read_faults = s.faults;
         asked = e.asked;
         entrance_faults = e.faults;
-        served = record { door = g.W.E.D.Door; told = g.W.E.D.L.Link.told; pairs = k.held; faults = k.faults };
+        served = record {
+          serving = record { door = g.W.E.D.Door; told = g.W.E.D.L.Link.told; pairs = k.held; faults = k.faults };
+          spawner = g.W.P.Spawner;
+        };
       };
       call = record {
         sunk = λ out. record { held = t.held out; faults = t.faults out };

@@ -53,10 +53,14 @@ returns g c =
       read_faults = s.faults;
       asked = e.asked;
       entrance_faults = e.faults;
-      served = record { door = g.W.E.D.Door; told = g.W.E.D.L.Link.told; pairs = k.held; faults = k.faults };
+      served = record {
+        serving = record { door = g.W.E.D.Door; told = g.W.E.D.L.Link.told; pairs = k.held; faults = k.faults };
+        spawner = g.W.P.Spawner;
+      };
     }) (record { config = c.args.config.now; store = c.args.store.now })
     (w.seen c.args.world.now) (w.seen c.take_source.new.self) (w.seen c.take_keeper.new.self)
     (w.seen c.take_entrance.new.self) (w.seen c.serve_parts.new.world) c.in-Ok.source c.in-Ok-take_keeper.keeper
     c.in-Ok-take_entrance.entrance c.serve_parts.result c.in-Ok.ensures.takes c.in-Ok-take_keeper.ensures.takes
-    c.in-Ok-take_entrance.ensures.takes c.serving_is_complete.ensures c.serve_parts.ensures.returns in
+    c.in-Ok-take_entrance.ensures.takes c.serving_is_complete.ensures c.serving_with_hooks_serves.ensures.complete
+    c.serve_parts.ensures.returns in
     record { serves = inr serves; not_usage = c.serve_parts.ensures.not_usage }

@@ -1,43 +1,55 @@
--- With open doors the rounds are those that were served; where opening them fails, no round is and no period is kept.
-use Rattle.std.proofs.Common.{[], ◌∷◌, ◌++◌, inl, inr, refl, sym}
+-- The configuration that was read is the one that its source spells.
+use Rattle.std.proofs.Common.{[], inl, refl, sym, ap, subst}
 use Rattle.std.proofs.lemmas.List.{append-nil}
+use Rattle.acct_commands.specs.steps.Rounds.{RunsParts}
+use Rattle.acct_commands.proofs.Servings.{not-configured}
 use Rattle.acct_commands.proofs.serving.serve_configured.Goals as goal
 
-pub returns-in-Ok-open_doors-clause-runs : goal.returns-in-Ok-open_doors-clause-runs
-returns-in-Ok-open_doors-clause-runs g c =
-    let runs = c.serve_rounds-served.ensures.runs in
-    record {
-      rounds = runs.earlier ++ runs.last ∷ [];
-      leaves = inr (inr (record {
-        config = c.in-Ok.config;
-        spelled = record { configured = c.in-Ok.ensures.configured; short = c.in-Ok.ensures.short };
-        doors = c.open_doors.new.doors.items;
-        opens = c.in-Ok-open_doors.ensures.ok;
-        are = runs.are;
-        earlier = runs.earlier;
-        last = runs.last;
-        splits = refl;
-        is = runs.ends;
-        left_doors = runs.left_doors;
-        left_keeper = runs.left_keeper;
-      }));
-      keeps = runs.keeps;
-    }
+pub returns-clause-runs : goal.returns-clause-runs
+returns-clause-runs g c =
+    let a = c.args in
+    let served = c.serve_under-served in
+    subst (λ ds. RunsParts (record {
+      left = g.W.S.Source.left;
+      read_faults = g.W.S.Source.faults;
+      asked = g.W.E.Entrance.asked;
+      entrance_faults = g.W.E.Entrance.faults;
+      served = record {
+        serving = record {
+          door = g.W.E.D.Door;
+          told = g.W.E.D.L.Link.told;
+          pairs = g.W.K.Keeper.held;
+          faults = g.W.K.Keeper.faults;
+        };
+        spawner = g.W.P.Spawner;
+      };
+    })
+    (record { config = a.source.now; keeper = a.keeper; entrance = a.entrance.now; doors = ds })
+    (record {
+      config = c.read_configuration.new.source;
+      keeper = served.result.1;
+      entrance = served.new.entrance;
+      doors = served.new.doors.items;
+    }) (g.W.World.seen a.world.now) (g.W.World.seen served.new.world) served.result.0) (sym c.requires.none)
+    (served.ensures.runs a.source.now c.read_configuration.new.source
+    (record { configured = c.in-Ok.ensures.configured; short = c.in-Ok.ensures.short }))
 
-pub returns-in-Err-open_doors-clause-runs : goal.returns-in-Err-open_doors-clause-runs
-returns-in-Err-open_doors-clause-runs g c = record {
-  rounds = [];
-  leaves = inr (inl (record {
-    config = c.in-Ok.config;
-    spelled = record { configured = c.in-Ok.ensures.configured; short = c.in-Ok.ensures.short };
-    error = c.in-Err-open_doors.e;
-    stops = c.in-Err-open_doors.ensures.err;
-    is = c.entrance_status.ensures;
-    keeper = refl;
-    none = refl;
-  }));
-  keeps = record {
-    periods = λ tells. sym (append-nil (g.W.World.seen c.args.world.now).periods);
-    others = refl;
-  };
-}
+pub returns-in-Err-clause-runs : goal.returns-in-Err-clause-runs
+returns-in-Err-clause-runs g c =
+    let a = c.args in
+    not-configured (record {
+      left = g.W.S.Source.left;
+      read_faults = g.W.S.Source.faults;
+      asked = g.W.E.Entrance.asked;
+      entrance_faults = g.W.E.Entrance.faults;
+      served = record {
+        serving = record {
+          door = g.W.E.D.Door;
+          told = g.W.E.D.L.Link.told;
+          pairs = g.W.K.Keeper.held;
+          faults = g.W.K.Keeper.faults;
+        };
+        spawner = g.W.P.Spawner;
+      };
+    }) a.source.now c.read_configuration.new.source a.keeper a.entrance.now a.doors.now.items
+    (g.W.World.seen a.world.now) c.in-Err.status c.requires.none c.in-Err.ensures.cause

@@ -17,7 +17,10 @@ returns g c =
         read_faults = s.faults;
         asked = e.asked;
         entrance_faults = e.faults;
-        served = record { door = g.W.E.D.Door; told = g.W.E.D.L.Link.told; pairs = k.held; faults = k.faults };
+        served = record {
+          serving = record { door = g.W.E.D.Door; told = g.W.E.D.L.Link.told; pairs = k.held; faults = k.faults };
+          spawner = g.W.P.Spawner;
+        };
       }) (record { config = c.args.config.now; store = c.args.store.now })
           (record { config = c.args.source; keeper = c.args.keeper; entrance = c.args.entrance; doors = [] })
           (record {
@@ -32,7 +35,10 @@ returns g c =
             read_faults = s.faults;
             asked = e.asked;
             entrance_faults = e.faults;
-            served = record { door = g.W.E.D.Door; told = g.W.E.D.L.Link.told; pairs = k.held; faults = k.faults };
+            served = record {
+              serving = record { door = g.W.E.D.Door; told = g.W.E.D.L.Link.told; pairs = k.held; faults = k.faults };
+              spawner = g.W.P.Spawner;
+            };
           }) (record { config = c.args.source; keeper = c.args.keeper; entrance = c.args.entrance; doors = ds })
           (record {
             config = r.new.source;
