@@ -1,5 +1,7 @@
-// Programs that are run for account changes: drains over a gate and a spawner in memory, the command `hooks` over worlds
-// in memory, and programs of the system.
+// Programs that are run for account changes: drains over a gate and a spawner in memory, the commands `hooks` and `serve`
+// over worlds in memory, a link that waits for a run, and programs of the system.
 mod drains;
+mod meeting;
 mod outboxes;
 mod programs;
+mod serving;

@@ -227,6 +227,19 @@ pub fn world_of_entrance(
     Ok(world_over(alloc, frame, stored, entrance, nobody(alloc), idle(alloc)))
 }
 
+/// A world with an entrance, a spawner and this configuration, over what a keeper holds, whose events are none.
+pub fn world_of_server(
+    alloc: Global,
+    stored: SteadyKeeper,
+    entrance: MemoryEntrance<MemoryLink>,
+    spawner: MemorySpawner,
+    config: String,
+    making: Making,
+) -> Result<Told, Fail> {
+    let frame = frame_of(alloc, (config, String::new(alloc)), making)?;
+    Ok(world_over(alloc, frame, stored, entrance, nobody(alloc), spawner))
+}
+
 /// A world with a spawner and this configuration, over what a keeper holds, whose events are none.
 pub fn world_of_spawner(
     alloc: Global,
