@@ -143,7 +143,8 @@ module _ {L : Type 0} (told : L → Told) (start : Start) (most : ℕ) where
       apart its.0 mine.1 its.1 (subst (λ n. In v.own n mine.1) same mine.2) its.2
 
   -- a link of one pass, where another pass was taken in that owns nothing of its connection
-  pub was-on : (v u : View Begun Entry) (s : Service L) → ((k : ℕ) → IsMine v k → IsMine u k) → IsFrontOf v.known u.known
+  pub was-on : (v u : View Begun Entry) (s : Service L) → ((k : ℕ) → IsMine v k → IsMine u k)
+      → IsFrontOf v.known u.known
       → ((p : ℕ) (e : Entry) → In u.own p e → In v.own p e ⊎ ((k : ℕ) → conn_of e ≡ Some k → IsMine v k → ⊥))
       → WasService told start most v s → WasService told start most u s
   was-on v u (Serves s) mine grows either (m, (front, none, is)) = (

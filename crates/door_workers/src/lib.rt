@@ -21,9 +21,9 @@
 //! door, in order: each served a connection, which was opened at the door's listener and is gone, or was given back
 //! unread since the history was full (`IsServing`).
 //!
-//! A lock and its first pass are a gate to the outbox ([`HookLockGate`]): each look and each taking out is a turn, so no
-//! program runs while the lock is held. Entries of changes that were taken out are of the home lane, and so each is the
-//! first pass's own: no other pass took one out.
+//! A lock and its first pass are a gate to the outbox ([`HookLockGate`]): each look and each taking out is a turn, so
+//! no program runs while the lock is held. Entries of changes that were taken out are of the home lane, and so each is
+//! the first pass's own: no other pass took one out.
 //!
 //! In rooms: `opening` asks for the doors; `kept` has what lies under the lock and the jobs of a turn, `lock_gate` the
 //! gate; `workers` has the worker, `ends` why it takes no further link, `laws` what the count of a full history says

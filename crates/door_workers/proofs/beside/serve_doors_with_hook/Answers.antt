@@ -1,5 +1,5 @@
--- Where no box or no lock is made no door is served and nothing is run; else what the workers left is what stands once the lock
--- is closed, whose history is what the first pass knows.
+-- Where no box or no lock is made no door is served and nothing is run; else what the workers left is what stands once
+-- the lock is closed, whose history is what the first pass knows.
 use Rattle.std.proofs.Common.{◌≡◌, Some, List, true, sym, ap, ◌∙◌, subst}
 use Rattle.acct_machine.specs.Outbox.{has_hook}
 use Rattle.acct_machine.specs.declared.entry.Entry.{Entry}
@@ -88,7 +88,8 @@ returns-clause-drains g c =
     let closes = c.close.ensures.closes in
     let same : start_under lock ≡ a.machine.past.start =
     ap (λ s. s.machine.value.past.start) c.in-Ok-new.ensures.value ∙ ap (λ m. m.past.start) c.in-Ok.ensures.ok in
-    let whole : past.history ≡ v.known = known-whole v past.history closes.known closes.own done.ensures.ready.knows.own in
+    let whole : past.history ≡ v.known =
+    known-whole v past.history closes.known closes.own done.ensures.ready.knows.own in
     drained-as g.P.Spawner a.hook.now (start_under lock) a.machine.past.start same a.spawner done.result.1.spawner
     past.history (Some done.result.1.answer)
     (subst (λ (h : List Entry). HasDrained g.P.Spawner a.hook.now (start_under lock) a.spawner done.result.1.spawner h

@@ -35,8 +35,8 @@ returns-clause-serves g c =
     let moves = moves-on c.others_change_nothing.ensures start v w a.conn t app c.requires.serves.1 in (
       c.turn-acted.ensures.pass,
       owns-on v w a.conn t app c.requires.serves.2.mine c.requires.serves.1,
-      still-serves c.others_change_nothing.ensures start v w a.conn a.call a.bytes c.turn-acted.result.acted t c.requires.serves.1
-          c.requires.serves.2 t.related.0 moves,
+      still-serves c.others_change_nothing.ensures start v w a.conn a.call a.bytes c.turn-acted.result.acted t
+          c.requires.serves.1 c.requires.serves.2 t.related.0 moves,
     )
 
 pub returns-clause-moves : goal.returns-clause-moves
