@@ -48,7 +48,7 @@ returns-in-Err-new-clause-drains g c =
     (ap (λ m. m.past.history) same ∙ c.requires.new)
 
 pub work_with_hook-sum-requires-clause-ready : goal.work_with_hook-sum-requires-clause-ready
-work_with_hook-sum-requires-clause-ready g c =
+work_with_hook-sum-requires-clause-ready g c = λ lives outlive.
     let e = c.in-Ok-new.ensures in
     let lock = c.in-Ok-new.made.0 in
     let ready : IsAtOutbox lock c.in-Ok-new.made.1 = record {

@@ -37,7 +37,7 @@ hire_all-requires-clause-first g c =
     )
 
 pub work_beside-drainer-requires-clause-ready : goal.work_beside-drainer-requires-clause-ready
-work_beside-drainer-requires-clause-ready g c =
+work_beside-drainer-requires-clause-ready g c = λ lives outlive.
     let a = c.args in
     let idle = c.hire_all.ensures.first.0 in
     let ready : IsAtOutbox a.lock.now c.hire_all.new.first = record {
