@@ -92,7 +92,7 @@ least-of r (o ∷ os) job rest number is same =
     ap (λ (n : ℕ). Some n) (ap (λ (j : Job). j.number) first ∙ same)
 
 some-is : {A : Type 0} (o : Option A) (a : A) → o ≡ Some a → IsSome o
-some-is o a is = subst (λ x. IsSome x) (sym is) tt
+some-is o a is = subst (λ x. IsSome x) (sym is) refl
 
 pub leaves-outs : JobsAreLeft → (start : Start) (history : List Entry) → IsGood (shown start history)
     → (program : List ℕ) (tries : ℕ) (runs : List Run) (answer : Drained)

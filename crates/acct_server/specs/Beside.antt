@@ -18,7 +18,8 @@ use Rattle.acct_server.specs.Serving.{served_status}
 use Rattle.acct_server.specs.Headlines.{ServeComesTo}
 use Rattle.acct_server.specs.declared.serving.Served.{Served}
 use Rattle.acct_server.specs.declared.status.Status.{Status}
-use Rattle.acct_server.specs.declared.status.Status.TheVariants.{Done, NoMemory, DoorFault, HistoryFull, HookHeld, HookStore}
+use Rattle.acct_server.specs.declared.status.Status.TheVariants.{Done, NoMemory, DoorFault, HistoryFull, HookHeld}
+use Rattle.acct_server.specs.declared.status.Status.TheVariants.{HookStore}
 
 -- ---- statuses
 

@@ -29,8 +29,8 @@
 //! ([`serving_is_complete`]).
 //!
 //! In rooms: `beginning` opens the store, `running` does what a line says, `out_lines` takes the answers as lines,
-//! `replays` is a whole replay, `serving` serves, `hooking` drains the outbox, `beside` does both; `headline` and `laws` state what follows
-//! of these contracts.
+//! `replays` is a whole replay, `serving` serves, `hooking` drains the outbox, `beside` does both; `headline` and `laws`
+//! state what follows of these contracts.
 //!
 //! The way of a line: [`Event`] says what it asks for, the connection's stream which acts its bytes complete, the
 //! stubs which call a request is, the machine enters it and replies, the replies are cut into responses and printed.

@@ -16,12 +16,12 @@ use Rattle.acct_server.proofs.Outs.{hook-tried, hook-there, settled-drained, set
 use Rattle.acct_server.proofs.beside.serve_with_hooks.Goals as goal
 
 pub serve_doors_with_hook-requires-clause-hook : goal.serve_doors_with_hook-requires-clause-hook
-serve_doors_with_hook-requires-clause-hook g c =
+serve_doors_with_hook-requires-clause-hook g c = λ lives outlive.
     hook-there c.args.config.now c.in-Ok.machine.past.start.config c.args.hook.now c.in-Ok.ensures.begun.under
     c.requires.hook
 
 pub serve_doors_with_hook-requires-clause-tries : goal.serve_doors_with_hook-requires-clause-tries
-serve_doors_with_hook-requires-clause-tries g c =
+serve_doors_with_hook-requires-clause-tries g c = λ lives outlive.
     hook-tried c.args.config.now c.args.hook.now c.requires.right c.requires.hook
 
 pub returns-in-Ok : goal.returns-in-Ok
