@@ -5,6 +5,8 @@ use Rattle.acct_server.proofs.beside.left_beside.Goals as goal
 
 pub returns-clause-status : goal.returns-clause-status
 returns-clause-status g c =
-    let told = c.settled-answer in
-    (told.result, subst (λ (n : ℕ). Settles n c.args.hooked.answer told.result) c.faults.ensures told.ensures,
-    c.status_of.ensures)
+    let told = c.settled-answer in (
+      told.result,
+      subst (λ (n : ℕ). Settles n c.args.hooked.answer told.result) c.faults.ensures told.ensures,
+      c.status_of.ensures,
+    )
