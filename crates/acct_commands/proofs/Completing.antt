@@ -1,8 +1,9 @@
 -- Where nothing failed outside, serving comes to its end, round after round.
 use Rattle.std.proofs.Common.{◌≡◌, ℕ, ◌-◌, ◌<◌, ◌≤◌, inl, inr, Bool, true, false, List, ◌∷◌, [], ◌++◌, length}
 use Rattle.std.proofs.Common.{Option, Some, None, sym, ◌∙◌, subst, arith}
-use Rattle.std.specs.Prelude.{IfSome, if◌then◌else◌}
+use Rattle.std.specs.Prelude.{IfSome, IsSome, if◌then◌else◌}
 use Rattle.acct_config.specs.Rules.{first_broken}
+use Rattle.acct_config.specs.Spelled.{IsSpelledBy}
 use Rattle.acct_config.specs.declared.config.Config.{Config}
 use Rattle.acct_keeper.specs.Faults.{Rose, NotRisen, KeepCause, most_bytes}
 use Rattle.acct_keeper.specs.declared.keeper.KeepError.{KeepError}
@@ -10,7 +11,7 @@ use Rattle.acct_keeper.specs.declared.keeper.KeepError.TheVariants as keep
 use Rattle.acct_config.specs.declared.config.Hook.{Hook}
 use Rattle.acct_server.specs.Beside.{TellingBeside, ServingBesideIsComplete}
 use Rattle.acct_server.specs.Serving.{IsServingsEnd, ServesQuietly, ServingIsComplete}
-use Rattle.acct_server.specs.Leaves.{ConfigCause}
+use Rattle.acct_server.specs.Leaves.{ConfigCause, spelled}
 use Rattle.acct_server.specs.declared.status.Status.{Status}
 use Rattle.acct_server.specs.declared.status.Status.TheVariants as status
 use Rattle.acct_commands.specs.Serving.{TellingServe, ServeParts, Spawning, Round, Follow, AreRounds, RunsQuietly}
@@ -109,6 +110,14 @@ module _ {D F K P : Type 0} (telling : TellingBeside D F K P) (config : Config)
     follow-end (config.limits.max_periods - 1) first rounds follow quiet,
   )
 
+-- a document without a hook spells no configuration with one
+has-hook : (left : Option (List ℕ)) (document : List ℕ) (config : Config) → left ≡ Some document
+    → IfSome left (λ bytes. IsSpelledBy bytes config) → IsSome config.hook → IsSome (spelled document).hook
+has-hook left document config told by some =
+    let is : IsSpelledBy document config =
+    subst (λ (o : Option (List ℕ)). IfSome o (λ bytes. IsSpelledBy bytes config)) told by in
+    subst (λ (c : Config). IsSome c.hook) is.value some
+
 -- what runs programs was refused
 spawner-ends : {P : Type 0} (spawning : Spawning P) (s : Status)
     → NotRisen spawning.faults_before spawning.faults_after → SpawnCause spawning s → IsServingsEnd s
@@ -128,7 +137,9 @@ serving-completes {S} {K} {E} {D} {F} {P} told before after spawning rounds s co
       | inl stops ↦ config-ends (told.left before.config) quiet.document (told.read_faults before.config)
           (told.read_faults after.config) s (quiet.tells, quiet.short, quiet.unbroken) quiet.source stops.cause
       | inr taken ↦ elim taken [
-        | inl refused ↦ spawner-ends spawning s quiet.spawner refused.cause
+        | inl refused ↦ spawner-ends spawning s
+            (quiet.spawner (has-hook (told.left before.config) quiet.document refused.config quiet.tells
+            refused.spelled.configured.told refused.hook)) refused.cause
         | inr opened ↦ elim opened [
           | inl stops ↦ subst (λ (x : Status). IsServingsEnd x) (sym stops.is)
               (entrance-ends (told.entrance_faults before.entrance) (told.entrance_faults after.entrance) stops.error

@@ -44,9 +44,9 @@ module _ {S T K E D C L P : Type 0} where
       → w2.spawner ≡ w1.spawner → w2.spawner_faults ≡ w1.spawner_faults → HandsSpawner w0 w2 spawning
   spawner-later w0 w1 w2 spawning hands same count = record {
     took = hands.took;
-    gave = λ tells. subst
-        (λ (s : Option P). MatchOption spawning.back (s ≡ w0.spawner) (λ p. s ≡ Some p)) (sym same)
-        (hands.gave tells);
+    gave = subst
+        (λ (s : Option P). MatchOption spawning.back (s ≡ w0.spawner) (λ p. w0.tells ≡ true → s ≡ Some p)) (sym same)
+        hands.gave;
     faults_before = hands.faults_before;
     faults_after = hands.faults_after ∙ sym count;
   }
@@ -57,9 +57,10 @@ module _ {S T K E D C L P : Type 0} where
   spawner-before w0 w1 w2 spawning hands same count told = record {
     took = λ tells. subst (λ (s : Option P). IfSome spawning.handed (λ p. s ≡ Some p)) same
         (hands.took (told ∙ tells));
-    gave = λ tells. subst
-        (λ (s : Option P). MatchOption spawning.back (w2.spawner ≡ s) (λ p. w2.spawner ≡ Some p)) same
-        (hands.gave (told ∙ tells));
+    gave = subst
+        (λ (b : Bool). MatchOption spawning.back (w2.spawner ≡ w0.spawner) (λ p. b ≡ true → w2.spawner ≡ Some p)) told
+        (subst (λ (s : Option P). MatchOption spawning.back (w2.spawner ≡ s) (λ p. w1.tells ≡ true
+        → w2.spawner ≡ Some p)) same hands.gave);
     faults_before = hands.faults_before ∙ count;
     faults_after = hands.faults_after;
   }
@@ -95,7 +96,7 @@ module _ {S T K E D C L P : Type 0} where
             }) spelled;
         spawner = record {
           took = λ tells. tt;
-          gave = λ tells. ap (λ (s : Seen _ _ _ _ _ _ _ _). s.spawner) others;
+          gave = ap (λ (s : Seen _ _ _ _ _ _ _ _). s.spawner) others;
           faults_before = refl;
           faults_after = refl;
         };
@@ -215,7 +216,7 @@ module _ {S T K E D C L P : Type 0} where
         }));
         spawner = record {
           took = λ tells. tt;
-          gave = λ tells. takes.kept;
+          gave = takes.kept;
           faults_before = refl;
           faults_after = refl;
         };
@@ -257,7 +258,7 @@ not-configured told first now keeper entrance doors w status none cause = record
     };
     unasked = refl;
   });
-  spawner = record { took = λ tells. tt; gave = λ tells. refl; faults_before = refl; faults_after = refl };
+  spawner = record { took = λ tells. tt; gave = refl; faults_before = refl; faults_after = refl };
   asked = λ tells. sym (append-nil w.asked);
   periods = λ tells. sym (append-nil w.periods);
   others = refl;

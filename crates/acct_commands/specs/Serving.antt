@@ -13,7 +13,7 @@ use Rattle.acct_keeper.specs.Faults.{Rose, NotRisen, most_bytes}
 use Rattle.door_workers.specs.Doors.{OpensDoors, StopsAsking}
 use Rattle.acct_server.specs.Beside.{TellingBeside, IsServeBeside}
 use Rattle.acct_server.specs.Serving.{ServesQuietly, IsServingsEnd, IsServe}
-use Rattle.acct_server.specs.Leaves.{IsConfigured, ConfigCause}
+use Rattle.acct_server.specs.Leaves.{IsConfigured, ConfigCause, spelled}
 use Rattle.acct_server.specs.Replaying.{lists_in}
 use Rattle.acct_server.specs.declared.serving.Served.{Served}
 use Rattle.acct_server.specs.declared.status.Status.{Status}
@@ -224,7 +224,7 @@ module _ {S K E D F P : Type 0} (told : TellingServe S K E D F P) where
     pub left_spawner : spawning.back ≡ last.spawner
 
   -- Nothing failed outside: the source told a short document that breaks no rule, and no count rose, neither the
-  -- source's nor the entrance's nor that of the spawners nor one in a round.
+  -- source's nor the entrance's nor one in a round, nor, where the document has a hook, that of what runs programs.
   pub record IsQuiet (before after : ServeParts S K E D) (spawning : Spawning P) (rounds : List (Round D K P))
       (status : Status) : Type 0 where
     pub document : List ℕ
@@ -232,7 +232,7 @@ module _ {S K E D F P : Type 0} (told : TellingServe S K E D F P) where
     pub short : length document ≤ most_bytes
     pub unbroken : first_broken document ≡ None
     pub source : NotRisen (told.read_faults before.config) (told.read_faults after.config)
-    pub spawner : NotRisen spawning.faults_before spawning.faults_after
+    pub spawner : IsSome (spelled document).hook → NotRisen spawning.faults_before spawning.faults_after
     pub entrance : NotRisen (told.entrance_faults before.entrance) (told.entrance_faults after.entrance)
     pub each : (serves : ServesRounds before after spawning rounds status)
         → AreQuiet told.served serves.doors before.keeper spawning.handed rounds
@@ -255,8 +255,8 @@ pub record KeepsRounds {S T K E D C L P : Type 0} (old new : Seen S T K E D C L 
 pub record HandsSpawner {S T K E D C L P : Type 0} (old new : Seen S T K E D C L P) (spawning : Spawning P) : Type 0
   where
     pub took : old.tells ≡ true → IfSome spawning.handed (λ part. old.spawner ≡ Some part)
-    pub gave : old.tells ≡ true
-        → MatchOption spawning.back (new.spawner ≡ old.spawner) (λ part. new.spawner ≡ Some part)
+    pub gave : MatchOption spawning.back (new.spawner ≡ old.spawner)
+        (λ part. old.tells ≡ true → new.spawner ≡ Some part)
     pub faults_before : spawning.faults_before ≡ old.spawner_faults
     pub faults_after : spawning.faults_after ≡ new.spawner_faults
 
