@@ -153,83 +153,84 @@ module _ {S T K E D C L P : Type 0} where
         others = ap f gives.others ∙ ap f keeps.others ∙ ap f takes.others;
       }
 
-  -- ---- it was refused
+-- ---- it was refused
 
-  -- the parts that were asked for, by what the world tells
-  abbrev Refused : TakeError → List Part → Type 0
-  Refused e parts = (parts ≡ part.Spawner ∷ []) ⊎ ((parts ≡ []) × (e ≡ taken.NoMemory))
+-- the parts that were asked for, by what the world tells
+abbrev Refused : TakeError → List Part → Type 0
+Refused e parts = (parts ≡ part.Spawner ∷ []) ⊎ ((parts ≡ []) × (e ≡ taken.NoMemory))
 
-  same-error : (e f : TakeError) → (let x : Result P TakeError = Err e in x ≡ Err f) → e ≡ f
-  same-error e f is = cc
+same-error : {P : Type 0} (e f : TakeError) → (let x : Result P TakeError = Err e in x ≡ Err f) → e ≡ f
+same-error e f is = cc
 
-  by-asks : (e : TakeError) (old new : List Part) → (let x : Result P TakeError = Err e in Asks part.Spawner old new x)
-      → (parts : List Part) × (new ≡ old ++ parts) × Refused e parts
-  by-asks e old new (inl is) = (part.Spawner ∷ [], is, inl refl)
-  by-asks e old new (inr is) = ([], is.1 ∙ sym (append-nil old), inr (refl, same-error e taken.NoMemory is.0))
+by-asks : {P : Type 0} (e : TakeError) (old new : List Part)
+    → (let x : Result P TakeError = Err e in Asks part.Spawner old new x)
+    → (parts : List Part) × (new ≡ old ++ parts) × Refused e parts
+by-asks e old new (inl is) = (part.Spawner ∷ [], is, inl refl)
+by-asks e old new (inr is) = ([], is.1 ∙ sym (append-nil old), inr (refl, same-error e taken.NoMemory is.0))
 
-  by-telling : (tells : Bool) (e : TakeError) (old new : List Part)
-      → (tells ≡ true → (let x : Result P TakeError = Err e in Asks part.Spawner old new x))
-      → (parts : List Part) × (tells ≡ true → new ≡ old ++ parts) × Refused e parts
-  by-telling true e old new asks = let by = by-asks e old new (asks refl) in (by.0, (λ is. by.1), by.2)
-  by-telling false e old new asks = (part.Spawner ∷ [], (λ is. absurd cc), inl refl)
+by-telling : {P : Type 0} (tells : Bool) (e : TakeError) (old new : List Part)
+    → (tells ≡ true → (let x : Result P TakeError = Err e in Asks part.Spawner old new x))
+    → (parts : List Part) × (tells ≡ true → new ≡ old ++ parts) × Refused e parts
+by-telling true e old new asks = let by = by-asks e old new (asks refl) in (by.0, (λ is. by.1), by.2)
+by-telling false e old new asks = (part.Spawner ∷ [], (λ is. absurd cc), inl refl)
 
-  refused-cause : (e : TakeError) (spawning : Spawning P) → Refused e spawning.parts
-      → (e ≡ taken.Failed → Rose spawning.faults_before spawning.faults_after) → SpawnCause spawning (spawn_status e)
-  refused-cause taken.Failed spawning (inl is) rose = (rose refl, is)
-  refused-cause taken.Failed spawning (inr is) rose = let clash : taken.Failed ≡ taken.NoMemory = is.1 in absurd cc
-  refused-cause taken.NoMemory spawning (inl is) rose = inl is
-  refused-cause taken.NoMemory spawning (inr is) rose = inr is.0
+refused-cause : {P : Type 0} (e : TakeError) (spawning : Spawning P) → Refused e spawning.parts
+    → (e ≡ taken.Failed → Rose spawning.faults_before spawning.faults_after) → SpawnCause spawning (spawn_status e)
+refused-cause taken.Failed spawning (inl is) rose = (rose refl, is)
+refused-cause taken.Failed spawning (inr is) rose = let clash : taken.Failed ≡ taken.NoMemory = is.1 in absurd cc
+refused-cause taken.NoMemory spawning (inl is) rose = inl is
+refused-cause taken.NoMemory spawning (inr is) rose = inr is.0
 
-  pub spawner-refused : {F : Type 0} (told : TellingServe S K E D F P) (config : Config) (first now : S) (keeper : K)
-      (entrance : E) (doors : List D) (w0 w1 : Seen S T K E D C L P) (e : TakeError) (status : Status)
-      → doors ≡ [] → status ≡ spawn_status e → IsSome config.hook → TakesSpawner w0 w1 (Err e)
-      → IsSpelled told first config
-      → RunsParts told (record { config = first; keeper = keeper; entrance = entrance; doors = [] })
-      (record { config = now; keeper = keeper; entrance = entrance; doors = doors }) w0 w1 status
-  spawner-refused told config first now keeper entrance doors w0 w1 e status none is some takes spelled =
-      let by = by-telling w0.tells e w0.asked w1.asked takes.asked in
-      let spawning : Spawning P = record {
-        parts = by.0;
-        faults_before = w0.spawner_faults;
-        faults_after = w1.spawner_faults;
-        handed = None;
-        back = None;
-      } in
-      record {
-        spawning = spawning;
-        rounds = [];
-        leaves = inr (inl (record {
-          config = config;
-          spelled = spelled;
-          hook = some;
-          cause = subst (λ (s : Status). SpawnCause spawning s) (sym is)
-              (refused-cause e spawning by.2
-              (λ failed. takes.cause (ap (λ (f : TakeError). let x : Result P TakeError = Err f in x) failed)));
-          untouched = record {
-            entrance = refl;
-            doors = none;
-            keeper = refl;
-            handed = refl;
-            back = refl;
-            none = refl;
-          };
-        }));
-        spawner = record {
-          took = λ tells. tt;
-          gave = takes.kept;
-          faults_before = refl;
-          faults_after = refl;
+pub spawner-refused : {S T K E D F C L P : Type 0} (told : TellingServe S K E D F P) (config : Config) (first now : S)
+    (keeper : K) (entrance : E) (doors : List D) (w0 w1 : Seen S T K E D C L P) (e : TakeError) (status : Status)
+    → doors ≡ [] → status ≡ spawn_status e → IsSome config.hook → TakesSpawner w0 w1 (Err e)
+    → IsSpelled told first config
+    → RunsParts told (record { config = first; keeper = keeper; entrance = entrance; doors = [] })
+    (record { config = now; keeper = keeper; entrance = entrance; doors = doors }) w0 w1 status
+spawner-refused told config first now keeper entrance doors w0 w1 e status none is some takes spelled =
+    let by = by-telling w0.tells e w0.asked w1.asked takes.asked in
+    let spawning : Spawning P = record {
+      parts = by.0;
+      faults_before = w0.spawner_faults;
+      faults_after = w1.spawner_faults;
+      handed = None;
+      back = None;
+    } in
+    record {
+      spawning = spawning;
+      rounds = [];
+      leaves = inr (inl (record {
+        config = config;
+        spelled = spelled;
+        hook = some;
+        cause = subst (λ (s : Status). SpawnCause spawning s) (sym is)
+            (refused-cause e spawning by.2
+            (λ failed. takes.cause (ap (λ (f : TakeError). let x : Result P TakeError = Err f in x) failed)));
+        untouched = record {
+          entrance = refl;
+          doors = none;
+          keeper = refl;
+          handed = refl;
+          back = refl;
+          none = refl;
         };
-        asked = by.1;
-        periods = λ tells. ap (λ (s : Seen _ _ _ _ _ _ _ _). s.periods) takes.others ∙ sym (append-nil w0.periods);
-        others = takes.others
-            ∙ ap (λ (ps : List Period). record w0 {
-              periods = ps;
-              spawner = w1.spawner;
-              asked = w1.asked;
-              spawner_faults = w1.spawner_faults;
-            }) (sym (ap (λ (s : Seen _ _ _ _ _ _ _ _). s.periods) takes.others));
-      }
+      }));
+      spawner = record {
+        took = λ tells. tt;
+        gave = takes.kept;
+        faults_before = refl;
+        faults_after = refl;
+      };
+      asked = by.1;
+      periods = λ tells. ap (λ (s : Seen _ _ _ _ _ _ _ _). s.periods) takes.others ∙ sym (append-nil w0.periods);
+      others = takes.others
+          ∙ ap (λ (ps : List Period). record w0 {
+            periods = ps;
+            spawner = w1.spawner;
+            asked = w1.asked;
+            spawner_faults = w1.spawner_faults;
+          }) (sym (ap (λ (s : Seen _ _ _ _ _ _ _ _). s.periods) takes.others));
+    }
 
 -- the configuration wasn't read
 pub not-configured : {S T K E D F C L P : Type 0} (told : TellingServe S K E D F P) (first now : S) (keeper : K)

@@ -1,5 +1,6 @@
 -- What runs programs was taken and is given back, or it was refused and nothing was served.
 use Rattle.std.proofs.Common.{[], Some, sym, ap, ◌∙◌, subst}
+use Rattle.acct_commands.specs.Serving.{ServeParts}
 use Rattle.acct_commands.specs.steps.Rounds.{RunsOpened}
 use Rattle.acct_commands.proofs.Servings.{ran-beside, spawner-refused}
 use Rattle.acct_commands.proofs.serving.serve_hooked.Goals as goal
@@ -29,8 +30,8 @@ pub returns-clause-runs : goal.returns-clause-runs
 returns-clause-runs g c = λ first now spelled.
     let a = c.args in
     let opened = c.serve_opened-status in
-    let before = record { config = first; keeper = a.keeper; entrance = a.entrance.now; doors = [] } in
-    let after = record {
+    let before : ServeParts _ _ _ _ = record { config = first; keeper = a.keeper; entrance = a.entrance.now; doors = [] } in
+    let after : ServeParts _ _ _ _ = record {
       config = now;
       keeper = opened.result.1;
       entrance = opened.new.entrance;

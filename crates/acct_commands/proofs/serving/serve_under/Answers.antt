@@ -1,4 +1,5 @@
 -- Without a hook nothing runs programs.
+use Rattle.std.proofs.Common.{[]}
 use Rattle.acct_commands.proofs.Servings.{ran-alone}
 use Rattle.acct_commands.proofs.serving.serve_under.Goals as goal
 
