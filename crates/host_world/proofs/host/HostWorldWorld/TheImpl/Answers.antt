@@ -202,7 +202,7 @@ kept-period sources keepers sources_now keepers_now period (Ok done) given same_
 kept-period sources keepers sources_now keepers_now period (Err e) given same_sources same_keepers = absurd cc
 
 pub take_source-tells : goal.take_source-tells
-take_source-tells g x d c =
+take_source-tells g x d e c =
     let old = c.args.self.now in
     let new = c.new.self.now in
     record {
@@ -211,7 +211,7 @@ take_source-tells g x d c =
     }
 
 pub take_sink-tells : goal.take_sink-tells
-take_sink-tells g x d c =
+take_sink-tells g x d e c =
     let old = c.args.self.now in
     let new = c.new.self.now in
     record {
@@ -221,7 +221,7 @@ take_sink-tells g x d c =
     }
 
 pub take_spawner-tells : goal.take_spawner-tells
-take_spawner-tells g x d c =
+take_spawner-tells g x d e c =
     let old = c.args.self.now in
     let new = c.new.self.now in
     record {
@@ -231,7 +231,7 @@ take_spawner-tells g x d c =
     }
 
 pub take_keeper-tells : goal.take_keeper-tells
-take_keeper-tells g x d c =
+take_keeper-tells g x d e c =
     let old = c.args.self.now in
     let new = c.new.self.now in
     record {
@@ -241,7 +241,7 @@ take_keeper-tells g x d c =
     }
 
 pub take_entrance-tells : goal.take_entrance-tells
-take_entrance-tells g x d c =
+take_entrance-tells g x d e c =
     let old = c.args.self.now in
     let new = c.new.self.now in
     record {
@@ -251,7 +251,7 @@ take_entrance-tells g x d c =
     }
 
 pub take_caller-tells : goal.take_caller-tells
-take_caller-tells g x d c =
+take_caller-tells g x d e c =
     let old = c.args.self.now in
     let new = c.new.self.now in
     record {
@@ -261,7 +261,7 @@ take_caller-tells g x d c =
     }
 
 pub keep_period-tells : goal.keep_period-tells
-keep_period-tells g x d c =
+keep_period-tells g x d e c =
     let old = c.args.self.now in
     let new = c.new.self.now in
     record {
@@ -271,7 +271,7 @@ keep_period-tells g x d c =
     }
 
 pub give_source-tells : goal.give_source-tells
-give_source-tells g x d c =
+give_source-tells g x d e c =
     let old = c.args.self.now in
     let new = c.new.self.now in
     record {
@@ -281,7 +281,7 @@ give_source-tells g x d c =
     }
 
 pub give_entrance-tells : goal.give_entrance-tells
-give_entrance-tells g x d c =
+give_entrance-tells g x d e c =
     let old = c.args.self.now in
     let new = c.new.self.now in
     record {
@@ -291,7 +291,7 @@ give_entrance-tells g x d c =
     }
 
 pub give_caller-tells : goal.give_caller-tells
-give_caller-tells g x d c =
+give_caller-tells g x d e c =
     let old = c.args.self.now in
     let new = c.new.self.now in
     record {
@@ -301,7 +301,7 @@ give_caller-tells g x d c =
     }
 
 pub give_spawner-tells : goal.give_spawner-tells
-give_spawner-tells g x d c =
+give_spawner-tells g x d e c =
     let old = c.args.self.now in
     let new = c.new.self.now in
     record {
