@@ -94,7 +94,7 @@ module _ {D F K P : Type 0} (telling : TellingBeside D F K P) (config : Config)
       → Follow telling config more last rounds
       → AreQuiet telling last.doors last.left.keeper last.spawner rounds → EachEnds rounds
   follow-end more last [] follow quiet = tt
-  follow-end more last (round ∷ rounds) (full, (few, (is, (goes, follow)))) (still, (runs, quiet)) = (
+  follow-end more last (round ∷ rounds) (full, (few, (is, (goes, follow)))) (still, runs, quiet) = (
     kept-ends round.kept round.left.status
         (round-ends config.hook last.doors last.left.keeper last.spawner round is.serves still runs),
     follow-end (more - 1) round rounds follow quiet,
@@ -104,7 +104,7 @@ module _ {D F K P : Type 0} (telling : TellingBeside D F K P) (config : Config)
       → AreRounds telling config doors keeper spawner rounds → AreQuiet telling doors keeper spawner rounds
       → EachEnds rounds
   rounds-end doors keeper spawner [] are quiet = absurd are
-  rounds-end doors keeper spawner (first ∷ rounds) (is, follow) (still, (runs, quiet)) = (
+  rounds-end doors keeper spawner (first ∷ rounds) (is, follow) (still, runs, quiet) = (
     kept-ends first.kept first.left.status
         (round-ends config.hook doors keeper spawner first is.serves still runs),
     follow-end (config.limits.max_periods - 1) first rounds follow quiet,

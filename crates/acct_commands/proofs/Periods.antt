@@ -204,8 +204,8 @@ of-beside end drained.NoMemory is = absurd cc
 pub period-not-usage : {D F K P : Type 0} (telling : TellingBeside D F K P) (config : Config) (o : Option Hook)
     (doors : List D) (keeper : K) (spawner : Option P) (round : Round D K P)
     → PeriodBy telling config o doors keeper spawner round → round.left.status ≢ Usage
-period-not-usage telling config None doors keeper spawner round alone =
-    serve-not-usage telling.serving config doors round.doors keeper round.left alone.serves
+period-not-usage telling config None doors keeper spawner round alone is =
+    serve-not-usage telling.serving config doors round.doors keeper round.left alone.serves is
 period-not-usage telling config (Some hook) doors keeper spawner round beside is = elim beside.serves.leaves [
   | inl none ↦ subst (λ (s : Status). StoreCause (telling.serving.pairs keeper) (telling.serving.faults keeper)
       (telling.serving.faults round.left.keeper) s) is none.serves.cause

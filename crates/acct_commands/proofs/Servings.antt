@@ -187,7 +187,7 @@ pub spawner-refused : {S T K E D F C L P : Type 0} (told : TellingServe S K E D 
     → IsSpelled told first config
     → RunsParts told (record { config = first; keeper = keeper; entrance = entrance; doors = [] })
     (record { config = now; keeper = keeper; entrance = entrance; doors = doors }) w0 w1 status
-spawner-refused told config first now keeper entrance doors w0 w1 e status none is some takes spelled =
+spawner-refused {P = P} told config first now keeper entrance doors w0 w1 e status none is some takes spelled =
     let by = by-telling w0.tells e w0.asked w1.asked takes.asked in
     let spawning : Spawning P = record {
       parts = by.0;

@@ -128,6 +128,7 @@ where
       spawner = W.P.Spawner;
     }) config.now doors.old.items doors.new.items keeper result.1 spawner result.2
         (W.seen world.old) (W.seen world.new) result.0 }
+    ensures handed { is_some result.2 ≡ is_some config.now.hook }
     ensures not_usage { result.0 ≢ Usage }
 {
     pairs_are_of_one();
