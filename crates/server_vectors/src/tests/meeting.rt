@@ -61,9 +61,12 @@ fn entrance_of(alloc: Global) -> Result<MemoryEntrance<MeetingLink>, Fail> {
     Ok(MemoryEntrance::new(alloc, plans, Vec::new(alloc)))
 }
 
-/// A world with two workers.
-fn meeting(alloc: Global) -> Result<Meeting, Fail> {
-    let config = config_with(alloc, "workers = 2;links = 1")?;
+/// The configurations of such worlds, each with two workers: without a hook, and with one.
+const CONFIGS: &str = "workers = 2;links = 1
+workers = 2;links = 1;[hook];program = \"/bin/add-user\";tries = 3";
+
+fn meeting(alloc: Global, config: &str) -> Result<Meeting, Fail> {
+    let config = config_with(alloc, config)?;
     let entrance = entrance_of(alloc)?;
     steady_world(alloc, (config, String::new(alloc)), entrance)
 }
@@ -101,16 +104,18 @@ fn left<R: Threads + Wait + Sync>(
     Ok(text)
 }
 
-fn left_by<R: Threads + Wait + Sync>(rt: &R, alloc: Global, words: &str) -> Result<String, Fail> {
-    let mut world = meeting(alloc)?;
-    let text = left(rt, alloc, words, &mut world);
+fn left_by<R: Threads + Wait + Sync>(rt: &R, alloc: Global, config: &str) -> Result<String, Fail> {
+    let mut world = meeting(alloc, config)?;
+    let text = left(rt, alloc, "serve first.toml ''", &mut world);
     drop(world);
     text
 }
 
 #[test]
 fn two_doors_are_served_at_once(rt: HostRuntime) -> Result<(), Fail> {
-    let left = left_by(&rt, rt.alloc(), "serve first.toml ''")?;
-    assert_eq!(rt; left.as_str(), "Done|1 End,2 End,");
+    for config in CONFIGS.lines() {
+        let left = left_by(&rt, rt.alloc(), config)?;
+        assert_eq!(rt; left.as_str(), "Done|1 End,2 End,", "{config}");
+    }
     Ok(())
 }

@@ -233,7 +233,7 @@ fn changes_of(
 }
 
 /// A keeper with these pairs, except for the value of one key, as `KEY=VALUE` says, or with all of them.
-fn stored_with(alloc: Global, pairs: &[Pair], change: &str) -> Result<SteadyKeeper, Fail> {
+pub fn stored_with(alloc: Global, pairs: &[Pair], change: &str) -> Result<SteadyKeeper, Fail> {
     let (key, value) = change.split_once('=').unwrap_or((change, ""));
     let key = hex::decode(alloc, key.as_bytes())?;
     let value = hex::decode(alloc, value.as_bytes())?;

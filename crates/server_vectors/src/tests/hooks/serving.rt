@@ -7,7 +7,7 @@ use super::drains::{ends_of, push_runs};
 use crate::tests::configs::config_with;
 use crate::tests::left::{ended, is_left, push_asked, push_count};
 use crate::tests::lines::{column, line_of};
-use crate::tests::replays::{changes_text, stored_under};
+use crate::tests::replays::{changes_text, stored_under, stored_with};
 use crate::tests::worlds::{Told, making_of, numbered, world_of_server};
 use account_hooks::MemorySpawner;
 use acct_base::Seq;
@@ -25,9 +25,9 @@ const SERVE: &str = "serve first.toml ''";
 
 /// Each row: the events whose changes a replay stored; the lines of the link of each of two doors, each call with a
 /// handle for either number of its connection; how the run is made; what the configuration says more; and how the runs
-/// end, `-` where one fails. Then what is left: the status, the arguments of each run, in either order of two
-/// connections, the changes that are stored, and how many were taken out. The keeper is loaded and seeded first, where it
-/// holds nothing.
+/// end, `-` where one fails. Then what is left: the status, the arguments of each run, the changes that are stored, and
+/// how many were taken out in each period. Two connections come in either order, and `or` stands between what is left
+/// after the one and after the other. The keeper is loaded and seeded first, where it holds nothing.
 const ROWS: &str =
     "|BIND CONNECT OPEN-CORP CREATE-ALICE||||0|Done|1 create user CORP 1000 alice,|6e=0200000000000000;| 1
 |BIND CONNECT OPEN-CORP CREATE-ALICE|BIND CONNECT OPEN-CORP CREATE-BOB||||Done|1 create user CORP 1000 alice,2 create \
@@ -35,6 +35,12 @@ const ROWS: &str =
 |BIND CONNECT OPEN-CORP CREATE-ALICE CREATE-BOB||||0 - 1 -|HookHeld(2)|1 create user CORP 1000 alice,2 create user \
     CORP 1001 bob,2 create user CORP 1001 bob,2 create user CORP 1001 bob,|6e=0300000000000000;710000000000000002=0100e9\
     03000001030062006f006200;| 1
+|BIND CONNECT OPEN-CORP CREATE-ALICE CREATE-BOB|||[limits];max_calls = 5|- - -|HistoryFull(5)|1 create user CORP 1000 \
+    alice,1 create user CORP 1000 alice,1 create user CORP 1000 alice,|6e=0200000000000000;710000000000000001=0100e80300\
+    0001050061006c00690063006500;| 0
+|BIND CONNECT OPEN-CORP CREATE-ALICE CREATE-BOB|||[limits];max_calls = 5;max_periods = 2|- - -|Done|1 create user CORP \
+    1000 alice,1 create user CORP 1000 alice,1 create user CORP 1000 alice,1 create user CORP 1000 \
+    alice,|6e=0200000000000000;| 0 1
 |BIND CONNECT OPEN-CORP CREATE-ALICE||k4||0|HookStore(1)|1 create user CORP 1000 alice,|6e=0200000000000000;7100000000\
     00000001=0100e803000001050061006c00690063006500;| 0
 |BIND CONNECT OPEN-CORP CREATE-ALICE|-|||1 1 1|DoorFault|1 create user CORP 1000 alice,1 create user CORP 1000 alice,1 \
@@ -104,6 +110,23 @@ fn entrance_of(
     Ok(MemoryEntrance::new(alloc, plans, Vec::new(alloc)))
 }
 
+/// A world over what a keeper holds, whose doors bring these lines, by the words of a row.
+fn hooked_world(
+    alloc: Global,
+    stored: SteadyKeeper,
+    doors: (&str, &str),
+    making: &str,
+    more: &str,
+    ends: &str,
+) -> Result<Told, Fail> {
+    let (first, second) = doors;
+    let spawner = MemorySpawner::new(alloc, ends_of(alloc, ends)?);
+    let entrance = entrance_of(alloc, first, second)?;
+    let lines = format!(in alloc; "{HOOKED};{more}")?;
+    let config = config_with(alloc, lines.as_str())?;
+    world_of_server(alloc, stored, entrance, spawner, config, making_of(making))
+}
+
 /// What the keeper holds first.
 fn stored_of<R: Abort + Threads + Wait + Sync>(
     rt: &R,
@@ -167,13 +190,10 @@ fn left_by<R: Abort + Threads + Wait + Sync>(
     let (first, rest) = column(rest);
     let (second, rest) = column(rest);
     let (making, rest) = column(rest);
-    let (_, rest) = column(rest);
+    let (more, rest) = column(rest);
     let (ends, _) = column(rest);
     let stored = stored_of(rt, alloc, events)?;
-    let spawner = MemorySpawner::new(alloc, ends_of(alloc, ends)?);
-    let entrance = entrance_of(alloc, first, second)?;
-    let config = config_with(alloc, HOOKED)?;
-    let mut world = world_of_server(alloc, stored, entrance, spawner, config, making_of(making))?;
+    let mut world = hooked_world(alloc, stored, (first, second), making, more, ends)?;
     let text = left(rt, alloc, &mut world);
     drop(world);
     text
@@ -189,33 +209,100 @@ fn wanted_of(row: &str) -> &str {
     wanted
 }
 
-/// What a row says is left, with the second order of two connections, if it names one.
-fn other_of(alloc: Global, wanted: &str) -> Result<String, Fail> {
-    let (status, rest) = wanted.split_once('|').unwrap_or((wanted, ""));
-    let (runs, rest) = rest.split_once('|').unwrap_or((rest, ""));
-    let (_, runs) = runs.split_once(" or ").unwrap_or(("", runs));
-    Ok(format!(in alloc; "{status}|{runs}|{rest}")?)
+/// What a row says is left after the one order of two connections, or after the other one. A column that doesn't say
+/// both is the same after either.
+fn ordered(alloc: Global, wanted: &str, is_first: bool) -> Result<String, Fail> {
+    let mut text = String::new(alloc);
+    for column in wanted.split('|') {
+        let (first, second) = column.split_once(" or ").unwrap_or((column, column));
+        text.push_str(if is_first { first } else { second })?;
+        text.push('|')?;
+    }
+    text.pop();
+    Ok(text)
 }
 
-/// The same with the first one.
-fn one_of(alloc: Global, wanted: &str) -> Result<String, Fail> {
-    let (status, rest) = wanted.split_once('|').unwrap_or((wanted, ""));
-    let (runs, rest) = rest.split_once('|').unwrap_or((rest, ""));
-    let (runs, _) = runs.split_once(" or ").unwrap_or((runs, ""));
-    Ok(format!(in alloc; "{status}|{runs}|{rest}")?)
+/// Asserts that this is left, after either order of two connections, of the row that wants it.
+fn is_left_in_order(
+    rt: &impl Abort,
+    alloc: Global,
+    left: &str,
+    wanted: &str,
+    row: &str,
+) -> Result<(), Fail> {
+    let second = ordered(alloc, wanted, false)?;
+    if left != second.as_str() {
+        let first = ordered(alloc, wanted, true)?;
+        is_left(rt, left, first.as_str(), row);
+    }
+    Ok(())
 }
 
 #[test]
 fn programs_are_run_beside_sessions(rt: HostRuntime) -> Result<(), Fail> {
     for row in ROWS.lines() {
         let left = left_by(&rt, rt.alloc(), row)?;
-        let other = other_of(rt.alloc(), wanted_of(row))?;
-        if left.as_str() != other.as_str() {
-            let one = one_of(rt.alloc(), wanted_of(row))?;
-            is_left(&rt, left.as_str(), one.as_str(), row);
-        }
+        is_left_in_order(&rt, rt.alloc(), left.as_str(), wanted_of(row), row)?;
     }
     Ok(())
+}
+
+/// What two servers leave, one after the other over one store: the first one's second change is held, and the second
+/// one's doors bring nothing.
+const HELD: &str =
+    "HookHeld(2)|1 create user CORP 1000 alice,2 create user CORP 1001 bob,2 create user CORP 1001 bob,2 create user CORP \
+    1001 bob, or 1 create user CORP 1000 bob,2 create user CORP 1001 alice,2 create user CORP 1001 alice,2 create user \
+    CORP 1001 alice,|6e=0300000000000000;710000000000000002=0100e903000001030062006f006200; or \
+    6e=0300000000000000;710000000000000002=0100e903000001050061006c00690063006500;| 1|Done|2 create user CORP 1001 bob, \
+    or 2 create user CORP 1001 alice,|6e=0300000000000000;| 1";
+
+/// Serves over a world, and tells what is left. A keeper with what its keeper holds then.
+fn served_over<R: Threads + Wait + Sync>(
+    rt: &R,
+    alloc: Global,
+    world: &mut Told,
+    told: &mut String,
+) -> Result<SteadyKeeper, Fail> {
+    let text = left(rt, alloc, world)?;
+    told.push_str(text.as_str())?;
+    let pairs = world.keeper().map_or(&[][..], |keeper| keeper.as_slice());
+    stored_with(alloc, pairs, "")
+}
+
+/// The same over what a keeper holds, with doors that bring these lines and runs that end so.
+fn serve_over<R: Threads + Wait + Sync>(
+    rt: &R,
+    alloc: Global,
+    stored: SteadyKeeper,
+    doors: (&str, &str),
+    ends: &str,
+    told: &mut String,
+) -> Result<SteadyKeeper, Fail> {
+    let mut world = hooked_world(alloc, stored, doors, "", "", ends)?;
+    let stored = served_over(rt, alloc, &mut world, told);
+    drop(world);
+    stored
+}
+
+const ALICE: &str = "BIND CONNECT OPEN-CORP CREATE-ALICE";
+
+const BOB: &str = "BIND CONNECT OPEN-CORP CREATE-BOB";
+
+#[test]
+fn a_held_change_is_run_by_the_next_server(rt: HostRuntime) -> Result<(), Fail> {
+    let alloc = rt.alloc();
+    let mut told = String::new(alloc);
+    let stored = SteadyKeeper::new(alloc);
+    let stored = serve_over(&rt, alloc, stored, (ALICE, BOB), "0 - - -", &mut told)?;
+    told.push('|')?;
+    drop(serve_over(&rt, alloc, stored, ("", ""), "0", &mut told)?);
+    is_left_in_order(
+        &rt,
+        alloc,
+        told.as_str(),
+        HELD,
+        "two servers over one store",
+    )
 }
 
 /// What `serve` is asked for over a world.
