@@ -33,22 +33,23 @@ const ROWS: &str =
 |BIND CONNECT OPEN-CORP CREATE-ALICE|BIND CONNECT OPEN-CORP CREATE-BOB||||Done|1 create user CORP 1000 alice,2 create \
     user CORP 1001 bob, or 1 create user CORP 1000 bob,2 create user CORP 1001 alice,|6e=0300000000000000;| 2
 |BIND CONNECT OPEN-CORP CREATE-ALICE CREATE-BOB||||0 - 1 -|HookHeld(2)|1 create user CORP 1000 alice,2 create user \
-    CORP 1001 bob,2 create user CORP 1001 bob,2 create user CORP 1001 bob,|6e=0300000000000000;710000000000000002=0100e9\
-    03000001030062006f006200;| 1
+    CORP 1001 bob,2 create user CORP 1001 bob,2 create user CORP 1001 bob,|6e=0300000000000000;710000000000000002=0100\
+    e903000001030062006f006200;| 1
 |BIND CONNECT OPEN-CORP CREATE-ALICE CREATE-BOB|||[limits];max_calls = 5|- - -|HistoryFull(5)|1 create user CORP 1000 \
-    alice,1 create user CORP 1000 alice,1 create user CORP 1000 alice,|6e=0200000000000000;710000000000000001=0100e80300\
-    0001050061006c00690063006500;| 0
+    alice,1 create user CORP 1000 alice,1 create user CORP 1000 alice,|6e=0200000000000000;710000000000000001=0100e803\
+    000001050061006c00690063006500;| 0
 |BIND CONNECT OPEN-CORP CREATE-ALICE CREATE-BOB|||[limits];max_calls = 5;max_periods = 2|- - -|Done|1 create user CORP \
     1000 alice,1 create user CORP 1000 alice,1 create user CORP 1000 alice,1 create user CORP 1000 \
     alice,|6e=0200000000000000;| 0 1
 |BIND CONNECT OPEN-CORP CREATE-ALICE||k4||0|HookStore(1)|1 create user CORP 1000 alice,|6e=0200000000000000;7100000000\
     00000001=0100e803000001050061006c00690063006500;| 0
-|BIND CONNECT OPEN-CORP CREATE-ALICE|-|||1 1 1|DoorFault|1 create user CORP 1000 alice,1 create user CORP 1000 alice,1 \
-    create user CORP 1000 alice,|6e=0200000000000000;710000000000000001=0100e803000001050061006c00690063006500;| 0
+|BIND CONNECT OPEN-CORP CREATE-ALICE|-BIND|||1 1 1|DoorFault|1 create user CORP 1000 alice,1 create user CORP 1000 \
+    alice,1 create user CORP 1000 alice,|6e=0200000000000000;710000000000000001=0100e803000001050061006c0069006300650\
+    0;| 0
 |BIND CONNECT OPEN-CORP CREATE-ALICE||t4||0|SpawnFault|||none
 OPEN BIND CONNECT OPEN-CORP CREATE-ALICE|||||0|Done|1 create user CORP 1000 alice,|6e=0200000000000000;| 1
-OPEN BIND CONNECT OPEN-CORP CREATE-ALICE CREATE-BOB|||||0 1 0|Done|1 create user CORP 1000 alice,2 create user CORP 1001 \
-    bob,2 create user CORP 1001 bob,|6e=0300000000000000;| 2";
+OPEN BIND CONNECT OPEN-CORP CREATE-ALICE CREATE-BOB|||||0 1 0|Done|1 create user CORP 1000 alice,2 create user CORP 10\
+    01 bob,2 create user CORP 1001 bob,|6e=0300000000000000;| 2";
 
 const HOOKED: &str = "workers = 2;links = 1;[hook];program = \"/bin/add-user\";tries = 3";
 
@@ -84,15 +85,18 @@ pub fn link_of(alloc: Global, names: &str) -> Result<MemoryLink, Fail>
     Ok(MemoryLink::new(alloc, input, 4096, 4096, Vec::new(alloc))?)
 }
 
-/// A door with a link that brings these lines, if there are any. Where they are `-` its first call fails.
+/// A door with a link that brings these lines, if there are any. Where `-` stands before them its first call fails.
 fn plan_of(alloc: Global, names: &str) -> Result<DoorPlan<MemoryLink>, Fail>
     ensures { IfOk result (λ plan. All (λ link. IsNew (told_by link)) plan.links) }
 {
+    let (failing, names) = match names.strip_prefix('-') {
+        Some(names) => (1, names),
+        None => (0, names),
+    };
     let mut links = Seq::new(alloc);
-    if names.contains(' ') {
+    if !names.is_empty() {
         links.push(link_of(alloc, names)?)?;
     }
-    let failing = if names == "-" { 1 } else { 0 };
     Ok(DoorPlan {
         links,
         failing: Seq::from_vec(numbered(alloc, failing)?),
@@ -250,11 +254,11 @@ fn programs_are_run_beside_sessions(rt: HostRuntime) -> Result<(), Fail> {
 /// What two servers leave, one after the other over one store: the first one's second change is held, and the second
 /// one's doors bring nothing.
 const HELD: &str =
-    "HookHeld(2)|1 create user CORP 1000 alice,2 create user CORP 1001 bob,2 create user CORP 1001 bob,2 create user CORP \
-    1001 bob, or 1 create user CORP 1000 bob,2 create user CORP 1001 alice,2 create user CORP 1001 alice,2 create user \
-    CORP 1001 alice,|6e=0300000000000000;710000000000000002=0100e903000001030062006f006200; or \
-    6e=0300000000000000;710000000000000002=0100e903000001050061006c00690063006500;| 1|Done|2 create user CORP 1001 bob, \
-    or 2 create user CORP 1001 alice,|6e=0300000000000000;| 1";
+    "HookHeld(2)|1 create user CORP 1000 alice,2 create user CORP 1001 bob,2 create user CORP 1001 bob,2 create user C\
+    ORP 1001 bob, or 1 create user CORP 1000 bob,2 create user CORP 1001 alice,2 create user CORP 1001 alice,2 create \
+    user CORP 1001 alice,|6e=0300000000000000;710000000000000002=0100e903000001030062006f006200; or \
+    6e=0300000000000000;710000000000000002=0100e903000001050061006c00690063006500;| 1|Done|2 create user CORP 1001 bob\
+    , or 2 create user CORP 1001 alice,|6e=0300000000000000;| 1";
 
 /// Serves over a world, and tells what is left. A keeper with what its keeper holds then.
 fn served_over<R: Threads + Wait + Sync>(
