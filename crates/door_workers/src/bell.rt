@@ -16,12 +16,12 @@ pub struct Bell {
 }
 
 impl Bell {
-    /// A bell of so many workers.
+    /// A bell of so many workers. It is rung already, since the store may hold changes of before.
     pub fn new(at_work: usize) -> Bell {
         Bell {
             rings: Mutex::new(Rings {
                 at_work,
-                rung: false,
+                rung: true,
             }),
             changed: Condvar::new(),
         }
