@@ -1,5 +1,5 @@
 -- Rounds of serving one after another, and what the world keeps of them.
-use Rattle.std.proofs.Common.{◌≡◌, ℕ, ◌-◌, ◌<◌, inl, inr, Bool, true, false, List, ◌∷◌, [], ◌++◌, Option, Some, None}
+use Rattle.std.proofs.Common.{◌≡◌, ℕ, ◌-◌, ◌<◌, inl, inr, true, false, List, ◌∷◌, [], ◌++◌, Option, Some, None}
 use Rattle.std.proofs.Common.{◌≢◌, length, slice_index_or, arith, refl, sym, ◌∙◌, ap, subst, append_assoc}
 use Rattle.std.specs.Prelude.{option_to_list, is_some, IsSome, MatchOption}
 use Rattle.std.specs.List.{flat_map}

@@ -1,6 +1,6 @@
 -- What a world shows over the command `serve`: parts that are out are given back, and those that were handed out
 -- before.
-use Rattle.std.proofs.Common.{◌≡◌, ℕ, ◌⊎◌, inl, inr, Bool, true, false, List, ◌∷◌, [], ◌++◌, Option, Some, None}
+use Rattle.std.proofs.Common.{◌≡◌, ◌⊎◌, inl, inr, Bool, true, false, List, ◌∷◌, [], ◌++◌, Option, Some, None}
 use Rattle.std.proofs.Common.{Ok, Err, refl, sym, ◌∙◌, ap, subst}
 use Rattle.std.specs.Prelude.{is_some, IfSome, IsSome, MatchOption, if◌then◌else◌}
 use Rattle.std.specs.List.{flat_map}
@@ -22,8 +22,8 @@ use Rattle.acct_commands.specs.Words.{ServeNames}
 use Rattle.acct_world.specs.World.{Seen, Asks, TakesSource, GivesSource, TakesKeeper, GivesKeeper, TakesEntrance}
 use Rattle.acct_world.specs.World.{GivesEntrance, TakesSpawner, GivesSpawner}
 use Rattle.acct_commands.specs.Commanded.{spawn_status}
-use Rattle.acct_commands.specs.Serving.{TellingServe, ServeParts, Spawning, HandsSpawner, HasServed, IsHandedBy}
-use Rattle.acct_commands.specs.Serving.{IsSpelled, SpawnCause, wanted_by, kept_in}
+use Rattle.acct_commands.specs.Serving.{TellingServe, ServeParts, Spawning, HandsSpawner, HasServed}
+use Rattle.acct_commands.specs.Serving.{IsSpelled, SpawnCause, kept_in}
 use Rattle.acct_commands.specs.steps.Rounds.{RunsOpened, RunsParts, ReturnsParts}
 use Rattle.acct_commands.proofs.Completing.{serving-completes}
 use Rattle.acct_commands.proofs.Worlds.{asked-ok, asked-more}

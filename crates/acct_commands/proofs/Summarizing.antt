@@ -16,7 +16,7 @@ use Rattle.acct_server.specs.Leaves.{IsOfRun, IsRunThrough, ConfigCause, EventsC
 use Rattle.acct_server.specs.Replayed.{listener_from}
 use Rattle.acct_server.specs.Replaying.{TellingReplay, Parts, HasNotRun, IsReplay}
 use Rattle.acct_commands.specs.Generated.{generated}
-use Rattle.acct_commands.specs.Generating.{summary, configuration, source, steady, LeftByReplay, IsWritten}
+use Rattle.acct_commands.specs.Generating.{configuration, source, steady, LeftByReplay, IsWritten}
 use Rattle.acct_commands.specs.Generating.{AreAccepted, IsOfGenerated}
 use Rattle.acct_commands.proofs.Configured.{configuration-is-taken}
 

@@ -5,12 +5,10 @@ use Rattle.std.specs.Prelude.{codes, nat_lt, if◌then◌else◌}
 use Rattle.std.proofs.lemmas.Bool.{eqb-true}
 use Rattle.std.proofs.lemmas.Bool.Decides.{nat_tests}
 use Rattle.std.proofs.lemmas.List.{append-nil, map-append}
-use Rattle.hex.specs.Hex.{encode_lower, encode_with, hex_digit_value, lower_digits, IsBytes, decode_of}
+use Rattle.hex.specs.Hex.{encode_lower, encode_with, hex_digit_value, IsBytes}
 use Rattle.hex.proofs.HexLemmas.{IsDigits-lower_digits, decode_of-encode_lower}
-use Rattle.acct_base.specs.Words.{parted, decimal_of}
+use Rattle.acct_base.specs.Words.{decimal_of}
 use Rattle.acct_machine.specs.Legal.{conns_full}
-use Rattle.acct_machine.specs.State.{Start}
-use Rattle.acct_machine.specs.declared.entry.Entry.{Entry}
 use Rattle.rpc_session.specs.Sessions.{on}
 use Rattle.rpc_session.specs.declared.hearing.Hearing.{Hearing}
 use Rattle.link_sessions.specs.Connections.{nothing_heard}
@@ -19,8 +17,8 @@ use Rattle.link_sessions.specs.declared.connections.Peer.TheVariants.{Open}
 use Rattle.acct_server.specs.Events.{lines_of, begins_with_feed, first_line, event_of, number_of, brings, of_command}
 use Rattle.acct_server.specs.Events.{of_two}
 use Rattle.acct_server.specs.Replayed.{Standing, Move, Trace, Verdicts, moved, peer_of, with_peer, peer_behind, opened}
-use Rattle.acct_server.specs.Replayed.{on_event, on_data, on_heard, on_line, on_listener, listener_from, follow}
-use Rattle.acct_server.specs.Replayed.{unless_full, trace_from, at_start, verdict_in, replayed}
+use Rattle.acct_server.specs.Replayed.{on_event, on_data, on_heard, on_line, on_listener, follow}
+use Rattle.acct_server.specs.Replayed.{unless_full, trace_from, at_start, verdict_in}
 use Rattle.acct_server.specs.declared.events.Event.{Event}
 use Rattle.acct_server.specs.declared.events.Event.TheVariants as event
 use Rattle.acct_server.specs.declared.status.Status.TheVariants.{EventLine}

@@ -3,8 +3,7 @@
 use Rattle.std.specs.Prelude.{◌≡◌, ◌≢◌, ℕ, true, List, ◌∷◌, [], ◌++◌, Option, Some, MatchOption}
 use Rattle.std.specs.List.{flat_map}
 use Rattle.acct_config.specs.declared.config.Config.{Config}
-use Rattle.acct_server.specs.Beside.{TellingBeside, IsServeBeside}
-use Rattle.acct_server.specs.Serving.{IsServe}
+use Rattle.acct_server.specs.Beside.{TellingBeside}
 use Rattle.acct_server.specs.declared.serving.Served.{Served}
 use Rattle.acct_server.specs.declared.status.Status.{Status}
 use Rattle.acct_commands.specs.Words.{ServeNames}

@@ -1,5 +1,5 @@
 -- The first line opens the connection, and the next brings the bind.
-use Rattle.std.proofs.Common.{◌≡◌, List, [], ◌∷◌, ◌++◌, rules}
+use Rattle.std.proofs.Common.{◌≡◌, [], ◌∷◌, ◌++◌, rules}
 use Rattle.std.specs.Prelude.{codes}
 use Rattle.acct_commands.proofs.Taking.{taken-begins}
 use Rattle.acct_commands.proofs.events.beginning.Goals as goal

@@ -1,6 +1,5 @@
 -- The configuration that was read is the one that its source spells.
-use Rattle.std.proofs.Common.{[], inl, refl, sym, ap, subst}
-use Rattle.std.proofs.lemmas.List.{append-nil}
+use Rattle.std.proofs.Common.{sym, subst}
 use Rattle.acct_commands.specs.steps.Rounds.{RunsParts}
 use Rattle.acct_commands.proofs.Servings.{not-configured}
 use Rattle.acct_commands.proofs.serving.serve_configured.Goals as goal

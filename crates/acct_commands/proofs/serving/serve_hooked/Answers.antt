@@ -1,5 +1,5 @@
 -- What runs programs was taken and is given back, or it was refused and nothing was served.
-use Rattle.std.proofs.Common.{[], Some, sym, ap, ◌∙◌, subst}
+use Rattle.std.proofs.Common.{[], Some, subst}
 use Rattle.acct_commands.specs.Serving.{ServeParts}
 use Rattle.acct_commands.specs.steps.Rounds.{RunsOpened}
 use Rattle.acct_commands.proofs.Servings.{ran-beside, spawner-refused}

@@ -1,6 +1,5 @@
 -- With the hook that the configuration has, or without one.
-use Rattle.std.proofs.Common.{◌≡◌, Some, None, refl, sym, ap, ◌∙◌, subst, true, false}
-use Rattle.std.specs.Prelude.{is_some, MatchOption}
+use Rattle.std.proofs.Common.{refl, sym, subst, true}
 use Rattle.acct_commands.proofs.Periods.{PeriodBy}
 use Rattle.acct_commands.proofs.serving.serve_period.Goals as goal
 
