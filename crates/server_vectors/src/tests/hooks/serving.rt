@@ -145,13 +145,10 @@ fn stored_of<R: Abort + Threads + Wait + Sync>(
 
 /// How many changes were taken out.
 fn taken_out(history: &[Entry]) -> usize {
-    let mut count = 0;
-    for entry in history {
-        if matches!(entry, Entry::Hooked { .. }) {
-            count += 1;
-        }
-    }
-    count
+    history
+        .iter()
+        .filter(|entry| matches!(entry, Entry::Hooked { .. }))
+        .count()
 }
 
 fn push_taken(text: &mut String, periods: &[Period]) -> Result<(), Fail> {
